@@ -1,0 +1,117 @@
+-- Each command, condition and option is found by its number and by its name.
+use Rattle.std.proofs.Common.{◌≡◌, ℕ, ◌==◌, ◌↔◌, Some, List, refl, sym, ◌∙◌, ap}
+use Rattle.std.specs.List.{find}
+use Rattle.std.specs.Str.{bytes_eq}
+use Rattle.std.proofs.lemmas.Bool.{eqb-true}
+use Rattle.std.proofs.lemmas.Slice.Eq.{bytes_eq-Decides}
+use Rattle.cx_ebcdic.specs.Lookup.{find_passes}
+use Rattle.cx_command.specs.Commands.{row_of}
+use Rattle.cx_command.specs.Conditions.{entry_of}
+use Rattle.cx_command.specs.Options.{option_name}
+use Rattle.cx_command.specs.declared.commands.Command.{Command}
+use Rattle.cx_command.specs.declared.commands.Command.TheVariants as command
+use Rattle.cx_command.specs.declared.commands.TheConstants as commands
+use Rattle.cx_command.specs.declared.conditions.Condition.{Condition}
+use Rattle.cx_command.specs.declared.conditions.Condition.TheVariants as condition
+use Rattle.cx_command.specs.declared.conditions.TheConstants as conditions
+use Rattle.cx_command.specs.declared.options.OptionName.{OptionName}
+use Rattle.cx_command.specs.declared.options.OptionName.TheVariants as option
+use Rattle.cx_command.specs.declared.options.TheConstants as options
+
+function_finds : (x : Command) → find (λ y. (row_of y).function == (row_of x).function) commands.Command.ALL ≡ Some x
+function_finds command.Address = refl
+function_finds command.HandleCondition = refl
+function_finds command.IgnoreCondition = refl
+function_finds command.PushHandle = refl
+function_finds command.PopHandle = refl
+function_finds command.Receive = refl
+function_finds command.WriteqTs = refl
+function_finds command.ReadqTs = refl
+function_finds command.DeleteqTs = refl
+function_finds command.Getmain = refl
+function_finds command.Freemain = refl
+function_finds command.Link = refl
+function_finds command.Xctl = refl
+function_finds command.Return = refl
+function_finds command.Abend = refl
+function_finds command.HandleAbend = refl
+function_finds command.Enq = refl
+function_finds command.Deq = refl
+function_finds command.Suspend = refl
+function_finds command.SendText = refl
+
+pub found_by_function : (n : ℕ) (x : Command) → (find (λ y. (row_of y).function == n) commands.Command.ALL ≡ Some x) ↔ ((row_of x).function ≡ n)
+found_by_function n x = (
+  λ e. eqb-true _ _ (find_passes (λ y. (row_of y).function == n) commands.Command.ALL x e),
+  λ e. ap (λ k. find (λ y. (row_of y).function == k) commands.Command.ALL) (sym e) ∙ function_finds x,
+)
+
+condition_number_finds : (x : Condition) → find (λ y. (entry_of y).number == (entry_of x).number) conditions.Condition.ALL ≡ Some x
+condition_number_finds condition.Normal = refl
+condition_number_finds condition.Error = refl
+condition_number_finds condition.Invreq = refl
+condition_number_finds condition.Nospace = refl
+condition_number_finds condition.Lengerr = refl
+condition_number_finds condition.Itemerr = refl
+condition_number_finds condition.Pgmiderr = refl
+condition_number_finds condition.Nostg = refl
+condition_number_finds condition.Qiderr = refl
+condition_number_finds condition.Enqbusy = refl
+
+pub found_by_condition_number : (n : ℕ) (x : Condition) → (find (λ y. (entry_of y).number == n) conditions.Condition.ALL ≡ Some x) ↔ ((entry_of x).number ≡ n)
+found_by_condition_number n x = (
+  λ e. eqb-true _ _ (find_passes (λ y. (entry_of y).number == n) conditions.Condition.ALL x e),
+  λ e. ap (λ k. find (λ y. (entry_of y).number == k) conditions.Condition.ALL) (sym e) ∙ condition_number_finds x,
+)
+
+condition_name_finds : (x : Condition) → find (λ y. bytes_eq ((entry_of y).name) ((entry_of x).name)) conditions.Condition.ALL ≡ Some x
+condition_name_finds condition.Normal = refl
+condition_name_finds condition.Error = refl
+condition_name_finds condition.Invreq = refl
+condition_name_finds condition.Nospace = refl
+condition_name_finds condition.Lengerr = refl
+condition_name_finds condition.Itemerr = refl
+condition_name_finds condition.Pgmiderr = refl
+condition_name_finds condition.Nostg = refl
+condition_name_finds condition.Qiderr = refl
+condition_name_finds condition.Enqbusy = refl
+
+pub found_by_condition_name : (t : List ℕ) (x : Condition) → (find (λ y. bytes_eq ((entry_of y).name) t) conditions.Condition.ALL ≡ Some x) ↔ ((entry_of x).name ≡ t)
+found_by_condition_name t x = (
+  λ e. (bytes_eq-Decides ((entry_of x).name) t).0 (find_passes (λ y. bytes_eq ((entry_of y).name) t) conditions.Condition.ALL x e),
+  λ e. ap (λ n. find (λ y. bytes_eq ((entry_of y).name) n) conditions.Condition.ALL) (sym e) ∙ condition_name_finds x,
+)
+
+option_name_finds : (x : OptionName) → find (λ y. bytes_eq (option_name y) (option_name x)) options.OptionName.ALL ≡ Some x
+option_name_finds option.Abcode = refl
+option_name_finds option.Auxiliary = refl
+option_name_finds option.Cancel = refl
+option_name_finds option.Commarea = refl
+option_name_finds option.Cwa = refl
+option_name_finds option.Data = refl
+option_name_finds option.Erase = refl
+option_name_finds option.Freekb = refl
+option_name_finds option.From = refl
+option_name_finds option.Initimg = refl
+option_name_finds option.Into = refl
+option_name_finds option.Item = refl
+option_name_finds option.Label = refl
+option_name_finds option.Length = refl
+option_name_finds option.Main = refl
+option_name_finds option.Next = refl
+option_name_finds option.Nodump = refl
+option_name_finds option.Nosuspend = refl
+option_name_finds option.Numitems = refl
+option_name_finds option.Program = refl
+option_name_finds option.Queue = refl
+option_name_finds option.Reset = refl
+option_name_finds option.Resource = refl
+option_name_finds option.Rewrite = refl
+option_name_finds option.Set = refl
+option_name_finds option.Transid = refl
+
+pub found_by_option_name : (t : List ℕ) (x : OptionName) → (find (λ y. bytes_eq (option_name y) t) options.OptionName.ALL ≡ Some x) ↔ (option_name x ≡ t)
+found_by_option_name t x = (
+  λ e. (bytes_eq-Decides (option_name x) t).0 (find_passes (λ y. bytes_eq (option_name y) t) options.OptionName.ALL x e),
+  λ e. ap (λ n. find (λ y. bytes_eq (option_name y) n) options.OptionName.ALL) (sym e) ∙ option_name_finds x,
+)

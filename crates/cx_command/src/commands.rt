@@ -1,0 +1,302 @@
+ghost use Rattle.std.specs.Prelude.{◌≡◌, ◌↔◌, ◌==◌, IsTrue, Some};
+ghost use Rattle.std.specs.List.{find};
+ghost use Rattle.cx_command.specs.Commands.{row_of};
+ghost use Rattle.cx_command.specs.Legal.{lists_conditions};
+
+use crate::options::{CommandOption, Mark, OptionName, Rule};
+
+/// A command that a program can give by EXEC CICS.
+///
+/// Application Programmer's Reference Manual, SC33-0077. The function values, the bits of the options
+/// and their order are this project's own.
+#[derive(Clone, Copy, Debug, PartialEq, Eq)]
+pub enum Command {
+    Address,
+    HandleCondition,
+    IgnoreCondition,
+    PushHandle,
+    PopHandle,
+    Receive,
+    WriteqTs,
+    ReadqTs,
+    DeleteqTs,
+    Getmain,
+    Freemain,
+    Link,
+    Xctl,
+    Return,
+    Abend,
+    HandleAbend,
+    Enq,
+    Deq,
+    Suspend,
+    SendText,
+}
+
+impl Command {
+    /// All commands, in the order of their function values.
+    pub const ALL: [Command; 20] = [
+        Command::Address,
+        Command::HandleCondition,
+        Command::IgnoreCondition,
+        Command::PushHandle,
+        Command::PopHandle,
+        Command::Receive,
+        Command::WriteqTs,
+        Command::ReadqTs,
+        Command::DeleteqTs,
+        Command::Getmain,
+        Command::Freemain,
+        Command::Link,
+        Command::Xctl,
+        Command::Return,
+        Command::Abend,
+        Command::HandleAbend,
+        Command::Enq,
+        Command::Deq,
+        Command::Suspend,
+        Command::SendText,
+    ];
+
+    /// The function value, the first two bytes of the argument list's block, and EIBFN afterwards.
+    pub fn function(self) -> u16
+        ensures { result ≡ (row_of self).function }
+    {
+        match self {
+            Command::Address => 0x0202,
+            Command::HandleCondition => 0x0204,
+            Command::IgnoreCondition => 0x020A,
+            Command::PushHandle => 0x020C,
+            Command::PopHandle => 0x020E,
+            Command::Receive => 0x0402,
+            Command::WriteqTs => 0x0A02,
+            Command::ReadqTs => 0x0A04,
+            Command::DeleteqTs => 0x0A06,
+            Command::Getmain => 0x0C02,
+            Command::Freemain => 0x0C04,
+            Command::Link => 0x0E02,
+            Command::Xctl => 0x0E04,
+            Command::Return => 0x0E08,
+            Command::Abend => 0x0E0C,
+            Command::HandleAbend => 0x0E0E,
+            Command::Enq => 0x1204,
+            Command::Deq => 0x1206,
+            Command::Suspend => 0x1208,
+            Command::SendText => 0x1806,
+        }
+    }
+
+    /// The command's name, as `READQ TS`.
+    pub fn name(self) -> &'static str
+        ensures { result.now ≡ (row_of self).name }
+    {
+        match self {
+            Command::Address => "ADDRESS",
+            Command::HandleCondition => "HANDLE CONDITION",
+            Command::IgnoreCondition => "IGNORE CONDITION",
+            Command::PushHandle => "PUSH HANDLE",
+            Command::PopHandle => "POP HANDLE",
+            Command::Receive => "RECEIVE",
+            Command::WriteqTs => "WRITEQ TS",
+            Command::ReadqTs => "READQ TS",
+            Command::DeleteqTs => "DELETEQ TS",
+            Command::Getmain => "GETMAIN",
+            Command::Freemain => "FREEMAIN",
+            Command::Link => "LINK",
+            Command::Xctl => "XCTL",
+            Command::Return => "RETURN",
+            Command::Abend => "ABEND",
+            Command::HandleAbend => "HANDLE ABEND",
+            Command::Enq => "ENQ",
+            Command::Deq => "DEQ",
+            Command::Suspend => "SUSPEND",
+            Command::SendText => "SEND TEXT",
+        }
+    }
+
+    /// The command of that function value, or None where no command has it.
+    pub fn from_function(function: u16) -> Option<Command>
+        ensures { (command : Command) → (result ≡ Some command) ↔ ((row_of command).function ≡ function) }
+    {
+        with_function(&Command::ALL, function)
+    }
+
+    /// The options that have a bit in option byte 1, in the order of their words in the argument list.
+    pub fn options(self) -> &'static [CommandOption]
+        ensures { result.now ≡ (row_of self).options }
+    {
+        match self {
+            Command::Address => &ADDRESS,
+            Command::Receive => &RECEIVE,
+            Command::WriteqTs => &WRITEQ_TS,
+            Command::ReadqTs => &READQ_TS,
+            Command::DeleteqTs => &DELETEQ_TS,
+            Command::Getmain => &GETMAIN,
+            Command::Freemain => &FREEMAIN,
+            Command::Link => &LINK,
+            Command::Xctl => &XCTL,
+            Command::Return => &RETURN,
+            Command::Abend => &ABEND,
+            Command::HandleAbend => &HANDLE_ABEND,
+            Command::Enq => &ENQ,
+            Command::Deq => &DEQ,
+            Command::SendText => &SEND_TEXT,
+            Command::HandleCondition
+            | Command::IgnoreCondition
+            | Command::PushHandle
+            | Command::PopHandle
+            | Command::Suspend => &[],
+        }
+    }
+
+    /// The rules of the command's legal sets of options.
+    pub fn rules(self) -> &'static [Rule]
+        ensures { result.now ≡ (row_of self).rules }
+    {
+        match self {
+            Command::WriteqTs => &[Rule::NotBoth(0x10, 0x08), Rule::Needs(0x01, 0x02)],
+            Command::ReadqTs => &[Rule::OneOfTwo(0x40, 0x04), Rule::NotBoth(0x10, 0x08)],
+            Command::Link | Command::Xctl | Command::Return => &[Rule::Together(0x40, 0x20)],
+            Command::HandleAbend => &[Rule::OneOfThree(0x80, 0x40, 0x20)],
+            Command::Address
+            | Command::HandleCondition
+            | Command::IgnoreCondition
+            | Command::PushHandle
+            | Command::PopHandle
+            | Command::Receive
+            | Command::DeleteqTs
+            | Command::Getmain
+            | Command::Freemain
+            | Command::Abend
+            | Command::Enq
+            | Command::Deq
+            | Command::Suspend
+            | Command::SendText => &[],
+        }
+    }
+
+    /// Whether the command lists conditions: option byte 1 is then their number, and two bytes for each follow the block.
+    pub fn lists_conditions(self) -> bool
+        ensures { result ≡ lists_conditions self }
+    {
+        matches!(self, Command::HandleCondition | Command::IgnoreCondition)
+    }
+}
+
+/// The first of some commands that has a function value.
+fn with_function(commands: &[Command], function: u16) -> Option<Command>
+    ensures { result ≡ find (λ command. (row_of command).function == function) commands.now }
+{
+    commands
+        .iter()
+        .copied()
+        .find(|command| command.function() == function)
+}
+
+#[rattlefmt::skip]
+const ADDRESS: [CommandOption; 1] = [
+    CommandOption { bit: 0x80, name: OptionName::Cwa, mark: Mark::Pointer, required: true },
+];
+
+#[rattlefmt::skip]
+const RECEIVE: [CommandOption; 2] = [
+    CommandOption { bit: 0x80, name: OptionName::Into, mark: Mark::Bytes, required: true },
+    CommandOption { bit: 0x40, name: OptionName::Length, mark: Mark::HalfwordBothWays, required: true },
+];
+
+#[rattlefmt::skip]
+const WRITEQ_TS: [CommandOption; 8] = [
+    CommandOption { bit: 0x80, name: OptionName::Queue, mark: Mark::Name8, required: true },
+    CommandOption { bit: 0x40, name: OptionName::From, mark: Mark::Bytes, required: true },
+    CommandOption { bit: 0x20, name: OptionName::Length, mark: Mark::Halfword, required: true },
+    CommandOption { bit: 0x10, name: OptionName::Main, mark: Mark::Flag, required: false },
+    CommandOption { bit: 0x08, name: OptionName::Auxiliary, mark: Mark::Flag, required: false },
+    CommandOption { bit: 0x04, name: OptionName::Nosuspend, mark: Mark::Flag, required: false },
+    CommandOption { bit: 0x02, name: OptionName::Item, mark: Mark::HalfwordOutWithoutRewrite, required: false },
+    CommandOption { bit: 0x01, name: OptionName::Rewrite, mark: Mark::Flag, required: false },
+];
+
+#[rattlefmt::skip]
+const READQ_TS: [CommandOption; 7] = [
+    CommandOption { bit: 0x80, name: OptionName::Queue, mark: Mark::Name8, required: true },
+    CommandOption { bit: 0x40, name: OptionName::Into, mark: Mark::Bytes, required: false },
+    CommandOption { bit: 0x20, name: OptionName::Length, mark: Mark::HalfwordBothWaysWithoutSet, required: true },
+    CommandOption { bit: 0x10, name: OptionName::Item, mark: Mark::Halfword, required: false },
+    CommandOption { bit: 0x08, name: OptionName::Next, mark: Mark::Flag, required: false },
+    CommandOption { bit: 0x04, name: OptionName::Set, mark: Mark::Pointer, required: false },
+    CommandOption { bit: 0x02, name: OptionName::Numitems, mark: Mark::HalfwordOut, required: false },
+];
+
+#[rattlefmt::skip]
+const DELETEQ_TS: [CommandOption; 1] = [
+    CommandOption { bit: 0x80, name: OptionName::Queue, mark: Mark::Name8, required: true },
+];
+
+#[rattlefmt::skip]
+const GETMAIN: [CommandOption; 4] = [
+    CommandOption { bit: 0x80, name: OptionName::Set, mark: Mark::Pointer, required: true },
+    CommandOption { bit: 0x40, name: OptionName::Length, mark: Mark::Halfword, required: true },
+    CommandOption { bit: 0x20, name: OptionName::Initimg, mark: Mark::Byte, required: false },
+    CommandOption { bit: 0x10, name: OptionName::Nosuspend, mark: Mark::Flag, required: false },
+];
+
+#[rattlefmt::skip]
+const FREEMAIN: [CommandOption; 1] = [
+    CommandOption { bit: 0x80, name: OptionName::Data, mark: Mark::Address, required: true },
+];
+
+#[rattlefmt::skip]
+const LINK: [CommandOption; 3] = [
+    CommandOption { bit: 0x80, name: OptionName::Program, mark: Mark::Name8, required: true },
+    CommandOption { bit: 0x40, name: OptionName::Commarea, mark: Mark::Address, required: false },
+    CommandOption { bit: 0x20, name: OptionName::Length, mark: Mark::Halfword, required: false },
+];
+
+#[rattlefmt::skip]
+const XCTL: [CommandOption; 3] = [
+    CommandOption { bit: 0x80, name: OptionName::Program, mark: Mark::Name8, required: true },
+    CommandOption { bit: 0x40, name: OptionName::Commarea, mark: Mark::Bytes, required: false },
+    CommandOption { bit: 0x20, name: OptionName::Length, mark: Mark::Halfword, required: false },
+];
+
+#[rattlefmt::skip]
+const RETURN: [CommandOption; 3] = [
+    CommandOption { bit: 0x80, name: OptionName::Transid, mark: Mark::Name4, required: false },
+    CommandOption { bit: 0x40, name: OptionName::Commarea, mark: Mark::Bytes, required: false },
+    CommandOption { bit: 0x20, name: OptionName::Length, mark: Mark::Halfword, required: false },
+];
+
+#[rattlefmt::skip]
+const ABEND: [CommandOption; 3] = [
+    CommandOption { bit: 0x80, name: OptionName::Abcode, mark: Mark::Name4, required: false },
+    CommandOption { bit: 0x40, name: OptionName::Cancel, mark: Mark::Flag, required: false },
+    CommandOption { bit: 0x20, name: OptionName::Nodump, mark: Mark::Flag, required: false },
+];
+
+#[rattlefmt::skip]
+const HANDLE_ABEND: [CommandOption; 3] = [
+    CommandOption { bit: 0x80, name: OptionName::Label, mark: Mark::Address, required: false },
+    CommandOption { bit: 0x40, name: OptionName::Cancel, mark: Mark::Flag, required: false },
+    CommandOption { bit: 0x20, name: OptionName::Reset, mark: Mark::Flag, required: false },
+];
+
+#[rattlefmt::skip]
+const ENQ: [CommandOption; 3] = [
+    CommandOption { bit: 0x80, name: OptionName::Resource, mark: Mark::BytesOrAddress, required: true },
+    CommandOption { bit: 0x40, name: OptionName::Length, mark: Mark::Halfword, required: false },
+    CommandOption { bit: 0x20, name: OptionName::Nosuspend, mark: Mark::Flag, required: false },
+];
+
+#[rattlefmt::skip]
+const DEQ: [CommandOption; 2] = [
+    CommandOption { bit: 0x80, name: OptionName::Resource, mark: Mark::BytesOrAddress, required: true },
+    CommandOption { bit: 0x40, name: OptionName::Length, mark: Mark::Halfword, required: false },
+];
+
+#[rattlefmt::skip]
+const SEND_TEXT: [CommandOption; 4] = [
+    CommandOption { bit: 0x80, name: OptionName::From, mark: Mark::Bytes, required: true },
+    CommandOption { bit: 0x40, name: OptionName::Length, mark: Mark::Halfword, required: true },
+    CommandOption { bit: 0x20, name: OptionName::Erase, mark: Mark::Flag, required: false },
+    CommandOption { bit: 0x10, name: OptionName::Freekb, mark: Mark::Flag, required: false },
+];

@@ -1,0 +1,4 @@
+pub mod Lookup
+pub mod Characters
+pub mod Names
+pub mod Aids

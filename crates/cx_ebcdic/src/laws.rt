@@ -1,0 +1,19 @@
+//! What follows from the table of characters.
+ghost use Rattle.std.specs.Prelude.{◌≡◌, ◌≢◌, ◌⊎◌, ℕ, Some, None};
+ghost use Rattle.cx_ebcdic.specs.Characters.{code_of, shown_as};
+
+/// A character that has a code is what shows that code.
+pub fn shown_as_itself()
+    ensures { (character code : ℕ) → code_of character ≡ Some code → shown_as code ≡ character }
+{}
+
+/// Each byte is shown by the character whose code it is; or no character has it, and it is shown as a period.
+pub fn shown_by_its_character_or_a_period()
+    ensures { (byte : ℕ) → (code_of (shown_as byte) ≡ Some byte)
+        ⊎ ((shown_as byte ≡ 46) × ((character : ℕ) → code_of character ≢ Some byte)) }
+{}
+
+/// The period's own code is the only one that a period has.
+pub fn period_has_one_code()
+    ensures { code_of 46 ≡ Some 0x4B }
+{}

@@ -1,0 +1,15 @@
+//! Characters and names in EBCDIC, and the attention identifiers of a 3270 terminal.
+#![tactic(auto)]
+
+mod aids;
+mod characters;
+pub mod laws;
+mod lines;
+mod names;
+#[cfg(test)]
+mod tests;
+
+pub use aids::Aid;
+pub use characters::{display, to_ebcdic};
+pub use lines::{TextFault, encode_line};
+pub use names::{Name4, Name8};
