@@ -1,0 +1,4 @@
+pub mod TableLemmas
+pub mod SpellingLemmas
+pub mod ReadingLemmas
+pub mod LawLemmas

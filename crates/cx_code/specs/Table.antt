@@ -1,0 +1,182 @@
+-- The table of instructions (POP, the instructions' own descriptions and appendix B).
+use Rattle.std.specs.Prelude.{ℕ, ◌/◌, List, [], ◌∷◌, Bool, true, false, codes, find, ◌==◌, Option, if◌then◌else◌}
+use Rattle.std.specs.Str.{bytes_eq}
+use Rattle.cx_code.specs.declared.table.Op.{Op}
+use Rattle.cx_code.specs.declared.table.Op.TheVariants.{
+  Balr,
+  Bctr,
+  Bcr,
+  Ltr,
+  Lcr,
+  Clr,
+  Xr,
+  Lr,
+  Cr,
+  Ar,
+  Sr,
+  Mr,
+  Dr,
+  Sth,
+  La,
+  Stc,
+  Ic,
+  Ex,
+  Bal,
+  Bct,
+  Bc,
+  Lh,
+  Ch,
+  Ah,
+  Sh,
+  Cvd,
+  Cvb,
+  St,
+  Cl,
+  L,
+  C,
+  A,
+  S,
+  M,
+  D,
+  Srl,
+  Sll,
+  Sra,
+  Sla,
+  Srda,
+  Stm,
+  Tm,
+  Mvi,
+  Ni,
+  Cli,
+  Oi,
+  Lm,
+  Stcm,
+  Icm,
+  Mvc,
+  Clc,
+  Xc,
+  Tr,
+  Trt,
+  Pack,
+  Unpk,
+}
+use Rattle.cx_code.specs.declared.table.Format.{Format}
+use Rattle.cx_code.specs.declared.table.Format.TheVariants as form
+
+-- a row: the mnemonic, the operation code and the format
+pub record Row : Type 0 where
+  pub name : List ℕ
+  pub code : ℕ
+  pub format : Format
+
+abbrev pub of : List ℕ → ℕ → Format → Row
+of name code format = record { name = name; code = code; format = format }
+
+unfoldable pub row_of : Op → Row
+row_of Balr = of (codes "BALR") 0x05 form.Rr
+row_of Bctr = of (codes "BCTR") 0x06 form.Rr
+row_of Bcr = of (codes "BCR") 0x07 form.Rr
+row_of Ltr = of (codes "LTR") 0x12 form.Rr
+row_of Lcr = of (codes "LCR") 0x13 form.Rr
+row_of Clr = of (codes "CLR") 0x15 form.Rr
+row_of Xr = of (codes "XR") 0x17 form.Rr
+row_of Lr = of (codes "LR") 0x18 form.Rr
+row_of Cr = of (codes "CR") 0x19 form.Rr
+row_of Ar = of (codes "AR") 0x1A form.Rr
+row_of Sr = of (codes "SR") 0x1B form.Rr
+row_of Mr = of (codes "MR") 0x1C form.Rr
+row_of Dr = of (codes "DR") 0x1D form.Rr
+row_of Sth = of (codes "STH") 0x40 form.Rx
+row_of La = of (codes "LA") 0x41 form.Rx
+row_of Stc = of (codes "STC") 0x42 form.Rx
+row_of Ic = of (codes "IC") 0x43 form.Rx
+row_of Ex = of (codes "EX") 0x44 form.Rx
+row_of Bal = of (codes "BAL") 0x45 form.Rx
+row_of Bct = of (codes "BCT") 0x46 form.Rx
+row_of Bc = of (codes "BC") 0x47 form.Rx
+row_of Lh = of (codes "LH") 0x48 form.Rx
+row_of Ch = of (codes "CH") 0x49 form.Rx
+row_of Ah = of (codes "AH") 0x4A form.Rx
+row_of Sh = of (codes "SH") 0x4B form.Rx
+row_of Cvd = of (codes "CVD") 0x4E form.Rx
+row_of Cvb = of (codes "CVB") 0x4F form.Rx
+row_of St = of (codes "ST") 0x50 form.Rx
+row_of Cl = of (codes "CL") 0x55 form.Rx
+row_of L = of (codes "L") 0x58 form.Rx
+row_of C = of (codes "C") 0x59 form.Rx
+row_of A = of (codes "A") 0x5A form.Rx
+row_of S = of (codes "S") 0x5B form.Rx
+row_of M = of (codes "M") 0x5C form.Rx
+row_of D = of (codes "D") 0x5D form.Rx
+row_of Srl = of (codes "SRL") 0x88 form.Rs
+row_of Sll = of (codes "SLL") 0x89 form.Rs
+row_of Sra = of (codes "SRA") 0x8A form.Rs
+row_of Sla = of (codes "SLA") 0x8B form.Rs
+row_of Srda = of (codes "SRDA") 0x8E form.Rs
+row_of Stm = of (codes "STM") 0x90 form.Rs
+row_of Tm = of (codes "TM") 0x91 form.Si
+row_of Mvi = of (codes "MVI") 0x92 form.Si
+row_of Ni = of (codes "NI") 0x94 form.Si
+row_of Cli = of (codes "CLI") 0x95 form.Si
+row_of Oi = of (codes "OI") 0x96 form.Si
+row_of Lm = of (codes "LM") 0x98 form.Rs
+row_of Stcm = of (codes "STCM") 0xBE form.Rs
+row_of Icm = of (codes "ICM") 0xBF form.Rs
+row_of Mvc = of (codes "MVC") 0xD2 form.Ss
+row_of Clc = of (codes "CLC") 0xD5 form.Ss
+row_of Xc = of (codes "XC") 0xD7 form.Ss
+row_of Tr = of (codes "TR") 0xDC form.Ss
+row_of Trt = of (codes "TRT") 0xDD form.Ss
+row_of Pack = of (codes "PACK") 0xF2 form.Ss2
+row_of Unpk = of (codes "UNPK") 0xF3 form.Ss2
+
+abbrev pub name_of : Op → List ℕ
+name_of op = (row_of op).name
+
+abbrev pub code_of : Op → ℕ
+code_of op = (row_of op).code
+
+abbrev pub format_of : Op → Format
+format_of op = (row_of op).format
+
+-- every row once, in the order of the codes
+unfoldable pub ops : List Op
+ops =
+    Balr ∷ Bctr ∷ Bcr ∷ Ltr ∷ Lcr ∷ Clr ∷ Xr ∷ Lr ∷ Cr ∷ Ar ∷ Sr ∷ Mr ∷ Dr ∷ Sth ∷ La ∷
+    Stc ∷ Ic ∷ Ex ∷ Bal ∷ Bct ∷ Bc ∷ Lh ∷ Ch ∷ Ah ∷ Sh ∷ Cvd ∷ Cvb ∷ St ∷ Cl ∷ L ∷ C ∷
+    A ∷ S ∷ M ∷ D ∷ Srl ∷ Sll ∷ Sra ∷ Sla ∷ Srda ∷ Stm ∷ Tm ∷ Mvi ∷ Ni ∷ Cli ∷ Oi ∷ Lm ∷
+    Stcm ∷ Icm ∷ Mvc ∷ Clc ∷ Xc ∷ Tr ∷ Trt ∷ Pack ∷ Unpk ∷ []
+
+-- the instruction that has this operation code
+unfoldable pub op_at : ℕ → Option Op
+op_at code = find (λ op. code_of op == code) ops
+
+-- the instruction that has this mnemonic
+unfoldable pub op_named : List ℕ → Option Op
+op_named name = find (λ op. bytes_eq (name_of op) name) ops
+
+-- the shifts, which ignore the R3 field (POP, "Shift left single" and the other shifts)
+unfoldable pub is_shift : Op → Bool
+is_shift Srl = true
+is_shift Sll = true
+is_shift Sra = true
+is_shift Sla = true
+is_shift Srda = true
+is_shift _ = false
+
+-- the length by the first two bits of the operation code: 00 is two bytes, 01 and 10 are four,
+-- 11 is six (POP, "Instruction formats")
+abbrev pub length_of_code : ℕ → ℕ
+length_of_code code = if code / 64 == 0 then 2 else (if code / 64 == 3 then 6 else 4)
+
+-- the length by the format
+abbrev pub length_of_format : Format → ℕ
+length_of_format form.Rr = 2
+length_of_format form.Rx = 4
+length_of_format form.Rs = 4
+length_of_format form.Si = 4
+length_of_format form.Ss = 6
+length_of_format form.Ss2 = 6
+
+abbrev pub length_of : Op → ℕ
+length_of op = length_of_format (format_of op)

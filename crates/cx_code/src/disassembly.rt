@@ -1,0 +1,83 @@
+//! Disassembly of a text.
+
+ghost use Rattle.std.specs.Prelude.{◌≡◌, IfOk};
+ghost use Rattle.cx_code.specs.Reading.{canonical};
+ghost use Rattle.cx_code.specs.Lines.{bytes_in, line_of, lines};
+
+use crate::coding::{encode, instruction_at};
+use crate::image::{Bytes, Span, SpanKind};
+use crate::instruction::Inst;
+use std::alloc::{AllocError, Global};
+
+/// What a line of a disassembly stands for.
+#[derive(Debug, Drop)]
+pub enum What {
+    /// An instruction.
+    Code(Inst),
+    /// Bytes, perhaps none.
+    Data(Bytes),
+    /// So many bytes that nothing was written to.
+    Space(u32),
+}
+
+/// A line of a disassembly.
+#[derive(Debug, Drop)]
+pub struct Line {
+    /// The offset in the text, in bytes.
+    pub at: u32,
+    /// What stands there.
+    pub what: What,
+}
+
+// The instruction whose canonical spelling these bytes are, all of them.
+#[tactic(auto, unfolding(crate::specs::Reading::canonical))]
+fn canonical(bytes: &[u8]) -> Option<Inst>
+    ensures { result ≡ canonical bytes.now }
+{
+    let inst = instruction_at(bytes)?;
+    (encode(&inst).as_slice() == bytes).then_some(inst)
+}
+
+// The bytes of a span that stand in the text.
+fn bytes_in<'a>(text: &'a [u8], span: Span) -> &'a [u8]
+    ensures { result.now ≡ bytes_in text.now span }
+{
+    let (_, behind) = text.split_at(text.len().min(span.start as usize));
+    let (bytes, _) = behind.split_at(behind.len().min(span.len as usize));
+    bytes
+}
+
+// The line of a span.
+#[tactic(auto, unfolding(crate::specs::Lines::line_of))]
+fn line_of(alloc: Global, text: &[u8], span: Span) -> Result<Line, AllocError>
+    ensures { IfOk result (λ line. line ≡ line_of text.now span) }
+{
+    let bytes = bytes_in(text, span);
+    let code = match span.kind {
+        SpanKind::Code => canonical(bytes).map(What::Code),
+        SpanKind::Data => None,
+        SpanKind::Space => Some(What::Space(span.len)),
+    };
+    let what = match code {
+        Some(what) => what,
+        None => What::Data(Bytes::from_vec(bytes.to_vec(alloc)?)),
+    };
+    Ok(Line {
+        at: span.start,
+        what,
+    })
+}
+
+/// A line for each span, in order. A code span is an instruction where its bytes are exactly a
+/// canonical spelling, and data otherwise: so is a shift whose third register isn't zero. Bytes past
+/// the text's end are left out of code and data spans, also before a code span is judged; with none
+/// left the line is data without bytes. A space span keeps its length.
+pub fn disassemble(alloc: Global, text: &[u8], spans: &[Span]) -> Result<Vec<Line>, AllocError>
+    ensures { IfOk result (λ found. found.items ≡ lines text.now spans.now) }
+{
+    let mut found = Vec::new(alloc);
+    for span in spans {
+        found.push(line_of(alloc, text, *span)?)?;
+    }
+    Ok(found)
+}

@@ -1,0 +1,10 @@
+pub mod Machine
+pub mod Codes
+pub mod Fetch
+pub mod State
+pub mod Frame
+pub mod Rows
+pub mod Decide
+pub mod Storing
+pub mod Step
+pub mod Advance

@@ -1,0 +1,80 @@
+-- One step (POP, "Instruction Execution", "Execute"; the entry is this project's own).
+use Rattle.std.specs.Prelude.{◌≡◌, ◌≢◌, ℕ, ◌+◌, ◌/◌, ◌%◌, List, [], ◌∷◌, length, Bool, true, false, ◌==◌, bit_or, Result, Ok, Err, MatchBool, MatchResult, if◌then◌else◌}
+use Rattle.cx_code.specs.declared.table.Op.{Op}
+use Rattle.cx_code.specs.declared.table.Op.TheVariants as op
+use Rattle.cx_code.specs.declared.instruction.Fields.{Fields}
+use Rattle.cx_code.specs.declared.instruction.Fields.TheVariants.{Rx}
+use Rattle.cx_code.specs.Spelling.{Instruction}
+use Rattle.cx_exec.specs.declared.machine.Interruption.{Interruption}
+use Rattle.cx_exec.specs.declared.machine.Interruption.TheVariants as interruption
+use Rattle.cx_exec.specs.declared.machine.Step.{Step}
+use Rattle.cx_exec.specs.declared.machine.Step.TheVariants.{Done, AtEntry, Interrupt}
+use Rattle.cx_exec.specs.declared.rows.Ahead.{Ahead}
+use Rattle.cx_exec.specs.Machine.{Machine, reg, address, effective}
+use Rattle.cx_exec.specs.Fetch.{code_at, read_as}
+use Rattle.cx_exec.specs.Frame.{Outcome, Stops}
+use Rattle.cx_exec.specs.Rows.{Effect}
+
+abbrev pub entry : ℕ
+entry = 0x800
+
+-- where the machine goes on after so many bytes of an instruction
+abbrev pub ahead_of : ℕ → ℕ → Ahead
+ahead_of place bytes = record { length = bytes / 2; next = address (place + bytes) }
+
+-- the copy of a target that EX changes: the second byte is joined by OR with bits 24 to 31 of R1, unless R1 is 0
+abbrev pub joined_second : ℕ → List ℕ → List ℕ
+joined_second low [] = []
+joined_second low (code ∷ []) = code ∷ []
+joined_second low (code ∷ second ∷ rest) = code ∷ bit_or second low ∷ rest
+
+abbrev pub changed_copy : Machine → ℕ → List ℕ → List ℕ
+changed_copy m r1 bytes = if r1 == 0 then bytes else joined_second (reg m r1 % 256) bytes
+
+abbrev pub is_execute : Op → Bool
+is_execute op.Ex = true
+is_execute _ = false
+
+-- a target may not be an EX itself
+abbrev pub not_execute : Instruction → Result Instruction Interruption
+not_execute i = if is_execute i.op then Err interruption.Execute else Ok i
+
+abbrev pub then_result : {A B : Type 0} → Result A Interruption → (A → Result B Interruption) → Result B Interruption
+then_result (Ok x) f = f x
+then_result (Err cause) f = Err cause
+
+-- the target of an EX, from its changed copy
+unfoldable pub target_at : Machine → ℕ → ℕ → Result Instruction Interruption
+target_at m r1 a =
+    then_result (code_at m.storage a) (λ bytes. then_result (read_as (changed_copy m r1 bytes)) not_execute)
+
+-- The effect of EX is that of its target's changed copy, with a length of 2 and the address after the EX.
+unfoldable pub Executes : ℕ → ℕ → ℕ → Machine → Outcome → Machine → Type 0
+Executes r1 a next m outcome after =
+    MatchResult (target_at m r1 a)
+    (λ i. Effect i (record { length = 2; next = next }) m outcome after)
+    (λ cause. Stops cause m outcome after)
+
+abbrev pub ExecutesWith : Fields → Instruction → Ahead → Machine → Outcome → Machine → Type 0
+ExecutesWith (Rx r1 x2 b2 d2) i ahead m outcome after = Executes r1 (effective m.regs x2 b2 d2) ahead.next m outcome after
+ExecutesWith _ i ahead m outcome after = Effect i ahead m outcome after
+
+unfoldable pub Performs : Instruction → Ahead → Machine → Outcome → Machine → Type 0
+Performs i ahead m outcome after =
+    MatchBool (is_execute i.op) (ExecutesWith i.fields i ahead m outcome after) (Effect i ahead m outcome after)
+
+-- the instruction that storage holds at this moment at the next address, or what interrupts its fetch
+unfoldable pub Runs : Machine → Outcome → Machine → Type 0
+Runs m outcome after =
+    MatchResult (code_at m.storage m.next)
+    (λ bytes.
+    MatchResult (read_as bytes)
+    (λ i. Performs i (ahead_of m.next (length bytes)) m outcome after)
+    (λ cause. Stops cause m outcome after))
+    (λ cause. Stops cause m outcome after)
+
+-- a step, and the machine that it leaves
+unfoldable pub Steps : Machine → Step → Machine → Type 0
+Steps m AtEntry after = (m.next ≡ entry) × (after ≡ m)
+Steps m Done after = (m.next ≢ entry) × Runs m (Ok tt) after
+Steps m (Interrupt cause) after = (m.next ≢ entry) × Runs m (Err cause) after

@@ -1,0 +1,78 @@
+//! Fetching an instruction.
+
+ghost use Rattle.std.specs.Prelude.{◌≡◌, ◌≤◌, ◌<◌, ◌^◌, length, Ok, OnOk, IfOk};
+ghost use Rattle.cx_exec.specs.Fetch.{code_at, read_as};
+ghost use Rattle.cx_exec.specs.Step.{joined_second};
+
+use crate::machine::Interruption;
+use cx_code::{Inst, decode, instruction_length};
+use cx_storage::Store;
+use std::marker::Model;
+
+/// The bytes of one instruction.
+#[derive(Drop)]
+pub(crate) struct Code {
+    bytes: [u8; 6],
+    length: usize,
+}
+
+impl Model for Code {
+    ghost use Rattle.std.specs.Prelude.{List, ℕ, take, ◌≤◌};
+
+    ghost Value = { List ℕ };
+
+    ghost view = { λ code. take code.length code.bytes };
+
+    ghost invariant = { λ code. code.length ≤ 6 };
+}
+
+impl Code {
+    /// How many bytes the instruction has.
+    pub(crate) fn len(&self) -> usize
+        ensures value { result ≡ length self.now }
+        ensures short { result ≤ 6 }
+    {
+        self.length
+    }
+
+    /// The instruction that the bytes read as.
+    #[tactic(auto, unfolding(crate::specs::Fetch::read_as))]
+    pub(crate) fn read(&self) -> Result<Inst, Interruption>
+        ensures { result ≡ read_as self.now }
+    {
+        match decode(&self.bytes[..self.length]) {
+            Some((inst, _)) => Ok(inst),
+            None => Err(Interruption::Operation),
+        }
+    }
+
+    /// Joins a byte to the second one by OR.
+    pub(crate) fn join_second(&mut self, low: u8)
+        ensures { self.new ≡ joined_second low self.old }
+    {
+        if self.length > 1 {
+            self.bytes[1] |= low;
+        }
+    }
+}
+
+/// The bytes of the instruction at an address.
+#[tactic(auto, unfolding(crate::specs::Fetch::code_at))]
+pub(crate) fn code_at<S: Store>(store: &S, at: u32) -> Result<Code, Interruption>
+    requires { at < 2 ^ 24 }
+    ensures { result ≡ code_at (S.storage store.now) at }
+{
+    if at % 2 == 1 {
+        return Err(Interruption::Specification);
+    }
+    let Some(first) = store.byte(at) else {
+        return Err(Interruption::Addressing);
+    };
+    let length = instruction_length(first);
+    let mut bytes = [0; 6];
+    let code = &mut bytes[..length];
+    if !store.read(at, code) {
+        return Err(Interruption::Addressing);
+    }
+    Ok(Code { bytes, length })
+}

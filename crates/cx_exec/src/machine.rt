@@ -1,0 +1,80 @@
+//! The processor's state, and how a step or a run can end.
+
+ghost use Rattle.std.specs.Prelude.{◌<◌, ◌≤◌, ◌^◌};
+
+/// The address at which execution stops: the entry to the region. No storage is there.
+pub const ENTRY: u32 = 0x800;
+
+/// A processor: sixteen registers of 32 bits, the condition code (0 to 3), and the address of the next
+/// instruction (below 2^24).
+///
+/// Principles of Operation, GA22-7000, "Program Status Word", "General Registers".
+#[derive(Drop)]
+pub struct Cpu {
+    pub regs: [u32; 16],
+    pub cc: u8,
+    pub next: u32,
+    pub ghost code: { cc ≤ 3 },
+    pub ghost address: { next < 2 ^ 24 },
+}
+
+/// A program interruption.
+///
+/// Principles of Operation, "Program Interruption".
+#[derive(Clone, Copy, Debug, PartialEq, Eq)]
+pub enum Interruption {
+    /// The operation code is in no row of the table.
+    Operation,
+    /// The target of EX is an EX.
+    Execute,
+    /// A byte is in no area.
+    Addressing,
+    /// An odd instruction address, or an odd register where an even one is due.
+    Specification,
+    /// An invalid decimal digit or sign.
+    Data,
+    /// A division by zero, or a quotient that does not fit.
+    FixedPointDivide,
+}
+
+impl Interruption {
+    ghost use Rattle.std.specs.Prelude.{◌≡◌};
+    ghost use Rattle.cx_exec.specs.Codes.{interruption_code};
+
+    /// The interruption's code: 1 operation, 3 execute, 5 addressing, 6 specification, 7 data,
+    /// 9 fixed-point divide.
+    pub fn code(self) -> u8
+        ensures { result ≡ interruption_code self }
+    {
+        match self {
+            Interruption::Operation => 1,
+            Interruption::Execute => 3,
+            Interruption::Addressing => 5,
+            Interruption::Specification => 6,
+            Interruption::Data => 7,
+            Interruption::FixedPointDivide => 9,
+        }
+    }
+}
+
+/// How a step ended.
+#[derive(Clone, Copy, Debug, PartialEq, Eq)]
+pub enum Step {
+    /// The instruction was performed.
+    Done,
+    /// The next address is the entry: nothing was fetched, and nothing changed.
+    AtEntry,
+    /// The instruction was interrupted, and nothing changed but what its row says.
+    Interrupt(Interruption),
+}
+
+/// How a run of instructions ended.
+#[derive(Clone, Copy, Debug, PartialEq, Eq)]
+pub enum Halt {
+    /// The next address is the entry.
+    AtEntry,
+    /// An instruction was interrupted; the address is the next one that the processor is left with.
+    Interrupt(Interruption, u32),
+    /// As many instructions as the limit allows were performed.
+    Limit,
+}

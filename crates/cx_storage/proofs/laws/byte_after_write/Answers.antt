@@ -1,0 +1,6 @@
+use Rattle.cx_storage.specs.Bytes.{written_none}
+use Rattle.cx_storage.specs.Writes.{byte_after_write}
+use Rattle.cx_storage.proofs.laws.byte_after_write.Goals as goal
+
+pub returns : goal.returns
+returns c = record { whole = byte_after_write; nothing = written_none }

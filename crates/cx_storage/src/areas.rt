@@ -1,0 +1,32 @@
+// Areas and who owns them (this product's own: the manual's storage has none).
+
+/// What an area is for.
+#[derive(Clone, Copy, Debug, PartialEq, Eq)]
+pub enum Kind {
+    /// The common work area, or a program.
+    Fixed,
+    /// Got by a task's own request.
+    Got,
+    /// All other areas of a task.
+    System,
+}
+
+/// Who owns an area.
+#[derive(Clone, Copy, Debug, PartialEq, Eq)]
+pub struct Owner {
+    /// 0 for the region, else the position of the terminal, counted from 1.
+    pub slot: u8,
+    /// What the area is for.
+    pub kind: Kind,
+}
+
+/// An area: `len` bytes from the address `start` on, and its owner.
+#[derive(Clone, Copy, Debug, PartialEq, Eq)]
+pub struct Area {
+    /// The address of the area's first byte.
+    pub start: u32,
+    /// The number of its bytes.
+    pub len: u32,
+    /// Who owns it.
+    pub owner: Owner,
+}

@@ -1,0 +1,87 @@
+// The laws of storage, on functions that do nothing: each promises a statement of `specs/Laws.antt`.
+ghost use Rattle.cx_storage.specs.Laws.{AreasApart, PresentInAreas, SameStorage, SpanIsBytes, ByteAfterSet, ByteAfterWrite, NothingWritten, SpanAfterWrite, SpanAside, WriteKeepsAreas, OthersStay, FreshArea, AreasFreed, PlaceIsFree, PlaceDecides, SoundKept, WordAfterWrite};
+ghost use Rattle.cx_storage.specs.Storage.{IsSound};
+
+use crate::stores::Store;
+
+/// Every store is sound: its areas don't meet, are below 2^24 and have their bytes.
+pub fn store_is_sound<S: Store>(_store: &S)
+    ensures { IsSound (S.storage _store.now) }
+{}
+
+/// No two areas meet.
+pub fn areas_apart()
+    ensures { AreasApart }
+{}
+
+/// A byte is present exactly in an area, and is below 256.
+pub fn present_in_areas()
+    ensures { PresentInAreas }
+{}
+
+/// Areas and bytes decide storage.
+pub fn same_storage()
+    ensures { SameStorage }
+{}
+
+/// A span is the bytes at its addresses.
+pub fn span_is_bytes()
+    ensures { SpanIsBytes }
+{}
+
+/// What one byte written leaves.
+pub fn byte_after_set()
+    ensures { ByteAfterSet }
+{}
+
+/// What bytes written leave, byte by byte; nothing where one of them is absent.
+pub fn byte_after_write()
+    ensures whole { ByteAfterWrite }
+    ensures nothing { NothingWritten }
+{}
+
+/// What a span reads after a write.
+pub fn span_after_write()
+    ensures same { SpanAfterWrite }
+    ensures aside { SpanAside }
+{}
+
+/// A write changes no area.
+pub fn write_keeps_areas()
+    ensures { WriteKeepsAreas }
+{}
+
+/// A write into some areas leaves the bytes of all others.
+pub fn others_stay()
+    ensures { OthersStay }
+{}
+
+/// What an area put in leaves.
+pub fn fresh_area()
+    ensures { FreshArea }
+{}
+
+/// What areas freed leave.
+pub fn areas_freed()
+    ensures { AreasFreed }
+{}
+
+/// What a place is.
+pub fn place_is_free()
+    ensures { PlaceIsFree }
+{}
+
+/// There is one least place at most.
+pub fn place_decides()
+    ensures { PlaceDecides }
+{}
+
+/// Every change keeps storage sound.
+pub fn sound_kept()
+    ensures { SoundKept }
+{}
+
+/// A word written reads as it is, its first byte the highest.
+pub fn word_after_write()
+    ensures { WordAfterWrite }
+{}

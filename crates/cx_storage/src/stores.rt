@@ -1,0 +1,157 @@
+// The trait `Store`: what each call does, over the storage that a store is seen as.
+ghost use Rattle.std.specs.Prelude.{◌≡◌, ℕ, ◌+◌, ◌^◌, ◌<◌, ◌≤◌, ◌%◌, IsTrue, length, is_some, unwrap_or, IfSome, IsSome, OnSome, IfOk, OnErr, false};
+ghost use Rattle.cx_storage.specs.Storage.{span};
+
+use crate::areas::{Area, Owner};
+use std::alloc::AllocError;
+
+/// The address after `a` (below 2^24); after X'FFFFFF' comes 0 (Principles of Operation, "Storage
+/// Addressing").
+pub fn next_address(a: u32) -> u32
+    requires { a < 2 ^ 24 }
+    ensures { result ≡ (a + 1) % 2 ^ 24 }
+{
+    (a + 1) % 0x100_0000
+}
+
+/// Storage as System/370 has it (Principles of Operation, GA22-7000, "Storage Addressing"): bytes at
+/// addresses below 2^24, where a span of bytes goes on at address 0 after X'FFFFFF'. That storage is a
+/// list of areas is this product's own: a byte is present exactly where an area has its address, no two
+/// areas meet, and each has an owner. No call but `get_area` takes memory.
+pub trait Store {
+    ghost use Rattle.cx_storage.specs.Storage.{Storage, byte_at, span, with_byte, written, area_at, with_area, with_areas_kept, starts_elsewhere, is_of_other_slot, IsTogether, IsSound};
+    ghost use Rattle.cx_storage.specs.Place.{IsLeastPlace};
+
+    ghost storage: { Self → Storage };
+
+    /// The byte at the address `a` (below 2^24), where an area has it.
+    fn byte(&self, a: u32) -> Option<u8>
+        requires { a < 2 ^ 24 }
+        ensures { result ≡ byte_at (storage self.now) a };
+
+    /// Writes one byte at `a` (below 2^24). False, and no change, where no area has that address.
+    fn set(&mut self, a: u32, value: u8) -> bool
+        requires { a < 2 ^ 24 }
+        ensures present { result ≡ is_some (byte_at (storage self.old) a) }
+        ensures after { storage self.new ≡ with_byte (storage self.old) a value };
+
+    /// The `n` bytes (at most 65,536) from `a` (below 2^24) on, lent in one piece. It is Some always
+    /// for at least one byte inside one area and inside one block of 4,096 bytes that starts at a
+    /// multiple of 4,096, and None where the span goes on at address 0. Elsewhere it may be None with
+    /// all bytes present: then `read` has them.
+    fn slice(&self, a: u32, n: usize) -> Option<&[u8]>
+        requires address { a < 2 ^ 24 }
+        requires size { n ≤ 65536 }
+        ensures bytes { IfSome result (λ part. span (storage self.now) a n ≡ Some part.now) }
+        ensures no_wrap { OnSome result (a + n ≤ 2 ^ 24) }
+        ensures together { IsTogether (storage self.now) a n → IsSome result };
+
+    /// Fills the buffer (at most 65,536 bytes) with the bytes from `a` (below 2^24) on, which go on at
+    /// address 0 after X'FFFFFF'. False, and the buffer stays as it was, exactly where one of them is
+    /// in no area.
+    #[tactic(auto, using(crate::specs::Bytes::span_gone, crate::specs::Bytes::span_present, crate::specs::Bytes::unwrap_absent, crate::proofs::Filling::joined_all))]
+    fn read(&self, a: u32, buffer: &mut [u8]) -> bool
+        requires address { a < 2 ^ 24 }
+        requires size { length buffer.old ≤ 65536 }
+        ensures present { result ≡ is_some (span (storage self.now) a (length buffer.old)) }
+        ensures after { buffer.new ≡ unwrap_or (span (storage self.now) a (length buffer.old)) buffer.old }
+    {
+        let mut at = a;
+        'tested: for _k in 0..buffer.len() {
+            if self.byte(at).is_none() {
+                return false;
+            }
+            at = next_address(at);
+        }
+        at = a;
+        'filled: for value in buffer.iter_mut() {
+            // Each of the bytes is there by now.
+            *value = self.byte(at).unwrap_or(0);
+            at = next_address(at);
+        }
+        true
+    }
+
+    /// Writes the bytes (at most 65,536) from `a` (below 2^24) on; they go on at address 0 after
+    /// X'FFFFFF'. False, and no change, exactly where one of the addresses is in no area.
+    #[tactic(auto, using(crate::specs::Bytes::span_gone, crate::specs::Bytes::span_present, crate::specs::Bytes::with_bytes_more, crate::specs::Bytes::with_bytes_all, crate::specs::Bytes::written_none, crate::specs::Bytes::written_whole))]
+    fn write(&mut self, a: u32, bytes: &[u8]) -> bool
+        requires address { a < 2 ^ 24 }
+        requires size { length bytes.now ≤ 65536 }
+        ensures present { result ≡ is_some (span (storage self.old) a (length bytes.now)) }
+        ensures after { storage self.new ≡ written (storage self.old) a bytes.now }
+    {
+        let mut at = a;
+        'tested: for _value in bytes {
+            if self.byte(at).is_none() {
+                return false;
+            }
+            at = next_address(at);
+        }
+        at = a;
+        'written: for value in bytes {
+            self.set(at, *value);
+            at = next_address(at);
+        }
+        true
+    }
+
+    /// The area that starts at the address `start` (below 2^24), where one does.
+    fn area_at(&self, start: u32) -> Option<Area>
+        requires { start < 2 ^ 24 }
+        ensures { result ≡ area_at (storage self.now) start };
+
+    /// The least multiple of 16 at which `len` bytes (at least 1) stand in the range from `first` to
+    /// `last` (below 2^24) and meet no area; None where there is none.
+    fn place(&self, first: u32, last: u32, len: u32) -> Option<u32>
+        requires last { last < 2 ^ 24 }
+        requires len { 0 < len }
+        ensures { IsLeastPlace (storage self.now) first last len result };
+
+    /// Makes an area of `len` zero bytes (at least 1) where `place` finds it in the range from `first`
+    /// to `last` (below 2^24), and gives its start. Ok(None) exactly where there is no place, with no
+    /// change and no memory asked for. AllocError where a growth was refused: all is as before.
+    fn get_area(
+        &mut self,
+        first: u32,
+        last: u32,
+        len: u32,
+        owner: Owner,
+    ) -> Result<Option<u32>, AllocError>
+        requires last { last < 2 ^ 24 }
+        requires len { 0 < len }
+        ensures placed { IfOk result (IsLeastPlace (storage self.old) first last len) }
+        ensures after { IfOk result (λ start. storage self.new ≡ with_area (storage self.old) start len owner) }
+        ensures no_place { IsLeastPlace (storage self.old) first last len None → result ≡ Ok None }
+        ensures err { OnErr result (storage self.new ≡ storage self.old) };
+
+    /// Frees the area that starts at the address `start` (below 2^24), with its bytes. False, and no
+    /// change, where no area starts there.
+    fn free_area(&mut self, start: u32) -> bool
+        requires { start < 2 ^ 24 }
+        ensures found { result ≡ is_some (area_at (storage self.old) start) }
+        ensures after { storage self.new ≡ with_areas_kept (starts_elsewhere start) (storage self.old) };
+
+    /// Frees all areas of a slot's owners, with their bytes.
+    fn free_slot(&mut self, slot: u8)
+        ensures { storage self.new ≡ with_areas_kept (is_of_other_slot slot) (storage self.old) };
+
+    ghost sound: { (s : Self) → IsSound (storage s) };
+}
+
+/// Whether each of the `n` bytes from `a` (below 2^24) on is in an area; they go on at address 0 after
+/// X'FFFFFF'. It takes no memory.
+#[tactic(auto, using(crate::specs::Bytes::span_gone, crate::specs::Bytes::span_present))]
+pub fn has_span<S: Store>(store: &S, a: u32, n: usize) -> bool
+    requires { a < 2 ^ 24 }
+    ensures { result ≡ is_some (span (S.storage store.now) a n) }
+{
+    let mut at = a;
+    'tested: for _k in 0..n {
+        if store.byte(at).is_none() {
+            return false;
+        }
+        at = next_address(at);
+    }
+    true
+}
