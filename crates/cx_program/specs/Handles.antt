@@ -1,0 +1,69 @@
+-- The handles of one level (Application Programmer's Reference Manual, SC33-0077, PUSH HANDLE, POP HANDLE), and the choice
+-- for a condition ("Exceptional conditions").
+use Rattle.std.specs.Prelude.{ℕ, Bool, true, false, if◌then◌else◌, List, [], ◌∷◌, Option, Some, None, unwrap_or}
+use Rattle.cx_command.specs.Conditions.{abend_code_of}
+use Rattle.cx_command.specs.declared.conditions.Condition.{Condition}
+use Rattle.cx_command.specs.declared.conditions.Condition.TheVariants.{Error, Nospace, Nostg, Enqbusy}
+use Rattle.cx_program.specs.declared.entries.Entry.{Entry}
+use Rattle.cx_program.specs.declared.entries.Entry.TheVariants as entry
+use Rattle.cx_program.specs.declared.entries.Exit.{Exit}
+use Rattle.cx_program.specs.declared.entries.Entries.{Entries}
+use Rattle.cx_program.specs.declared.entries.Handling.{Handling}
+use Rattle.cx_program.specs.declared.choice.Choice.{Choice}
+use Rattle.cx_program.specs.declared.choice.Choice.TheVariants.{Label, GoOn, Wait, Abend}
+use Rattle.cx_program.specs.Entries.{entry_for, with_entry, nothing_asked}
+
+-- What a level has asked for, and what its PUSH HANDLEs keep, the last kept first.
+pub record Handles : Type 0 where
+  pub active : Handling
+  pub kept : List Handling
+
+-- no entry, no exit, nothing kept: a level begins so
+abbrev pub no_handles : Handles
+no_handles = record { active = nothing_asked; kept = [] }
+
+-- the handles, but for one condition this entry
+abbrev pub put_entry : Handles → Condition → Entry → Handles
+put_entry handles condition entry =
+    record handles { active = record handles.active { entries = with_entry handles.active.entries condition entry } }
+
+-- the handles with another exit
+abbrev pub put_exit : Handles → Exit → Handles
+put_exit handles exit = record handles { active = record handles.active { exit = exit } }
+
+-- PUSH HANDLE: what was asked for is kept, and nothing is asked for
+abbrev pub after_push : Handles → Handles
+after_push handles = record { active = nothing_asked; kept = handles.active ∷ handles.kept }
+
+-- POP HANDLE, from what is kept: the last kept is put back; None where nothing is
+abbrev pub after_pop : List Handling → Option Handles
+after_pop [] = None
+after_pop (last ∷ rest) = Some (record { active = last; kept = rest })
+
+-- NOSPACE, NOSTG and ENQBUSY wait where they have no entry
+abbrev pub waits : Condition → Bool
+waits Nospace = true
+waits Nostg = true
+waits Enqbusy = true
+waits _ = false
+
+-- the code of the abend that a condition leads to
+abbrev pub abend_code : Condition → List ℕ
+abend_code condition = unwrap_or (abend_code_of condition) []
+
+-- by ERROR's entry: its label takes control, or the program goes on, or the condition abends with its code
+abbrev pub choice_by_error : Entry → Condition → Choice
+choice_by_error (entry.Label label) condition = Label label
+choice_by_error entry.Ignored condition = GoOn
+choice_by_error entry.NoEntry condition = Abend (abend_code condition)
+
+-- by the condition's own entry: its label takes control, or the program goes on; without one NOSPACE, NOSTG and ENQBUSY
+-- wait, and every other condition goes by ERROR's entry
+abbrev pub choice_by_own : Entry → Entry → Condition → Choice
+choice_by_own (entry.Label label) error condition = Label label
+choice_by_own entry.Ignored error condition = GoOn
+choice_by_own entry.NoEntry error condition = if waits condition then Wait else choice_by_error error condition
+
+-- what is done for a condition that a command met, where neither NOHANDLE nor RESP was given
+unfoldable pub choice : Entries → Condition → Choice
+choice entries condition = choice_by_own (entry_for entries condition) (entry_for entries Error) condition

@@ -1,0 +1,183 @@
+//! The handle entries and the exit of one level.
+ghost use Rattle.std.specs.Prelude.{◌≡◌, ◌≢◌, ◌<◌, ◌≤◌, ◌↔◌, false, length, IsOk, OnOk, OnErr, IfErr};
+ghost use Rattle.cx_program.specs.Entries.{label_on, turned_off, turned_on};
+ghost use Rattle.cx_program.specs.Handles.{abend_code, after_pop, after_push, choice, choice_by_own, no_handles, put_entry, put_exit, waits};
+
+use crate::choice::Choice;
+use crate::entries::{Entry, Exit, Handling};
+use crate::faults::ProgramFault;
+use arrayvec::ArrayVec;
+use cx_command::Condition;
+use cx_ebcdic::Name4;
+use std::marker::Model;
+use std::mem;
+
+/// How many PUSH HANDLEs a level keeps.
+const PUSHES: usize = 16;
+
+/// What a level's program has asked to be done for each condition and on an abend, with what its
+/// PUSH HANDLEs keep.
+///
+/// No call takes memory. Contracts see it as `Handles`: what is asked for now (`active`), and what is kept
+/// (`kept`), the last kept first.
+#[derive(Debug, Drop)]
+pub struct HandleTable {
+    active: Handling,
+    kept: ArrayVec<Handling, PUSHES>,
+}
+
+impl Model for HandleTable {
+    ghost use Rattle.std.specs.Prelude.{reverse};
+    ghost use Rattle.cx_program.specs.Handles.{Handles};
+
+    ghost Value = { Handles };
+
+    ghost view = { λ table. record { active = table.active; kept = reverse table.kept.items } };
+}
+
+impl HandleTable {
+    /// The handles that a level begins with: no entry, no exit, nothing kept.
+    pub fn new() -> HandleTable
+        ensures { result ≡ no_handles }
+    {
+        HandleTable {
+            active: Handling::default(),
+            kept: ArrayVec::new(),
+        }
+    }
+
+    /// HANDLE CONDITION with a label: the instruction at that address takes control where a command meets
+    /// the condition.
+    pub fn set(&mut self, condition: Condition, label: u32)
+        requires { condition ≢ Condition.Normal }
+        ensures { self.new ≡ put_entry self.old condition (Entry.Label label) }
+    {
+        self.active.entries.put(condition, Entry::Label(label));
+    }
+
+    /// IGNORE CONDITION: the program goes on after a command that meets the condition.
+    pub fn ignore(&mut self, condition: Condition)
+        requires { condition ≢ Condition.Normal }
+        ensures { self.new ≡ put_entry self.old condition Entry.Ignored }
+    {
+        self.active.entries.put(condition, Entry::Ignored);
+    }
+
+    /// HANDLE CONDITION without a label: the condition has no entry any more.
+    pub fn default(&mut self, condition: Condition)
+        requires { condition ≢ Condition.Normal }
+        ensures { self.new ≡ put_entry self.old condition Entry.NoEntry }
+    {
+        self.active.entries.put(condition, Entry::NoEntry);
+    }
+
+    /// HANDLE ABEND LABEL: sets the exit at that address, and turns it on.
+    pub fn set_exit(&mut self, label: u32)
+        ensures { self.new ≡ put_exit self.old (Exit.On label) }
+    {
+        self.active.exit = Exit::On(label);
+    }
+
+    /// HANDLE ABEND CANCEL: turns the exit off. Without one nothing happens.
+    pub fn exit_off(&mut self)
+        ensures { self.new ≡ put_exit self.old (turned_off self.old.active.exit) }
+    {
+        self.active.exit = self.active.exit.turned_off();
+    }
+
+    /// HANDLE ABEND RESET: turns the exit on again. Without one nothing happens.
+    pub fn exit_on(&mut self)
+        ensures { self.new ≡ put_exit self.old (turned_on self.old.active.exit) }
+    {
+        self.active.exit = self.active.exit.turned_on();
+    }
+
+    /// The address of the exit, where there is one and it is on.
+    pub fn exit(&self) -> Option<u32>
+        ensures { result ≡ label_on self.now.active.exit }
+    {
+        self.active.exit.label_on()
+    }
+
+    /// How many PUSH HANDLEs keep something, 0 to 16.
+    pub fn pushed(&self) -> usize
+        ensures value { result ≡ length self.now.kept }
+        ensures bound { result ≤ 16 }
+    {
+        self.kept.len()
+    }
+
+    /// PUSH HANDLE: keeps the entries and the exit, and begins with none.
+    ///
+    /// TooDeep comes exactly where sixteen are kept already. Nothing has changed then.
+    pub fn push(&mut self) -> Result<(), ProgramFault>
+        ensures room { IsOk result ↔ (length self.old.kept < 16) }
+        ensures fault { IfErr result (λ fault. fault ≡ ProgramFault.TooDeep) }
+        ensures ok { OnOk result (self.new ≡ after_push self.old) }
+        ensures err { OnErr result (self.new ≡ self.old) }
+    {
+        if self.kept.is_full() {
+            return Err(ProgramFault::TooDeep);
+        }
+        let active = mem::take(&mut self.active);
+        self.kept.push(active);
+        Ok(())
+    }
+
+    /// POP HANDLE: puts back the entries and the exit that the last PUSH HANDLE kept.
+    ///
+    /// NothingPushed comes exactly where nothing is kept. Nothing has changed then.
+    pub fn pop(&mut self) -> Result<(), ProgramFault>
+        ensures pushed { IsOk result ↔ (0 < length self.old.kept) }
+        ensures fault { IfErr result (λ fault. fault ≡ ProgramFault.NothingPushed) }
+        ensures ok { OnOk result (after_pop self.old.kept ≡ Some self.new) }
+        ensures err { OnErr result (self.new ≡ self.old) }
+    {
+        self.active = self.kept.pop().ok_or(ProgramFault::NothingPushed)?;
+        Ok(())
+    }
+
+    /// What is done for a condition that a command met, where neither NOHANDLE nor RESP was given.
+    ///
+    /// An entry of its own comes first: its label takes control, or the program goes on. Without one
+    /// NOSPACE, NOSTG and ENQBUSY wait; for every other condition ERROR's label takes control, or the
+    /// program goes on where ERROR is ignored, or the task abends with the condition's code.
+    #[tactic(auto, unfolding(crate::specs::Handles::choice))]
+    pub fn choose(&self, condition: Condition) -> Choice
+        requires exceptional { condition ≢ Condition.Normal }
+        requires not_error { condition ≢ Condition.Error }
+        ensures { result ≡ choice self.now.active.entries condition }
+    {
+        let entries = &self.active.entries;
+        match entries.entry_for(condition) {
+            Entry::Label(label) => Choice::Label(label),
+            Entry::Ignored => Choice::GoOn,
+            Entry::NoEntry => without_entry(condition, entries.entry_for(Condition::Error)),
+        }
+    }
+}
+
+/// What is done for a condition without an entry of its own, by ERROR's entry.
+fn without_entry(condition: Condition, error: Entry) -> Choice
+    requires exceptional { condition ≢ Condition.Normal }
+    requires not_error { condition ≢ Condition.Error }
+    ensures { result ≡ choice_by_own Entry.NoEntry error condition }
+{
+    match (condition, error) {
+        (Condition::Nospace | Condition::Nostg | Condition::Enqbusy, _) => Choice::Wait,
+        (_, Entry::Label(label)) => Choice::Label(label),
+        (_, Entry::Ignored) => Choice::GoOn,
+        (_, Entry::NoEntry) => Choice::Abend(abend_code(condition)),
+    }
+}
+
+/// The code of the abend that a condition leads to.
+#[tactic(auto, using(crate::specs::HandleLaws::has_code_or_waits))]
+fn abend_code(condition: Condition) -> Name4
+    requires exceptional { condition ≢ Condition.Normal }
+    requires not_error { condition ≢ Condition.Error }
+    requires abends { waits condition ≡ false }
+    ensures { result ≡ abend_code condition }
+{
+    condition.abend_code().unwrap()
+}

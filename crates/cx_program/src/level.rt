@@ -1,0 +1,43 @@
+//! One program level of a task.
+use crate::condition_code::ConditionCode;
+use crate::handles::HandleTable;
+use cx_ebcdic::Name8;
+
+/// A program that a task runs: by its first transaction, or linked to by the level above.
+#[derive(Debug, Drop)]
+pub struct Level {
+    /// The program's name.
+    pub program: Name8,
+    /// The address of its DFHEISTG.
+    pub stg: u32,
+    /// The length of its DFHEISTG in bytes.
+    pub stg_len: u32,
+    /// EIBCALEN, a halfword: the length of its COMMAREA in bytes, or zero without one.
+    pub calen: u16,
+    /// Registers 0 to 15 as the level keeps them: those of its last command.
+    pub regs: [u32; 16],
+    /// The condition code that it keeps: that of its last command.
+    pub cc: ConditionCode,
+    /// What its program has asked to be done for conditions and on an abend.
+    pub handles: HandleTable,
+}
+
+impl Default for Level {
+    ghost use Rattle.std.specs.Prelude.{◌≡◌, replicate};
+    ghost use Rattle.cx_program.specs.Handles.{no_handles};
+
+    ghost is_default = { λ level. (level.program ≡ replicate 8 0x40) × (level.handles ≡ no_handles) };
+
+    /// What stands in an unused place of a stack: a level of no program.
+    fn default() -> Level {
+        Level {
+            program: Name8::from_bytes([0x40; 8]),
+            stg: 0,
+            stg_len: 0,
+            calen: 0,
+            regs: [0; 16],
+            cc: ConditionCode::new(0),
+            handles: HandleTable::new(),
+        }
+    }
+}

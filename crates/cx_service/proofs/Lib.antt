@@ -1,0 +1,8 @@
+pub mod LineLemmas
+pub mod ScreenLemmas
+pub mod QueueLemmas
+pub mod ItemLemmas
+pub mod QueueSound
+pub mod ResourceSound
+pub mod LawLemmas
+pub mod NameLemmas
