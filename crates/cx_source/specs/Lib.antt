@@ -1,0 +1,6 @@
+pub mod Lines
+pub mod Outside
+pub mod Statements
+pub mod Faults
+pub mod Reader
+pub use Rattle.cx_ebcdic.specs.Characters

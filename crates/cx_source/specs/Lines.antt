@@ -1,0 +1,74 @@
+-- The lines of a source (OS/VS-DOS/VSE-VM/370 Assembler Language, GC33-4010, "Assembler Language Coding Conventions").
+use Rattle.std.specs.Prelude.{ℕ, ◌-◌, Bool, true, false, ◌&&◌, ◌||◌, not, ◌==◌, nat_le, List, [], ◌∷◌, length, take, drop, codes}
+use Rattle.std.specs.List.{list_all, list_any, suffix_len, position_or_len}
+use Rattle.std.specs.Str.{bytes_eq}
+
+abbrev pub is_blank : ℕ → Bool
+is_blank c = c == 32
+
+abbrev pub is_written : ℕ → Bool
+is_written c = not (is_blank c)
+
+-- without the blanks at its end
+abbrev pub trimmed : List ℕ → List ℕ
+trimmed text = take (length text - suffix_len is_blank text) text
+
+-- without the blanks at its beginning
+abbrev pub skip_blanks : List ℕ → List ℕ
+skip_blanks text = drop (position_or_len is_written text) text
+
+-- Columns are counted from 1; those past a line's end are blank.
+abbrev pub columns : ℕ → ℕ → List ℕ → List ℕ
+columns first last text = drop (first - 1) (take last text)
+
+-- A line's text: columns 1 to 72, without the blanks at their end.
+unfoldable pub text_of : List ℕ → List ℕ
+text_of line = trimmed (columns 1 72 line)
+
+-- The continuation column, 72, isn't blank.
+unfoldable pub is_marked : List ℕ → Bool
+is_marked text = list_any is_written (columns 72 72 text)
+
+-- A comment: an asterisk in column 1, or blank to column 72.
+unfoldable pub is_comment : List ℕ → Bool
+is_comment [] = true
+is_comment (c ∷ cs) = c == 42
+
+-- One of A to Z, @ # $.
+unfoldable pub is_letter : ℕ → Bool
+is_letter c = (nat_le 65 c && nat_le c 90) || (c == 64) || (c == 35) || (c == 36)
+
+-- One of A to Z, @ # $, 0 to 9.
+unfoldable pub is_name_character : ℕ → Bool
+is_name_character c = is_letter c || (nat_le 48 c && nat_le c 57)
+
+abbrev pub begins_with_letter : List ℕ → Bool
+begins_with_letter [] = false
+begins_with_letter (c ∷ cs) = is_letter c
+
+-- A name: 1 to 8 of these, the first a letter.
+unfoldable pub is_name : List ℕ → Bool
+is_name text = begins_with_letter text && list_all is_name_character text && nat_le (length text) 8
+
+-- The entries of a statement's first line: the name from column 1 to the first blank, the operation, and what is behind it to column 71.
+pub record Entries : Type 0 where
+  pub name : List ℕ
+  pub operation : List ℕ
+  pub behind : List ℕ
+
+-- up to the first blank, and from there on
+abbrev pub word : List ℕ → List ℕ
+word text = take (position_or_len is_blank text) text
+
+abbrev pub behind_word : List ℕ → List ℕ
+behind_word text = drop (position_or_len is_blank text) text
+
+unfoldable pub entries_of : List ℕ → Entries
+entries_of text =
+    let body = columns 1 71 text in
+    let second = skip_blanks (behind_word body) in
+    record { name = word body; operation = word second; behind = behind_word second }
+
+-- The operation END, with which a source ends.
+unfoldable pub is_end : List ℕ → Bool
+is_end text = bytes_eq (entries_of text).operation (codes "END")

@@ -1,0 +1,79 @@
+//! What may be wrong with one line.
+
+ghost use Rattle.std.specs.Prelude.{◌≡◌, ◌≤◌, IfNone};
+ghost use Rattle.cx_source.specs.Faults.{
+  fault_of,
+  has_bad_character,
+  has_bad_continuation,
+  is_too_long,
+  is_well_named,
+};
+
+use crate::lines::{columns, entries_of, has_written, is_comment, is_name, text_of};
+use crate::source::SourceFault;
+use cx_ebcdic::to_ebcdic;
+
+/// How many columns a line has at most.
+const COLUMNS: usize = 80;
+
+/// How many lines a source has at most.
+const LINES: usize = 10_000;
+
+/// The column that marks a line as continued.
+const MARK: usize = 72;
+
+/// The last column that is blank on a line that continues a statement.
+const MARGIN: usize = 15;
+
+/// Whether a line has too many columns, or comes behind too many lines.
+fn is_too_long(number: usize, line: &[u8]) -> bool
+    ensures { result ≡ is_too_long number line.now }
+{
+    line.len() > COLUMNS || number > LINES
+}
+
+/// Whether a character in columns 1 to 72 has no EBCDIC code.
+fn has_bad_character(line: &[u8]) -> bool
+    ensures { result ≡ has_bad_character line.now }
+{
+    columns(line, 1, MARK)
+        .iter()
+        .any(|c| to_ebcdic(char::from(*c)).is_none())
+}
+
+/// Whether a line that continues a statement has anything in its margin.
+fn has_bad_continuation(continues: bool, line: &[u8]) -> bool
+    ensures { result ≡ has_bad_continuation continues line.now }
+{
+    continues && has_written(columns(line, 1, MARGIN))
+}
+
+/// Whether what begins in column 1 is a name, or nothing begins there.
+#[tactic(auto, unfolding(crate::specs::Faults::is_well_named))]
+fn is_well_named(text: &[u8]) -> bool
+    ensures { result ≡ is_well_named text.now }
+{
+    let name = entries_of(text).name;
+    is_comment(text) || name.is_empty() || is_name(name)
+}
+
+/// The fault of the line with this number, if it has one.
+#[tactic(auto, unfolding(crate::specs::Faults::fault_of))]
+pub(crate) fn fault_of(continues: bool, number: usize, line: &[u8]) -> Option<SourceFault>
+    ensures fault { result ≡ fault_of continues number line.now }
+    ensures early { IfNone result (number ≤ 10000) }
+{
+    if is_too_long(number, line) {
+        return Some(SourceFault::TooLong(number));
+    }
+    if has_bad_character(line) {
+        return Some(SourceFault::BadCharacter(number));
+    }
+    if has_bad_continuation(continues, line) {
+        return Some(SourceFault::BadContinuation(number));
+    }
+    if !continues && !is_well_named(text_of(line)) {
+        return Some(SourceFault::BadName(number));
+    }
+    None
+}

@@ -1,0 +1,59 @@
+//! What follows from the definitions of a source and of its reader.
+
+ghost use Rattle.std.specs.Prelude.{◌≡◌, ◌≢◌, ◌⊎◌, ◌++◌, ◌∷◌, [], ℕ, List, Err, Ok, false, fold, length, map};
+ghost use Rattle.std.specs.List.{concat, range_with_len};
+ghost use Rattle.cx_source.specs.Lines.{text_of};
+ghost use Rattle.cx_source.specs.Statements.{up_to_end};
+ghost use Rattle.cx_source.specs.Faults.{source_in, source_of};
+ghost use Rattle.cx_source.specs.Reader.{IsNoEnd, Reading, at_start, finish, take_piece};
+ghost use Rattle.cx_source.specs.declared.reader.Progress.TheVariants.{Faulty};
+ghost use Rattle.cx_source.specs.declared.source.Item.{Item};
+ghost use Rattle.cx_source.specs.declared.source.Source.{Source};
+ghost use Rattle.cx_source.specs.declared.source.SourceFault.{SourceFault};
+ghost use Rattle.cx_source.specs.declared.source.SourceFault.TheVariants.{Memory, NoEnd};
+
+/// Two pieces are as good as one that is both.
+#[tactic(auto, using(crate::proofs::ReaderLemmas::two_pieces))]
+pub fn two_pieces_are_one()
+    ensures { (reading : Reading) (a b : List ℕ) → take_piece (take_piece reading a) b ≡ take_piece reading (a ++ b) }
+{}
+
+/// What a reader answers in the end is what the lines of all that it was fed make.
+#[tactic(auto, using(crate::proofs::ReaderLemmas::whole_source))]
+pub fn reader_answers_the_source()
+    ensures { (bytes : List ℕ) → finish (take_piece at_start bytes) ≡ source_of bytes }
+{}
+
+/// So it doesn't matter in which pieces a source comes.
+#[tactic(auto, using(crate::proofs::ReaderLemmas::in_pieces))]
+pub fn pieces_do_not_matter()
+    ensures { (pieces : List (List ℕ)) → finish (fold take_piece at_start pieces) ≡ source_of (concat pieces) }
+{}
+
+/// A fault that a reader met is the source's, however it goes on.
+#[tactic(auto, using(crate::proofs::ReaderLemmas::early_fault))]
+pub fn an_early_fault_is_the_sources()
+    ensures { (front rest : List ℕ) (fault : SourceFault) → (take_piece at_start front).progress ≡ Faulty fault
+        → source_of (front ++ rest) ≡ Err fault }
+{}
+
+/// And a line's fault is met as soon as the line is complete: behind a line feed a reader knows each
+/// fault of what it was fed, but for the want of END.
+#[tactic(auto, using(crate::proofs::ReaderLemmas::complete_fault))]
+pub fn a_complete_lines_fault_is_met()
+    ensures { (bytes : List ℕ) (fault : SourceFault) → source_of (bytes ++ 10 ∷ []) ≡ Err fault
+        → IsNoEnd fault ⊎ ((take_piece at_start (bytes ++ 10 ∷ [])).progress ≡ Faulty fault) }
+{}
+
+/// The want of END is met at the end alone, and a refused growth is no line's fault.
+pub fn no_end_is_met_at_the_end()
+    ensures { (bytes : List ℕ) (n : ℕ) → ((take_piece at_start bytes).progress ≢ Faulty (NoEnd n))
+        × ((take_piece at_start bytes).progress ≢ Faulty Memory) }
+{}
+
+/// A source has one item for each line up to END's, in order, with its text; they are numbered from 1.
+pub fn one_item_for_each_line()
+    ensures { (all : List (List ℕ)) (source : Source) → source_in all ≡ Ok source
+        → (map (λ (item : Item). item.text) source.items ≡ up_to_end false (map text_of all))
+        × (map (λ (item : Item). item.line) source.items ≡ range_with_len 1 (length source.items)) }
+{}

@@ -1,0 +1,18 @@
+//! The lines of an assembler source, and the statements that they hold.
+#![tactic(auto)]
+
+mod cuts;
+mod faults;
+pub mod laws;
+mod lines;
+mod reader;
+mod source;
+mod statements;
+#[cfg(test)]
+mod tests;
+mod text;
+
+pub use cuts::{Mark, cut, first_mark, outside};
+pub use reader::{SourceReader, read_source};
+pub use source::{Item, Items, Source, SourceFault, Stmt};
+pub use text::Text;

@@ -1,0 +1,209 @@
+//! One line of a source.
+
+ghost use Rattle.std.specs.Prelude.{◌≡◌, ◌≤◌, length, position};
+ghost use Rattle.std.specs.List.{list_all, list_any, position_or_len};
+ghost use Rattle.cx_source.specs.Lines.{
+  begins_with_letter,
+  behind_word,
+  columns,
+  entries_of,
+  is_blank,
+  is_comment,
+  is_end,
+  is_letter,
+  is_marked,
+  is_name,
+  is_name_character,
+  is_written,
+  skip_blanks,
+  text_of,
+  trimmed,
+  word,
+};
+
+/// A blank.
+pub(crate) const BLANK: u8 = b' ';
+
+/// The column that marks a line as continued.
+const MARK: usize = 72;
+
+/// How many characters a name has at most.
+const NAME_MAX: usize = 8;
+
+/// A text without the blanks at its end.
+pub(crate) fn trimmed(text: &[u8]) -> &[u8]
+    ensures { result.now ≡ trimmed text.now }
+{
+    let mut len = text.len();
+    while len > 0 && text[len - 1] == BLANK {
+        len -= 1;
+    }
+    &text[..len]
+}
+
+/// How many characters stand before the first that isn't blank.
+#[tactic(auto, using(crate::proofs::LineLemmas::first_or_length))]
+fn blanks_len(text: &[u8]) -> usize
+    ensures value { result ≡ position_or_len is_written text.now }
+    ensures bound { result ≤ length text.now }
+{
+    first_written(text).unwrap_or(text.len())
+}
+
+/// The place of the first character that isn't blank.
+fn first_written(text: &[u8]) -> Option<usize>
+    ensures { result ≡ position is_written text.now }
+{
+    text.iter().position(|c| *c != BLANK)
+}
+
+/// How many characters stand before the first blank.
+#[tactic(auto, using(crate::proofs::LineLemmas::first_or_length))]
+fn word_len(text: &[u8]) -> usize
+    ensures value { result ≡ position_or_len is_blank text.now }
+    ensures bound { result ≤ length text.now }
+{
+    first_blank(text).unwrap_or(text.len())
+}
+
+/// The place of the first blank.
+fn first_blank(text: &[u8]) -> Option<usize>
+    ensures { result ≡ position is_blank text.now }
+{
+    text.iter().position(|c| *c == BLANK)
+}
+
+/// A text without the blanks at its beginning.
+pub(crate) fn skip_blanks(text: &[u8]) -> &[u8]
+    ensures { result.now ≡ skip_blanks text.now }
+{
+    let (_, rest) = text.split_at(blanks_len(text));
+    rest
+}
+
+/// The columns from `first` to `last`, counted from 1, as far as a text goes.
+pub(crate) fn columns(text: &[u8], first: usize, last: usize) -> &[u8]
+    ensures { result.now ≡ columns first last text.now }
+{
+    let (front, _) = text.split_at(text.len().min(last));
+    let (_, columns) = front.split_at(front.len().min(first.saturating_sub(1)));
+    columns
+}
+
+/// Columns 1 to 72 of a line, without the blanks at their end.
+#[tactic(auto, unfolding(crate::specs::Lines::text_of))]
+pub(crate) fn text_of(line: &[u8]) -> &[u8]
+    ensures { result.now ≡ text_of line.now }
+{
+    trimmed(columns(line, 1, MARK))
+}
+
+/// Whether the continuation column isn't blank.
+#[tactic(auto, unfolding(crate::specs::Lines::is_marked))]
+pub(crate) fn is_marked(text: &[u8]) -> bool
+    ensures { result ≡ is_marked text.now }
+{
+    has_written(columns(text, MARK, MARK))
+}
+
+/// Whether any character of a text isn't blank.
+pub(crate) fn has_written(text: &[u8]) -> bool
+    ensures { result ≡ list_any is_written text.now }
+{
+    text.iter().any(|c| *c != BLANK)
+}
+
+/// Whether a text is a comment.
+#[tactic(auto, unfolding(crate::specs::Lines::is_comment))]
+pub(crate) fn is_comment(text: &[u8]) -> bool
+    ensures { result ≡ is_comment text.now }
+{
+    match text {
+        [] => true,
+        [first, ..] => *first == b'*',
+    }
+}
+
+/// Whether a character is a letter: `@`, `#` and `$` count as such.
+#[tactic(auto, unfolding(crate::specs::Lines::is_letter))]
+pub(crate) fn is_letter(c: u8) -> bool
+    ensures { result ≡ is_letter c }
+{
+    matches!(c, b'A'..=b'Z' | b'@' | b'#' | b'$')
+}
+
+/// Whether a character may stand in a name.
+#[tactic(auto, unfolding(crate::specs::Lines::is_name_character))]
+pub(crate) fn is_name_character(c: u8) -> bool
+    ensures { result ≡ is_name_character c }
+{
+    is_letter(c) || matches!(c, b'0'..=b'9')
+}
+
+/// Whether a text begins with a letter.
+pub(crate) fn begins_with_letter(text: &[u8]) -> bool
+    ensures { result ≡ begins_with_letter text.now }
+{
+    match text {
+        [] => false,
+        [first, ..] => is_letter(*first),
+    }
+}
+
+/// Whether a text is a name.
+#[tactic(auto, unfolding(crate::specs::Lines::is_name))]
+pub(crate) fn is_name(text: &[u8]) -> bool
+    ensures { result ≡ is_name text.now }
+{
+    begins_with_letter(text) && has_name_characters(text) && text.len() <= NAME_MAX
+}
+
+/// Whether each character of a text may stand in a name.
+fn has_name_characters(text: &[u8]) -> bool
+    ensures { result ≡ list_all is_name_character text.now }
+{
+    text.iter().all(|c| is_name_character(*c))
+}
+
+/// The entries of a statement's first line.
+#[derive(Drop)]
+pub(crate) struct Entries<'a> {
+    /// The name, or nothing where column 1 is blank.
+    pub(crate) name: &'a [u8],
+    /// The operation, or nothing where there is none.
+    pub(crate) operation: &'a [u8],
+    /// What stands behind the operation, to column 71.
+    pub(crate) behind: &'a [u8],
+}
+
+/// A text up to its first blank, and from there on.
+fn split_word(text: &[u8]) -> (&[u8], &[u8])
+    ensures word { result.0.now ≡ word text.now }
+    ensures behind { result.1.now ≡ behind_word text.now }
+{
+    text.split_at(word_len(text))
+}
+
+/// The entries of a statement's first line.
+#[tactic(auto, unfolding(crate::specs::Lines::entries_of))]
+pub(crate) fn entries_of(text: &[u8]) -> Entries<'_>
+    ensures name { result.name.now ≡ (entries_of text.now).name }
+    ensures operation { result.operation.now ≡ (entries_of text.now).operation }
+    ensures behind { result.behind.now ≡ (entries_of text.now).behind }
+{
+    let (name, rest) = split_word(columns(text, 1, MARK - 1));
+    let (operation, behind) = split_word(skip_blanks(rest));
+    Entries {
+        name,
+        operation,
+        behind,
+    }
+}
+
+/// Whether a statement's first line is END's.
+#[tactic(auto, unfolding(crate::specs::Lines::is_end))]
+pub(crate) fn is_end(text: &[u8]) -> bool
+    ensures { result ≡ is_end text.now }
+{
+    entries_of(text).operation == b"END".as_slice()
+}
