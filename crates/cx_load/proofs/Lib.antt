@@ -1,0 +1,4 @@
+pub mod ApartLemmas
+pub mod RelocateLemmas
+pub mod FitLemmas
+pub mod LoadLemmas

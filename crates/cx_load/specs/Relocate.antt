@@ -1,0 +1,16 @@
+-- Relocation: what loading at an address does to the text (this product's own).
+use Rattle.std.specs.Prelude.{ℕ, ◌+◌, ◌%◌, ◌^◌, List, [], ◌∷◌, ◌++◌, take, drop}
+use Rattle.byteorder.specs.Endian.{big_bytes, big_from}
+
+-- the word at an offset, four bytes with the highest first
+abbrev pub word_in : List ℕ → ℕ → ℕ
+word_in bytes r = big_from r 4 bytes
+
+-- bytes with the word at an offset raised by an address, modulo 2^32
+unfoldable pub raised : ℕ → ℕ → List ℕ → List ℕ
+raised at r bytes = take r bytes ++ big_bytes 4 ((word_in bytes r + at) % 2 ^ 32) ++ drop (r + 4) bytes
+
+-- bytes with each of these words raised
+abbrev pub relocated : ℕ → List ℕ → List ℕ → List ℕ
+relocated at [] bytes = bytes
+relocated at (r ∷ relocs) bytes = relocated at relocs (raised at r bytes)

@@ -1,0 +1,46 @@
+//! What the facts of a checked image, relocation and loading mean, on functions that do nothing.
+
+ghost use Rattle.std.specs.Prelude.{◌≡◌, ◌+◌, ◌%◌, ◌^◌, ◌<◌, ◌≤◌, ◌↔◌, ℕ, List, IsTrue, None, Some, false, length, slice_index};
+ghost use Rattle.std.specs.List.{list_any};
+ghost use Rattle.cx_code.specs.declared.image.Image.{Image};
+ghost use Rattle.cx_storage.specs.Storage.{Storage};
+ghost use Rattle.cx_load.specs.declared.checking.ImageFault.{ImageFault};
+ghost use Rattle.cx_load.specs.declared.loading.Loaded.{Loaded};
+ghost use Rattle.cx_load.specs.Check.{IsFit, IsLowestFault, SharesNoByte, all_apart, are_inside, fault_of, is_of_word};
+ghost use Rattle.cx_load.specs.Load.{IsLoaded};
+ghost use Rattle.cx_load.specs.Relocate.{relocated, word_in};
+
+/// A fault is answered exactly where it applies and none of a lower number does.
+pub fn the_lowest_fault()
+    ensures { (image : Image) (fault : ImageFault) → (fault_of image ≡ Some fault) ↔ IsLowestFault image fault }
+{}
+
+/// No fault applies exactly to an image with each of the facts of a fit one: among them that each
+/// relocated word ends in the text, and that no two of them, at any two places of the list, share a byte.
+#[tactic(auto, using(crate::proofs::FitLemmas::fit_without_fault, crate::proofs::FitLemmas::no_fault_of_fit))]
+pub fn facts_of_checked()
+    ensures none { (image : Image) → (fault_of image ≡ None) ↔ IsFit image }
+    ensures inside { (size : ℕ) (relocs : List ℕ) → IsTrue (are_inside size relocs)
+        ↔ ((i : ℕ) → i < length relocs → slice_index relocs i + 4 ≤ size) }
+    ensures apart { (relocs : List ℕ) → IsTrue (all_apart relocs)
+        ↔ ((i j : ℕ) → i < j → j < length relocs → SharesNoByte (slice_index relocs i) (slice_index relocs j)) }
+{}
+
+/// Each relocated word is raised by the load address modulo 2^32, every byte of no such word stays, and
+/// the text keeps its length.
+pub fn relocation()
+    ensures words { (at i : ℕ) (relocs text : List ℕ) → IsTrue (all_apart relocs) → IsTrue (are_inside (length text) relocs)
+        → i < length relocs
+        → word_in (relocated at relocs text) (slice_index relocs i) ≡ (word_in text (slice_index relocs i) + at) % 2 ^ 32 }
+    ensures others { (at k : ℕ) (relocs text : List ℕ) → IsTrue (are_inside (length text) relocs)
+        → list_any (is_of_word k) relocs ≡ false → slice_index (relocated at relocs text) k ≡ slice_index text k }
+    ensures size { (at : ℕ) (relocs text : List ℕ) → IsTrue (are_inside (length text) relocs)
+        → length (relocated at relocs text) ≡ length text }
+{}
+
+/// The storage before and the image decide what loading gives: what is told, and the storage after.
+#[tactic(auto, using(crate::proofs::LoadLemmas::loaded_decides))]
+pub fn loading_decides()
+    ensures { (storage after later : Storage) (image : Image) (one other : Loaded)
+        → IsLoaded storage image one after → IsLoaded storage image other later → (one ≡ other) × (after ≡ later) }
+{}
