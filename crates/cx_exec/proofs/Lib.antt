@@ -1,2 +1,14 @@
 pub mod RunLemmas
+pub mod RegisterLemmas
+pub mod DivideLemmas
+pub mod Deciding
+pub mod SequenceLemmas
+pub mod MoveLemmas
+pub mod TranslateLemmas
+pub mod ZonedLemmas
+pub mod LengthLemmas
+pub mod DecimalLemmas
+pub mod MaskLemmas
 pub mod DecideLemmas
+pub mod LawLemmas
+pub mod StringLaws

@@ -1,9 +1,15 @@
-//! A step and a run are decided by the machine before them.
+//! Laws of execution: a step and a run are decided by the machine before them, and leave the areas of storage;
+//! and what the definitions of numbers, pairs, shifts and several registers come to.
 
 ghost use Rattle.std.specs.Prelude.{ℕ};
 ghost use Rattle.cx_exec.specs.Step.{Steps};
 ghost use Rattle.cx_exec.specs.Advance.{Advances};
+ghost use Rattle.cx_exec.specs.declared.machine.Halt.{Halt};
 ghost use Rattle.cx_exec.specs.Decide.{StepsDecide, RunsDecide};
+ghost use Rattle.cx_exec.specs.Keeps.{SameAreas};
+ghost use Rattle.cx_exec.specs.Laws.{ResultIsExact, ProductIsExact, DivisionIsOne, HalvedIsFloor, ShiftedIsExact, StoredWords, LoadedWords};
+ghost use Rattle.cx_exec.specs.Machine.{Machine};
+ghost use Rattle.cx_exec.specs.StringLaws.{DecimalReadsBack, ApartIsCopied, AllIsTaken};
 
 /// The step's answer and the machine after it are determined by the machine before.
 pub fn steps_decide()
@@ -13,4 +19,65 @@ pub fn steps_decide()
 /// The halt and the machine after it are determined by the machine before and the limit.
 pub fn runs_decide()
     ensures { (limit : ℕ) → RunsDecide (Advances limit) }
+{}
+
+/// No instruction makes, frees or moves an area: after a run the areas of storage are those before.
+pub fn runs_keep_areas()
+    ensures { (limit : ℕ) (m : Machine) (end : Halt) (after : Machine) → Advances limit m end after → SameAreas m after }
+{}
+
+/// A result that a word holds is read from its word again.
+#[tactic(auto, using(crate::proofs::LawLemmas::result_is_exact))]
+pub fn result_is_exact()
+    ensures { ResultIsExact }
+{}
+
+/// The pair that a multiplication leaves is read as the exact product.
+#[tactic(auto, using(crate::proofs::LawLemmas::product_is_exact))]
+pub fn product_is_exact()
+    ensures { ProductIsExact }
+{}
+
+/// A dividend and a divisor have one quotient and one remainder.
+pub fn division_is_one()
+    ensures { DivisionIsOne }
+{}
+
+/// A number shifted right by n bits is the greatest whole number not above it divided by 2^n.
+pub fn halved_is_floor()
+    ensures { HalvedIsFloor }
+{}
+
+/// A word shifted left holds its exact number, where a word holds that.
+#[tactic(auto, using(crate::proofs::LawLemmas::shifted_is_exact))]
+pub fn shifted_is_exact()
+    ensures { ShiftedIsExact }
+{}
+
+/// STM: the word at place k is that of the register k places after the first one, 0 following 15.
+#[tactic(auto, using(crate::proofs::LawLemmas::stored_words))]
+pub fn stored_words()
+    ensures { StoredWords }
+{}
+
+/// LM: the register k places after the first one is loaded from the word at place k.
+#[tactic(auto, using(crate::proofs::LawLemmas::loaded_words))]
+pub fn loaded_words()
+    ensures { LoadedWords }
+{}
+
+/// CVD and CVB: what is written of a number is read as that number.
+pub fn decimal_reads_back()
+    ensures { DecimalReadsBack }
+{}
+
+/// MVC: a second operand that has no byte of the first is copied.
+pub fn apart_is_copied()
+    ensures { ApartIsCopied }
+{}
+
+/// STCM: a mask of four ones takes the whole word.
+#[tactic(auto, unfolding(crate::specs::Masks::taken))]
+pub fn all_is_taken()
+    ensures { AllIsTaken }
 {}

@@ -1,0 +1,111 @@
+//! Several registers at once: LM and STM.
+
+ghost use Rattle.std.specs.Prelude.{◌≡◌, ◌<◌, ◌≤◌, ◌^◌, ◌+◌, ◌*◌, length, take};
+ghost use Rattle.byteorder.specs.Endian.{big_from};
+ghost use Rattle.cx_exec.specs.State.{machine};
+ghost use Rattle.cx_exec.specs.Operands.{Stores};
+ghost use Rattle.cx_exec.specs.Registers.{place_after, register_count, loaded_registers, register_bytes, LoadsRegisters};
+
+use crate::machine::{Cpu, Interruption};
+use crate::operands::put_bytes;
+use crate::rows::Ahead;
+use byteorder::{BigEndian, ByteOrder};
+use cx_storage::Store;
+
+/// How many registers after the first one another comes, 0 following 15.
+pub(crate) fn place_after(first: u8, r: u8) -> u8
+    requires first { first < 16 }
+    requires register { r < 16 }
+    ensures value { result ≡ place_after first r }
+    ensures short { result < 16 }
+{
+    (r + (16 - first)) % 16
+}
+
+/// The word at a place in a row of words.
+fn word_in(bytes: &[u8], place: u8) -> u32
+    requires { 4 * place + 4 ≤ length bytes.now }
+    ensures { result ≡ big_from (4 * place) 4 bytes.now }
+{
+    let at = 4 * place as usize;
+    BigEndian::read_u32(&bytes[at..])
+}
+
+/// Loads the registers from the first through the last one.
+pub(crate) fn load_registers(regs: &mut [u32; 16], first: u8, last: u8, bytes: &[u8])
+    requires first { first < 16 }
+    requires last { last < 16 }
+    requires length { length bytes.now ≡ 4 * register_count first last }
+    ensures { regs.new ≡ loaded_registers regs.old first last bytes.now }
+{
+    for r in 0..16 {
+        let place = place_after(first, r);
+        if place <= place_after(first, last) {
+            regs[r as usize] = word_in(bytes, place);
+        }
+    }
+}
+
+/// Writes the words of registers, from the first one on, one after the other.
+#[tactic(auto, using(crate::proofs::RegisterLemmas::no_bytes, crate::proofs::RegisterLemmas::more_bytes))]
+pub(crate) fn write_registers(regs: &[u32; 16], first: u8, count: usize, bytes: &mut [u8; 64])
+    requires first { first < 16 }
+    requires count { count ≤ 16 }
+    ensures { take (4 * count) bytes.new ≡ register_bytes regs.now first count }
+{
+    for k in 0..count {
+        let word = regs[(first as usize + k) % 16];
+        BigEndian::write_u32(&mut bytes[4 * k..], word);
+    }
+}
+
+/// Stores the registers from the first through the last one: all of their bytes, or none and
+/// interruption 5.
+pub(crate) fn store_multiple<S: Store>(
+    cpu: &mut Cpu,
+    store: &mut S,
+    first: u8,
+    last: u8,
+    a: u32,
+    ahead: Ahead,
+) -> Result<(), Interruption>
+    requires first { first < 16 }
+    requires last { last < 16 }
+    requires operand { a < 2 ^ 24 }
+    requires address { ahead.next < 2 ^ 24 }
+    ensures { Stores a (register_bytes cpu.old.regs first (register_count first last)) ahead (machine cpu.old (S.storage store.old)) result (machine cpu.new (S.storage store.new)) }
+{
+    let count = place_after(first, last) as usize + 1;
+    let mut bytes = [0; 64];
+    write_registers(&cpu.regs, first, count, &mut bytes);
+    put_bytes(cpu, store, a, &bytes[..4 * count], ahead)
+}
+
+/// Loads the registers from the first through the last one: all of them, or none and interruption 5.
+#[tactic(auto, unfolding(crate::specs::Registers::LoadsRegisters))]
+pub(crate) fn load_multiple<S: Store>(
+    cpu: &mut Cpu,
+    store: &S,
+    first: u8,
+    last: u8,
+    a: u32,
+    ahead: Ahead,
+) -> Result<(), Interruption>
+    requires first { first < 16 }
+    requires last { last < 16 }
+    requires operand { a < 2 ^ 24 }
+    requires address { ahead.next < 2 ^ 24 }
+    ensures { LoadsRegisters first last a ahead (machine cpu.old (S.storage store.now)) result (machine cpu.new (S.storage store.now)) }
+{
+    let count = place_after(first, last) as usize + 1;
+    let mut bytes = [0; 64];
+    let words = &mut bytes[..4 * count];
+    if !store.read(a, words) {
+        return Err(Interruption::Addressing);
+    }
+    let mut regs = cpu.regs;
+    load_registers(&mut regs, first, last, words);
+    cpu.regs = regs;
+    cpu.next = ahead.next;
+    Ok(())
+}

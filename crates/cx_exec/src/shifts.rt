@@ -1,0 +1,90 @@
+//! Shifts of words.
+
+ghost use Rattle.std.specs.Prelude.{◌≡◌, ◌<◌, ◌^◌, Ok, slice_set, slice_index};
+ghost use Rattle.cx_exec.specs.Numbers.{signed, word_of, sign_code, sum_code};
+ghost use Rattle.cx_exec.specs.Shifts.{shifted_right, shifted_left, halved, doubled, shifted_arithmetic};
+
+use crate::machine::{Cpu, Interruption};
+use crate::numbers::{order_code, signed, sum_code, word_of};
+use crate::results::load_coded;
+use crate::rows::Ahead;
+
+/// 2 to the power n.
+fn power(n: u8) -> u64
+    requires { n < 64 }
+    ensures { result ≡ 2 ^ n }
+{
+    1 << n
+}
+
+/// A word shifted right by n bits, zeros filled in.
+pub(crate) fn shifted_right(word: u32, n: u8) -> u32
+    requires { n < 64 }
+    ensures { result ≡ shifted_right word n }
+{
+    (u64::from(word) >> n) as u32
+}
+
+/// A word shifted left by n bits, zeros filled in.
+pub(crate) fn shifted_left(word: u32, n: u8) -> u32
+    requires { n < 64 }
+    ensures { result ≡ shifted_left word n }
+{
+    (u128::from(word) * u128::from(power(n)) % 0x1_0000_0000) as u32
+}
+
+/// A word's number times 2^n.
+pub(crate) fn doubled(word: u32, n: u8) -> i128
+    requires { n < 64 }
+    ensures { result ≡ doubled word n }
+{
+    i128::from(word.cast_signed()) * i128::from(power(n))
+}
+
+/// A word shifted left by n bits but for its sign bit, which stays.
+pub(crate) fn shifted_arithmetic(word: u32, n: u8) -> u32
+    requires { n < 64 }
+    ensures { result ≡ shifted_arithmetic word n }
+{
+    word / 0x8000_0000 * 0x8000_0000 + doubled(word, n).rem_euclid(0x8000_0000) as u32
+}
+
+/// Shifts a register right by n bits, its sign filled in.
+pub(crate) fn shift_right(cpu: &mut Cpu, r: u8, n: u8, ahead: Ahead) -> Result<(), Interruption>
+    requires register { r < 16 }
+    requires amount { n < 64 }
+    requires address { ahead.next < 2 ^ 24 }
+    ensures done { result ≡ Ok tt }
+    ensures regs { cpu.new.regs ≡ slice_set cpu.old.regs r (word_of (halved (signed (slice_index cpu.old.regs r)) n)) }
+    ensures code { cpu.new.cc ≡ sign_code (halved (signed (slice_index cpu.old.regs r)) n) }
+    ensures next { cpu.new.next ≡ ahead.next }
+{
+    let shifted = signed(cpu.regs[r as usize]) >> n;
+    load_coded(
+        cpu,
+        r,
+        word_of(shifted),
+        order_code(i128::from(shifted), 0),
+        ahead,
+    )
+}
+
+/// Shifts a register left by n bits but for its sign bit, which stays.
+pub(crate) fn shift_left(cpu: &mut Cpu, r: u8, n: u8, ahead: Ahead) -> Result<(), Interruption>
+    requires register { r < 16 }
+    requires amount { n < 64 }
+    requires address { ahead.next < 2 ^ 24 }
+    ensures done { result ≡ Ok tt }
+    ensures regs { cpu.new.regs ≡ slice_set cpu.old.regs r (shifted_arithmetic (slice_index cpu.old.regs r) n) }
+    ensures code { cpu.new.cc ≡ sum_code (doubled (slice_index cpu.old.regs r) n) }
+    ensures next { cpu.new.next ≡ ahead.next }
+{
+    let word = cpu.regs[r as usize];
+    load_coded(
+        cpu,
+        r,
+        shifted_arithmetic(word, n),
+        sum_code(doubled(word, n)),
+        ahead,
+    )
+}
