@@ -153,7 +153,7 @@ impl Queue {
 pub struct Queues {
     alloc: Global,
     queues: IndexMap<Name8, Queue>,
-    data: usize,
+    item_bytes: usize,
 }
 
 impl Model for Queues {
@@ -164,7 +164,7 @@ impl Model for Queues {
 
     ghost view = { λ all. all.queues.entries };
 
-    ghost invariant = { λ all. AreSoundQueues all.queues.entries × (all.data ≡ data_of all.queues.entries) };
+    ghost invariant = { λ all. AreSoundQueues all.queues.entries × (all.item_bytes ≡ data_of all.queues.entries) };
 }
 
 impl Queues {
@@ -179,7 +179,7 @@ impl Queues {
         Ok(Queues {
             alloc,
             queues,
-            data: 0,
+            item_bytes: 0,
         })
     }
 
@@ -233,7 +233,7 @@ impl Queues {
         if count.is_none() && self.queues.len() >= MOST_QUEUES {
             return Err(ServiceFault::Nospace);
         }
-        if self.data + len > MOST_DATA {
+        if self.item_bytes + len > MOST_DATA {
             return Err(ServiceFault::Nospace);
         }
         Ok(())
@@ -252,7 +252,7 @@ impl Queues {
     {
         self.can_write(name, bytes.len())?;
         let number = put_last(self.alloc, &mut self.queues, name, bytes)?;
-        self.data += bytes.len();
+        self.item_bytes += bytes.len();
         Ok(number)
     }
 
@@ -268,7 +268,7 @@ impl Queues {
         }
         self.can_read(name, n)?;
         let old_len = self.item_len(name, n).unwrap_or(0);
-        if self.data - old_len + len > MOST_DATA {
+        if self.item_bytes - old_len + len > MOST_DATA {
             return Err(ServiceFault::Nospace);
         }
         Ok(())
@@ -288,7 +288,7 @@ impl Queues {
         let old_len = self.item_len(name, n).unwrap_or(0);
         let item = Item::new(self.alloc, bytes)?;
         put_at(&mut self.queues, name, n, item);
-        self.data = self.data - old_len + bytes.len();
+        self.item_bytes = self.item_bytes - old_len + bytes.len();
         Ok(())
     }
 
@@ -349,7 +349,7 @@ impl Queues {
     {
         match self.queues.shift_remove(&name) {
             Some(queue) => {
-                self.data -= queue.size();
+                self.item_bytes -= queue.size();
                 Ok(())
             }
             None => Err(ServiceFault::Qiderr),

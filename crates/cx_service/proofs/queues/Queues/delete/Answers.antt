@@ -18,7 +18,7 @@ overflow_sub-self c =
     let there : queue_of c.self.inside.queues.entries c.args.name ≡ Some c.in-Some.queue = sym c.in-Some.ensures.value in
     let part : size_of c.in-Some.queue ≤ data_of c.self.inside.queues.entries = size_within c.self.inside.queues.entries c.args.name c.in-Some.queue there in
     let size : c.size.result ≡ size_of c.in-Some.queue = c.size.ensures in
-    let total : c.self.inside.data ≡ data_of c.self.inside.queues.entries = c.self.invariant.1 in
+    let total : c.self.inside.item_bytes ≡ data_of c.self.inside.queues.entries = c.self.invariant.1 in
     omega arith
 
 pub invariant_of-self : goal.invariant_of-self
