@@ -1,0 +1,24 @@
+-- The definitions, in reading order.
+pub mod State
+pub mod Names
+pub mod Tables
+pub mod Faults
+pub mod Defining
+pub mod Eib
+pub mod Attach
+pub mod Placing
+pub mod Call
+pub mod CallLaws
+pub mod Reach
+pub mod Abend
+pub mod Performing
+pub mod Turn
+pub mod Events
+pub mod Looking
+pub mod Sound
+pub mod RegionLaws
+pub use Rattle.cx_command.specs.Commands
+pub use Rattle.cx_command.specs.Conditions
+pub use Rattle.cx_command.specs.Legal
+pub use Rattle.cx_storage.specs.Storage
+pub use Rattle.cx_storage.specs.Word

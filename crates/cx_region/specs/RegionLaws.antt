@@ -1,0 +1,143 @@
+-- What follows from the definitions of events and runs.
+use Rattle.std.specs.Prelude.{◌≡◌, ◌≢◌, ℕ, Bool, true, false, List, ◌++◌, length, take, drop, Result, Err, Some, codes}
+use Rattle.std.specs.Map.{keys_of}
+use Rattle.cx_code.specs.declared.image.Image.{Image}
+use Rattle.cx_load.specs.declared.loading.Loaded.{Loaded}
+use Rattle.cx_region.specs.declared.replies.DefineFault.{DefineFault}
+use Rattle.cx_region.specs.declared.replies.Event.{Event}
+use Rattle.cx_region.specs.declared.replies.KeyReply.{KeyReply}
+use Rattle.cx_region.specs.declared.replies.KeyReply.TheVariants as key
+use Rattle.cx_region.specs.declared.replies.Reply.{Reply}
+use Rattle.cx_region.specs.declared.replies.TurnReply.{TurnReply}
+use Rattle.cx_region.specs.declared.replies.TurnReply.TheVariants as turn
+use Rattle.cx_ebcdic.specs.Names.{name_of}
+use Rattle.cx_region.specs.Abend.{aica, asra, xarg, xfun}
+use Rattle.cx_region.specs.State.{RegionState, Input}
+use Rattle.cx_region.specs.Names.{is_name4}
+use Rattle.cx_region.specs.Tables.{terminal_of}
+use Rattle.cx_region.specs.Defining.{DefinesProgram, DefinesTransaction, DefinesTerminal}
+use Rattle.cx_region.specs.Attach.{Keyed, next_number}
+use Rattle.cx_region.specs.Turn.{Turned}
+use Rattle.cx_region.specs.Events.{Happens, Run}
+
+-- ---- one outcome
+-- two outcomes of one event on one region are equal
+abbrev pub EventsDecide : Type 0
+EventsDecide = (old : RegionState) (event : Event) (reply other : Reply) (new later : RegionState)
+    → Happens old event reply new → Happens old event other later → (reply ≡ other) × (new ≡ later)
+
+-- two outcomes of one definition, of one key, of one turn
+abbrev pub ProgramsDecide : Type 0
+ProgramsDecide = (old : RegionState) (name : List ℕ) (image : Image) (answer other : Result Loaded DefineFault) (new later : RegionState)
+    → DefinesProgram old name image answer new → DefinesProgram old name image other later → (answer ≡ other) × (new ≡ later)
+
+abbrev pub TransactionsDecide : Type 0
+TransactionsDecide = (old : RegionState) (tran program : List ℕ) (answer other : Result (Unit {0}) DefineFault) (new later : RegionState)
+    → DefinesTransaction old tran program answer new → DefinesTransaction old tran program other later → (answer ≡ other) × (new ≡ later)
+
+abbrev pub TerminalsDecide : Type 0
+TerminalsDecide = (old : RegionState) (name : List ℕ) (answer other : Result (Unit {0}) DefineFault) (new later : RegionState)
+    → DefinesTerminal old name answer new → DefinesTerminal old name other later → (answer ≡ other) × (new ≡ later)
+
+abbrev pub KeysDecide : Type 0
+KeysDecide = (old : RegionState) (name : List ℕ) (input : Input) (reply other : KeyReply) (new later : RegionState)
+    → Keyed old name input reply new → Keyed old name input other later → (reply ≡ other) × (new ≡ later)
+
+abbrev pub TurnsDecide : Type 0
+TurnsDecide = (old : RegionState) (name : List ℕ) (reply other : TurnReply) (new later : RegionState)
+    → Turned old name reply new → Turned old name other later → (reply ≡ other) × (new ≡ later)
+
+-- two outcomes of one run are equal
+abbrev pub RunsDecide : Type 0
+RunsDecide = (old : RegionState) (events : List Event) (replies others : List Reply) (new later : RegionState)
+    → Run old events replies new → Run old events others later → (replies ≡ others) × (new ≡ later)
+
+-- ---- what stays
+-- Every other terminal is as before in all its parts: so are its task's registers, levels and due command.
+abbrev pub OthersAsBefore : RegionState → List ℕ → RegionState → Type 0
+OthersAsBefore old name new = (other : List ℕ) → is_name4 name other ≡ false → terminal_of new other ≡ terminal_of old other
+
+-- what a turn of a terminal leaves, whatever its task does
+pub record TurnKeeps (old : RegionState) (name : List ℕ) (new : RegionState) : Type 0 where
+  pub others : OthersAsBefore old name new
+  pub names : keys_of new.terminals ≡ keys_of old.terminals
+  pub programs : new.programs ≡ old.programs
+  pub transactions : new.transactions ≡ old.transactions
+  pub time : new.time ≡ old.time
+  pub date : new.date ≡ old.date
+  pub counter : new.counter ≡ old.counter
+
+-- the counter of tasks after a key that was answered so: the next number, where a task was attached
+abbrev pub counter_after : KeyReply → ℕ → ℕ
+counter_after key.Attached counter = next_number counter
+counter_after _ counter = counter
+
+-- what a key of a terminal leaves, by its answer
+pub record KeyKeeps (old : RegionState) (name : List ℕ) (reply : KeyReply) (new : RegionState) : Type 0 where
+  pub others : OthersAsBefore old name new
+  pub names : keys_of new.terminals ≡ keys_of old.terminals
+  pub programs : new.programs ≡ old.programs
+  pub transactions : new.transactions ≡ old.transactions
+  pub time : new.time ≡ old.time
+  pub date : new.date ≡ old.date
+  pub queues : new.queues ≡ old.queues
+  pub resources : new.resources ≡ old.resources
+  pub storage : reply ≢ key.Attached → new.storage ≡ old.storage
+  pub counter : new.counter ≡ counter_after reply old.counter
+
+abbrev pub TurnsKeepToTheirTask : Type 0
+TurnsKeepToTheirTask = (old : RegionState) (name : List ℕ) (reply : TurnReply) (new : RegionState) → Turned old name reply new → TurnKeeps old name new
+
+abbrev pub KeysKeepToTheirTerminal : Type 0
+KeysKeepToTheirTerminal = (old : RegionState) (name : List ℕ) (input : Input) (reply : KeyReply) (new : RegionState) → Keyed old name input reply new → KeyKeeps old name reply new
+
+-- ---- what changes nothing
+-- the answers of a turn that leaves the region as it was
+abbrev pub changes_nothing : TurnReply → Bool
+changes_nothing turn.Idle = true
+changes_nothing turn.NoSuchTerminal = true
+changes_nothing turn.Waiting = true
+changes_nothing _ = false
+
+abbrev pub StillTurnsLeaveTheRegion : Type 0
+StillTurnsLeaveTheRegion = (old : RegionState) (name : List ℕ) (reply : TurnReply) (new : RegionState) → Turned old name reply new
+    → changes_nothing reply ≡ true → new ≡ old
+
+-- every answer of a key but Attached and Given
+abbrev pub StillKeysLeaveTheRegion : Type 0
+StillKeysLeaveTheRegion = (old : RegionState) (name : List ℕ) (input : Input) (reply : KeyReply) (new : RegionState) → Keyed old name input reply new
+    → reply ≢ key.Attached → reply ≢ key.Given → new ≡ old
+
+abbrev pub RefusedProgramsLeaveTheRegion : Type 0
+RefusedProgramsLeaveTheRegion = (old : RegionState) (name : List ℕ) (image : Image) (fault : DefineFault) (new : RegionState)
+    → DefinesProgram old name image (Err fault) new → new ≡ old
+
+abbrev pub RefusedTransactionsLeaveTheRegion : Type 0
+RefusedTransactionsLeaveTheRegion = (old : RegionState) (tran program : List ℕ) (fault : DefineFault) (new : RegionState)
+    → DefinesTransaction old tran program (Err fault) new → new ≡ old
+
+abbrev pub RefusedTerminalsLeaveTheRegion : Type 0
+RefusedTerminalsLeaveTheRegion = (old : RegionState) (name : List ℕ) (fault : DefineFault) (new : RegionState)
+    → DefinesTerminal old name (Err fault) new → new ≡ old
+
+-- ---- runs
+-- a run, and a run from where it ends, are one run of all their events
+abbrev pub RunsJoin : Type 0
+RunsJoin = (old between new : RegionState) (events more : List Event) (replies others : List Reply)
+    → Run old events replies between → Run between more others new → Run old (events ++ more) (replies ++ others) new
+
+-- a run of events and more is a run of the events with as many replies, and one of the others from where it ends
+abbrev pub RunsPart : Type 0
+RunsPart = (old new : RegionState) (events more : List Event) (replies : List Reply) → Run old (events ++ more) replies new
+    → (between : RegionState) × Run old events (take (length events) replies) between × Run between more (drop (length events) replies) new
+
+-- each event has its reply
+abbrev pub EachIsAnswered : Type 0
+EachIsAnswered = (old new : RegionState) (events : List Event) (replies : List Reply) → Run old events replies new → length replies ≡ length events
+
+-- the codes of the region's own abends are their names' characters
+pub record CodesAreSpelled : Type 0 where
+  pub of_interruption : name_of 4 (codes "ASRA") ≡ Some asra
+  pub of_limit : name_of 4 (codes "AICA") ≡ Some aica
+  pub of_list : name_of 4 (codes "XARG") ≡ Some xarg
+  pub of_function : name_of 4 (codes "XFUN") ≡ Some xfun

@@ -1,0 +1,39 @@
+-- What is found in a region by name.
+use Rattle.std.specs.Prelude.{ℕ, List, Option, None, unwrap_or}
+use Rattle.std.specs.Option.{option_and_then}
+use Rattle.std.specs.Map.{lookup, set_value}
+use Rattle.cx_load.specs.declared.loading.Loaded.{Loaded}
+use Rattle.cx_service.specs.Screen.{blank_screen}
+use Rattle.cx_region.specs.State.{RegionState, TerminalState, TaskState}
+use Rattle.cx_region.specs.Names.{is_name4, is_name8}
+
+-- a new terminal: a blank screen, and nothing else
+abbrev pub fresh_terminal : ℕ → TerminalState
+fresh_terminal slot = record { slot = slot; screen = blank_screen; input = None; following = None; task = None }
+
+-- where the program of a name stands
+abbrev pub program_of : RegionState → List ℕ → Option Loaded
+program_of region name = lookup (is_name8 name) region.programs
+
+-- the program's name of a transaction
+abbrev pub transaction_of : RegionState → List ℕ → Option (List ℕ)
+transaction_of region tran = lookup (is_name4 tran) region.transactions
+
+-- the terminal of a name
+abbrev pub terminal_of : RegionState → List ℕ → Option TerminalState
+terminal_of region name = lookup (is_name4 name) region.terminals
+
+-- the task of a terminal
+abbrev pub task_of : RegionState → List ℕ → Option TaskState
+task_of region name = option_and_then (λ terminal. terminal.task) (terminal_of region name)
+
+-- the region with another terminal under the name
+abbrev pub with_terminal : RegionState → List ℕ → TerminalState → RegionState
+with_terminal region name terminal = record region { terminals = set_value (is_name4 name) region.terminals terminal }
+
+-- the terminal of a name that has one
+abbrev pub terminal_in : List (List ℕ × TerminalState) → List ℕ → TerminalState
+terminal_in terminals name = unwrap_or (lookup (is_name4 name) terminals) (fresh_terminal 0)
+
+abbrev pub terminal_at : RegionState → List ℕ → TerminalState
+terminal_at region name = terminal_in region.terminals name

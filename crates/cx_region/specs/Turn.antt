@@ -1,0 +1,120 @@
+-- A turn of a terminal: one half-turn of its task (this product's own): all instructions up to a command, an
+-- interruption or a limit, or the one command that is due.
+use Rattle.std.specs.Prelude.{◌≡◌, ℕ, Bool, true, false, List, Option, None, MatchOption, MatchBool}
+use Rattle.std.specs.Option.{option_map_or}
+use Rattle.std.specs.Result.{result_ok}
+use Rattle.cx_exec.specs.declared.machine.Halt.{Halt}
+use Rattle.cx_exec.specs.declared.machine.Halt.TheVariants as halt
+use Rattle.cx_exec.specs.Machine.{Machine}
+use Rattle.cx_exec.specs.Advance.{Advances}
+use Rattle.cx_storage.specs.Storage.{Storage}
+use Rattle.cx_load.specs.declared.loading.Loaded.{Loaded}
+use Rattle.cx_service.specs.Queues.{Queues}
+use Rattle.cx_service.specs.Resources.{Resources}
+use Rattle.cx_program.specs.Levels.{with_current}
+use Rattle.cx_region.specs.declared.pass.Pass.{Pass}
+use Rattle.cx_region.specs.declared.pass.Pass.TheVariants.{Stays}
+use Rattle.cx_region.specs.declared.replies.TurnReply.{TurnReply}
+use Rattle.cx_region.specs.declared.replies.TurnReply.TheVariants as turn
+use Rattle.cx_region.specs.Abend.{Abends, aica, asra}
+use Rattle.cx_region.specs.Call.{Call, call_of}
+use Rattle.cx_region.specs.Performing.{Commanded, list_of, may_grow}
+use Rattle.cx_region.specs.State.{RegionState, TerminalState, TaskState}
+use Rattle.cx_region.specs.Tables.{terminal_of, task_of}
+use Rattle.cx_region.specs.Reach.{Reach, reach_of, after_pass, reply_of, resources_after, storage_after, terminal_after}
+
+-- the most instructions of a half-turn
+abbrev pub most_steps : ℕ
+most_steps = 65536
+
+-- the machine that a task runs on, and what it can reach after the machine ran
+abbrev pub machine_of : Reach → Machine
+machine_of reach = record { regs = reach.task.regs; cc = reach.task.cc; next = reach.task.next; storage = reach.storage }
+
+abbrev pub after_machine : Reach → Machine → Reach
+after_machine reach machine =
+    record reach {
+      storage = machine.storage;
+      task = record reach.task { regs = machine.regs; cc = machine.cc; next = machine.next };
+    }
+
+-- a command is due, and the level keeps registers and code
+abbrev pub at_command_task : TaskState → TaskState
+at_command_task task =
+    record task {
+      levels = with_current task.levels (record task.levels.current { regs = task.regs; cc = task.cc });
+      due = true;
+    }
+
+abbrev pub at_command : Reach → Reach
+at_command reach = record reach { task = at_command_task reach.task }
+
+-- by how the instructions ended
+abbrev pub Halted : Halt → Reach → Pass → Reach → Type 0
+Halted halt.AtEntry before pass after = (pass ≡ Stays turn.AtCommand) × (after ≡ at_command before)
+Halted (halt.Interrupt cause place) before pass after = Abends asra before pass after
+Halted halt.Limit before pass after = Abends (aica) before pass after
+
+-- instructions run
+pub record RunsOn (before : Reach) (pass : Pass) (after : Reach) : Type 0 where
+  pub how : Halt
+  pub machine : Machine
+  pub advances : Advances most_steps (machine_of before) how machine
+  pub ends : Halted how (after_machine before machine) pass after
+
+-- one half-turn of a live task
+unfoldable pub HalfTurn : Reach → Pass → Reach → Type 0
+HalfTurn before pass after = MatchBool before.task.due (Commanded before pass after) (RunsOn before pass after)
+
+-- a half-turn by its parts: what it leaves of storage, programs, queues, resources and the terminal
+pub record PartTurned (before : Reach) (reply : TurnReply) (storage : Storage) (programs : List (List ℕ × Loaded)) (queues : Queues) (resources : Resources) (terminal : TerminalState) : Type 0 where
+  pub pass : Pass
+  pub reach : Reach
+  pub half_turn : HalfTurn before pass reach
+  pub answer : reply ≡ reply_of pass
+  pub storage_is : storage ≡ storage_after pass reach
+  pub programs_are : programs ≡ reach.programs
+  pub queues_are : queues ≡ reach.queues
+  pub resources_are : resources ≡ resources_after pass reach
+  pub terminal_is : terminal ≡ terminal_after pass reach
+
+-- a terminal without a task: nothing changes
+pub record PartIdle (reply : TurnReply) (storage storage' : Storage) (programs programs' : List (List ℕ × Loaded)) (queues queues' : Queues) (resources resources' : Resources) (terminal terminal' : TerminalState) : Type 0 where
+  pub answer : reply ≡ turn.Idle
+  pub storage_stays : storage' ≡ storage
+  pub programs_stay : programs' ≡ programs
+  pub queues_stay : queues' ≡ queues
+  pub resources_stay : resources' ≡ resources
+  pub terminal_stays : terminal' ≡ terminal
+
+-- the turn of a terminal with a task: all else in the region is as before
+pub record TaskTurned (old : RegionState) (name : List ℕ) (terminal : TerminalState) (task : TaskState) (reply : TurnReply) (new : RegionState) : Type 0 where
+  pub pass : Pass
+  pub reach : Reach
+  pub half_turn : HalfTurn (reach_of old terminal task) pass reach
+  pub answer : reply ≡ reply_of pass
+  pub after : new ≡ after_pass old name reach pass
+
+-- a turn of a terminal
+unfoldable pub Turned : RegionState → List ℕ → TurnReply → RegionState → Type 0
+Turned old name reply new =
+    MatchOption (terminal_of old name)
+    ((reply ≡ turn.NoSuchTerminal) × (new ≡ old))
+    (λ terminal. MatchOption terminal.task
+    ((reply ≡ turn.Idle) × (new ≡ old))
+    (λ task. TaskTurned old name terminal task reply new))
+
+-- ---- memory
+-- the call that is due, where one is and its list is legal
+abbrev pub due_call : Bool → RegionState → TaskState → Option Call
+due_call true region task = result_ok (call_of region.storage (list_of task))
+due_call false region task = None
+
+-- A turn may take memory only where a command of some kinds is due.
+unfoldable pub turn_may_grow : RegionState → List ℕ → Bool
+turn_may_grow region name = option_map_or (λ task. option_map_or may_grow (due_call task.due region task) false) (task_of region name) false
+
+-- the region with this storage, and these programs, queues, resources and terminals
+abbrev pub with_shared : RegionState → Storage → List (List ℕ × Loaded) → Queues → Resources → List (List ℕ × TerminalState) → RegionState
+with_shared region storage programs queues resources terminals =
+    record region { storage = storage; programs = programs; queues = queues; resources = resources; terminals = terminals }

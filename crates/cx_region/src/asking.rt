@@ -1,0 +1,41 @@
+//! What a key of a terminal asks for, before anything changes.
+use crate::replies::KeyReply;
+use cx_ebcdic::{Name4, Name8};
+use cx_load::Loaded;
+
+/// A task to be attached.
+#[derive(Clone, Copy, Debug, PartialEq, Eq)]
+pub struct Start {
+    /// The position of its terminal, counted from 1.
+    pub slot: u8,
+    /// Its transaction.
+    pub tran: Name4,
+    /// The transaction's program.
+    pub program: Name8,
+    /// Where the program stands.
+    pub loaded: Loaded,
+    /// The length of the COMMAREA kept for it; 0 where there is none.
+    pub calen: u16,
+}
+
+/// What a key asks for.
+#[derive(Clone, Copy, Debug, PartialEq, Eq)]
+pub enum Asked {
+    /// This answer, with no change.
+    Answer(KeyReply),
+    /// That the input be held for the terminal's task.
+    Give,
+    /// That a task be attached.
+    Attach(Start),
+}
+
+/// Where the areas of a task stand.
+#[derive(Clone, Copy, Debug, PartialEq, Eq)]
+pub struct Places {
+    /// The address of the EIB.
+    pub eib: u32,
+    /// The address of the copy of the COMMAREA, where there is one.
+    pub commarea: Option<u32>,
+    /// The address of DFHEISTG.
+    pub stg: u32,
+}

@@ -1,0 +1,540 @@
+//! A key of a terminal: a task is attached, or the input is held for the one that is there.
+ghost use Rattle.std.specs.Prelude.{◌≡◌, ◌≢◌, ◌<◌, ◌≤◌, ◌+◌, ◌^◌, ◌==◌, false, if◌then◌else◌, [], None, Some, length, unwrap_or, IfOk, IfErr, OnOk, OnErr, IfSome, position, MatchOption};
+ghost use Rattle.std.specs.List.{AllByRecursion};
+ghost use Rattle.std.specs.Option.{option_map};
+ghost use Rattle.std.specs.Map.{lookup, set_value};
+ghost use Rattle.cx_storage.specs.Storage.{is_of_other_slot, with_area, with_areas_kept};
+ghost use Rattle.cx_region.specs.Placing.{AreFaultsOf, IsSlotFree, input_of, ArePlacesBelow, IsCopyFault, IsPlaceFault};
+ghost use Rattle.cx_ebcdic.specs.Names.{padded};
+ghost use Rattle.cx_region.specs.Names.{is_name4};
+ghost use Rattle.cx_region.specs.Tables.{program_of, terminal_at, with_terminal, terminal_in, terminal_of, transaction_of};
+ghost use Rattle.cx_region.specs.State.{TaskState};
+ghost use Rattle.cx_region.specs.Attach.{ArePlaced, Attaches, MayGrow, start_of, HasNoPlaces, IsCopyPlace, IsTaskPlace, asked, asked_at, commarea_kept, filled, first_word, fresh_task, input_asked, input_from, Keyed, next_number, sends_data, start_asked, system_owner, transaction_named, with_copy, with_task, with_task_areas, entry_level, entry_registers};
+ghost use Rattle.cx_region.specs.Sound.{IsSound, IsSoundProgram};
+
+use crate::asking::{Asked, Places, Start};
+use crate::eib::{Begun, begin};
+use crate::replies::KeyReply;
+use crate::state::{Following, Input, Region, Task, Terminal};
+use cx_ebcdic::{Aid, Name4, Name8};
+use cx_exec::Cpu;
+use cx_load::Loaded;
+use cx_program::{ConditionCode, HandleTable, Level, LevelStack};
+use cx_storage::{Kind, Owner, Store};
+use indexmap::IndexMap;
+use std::alloc::{AllocError, Global};
+
+/// The code of a blank.
+const BLANK: u8 = 0x40;
+
+/// The bytes that a key sends: none for CLEAR, PA1 and PA2.
+#[tactic(auto, unfolding(crate::specs::Attach::input_from))]
+fn bytes_sent(aid: Aid, bytes: &[u8]) -> &[u8]
+    ensures value { result.now ≡ (input_from aid bytes.now).bytes }
+    ensures few { length result.now ≤ length bytes.now }
+{
+    match aid {
+        Aid::Clear | Aid::Pa1 | Aid::Pa2 => &[],
+        _ => bytes,
+    }
+}
+
+/// The transaction that an input names: its bytes before the first blank, at most four.
+#[tactic(auto, unfolding(crate::specs::Attach::first_word))]
+fn first_word(bytes: &[u8]) -> Name4
+    ensures { result ≡ first_word bytes.now }
+{
+    let end = first_blank(bytes).unwrap_or(bytes.len()).min(4);
+    Name4::from_bytes(padded(&bytes[..end]))
+}
+
+/// The place of the first blank.
+fn first_blank(bytes: &[u8]) -> Option<usize>
+    ensures value { result ≡ position (λ byte. byte == 0x40) bytes.now }
+    ensures within { IfSome result (λ k. k < length bytes.now) }
+{
+    bytes.iter().position(|byte| *byte == BLANK)
+}
+
+/// Bytes filled with blanks on the right.
+fn padded(word: &[u8]) -> [u8; 4]
+    requires { length word.now ≤ 4 }
+    ensures { result ≡ padded 4 word.now }
+{
+    let mut filled = [BLANK; 4];
+    for (i, byte) in word.iter().enumerate() {
+        filled[i] = *byte;
+    }
+    filled
+}
+
+/// The transaction that a key asks for.
+fn transaction_named(following: &Option<Following>, bytes: &[u8]) -> Name4
+    ensures { result ≡ transaction_named following.now bytes.now }
+{
+    match following {
+        Some(following) => following.tran,
+        None => first_word(bytes),
+    }
+}
+
+/// The COMMAREA kept for a terminal's next transaction; no bytes where there is none.
+fn commarea_kept(following: &Option<Following>) -> &[u8]
+    ensures value { result.now ≡ commarea_kept following.now }
+    ensures short { length result.now ≤ 32767 }
+{
+    match following {
+        Some(following) => following.commarea.as_slice(),
+        None => &[],
+    }
+}
+
+/// Why a task can't be attached.
+#[derive(Drop)]
+pub enum StartFault {
+    /// Storage has no place for its areas.
+    NoStorage,
+    /// A growth was refused.
+    Memory(AllocError),
+}
+
+impl From<AllocError> for StartFault {
+    ghost use Rattle.cx_region.specs.declared.attach.StartFault.TheVariants.{Memory};
+
+    ghost from_gives = { λ refused fault. fault ≡ Memory refused };
+
+    fn from(refused: AllocError) -> StartFault {
+        StartFault::Memory(refused)
+    }
+}
+
+/// The addresses between which the areas of tasks stand.
+const FIRST_OF_TASKS: u32 = 0x20_0000;
+
+const LAST_OF_TASKS: u32 = 0xFF_FFFF;
+
+/// The length of an EIB.
+const EIB_LEN: u32 = 88;
+
+/// Makes an area of a task. NoStorage comes exactly where there is no place; then, and where a growth was refused, all
+/// is as before.
+#[tactic(auto, using(cx_storage::specs::Areas::place_decides, crate::proofs::PlacingLemmas::task_address, crate::proofs::PlacingLemmas::no_area))]
+fn get_task_area<S: Store>(store: &mut S, len: u32, owner: Owner) -> Result<u32, StartFault>
+    requires { 0 < len }
+    ensures place { IfOk result (λ start. IsTaskPlace (S.storage store.old) len (Some start)) }
+    ensures after { IfOk result (λ start. S.storage store.new ≡ with_area (S.storage store.old) (Some start) len owner) }
+    ensures address { IfOk result (λ start. start < 2 ^ 24) }
+    ensures fault { IfErr result (IsPlaceFault (S.storage store.old) len) }
+    ensures err { OnErr result (S.storage store.new ≡ S.storage store.old) }
+{
+    match store.get_area(FIRST_OF_TASKS, LAST_OF_TASKS, len, owner)? {
+        Some(start) => Ok(start),
+        None => Err(StartFault::NoStorage),
+    }
+}
+
+/// Makes the area of the copy of a COMMAREA, where it has bytes.
+#[tactic(auto, unfolding(cx_storage::specs::Storage::with_area))]
+fn get_copy_area<S: Store>(store: &mut S, len: u32, owner: Owner) -> Result<Option<u32>, StartFault>
+    ensures place { IfOk result (λ start. IsCopyPlace (S.storage store.old) len start) }
+    ensures after { IfOk result (λ start. S.storage store.new ≡ with_area (S.storage store.old) start len owner) }
+    ensures address { IfOk result (λ start. IfSome start (λ a. a < 2 ^ 24)) }
+    ensures fault { IfErr result (IsCopyFault (S.storage store.old) len) }
+    ensures err { OnErr result (S.storage store.new ≡ S.storage store.old) }
+{
+    if len == 0 {
+        return Ok(None);
+    }
+    let start = get_task_area(store, len, owner)?;
+    Ok(Some(start))
+}
+
+/// Makes the areas of a task. After an error some of them may be there; all belong to the slot.
+#[tactic(auto, using(crate::proofs::PlacingLemmas::none_for_eib))]
+fn get_task_areas<S: Store>(store: &mut S, start: &Start) -> Result<Places, StartFault>
+    requires { 0 < start.now.loaded.stg_len }
+    ensures placed { IfOk result (ArePlaced (S.storage store.old) (system_owner start.now.slot) start.now.calen start.now.loaded.stg_len) }
+    ensures after { IfOk result (λ places. S.storage store.new
+        ≡ with_task_areas (S.storage store.old) (system_owner start.now.slot) start.now.calen start.now.loaded.stg_len places) }
+    ensures addresses { IfOk result ArePlacesBelow }
+    ensures fault { IfErr result (AreFaultsOf (S.storage store.old) start.now) }
+    ensures others { OnErr result (with_areas_kept (is_of_other_slot start.now.slot) (S.storage store.new)
+        ≡ with_areas_kept (is_of_other_slot start.now.slot) (S.storage store.old)) }
+{
+    let owner = Owner {
+        slot: start.slot,
+        kind: Kind::System,
+    };
+    let eib = get_task_area(store, EIB_LEN, owner)?;
+    let commarea = match get_copy_area(store, start.calen as u32, owner) {
+        Ok(commarea) => commarea,
+        Err(fault) => return Err(fault),
+    };
+    match get_task_area(store, start.loaded.stg_len, owner) {
+        Ok(stg) => Ok(Places { eib, commarea, stg }),
+        Err(fault) => Err(fault),
+    }
+}
+
+/// Makes the areas of a task whose slot has none; or none of them.
+#[tactic(auto, using(crate::proofs::PlacingLemmas::given_back))]
+fn place_task<S: Store>(store: &mut S, start: &Start) -> Result<Places, StartFault>
+    requires stg { 0 < start.now.loaded.stg_len }
+    requires free { IsSlotFree (S.storage store.old) start.now.slot }
+    ensures placed { IfOk result (ArePlaced (S.storage store.old) (system_owner start.now.slot) start.now.calen start.now.loaded.stg_len) }
+    ensures after { IfOk result (λ places. S.storage store.new
+        ≡ with_task_areas (S.storage store.old) (system_owner start.now.slot) start.now.calen start.now.loaded.stg_len places) }
+    ensures addresses { IfOk result ArePlacesBelow }
+    ensures fault { IfErr result (AreFaultsOf (S.storage store.old) start.now) }
+    ensures err { OnErr result (S.storage store.new ≡ S.storage store.old) }
+{
+    match get_task_areas(store, start) {
+        Ok(places) => Ok(places),
+        Err(fault) => {
+            store.free_slot(start.slot);
+            Err(fault)
+        }
+    }
+}
+
+/// A level's registers on entry to its program.
+#[tactic(auto, unfolding(crate::specs::Attach::entry_registers))]
+fn entry_registers(entry: u32, stg: u32, eib: u32) -> [u32; 16]
+    ensures { result ≡ entry_registers entry stg eib }
+{
+    [0, 0, 0, entry, 0, 0, 0, 0, 0, 0, 0, eib, 0, stg, 0, entry]
+}
+
+/// The first level of a task.
+#[tactic(auto, unfolding(crate::specs::Attach::entry_level))]
+fn entry_level(start: &Start, places: &Places) -> Level
+    ensures { result ≡ entry_level start.now places.now }
+{
+    Level {
+        program: start.program,
+        stg: places.stg,
+        stg_len: start.loaded.stg_len,
+        calen: start.calen,
+        regs: entry_registers(start.loaded.entry, places.stg, places.eib),
+        cc: ConditionCode::new(0),
+        handles: HandleTable::new(),
+    }
+}
+
+/// A task as it starts.
+#[tactic(auto, unfolding(crate::specs::Attach::fresh_task))]
+fn fresh_task(start: &Start, number: u32, places: &Places) -> Task
+    requires eib { places.now.eib < 2 ^ 24 }
+    requires entry { start.now.loaded.entry < 2 ^ 24 }
+    ensures { result ≡ fresh_task start.now number places.now }
+{
+    Task {
+        tran: start.tran,
+        number,
+        eib: places.eib,
+        levels: LevelStack::new(entry_level(start, places)),
+        cpu: Cpu {
+            regs: entry_registers(start.loaded.entry, places.stg, places.eib),
+            cc: 0,
+            next: start.loaded.entry,
+        },
+        due: false,
+    }
+}
+
+impl Input {
+    /// What a key sent.
+    pub(crate) fn new(alloc: Global, aid: Aid, bytes: &[u8]) -> Result<Input, AllocError>
+        ensures { IfOk result (λ input. input ≡ input_of aid bytes.now) }
+    {
+        let bytes = Vec::from_slice(alloc, bytes)?;
+        Ok(Input { aid, bytes })
+    }
+}
+
+/// A task that is ready to be attached, with the input that it begins with.
+#[derive(Drop)]
+struct Ready {
+    places: Places,
+    task: Box<Task>,
+    input: Input,
+}
+
+/// Makes a task and its input.
+fn make_ready(
+    alloc: Global,
+    start: &Start,
+    number: u32,
+    places: Places,
+    aid: Aid,
+    bytes: &[u8],
+) -> Result<Ready, AllocError>
+    requires eib { places.eib < 2 ^ 24 }
+    requires entry { start.now.loaded.entry < 2 ^ 24 }
+    ensures places { IfOk result (λ ready. ready.places ≡ places) }
+    ensures task { IfOk result (λ ready. ready.task.value ≡ fresh_task start.now number places) }
+    ensures input { IfOk result (λ ready. ready.input ≡ input_of aid bytes.now) }
+{
+    let task = Box::new(alloc, fresh_task(start, number, &places))?;
+    let input = Input::new(alloc, aid, bytes)?;
+    Ok(Ready {
+        places,
+        task,
+        input,
+    })
+}
+
+/// Makes the areas of a task, the task and its input; or nothing.
+#[tactic(auto, using(crate::proofs::PlacingLemmas::given_back_areas, crate::proofs::PlacingLemmas::eib_placed))]
+fn prepare<S: Store>(
+    alloc: Global,
+    store: &mut S,
+    start: &Start,
+    number: u32,
+    aid: Aid,
+    bytes: &[u8],
+) -> Result<Ready, StartFault>
+    requires program { IsSoundProgram start.now.loaded }
+    requires free { IsSlotFree (S.storage store.old) start.now.slot }
+    ensures placed { IfOk result (λ ready. ArePlaced (S.storage store.old) (system_owner start.now.slot) start.now.calen start.now.loaded.stg_len ready.places) }
+    ensures after { IfOk result (λ ready. S.storage store.new
+        ≡ with_task_areas (S.storage store.old) (system_owner start.now.slot) start.now.calen start.now.loaded.stg_len ready.places) }
+    ensures addresses { IfOk result (λ ready. ArePlacesBelow ready.places) }
+    ensures task { IfOk result (λ ready. ready.task.value ≡ fresh_task start.now number ready.places) }
+    ensures input { IfOk result (λ ready. ready.input ≡ input_of aid bytes.now) }
+    ensures fault { IfErr result (AreFaultsOf (S.storage store.old) start.now) }
+    ensures err { OnErr result (S.storage store.new ≡ S.storage store.old) }
+{
+    let places = match place_task(store, start) {
+        Ok(places) => places,
+        Err(fault) => return Err(fault),
+    };
+    match make_ready(alloc, start, number, places, aid, bytes) {
+        Ok(ready) => Ok(ready),
+        Err(refused) => {
+            store.free_slot(start.slot);
+            Err(StartFault::Memory(refused))
+        }
+    }
+}
+
+/// Fills the areas of a task that begins.
+#[tactic(auto, unfolding(crate::specs::Attach::filled, crate::specs::Attach::with_copy))]
+fn fill<S: Store>(store: &mut S, places: &Places, begun: &Begun, commarea: &[u8])
+    requires below { ArePlacesBelow places.now }
+    requires short { length commarea.now ≤ 32767 }
+    ensures { S.storage store.new ≡ filled (S.storage store.old) places.now begun.now commarea.now }
+{
+    begin(store, places.eib, begun);
+    if let Some(place) = places.commarea {
+        store.write(place, commarea);
+    }
+    let address = places.commarea.unwrap_or(0);
+    store.write((places.stg + 76) % 0x100_0000, &address.to_be_bytes());
+}
+
+/// Fills the areas of a terminal's task that begins, with the COMMAREA kept at the terminal.
+fn fill_from<S: Store>(
+    store: &mut S,
+    terminals: &IndexMap<Name4, Terminal>,
+    name: Name4,
+    places: &Places,
+    begun: &Begun,
+)
+    requires { ArePlacesBelow places.now }
+    ensures { S.storage store.new ≡ filled (S.storage store.old) places.now begun.now
+        (commarea_kept (terminal_in terminals.now.entries name).following) }
+{
+    match terminals.get(&name) {
+        Some(terminal) => fill(store, places, begun, commarea_kept(&terminal.following)),
+        None => fill(store, places, begun, &[]),
+    }
+}
+
+/// Gives a terminal its task, and the input that it begins with.
+#[tactic(auto, using(crate::proofs::TableLemmas::set_value_absent))]
+fn start_at(terminals: &mut IndexMap<Name4, Terminal>, name: Name4, input: Input, task: Box<Task>)
+    ensures { terminals.new.entries ≡ set_value (is_name4 name) terminals.old.entries
+        (with_task (terminal_in terminals.old.entries name) input task.value) }
+{
+    if let Some(terminal) = terminals.get_mut(&name) {
+        terminal.input = Some(input);
+        terminal.following = None;
+        terminal.task = Some(task);
+    }
+}
+
+/// Holds an input for a terminal's task.
+#[tactic(auto, using(crate::proofs::TableLemmas::set_value_absent))]
+fn give_at(terminals: &mut IndexMap<Name4, Terminal>, name: Name4, input: Input)
+    ensures { terminals.new.entries ≡ set_value (is_name4 name) terminals.old.entries
+        (record (terminal_in terminals.old.entries name) { input = Some input }) }
+{
+    if let Some(terminal) = terminals.get_mut(&name) {
+        terminal.input = Some(input);
+    }
+}
+
+/// The number of the task after so many.
+fn next_number(counter: u32) -> u32
+    requires { counter ≤ 9999999 }
+    ensures { result ≡ next_number counter }
+{
+    if counter == 9_999_999 { 1 } else { counter + 1 }
+}
+
+impl Terminal {
+    /// What a key asks for where the terminal has a task; None where it has none.
+    fn asked_of_task(&self) -> Option<Asked>
+        ensures { result ≡ option_map (λ (_ : TaskState). input_asked self.now.input) self.now.task }
+    {
+        if self.task.is_none() {
+            return None;
+        }
+        if self.input.is_some() {
+            return Some(Asked::Answer(KeyReply::AlreadyHeldInput));
+        }
+        Some(Asked::Give)
+    }
+
+    /// The transaction that a key asks for.
+    fn transaction_named(&self, bytes: &[u8]) -> Name4
+        ensures { result ≡ transaction_named self.now.following bytes.now }
+    {
+        transaction_named(&self.following, bytes)
+    }
+
+    /// A task to be attached.
+    fn start_of(&self, tran: Name4, program: Name8, loaded: Loaded) -> Asked
+        ensures { result ≡ start_of self.now tran program loaded }
+    {
+        Asked::Attach(Start {
+            slot: self.slot,
+            tran,
+            program,
+            loaded,
+            calen: commarea_kept(&self.following).len() as u16,
+        })
+    }
+}
+
+impl<S: Store + Drop> Region<S> {
+    /// What a key asks for.
+    #[tactic(auto, unfolding(crate::specs::Attach::asked))]
+    fn asked(&self, name: Name4, bytes: &[u8]) -> Asked
+        ensures value { result ≡ asked self.now name bytes.now }
+        ensures sound { IsSound self.now }
+    {
+        let Some(terminal) = self.terminals.get(&name) else {
+            return Asked::Answer(KeyReply::NoSuchTerminal);
+        };
+        match terminal.asked_of_task() {
+            Some(asked) => asked,
+            None => self.start_asked(terminal, terminal.transaction_named(bytes)),
+        }
+    }
+
+    /// What a key asks for where the terminal has no task.
+    #[tactic(auto, unfolding(crate::specs::Attach::start_asked))]
+    fn start_asked(&self, terminal: &Terminal, tran: Name4) -> Asked
+        ensures { result ≡ start_asked self.now terminal.now tran }
+    {
+        let Some(program) = self.transactions.get(&tran).copied() else {
+            return Asked::Answer(KeyReply::NoSuchTransaction);
+        };
+        let Some(loaded) = self.common.programs.get(&program).copied() else {
+            return Asked::Answer(KeyReply::NoSuchTransaction);
+        };
+        terminal.start_of(tran, program, loaded)
+    }
+
+    /// Attaches a task.
+    fn attach_task(
+        &mut self,
+        name: Name4,
+        aid: Aid,
+        bytes: &[u8],
+        start: &Start,
+    ) -> Result<KeyReply, AllocError>
+        requires asked { asked self.old name bytes.now ≡ Asked.Attach start.now }
+        ensures attached { IfOk result (λ reply. Attaches self.old name start.now (input_of aid bytes.now) reply self.new) }
+        ensures place { OnErr result (IsTaskPlace self.old.storage EIB_LEN None → ⊥) }
+        ensures err { OnErr result (self.new ≡ self.old) }
+        ensures sound { IsSound self.new }
+    {
+        let number = next_number(self.counter);
+        let prepared = prepare(
+            self.alloc,
+            &mut self.common.store,
+            start,
+            number,
+            aid,
+            bytes,
+        );
+        let ready = match prepared {
+            Ok(ready) => ready,
+            Err(StartFault::NoStorage) => return Ok(KeyReply::NoStorage),
+            Err(StartFault::Memory(refused)) => return Err(refused),
+        };
+        let begun = Begun {
+            time: self.time,
+            date: self.date,
+            tran: start.tran.bytes(),
+            number,
+            terminal: name.bytes(),
+            calen: start.calen,
+            aid: aid.code(),
+        };
+        fill_from(
+            &mut self.common.store,
+            &self.terminals,
+            name,
+            &ready.places,
+            &begun,
+        );
+        start_at(&mut self.terminals, name, ready.input, ready.task);
+        self.counter = number;
+        Ok(KeyReply::Attached)
+    }
+
+    /// Holds an input for a terminal's task.
+    fn give(&mut self, name: Name4, aid: Aid, bytes: &[u8]) -> Result<(), AllocError>
+        requires asked { asked self.old name bytes.now ≡ Asked.Give }
+        ensures given { OnOk result (self.new
+            ≡ with_terminal self.old name (record (terminal_at self.old name) { input = Some (input_of aid bytes.now) })) }
+        ensures err { OnErr result (self.new ≡ self.old) }
+        ensures sound { IsSound self.new }
+    {
+        let input = Input::new(self.alloc, aid, bytes)?;
+        give_at(&mut self.terminals, name, input);
+        Ok(())
+    }
+
+    /// A key of a terminal with the bytes that it sends, at most 1,920. CLEAR, PA1 and PA2 send none: theirs are dropped.
+    ///
+    /// Without a task, the terminal's next transaction, or that of the bytes before the first blank, at most four, is
+    /// attached: Attached; or NoSuchTransaction where it isn't defined, or NoStorage where its areas have no place. With
+    /// a task the input is held for it: Given; or AlreadyHeldInput. NoSuchTerminal where there is no such terminal. All
+    /// answers but Attached and Given leave all as before.
+    ///
+    /// An error comes only where a growth was refused; then no answer that names or held input give is due, the EIB of a
+    /// task to be attached has a place, and all is as before.
+    #[tactic(auto, unfolding(crate::specs::Attach::Keyed, crate::specs::Attach::input_from))]
+    pub fn key(&mut self, name: Name4, aid: Aid, bytes: &[u8]) -> Result<KeyReply, AllocError>
+        requires { length bytes.now ≤ 1920 }
+        ensures keyed { IfOk result (λ reply. Keyed self.old name (input_from aid bytes.now) reply self.new) }
+        ensures tested { OnErr result (MayGrow (asked self.old name (input_from aid bytes.now).bytes) self.old.storage) }
+        ensures err { OnErr result (self.new ≡ self.old) }
+        ensures sound { IsSound self.new }
+    {
+        let sent = bytes_sent(aid, bytes);
+        match self.asked(name, sent) {
+            Asked::Answer(reply) => Ok(reply),
+            Asked::Give => {
+                self.give(name, aid, sent)?;
+                Ok(KeyReply::Given)
+            }
+            Asked::Attach(start) => self.attach_task(name, aid, sent, &start),
+        }
+    }
+}

@@ -1,0 +1,84 @@
+//! Abends, and the end of program levels.
+ghost use Rattle.std.specs.Prelude.{◌≡◌, ◌-◌, ◌<◌, ◌≤◌, ◌^◌, None, Some, IfSome, OnSome, length, reverse, unwrap_or};
+ghost use Rattle.cx_storage.specs.Storage.{starts_elsewhere, with_areas_kept};
+ghost use Rattle.cx_exec.specs.Machine.{address};
+ghost use Rattle.cx_program.specs.Entries.{label_on};
+ghost use Rattle.cx_program.specs.Levels.{IsNearestExit, all_levels};
+ghost use Rattle.cx_region.specs.Reach.{Reach, with_parts};
+ghost use Rattle.cx_region.specs.Abend.{Abends, AbendsAt, at_exit, below, exit_label, exit_storage, exit_task, unwound, without_stg};
+
+use crate::eib::put_calen;
+use crate::pass::Pass;
+use crate::replies::TurnReply;
+use crate::state::Task;
+use cx_ebcdic::Name4;
+use cx_exec::Cpu;
+use cx_program::{Level, LevelStack};
+use cx_storage::Store;
+
+/// Bits 8 to 31 of a word.
+pub(crate) fn address(word: u32) -> u32
+    ensures value { result ≡ address word }
+    ensures bound { result < 2 ^ 24 }
+{
+    word % 0x100_0000
+}
+
+/// Frees the area of a level's DFHEISTG.
+pub(crate) fn free_stg<S: Store>(store: &mut S, stg: u32)
+    ensures { S.storage store.new ≡ with_areas_kept (starts_elsewhere (address stg)) (S.storage store.old) }
+{
+    store.free_area(address(stg));
+}
+
+/// Ends so many levels, the current one first, and frees each one's DFHEISTG.
+#[tactic(auto, using(crate::proofs::UnwindLemmas::unwound_step, crate::proofs::UnwindLemmas::unwound_end, crate::proofs::UnwindLemmas::unwound_none))]
+fn unwind<S: Store>(store: &mut S, levels: &mut LevelStack, count: usize)
+    ensures { unwound count levels.old.callers levels.old.current (S.storage store.old)
+        ≡ record { levels = levels.new; storage = S.storage store.new } }
+{
+    for _level in 0..count {
+        let Some(level) = levels.leave() else {
+            return;
+        };
+        free_stg(store, level.stg);
+    }
+}
+
+/// The exit of the level at an index takes an abend.
+#[tactic(auto, unfolding(crate::specs::Abend::exit_storage, crate::specs::Abend::exit_task))]
+fn take_exit<S: Store>(store: &mut S, task: &mut Task, index: usize)
+    ensures storage { S.storage store.new ≡ exit_storage index task.old (S.storage store.old) }
+    ensures task { task.new ≡ exit_task index task.old (S.storage store.old) }
+{
+    let count = (task.levels.len() - 1).saturating_sub(index);
+    unwind(store, &mut task.levels, count);
+    let level = task.levels.current_mut();
+    let label = level.handles.exit().unwrap_or(0);
+    let calen = level.calen;
+    let mut regs = level.regs;
+    regs[15] = label;
+    let cc = level.cc.number();
+    level.handles.exit_off();
+    task.cpu = Cpu {
+        regs,
+        cc,
+        next: address(label),
+    };
+    task.due = false;
+    put_calen(store, task.eib, Some(calen));
+}
+
+/// A task abends: the nearest exit takes it, or the task ends.
+pub(crate) fn abend<S: Store>(store: &mut S, task: &mut Task, code: Name4) -> Pass
+    ensures { (reach : Reach) → Abends code (with_parts reach (S.storage store.old) task.old) result
+        (with_parts reach (S.storage store.new) task.new) }
+{
+    match task.levels.find_exit() {
+        Some(index) => {
+            take_exit(store, task, index);
+            Pass::Stays(TurnReply::TookExit(code))
+        }
+        None => Pass::Ends(TurnReply::Abended(code)),
+    }
+}

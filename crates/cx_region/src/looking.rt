@@ -1,0 +1,103 @@
+//! What can be seen of a region. No call takes memory.
+ghost use Rattle.std.specs.Prelude.{◌≡◌, ◌≢◌, ℕ, None, Some, MatchOption, IsSomeAnd, option_map};
+ghost use Rattle.std.specs.Option.{option_copied};
+ghost use Rattle.cx_command.specs.declared.commands.Command.{Command as TheCommand};
+ghost use Rattle.cx_command.specs.Commands.{row_of};
+ghost use Rattle.cx_storage.specs.Storage.{byte_at};
+ghost use Rattle.cx_region.specs.Tables.{task_of, terminal_of};
+ghost use Rattle.cx_region.specs.Looking.{Shows};
+
+use crate::replies::TaskInfo;
+use crate::state::{Region, Task, Terminal};
+use cx_command::Command;
+use cx_ebcdic::Name4;
+use cx_exec::Cpu;
+use cx_service::Screen;
+use cx_storage::Store;
+
+impl Task {
+    /// What is shown of the task.
+    fn info(&self) -> TaskInfo
+        ensures { Shows self.now result }
+    {
+        let level = self.levels.current();
+        let regs = self.cpu.regs;
+        TaskInfo {
+            tran: self.tran,
+            program: level.program,
+            number: self.number,
+            levels: self.levels.len(),
+            eib: self.eib,
+            stg: level.stg,
+            stg_len: level.stg_len,
+            cpu: Cpu {
+                regs,
+                cc: self.cpu.cc,
+                next: self.cpu.next,
+            },
+            due: self.due,
+        }
+    }
+}
+
+impl Terminal {
+    /// What is shown of the terminal's task.
+    fn info(&self) -> Option<TaskInfo>
+        ensures { MatchOption self.now.task (result ≡ None) (λ task. IsSomeAnd result (Shows task)) }
+    {
+        let task = self.task.as_ref()?;
+        Some(task.info())
+    }
+
+    /// The screen.
+    fn screen(&self) -> &Screen
+        ensures { result.now ≡ self.now.screen }
+    {
+        &self.screen
+    }
+}
+
+impl<S: Store + Drop> Region<S> {
+    /// The screen of a terminal; None where there is no such terminal.
+    pub fn screen(&self, name: Name4) -> Option<&Screen>
+        ensures { option_copied result ≡ option_map (λ terminal. terminal.screen) (terminal_of self.now name) }
+    {
+        let terminal = self.terminals.get(&name)?;
+        Some(terminal.screen())
+    }
+
+    /// The live task of a terminal; None where there is none, or no such terminal.
+    pub fn task(&self, name: Name4) -> Option<TaskInfo>
+        ensures { MatchOption (task_of self.now name) (result ≡ None) (λ task. IsSomeAnd result (Shows task)) }
+    {
+        let terminal = self.terminals.get(&name)?;
+        terminal.info()
+    }
+
+    /// The byte at an address; None where no area has it, and from 2^24 on.
+    pub fn byte(&self, address: u32) -> Option<u8>
+        ensures { result ≡ byte_at self.now.storage address }
+    {
+        byte_of(&self.common.store, address)
+    }
+}
+
+/// The byte of a store at any address.
+fn byte_of<S: Store>(store: &S, address: u32) -> Option<u8>
+    ensures { result ≡ byte_at (S.storage store.now) address }
+{
+    if address >= 0x100_0000 {
+        return None;
+    }
+    store.byte(address)
+}
+
+/// The name of the command of a function value, as `READQ TS`; None where no command has it.
+pub fn command_name(function: u16) -> Option<&'static str>
+    ensures named { (command : TheCommand) → (row_of command).function ≡ function
+        → option_map (λ name. name.now) result ≡ Some (row_of command).name }
+    ensures unknown { ((command : TheCommand) → (row_of command).function ≢ function) → result ≡ None }
+{
+    let command = Command::from_function(function)?;
+    Some(command.name())
+}

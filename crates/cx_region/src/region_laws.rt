@@ -1,0 +1,77 @@
+//! What holds of every event, and of every run of events.
+ghost use Rattle.cx_region.specs.RegionLaws.{CodesAreSpelled, ProgramsDecide, TransactionsDecide, TerminalsDecide, TurnsDecide, EachIsAnswered, EventsDecide, KeysDecide, KeysKeepToTheirTerminal, RefusedProgramsLeaveTheRegion, RefusedTerminalsLeaveTheRegion, RefusedTransactionsLeaveTheRegion, RunsDecide, RunsJoin, RunsPart, StillKeysLeaveTheRegion, StillTurnsLeaveTheRegion, TurnsKeepToTheirTask};
+
+/// A region and an event decide the reply and the region after it.
+pub fn events_decide()
+    ensures { EventsDecide }
+{
+    cx_load::laws::loading_decides();
+    cx_exec::laws::runs_decide();
+}
+
+/// A region and what a call is given decide the call's answer and the region after it.
+pub fn calls_decide()
+    ensures programs { ProgramsDecide }
+    ensures transactions { TransactionsDecide }
+    ensures terminals { TerminalsDecide }
+    ensures keys { KeysDecide }
+    ensures turns { TurnsDecide }
+{
+    cx_load::laws::loading_decides();
+    cx_exec::laws::runs_decide();
+}
+
+/// A region and a list of events decide their replies and the region after them.
+pub fn runs_decide()
+    ensures { RunsDecide }
+{
+    events_decide();
+}
+
+/// A turn changes no terminal but its own, so no other task's registers, levels or due command; and no definition,
+/// neither the clock nor the counter of tasks.
+#[tactic(auto, using(crate::proofs::KeepsLemmas::turned_keeps))]
+pub fn a_turn_keeps_to_its_task()
+    ensures { TurnsKeepToTheirTask }
+{}
+
+/// A key changes no terminal but its own, and no definition, queue or resource, nor the clock. Storage and the counter
+/// of tasks change only where it attaches a task: the counter goes to the next number.
+#[tactic(auto, using(crate::proofs::KeepsLemmas::keyed_keeps))]
+pub fn a_key_keeps_to_its_terminal()
+    ensures { KeysKeepToTheirTerminal }
+{}
+
+/// A turn answered Idle, NoSuchTerminal or Waiting leaves the region as it was.
+#[tactic(auto, using(crate::proofs::KeepsLemmas::still_turns_leave))]
+pub fn waiting_leaves_the_region()
+    ensures { StillTurnsLeaveTheRegion }
+{}
+
+/// A key's answer other than Attached and Given leaves the region as it was.
+#[tactic(auto, using(crate::proofs::KeepsLemmas::still_keys_leave))]
+pub fn nothing_but_attached_and_given()
+    ensures { StillKeysLeaveTheRegion }
+{}
+
+/// A definition that is refused leaves the region as it was.
+#[tactic(auto, using(crate::proofs::KeepsLemmas::refused_programs_leave, crate::proofs::KeepsLemmas::refused_transactions_leave, crate::proofs::KeepsLemmas::refused_terminals_leave))]
+pub fn refused_definitions_leave_the_region()
+    ensures programs { RefusedProgramsLeaveTheRegion }
+    ensures transactions { RefusedTransactionsLeaveTheRegion }
+    ensures terminals { RefusedTerminalsLeaveTheRegion }
+{}
+
+/// Runs of events one after another are one run, a run is cut at any place into two, and each event has its reply.
+#[tactic(auto, using(crate::proofs::RunLawLemmas::runs_join, crate::proofs::RunLawLemmas::runs_part, crate::proofs::RunLawLemmas::each_is_answered))]
+pub fn runs_join()
+    ensures join { RunsJoin }
+    ensures part { RunsPart }
+    ensures answered { EachIsAnswered }
+{}
+
+/// The codes of the region's own abends are their names' characters: ASRA, AICA, XARG, XFUN.
+#[tactic(auto, using(crate::proofs::CodeLemmas::codes_are_spelled))]
+pub fn abend_codes_are_spelled()
+    ensures { CodesAreSpelled }
+{}

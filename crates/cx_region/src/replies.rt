@@ -1,0 +1,168 @@
+//! Events of a region, and what each is answered.
+ghost use Rattle.std.specs.Prelude.{◌≡◌};
+ghost use Rattle.cx_region.specs.declared.replies.DefineFault.TheVariants.{Memory};
+
+use cx_command::Condition;
+use cx_ebcdic::{Aid, Name4, Name8};
+use cx_exec::Cpu;
+use cx_load::{CheckedImage, LoadFault, Loaded};
+use std::alloc::{AllocError, AllocFailed};
+use thiserror::Error;
+
+/// Why a definition is refused. Where several apply, the first of this order is answered; the region is as before.
+#[derive(Clone, Copy, Debug, PartialEq, Eq, Error)]
+pub enum DefineFault {
+    /// The name is defined already.
+    #[error("Duplicate")]
+    Duplicate,
+    /// As many as the region has room for are defined: 64 programs, 64 transactions, 16 terminals.
+    #[error("Full")]
+    Full,
+    /// The transaction's program isn't defined.
+    #[error("NoProgram")]
+    NoProgram,
+    /// Storage has no place for the program.
+    #[error("NoRoom")]
+    NoRoom,
+    /// A growth was refused.
+    #[error("Memory")]
+    Memory,
+}
+
+impl From<AllocError> for DefineFault {
+    ghost from_gives = { λ _ fault. fault ≡ Memory };
+
+    fn from(_refused: AllocError) -> DefineFault {
+        DefineFault::Memory
+    }
+}
+
+impl<T: Drop> From<AllocFailed<T>> for DefineFault {
+    ghost from_gives = { λ _ fault. fault ≡ Memory };
+
+    fn from(_refused: AllocFailed<T>) -> DefineFault {
+        DefineFault::Memory
+    }
+}
+
+impl From<LoadFault> for DefineFault {
+    ghost use Rattle.cx_region.specs.Faults.{fault_from};
+
+    ghost from_gives = { λ load_fault fault. fault ≡ fault_from load_fault };
+
+    fn from(load_fault: LoadFault) -> DefineFault {
+        match load_fault {
+            LoadFault::NoRoom => DefineFault::NoRoom,
+            LoadFault::Memory => DefineFault::Memory,
+        }
+    }
+}
+
+/// What a key is answered. Every answer but Attached and Given leaves the region as it was.
+#[derive(Clone, Copy, Debug, PartialEq, Eq)]
+pub enum KeyReply {
+    /// A task was attached, and the input is held for it.
+    Attached,
+    /// The input is held for the terminal's task.
+    Given,
+    /// The terminal's task has an input that it hasn't received yet.
+    AlreadyHeldInput,
+    /// No transaction of that name is defined.
+    NoSuchTransaction,
+    /// Storage has no place for the task's areas.
+    NoStorage,
+    /// No terminal of that name is defined.
+    NoSuchTerminal,
+}
+
+/// What a turn is answered.
+#[derive(Clone, Copy, Debug, PartialEq, Eq)]
+pub enum TurnReply {
+    /// The terminal has no task.
+    Idle,
+    /// No terminal of that name is defined.
+    NoSuchTerminal,
+    /// Instructions ran up to a command, which is due now.
+    AtCommand,
+    /// The command was performed with that condition, and the program goes on.
+    Performed(Condition),
+    /// The command was performed, and a program level begins.
+    Entered,
+    /// The command was performed, and the linking program goes on.
+    Returned,
+    /// The command waits: all is as before.
+    Waiting,
+    /// The command met that condition, whose label takes control.
+    TookLabel(Condition),
+    /// An abend of that code was taken by an exit.
+    TookExit(Name4),
+    /// The task ended by an abend of that code.
+    Abended(Name4),
+    /// The task ended.
+    Ended,
+}
+
+/// An event of a region: one call, with what it takes.
+#[derive(Drop)]
+pub enum Event {
+    /// `define_program`: the program's name and its image.
+    Program(Name8, CheckedImage),
+    /// `define_transaction`: its name, and its program's.
+    Transaction(Name4, Name8),
+    /// `define_terminal`: its name.
+    Terminal(Name4),
+    /// `set_clock`: the time as hhmmss, the date as yyddd.
+    Clock(u32, u32),
+    /// `key`: the terminal, the key, and the bytes that it sends.
+    Key(Name4, Aid, Vec<u8>),
+    /// `turn`: the terminal.
+    Turn(Name4),
+}
+
+/// What an event is answered.
+#[derive(Clone, Copy, Debug, PartialEq, Eq)]
+pub enum Reply {
+    /// Where the program stands, or why it was refused.
+    Program(Result<Loaded, DefineFault>),
+    /// Whether the transaction was defined.
+    Transaction(Result<(), DefineFault>),
+    /// Whether the terminal was defined.
+    Terminal(Result<(), DefineFault>),
+    /// The clock is set.
+    Clock,
+    /// The key's answer.
+    Key(KeyReply),
+    /// The turn's answer.
+    Turn(TurnReply),
+}
+
+/// A run was stopped by want of memory.
+#[derive(Clone, Copy, Debug, PartialEq, Eq, Error)]
+#[error("out of memory")]
+pub struct RunStop {
+    /// How many of the events were done; the region is as these left it.
+    pub done: usize,
+}
+
+/// What can be seen of a live task.
+#[derive(Drop)]
+pub struct TaskInfo {
+    /// Its transaction.
+    pub tran: Name4,
+    /// The current level's program.
+    pub program: Name8,
+    /// Its number, 1 to 9,999,999.
+    pub number: u32,
+    /// How many program levels it has, 1 to 16.
+    pub levels: usize,
+    /// The address of its EIB.
+    pub eib: u32,
+    /// The address of the current level's DFHEISTG.
+    pub stg: u32,
+    /// The length of the current level's DFHEISTG in bytes.
+    pub stg_len: u32,
+    /// Its registers, condition code and next address.
+    pub cpu: Cpu,
+    /// Whether a command is due.
+    pub due: bool,
+}
