@@ -1,0 +1,11 @@
+pub mod DeviceLemmas
+pub mod LineLemmas
+pub mod WordLemmas
+pub mod HexLines
+pub mod RunLemmas
+pub mod TakeLemmas
+pub mod TextLemmas
+pub mod PerformLemmas
+pub mod OutcomeLemmas
+pub mod WholeLemmas
+pub mod ActionLemmas

@@ -1,0 +1,6 @@
+use Rattle.cx_script.proofs.WholeLemmas.{one_transcript}
+use Rattle.cx_script.specs.Performing.{Performs}
+use Rattle.cx_script.proofs.laws.a_transcript_is_one.Goals as goal
+
+pub returns : goal.returns
+returns c = one_transcript Performs c.an_action_has_one_outcome.ensures

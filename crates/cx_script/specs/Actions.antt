@@ -1,0 +1,85 @@
+-- What a line of a script asks where it is not in a block.
+use Rattle.std.specs.Prelude.{ℕ, Bool, true, ◌==◌, if◌then◌else◌, Option, Some, unwrap_or, ◌≤◌, length, List, [], ◌∷◌, codes}
+use Rattle.std.specs.Option.{option_and_then, option_map}
+use Rattle.std.specs.List.{find}
+use Rattle.std.specs.Str.{bytes_eq}
+use Rattle.cx_ebcdic.specs.Names.{name_of}
+use Rattle.cx_ebcdic.specs.Aids.{key_of}
+use Rattle.cx_ebcdic.specs.declared.aids.Aid.{Aid}
+use Rattle.cx_ebcdic.specs.declared.aids.Aid.TheVariants.{Enter, Clear, Pa1, Pa2, Pf1, Pf2, Pf3, Pf4, Pf5, Pf6, Pf7, Pf8, Pf9, Pf10, Pf11, Pf12}
+use Rattle.cx_script.specs.Words.{word, behind, number_of, codes_of_key}
+use Rattle.cx_script.specs.declared.actions.Action.{Action}
+use Rattle.cx_script.specs.declared.actions.Action.TheVariants as action
+use Rattle.cx_script.specs.declared.actions.Line.{Line}
+use Rattle.cx_script.specs.declared.actions.Line.TheVariants as line
+use Rattle.cx_script.specs.declared.actions.Verb.{Verb}
+use Rattle.cx_script.specs.declared.actions.Verb.TheVariants as verb
+
+-- the word that a line of each kind begins with
+abbrev pub verb_name : Verb → List ℕ
+verb_name verb.Image = codes "IMAGE"
+verb_name verb.Transaction = codes "TRANSACTION"
+verb_name verb.Terminal = codes "TERMINAL"
+verb_name verb.Clock = codes "CLOCK"
+verb_name verb.Key = codes "KEY"
+verb_name verb.Turn = codes "TURN"
+verb_name verb.Screen = codes "SCREEN"
+
+abbrev pub verbs : List Verb
+verbs = verb.Image ∷ verb.Transaction ∷ verb.Terminal ∷ verb.Clock ∷ verb.Key ∷ verb.Turn ∷ verb.Screen ∷ []
+
+unfoldable pub verb_of : List ℕ → Option Verb
+verb_of text = find (λ v. bytes_eq (verb_name v) text) verbs
+
+abbrev pub aids : List Aid
+aids = Enter ∷ Clear ∷ Pa1 ∷ Pa2 ∷ Pf1 ∷ Pf2 ∷ Pf3 ∷ Pf4 ∷ Pf5 ∷ Pf6 ∷ Pf7 ∷ Pf8 ∷ Pf9 ∷ Pf10 ∷ Pf11 ∷ Pf12 ∷ []
+
+-- the key of a name
+unfoldable pub aid_of : List ℕ → Option Aid
+aid_of text = find (λ aid. bytes_eq (key_of aid).name text) aids
+
+-- what two words spell, both of which must be there
+abbrev pub pair_of : {A B : Type 0} → (List ℕ → Option A) → (List ℕ → Option B) → List ℕ → Option (A × B)
+pair_of first second text =
+    option_and_then (λ a. option_map (λ b. (a, b)) (option_and_then second (behind text))) (first (word text))
+
+-- a terminal and a key, and what is behind a blank after them, where there is one
+abbrev pub key_words : List ℕ → Option (List ℕ × Aid × Option (List ℕ))
+key_words text =
+    option_and_then (λ name. option_and_then (λ rest. option_map (λ aid. (name, aid, behind rest)) (aid_of (word rest))) (behind text))
+    (name_of 4 (word text))
+
+-- a key with its text: none is the empty one
+abbrev pub with_text : List ℕ × Aid × Option (List ℕ) → Option Line
+with_text key = option_map (λ bytes. line.Action (action.Key key.0 key.1 bytes)) (codes_of_key (unwrap_or key.2 []))
+
+-- what a line asks by its first word and the words behind it
+unfoldable pub asked : Verb → List ℕ → Option Line
+asked verb.Image text = option_map (λ p. line.Image p.0 p.1) (pair_of (name_of 8) (number_of 1 9) text)
+asked verb.Transaction text = option_map (λ p. line.Action (action.Transaction p.0 p.1)) (pair_of (name_of 4) (name_of 8) text)
+asked verb.Terminal text = option_map (λ name. line.Action (action.Terminal name)) (name_of 4 text)
+asked verb.Clock text = option_map (λ p. line.Action (action.Clock p.0 p.1)) (pair_of (number_of 6 6) (number_of 5 5) text)
+asked verb.Key text = option_and_then with_text (key_words text)
+asked verb.Turn text = option_map (λ name. line.Action (action.Turn name)) (name_of 4 text)
+asked verb.Screen text = option_map (λ name. line.Action (action.Screen name)) (name_of 4 text)
+
+-- an empty line, or one that begins with an asterisk
+abbrev pub is_idle : List ℕ → Bool
+is_idle [] = true
+is_idle (c ∷ cs) = c == 42
+
+-- What a line asks; None where it is a bad line.
+unfoldable pub line_of : List ℕ → Option Line
+line_of text =
+    if is_idle text then Some line.Idle
+    else option_and_then (λ v. option_and_then (asked v) (behind text)) (verb_of (word text))
+
+-- What the region's calls take: a time of six digits and a date of five, and at most 1,920 bytes of a key.
+abbrev pub IsAllowed : Action → Type 0
+IsAllowed (action.Clock time date) = (time ≤ 999999) × (date ≤ 99999)
+IsAllowed (action.Key terminal aid bytes) = length bytes ≤ 1920
+IsAllowed _ = Unit {0}
+
+abbrev pub IsAllowedLine : Line → Type 0
+IsAllowedLine (line.Action a) = IsAllowed a
+IsAllowedLine _ = Unit {0}

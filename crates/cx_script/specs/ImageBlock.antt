@@ -1,0 +1,10 @@
+-- The block of an image.
+use Rattle.std.specs.Prelude.{ℕ, List}
+
+-- The number of the line that begins it, the program's name, the length of its working storage, and
+-- the bytes of its lines so far.
+pub record ImageBlock : Type 0 where
+  pub line : ℕ
+  pub name : List ℕ
+  pub stg_len : ℕ
+  pub text : List ℕ

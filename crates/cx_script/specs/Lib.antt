@@ -1,0 +1,14 @@
+pub mod Devices
+pub mod Reading
+pub mod Lines
+pub mod Words
+pub mod Actions
+pub mod ImageBlock
+pub mod Blocks
+pub mod Script
+pub mod Running
+pub mod Texts
+pub mod Performing
+pub mod Outcome
+pub mod Status
+pub mod Whole

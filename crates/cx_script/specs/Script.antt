@@ -1,0 +1,48 @@
+-- What a script asks: its actions in order, up to its first fault.
+use Rattle.std.specs.Prelude.{ℕ, ◌+◌, Option, Some, None, List, [], ◌∷◌, length}
+use Rattle.cx_script.specs.declared.actions.Action.{Action}
+use Rattle.cx_script.specs.declared.faults.RunFault.{RunFault}
+use Rattle.cx_script.specs.declared.faults.RunFault.TheVariants as fault
+use Rattle.cx_script.specs.declared.reading.Ending.{Ending}
+use Rattle.cx_script.specs.declared.reading.Ending.TheVariants.{AtEnd, Failed, PastBound}
+use Rattle.cx_script.specs.Lines.{lines_met}
+use Rattle.cx_script.specs.ImageBlock.{ImageBlock}
+use Rattle.cx_script.specs.declared.blocks.Step.{Step}
+use Rattle.cx_script.specs.Blocks.{step_at}
+
+pub record Script : Type 0 where
+  -- what is done, in order, in front of the fault
+  pub actions : List Action
+  -- the fault that comes first, where there is one
+  pub fault : Option RunFault
+
+-- Where no line is left: a block that is not ended is a fault of the line that begins it, if the script was read to its
+-- end. Else that no more was read is the fault.
+unfoldable pub fault_at : Ending → Option ImageBlock → Option RunFault
+fault_at AtEnd None = None
+fault_at AtEnd (Some block) = Some (fault.BadLine block.line)
+fault_at Failed block = Some fault.Read
+fault_at PastBound block = Some fault.ReadBound
+
+abbrev pub before : Option Action → Script → Script
+before None script = script
+before (Some action) script = record { actions = action ∷ script.actions; fault = script.fault }
+
+-- a bad line ends the script; after any other line come the next ones
+abbrev pub led_to : Option Step → ℕ → (Option ImageBlock → Script) → Script
+led_to None number next = record { actions = []; fault = Some (fault.BadLine number) }
+led_to (Some step) number next = before step.action (next step.block)
+
+-- the lines from the one with this number on, the first of them in this block
+unfoldable pub script_from : Ending → ℕ → Option ImageBlock → List (List ℕ) → Script
+script_from ending number block [] = record { actions = []; fault = fault_at ending block }
+script_from ending number block (line ∷ lines) =
+    led_to (step_at number block line) number (λ next. script_from ending (number + 1) next lines)
+
+-- the script that these bytes are
+unfoldable pub script_of : Ending → List ℕ → Script
+script_of ending bytes = script_from ending 1 None (lines_met ending bytes)
+
+-- how many lines it has
+unfoldable pub line_count : Ending → List ℕ → ℕ
+line_count ending bytes = length (lines_met ending bytes)

@@ -1,0 +1,43 @@
+//! What follows from the definitions of a script and its transcript.
+
+ghost use Rattle.std.specs.Prelude.{◌≡◌, ℕ, List, Option, Ok, IfSome};
+ghost use Rattle.std.specs.Str.Lines.{lines};
+ghost use Rattle.cx_script.specs.Lines.{lines_met};
+ghost use Rattle.cx_script.specs.Outcome.{RanScript};
+ghost use Rattle.cx_region.specs.State.{RegionState};
+ghost use Rattle.cx_script.specs.Performing.{Performs};
+ghost use Rattle.cx_script.specs.Running.{Runs};
+ghost use Rattle.cx_script.specs.Whole.{IsTranscribed};
+ghost use Rattle.cx_script.specs.declared.actions.Action.{Action};
+ghost use Rattle.cx_script.specs.declared.faults.Summary.{Summary};
+ghost use Rattle.cx_script.specs.declared.reading.Ending.TheVariants.{AtEnd};
+
+/// The lines of a script that is read to its end are those that the standard library cuts a text into: an LF
+/// ends each, one CR before it is dropped, and bytes behind the last LF are a line too.
+pub fn lines_are_lines()
+    ensures { (bytes : List ℕ) → lines_met AtEnd bytes ≡ lines bytes }
+{}
+
+/// Where a run answers Ok, all that the reader had was read: it is a script without a fault, its lines are counted,
+/// and its transcript was written, and nothing else.
+pub fn ok_is_the_whole_script()
+    ensures { (most : ℕ) (left left_after written written_after : Option (List ℕ)) (summary : Summary) →
+        RanScript most left left_after (Ok summary) written written_after →
+        IfSome left (λ input. IsTranscribed input summary.lines written written_after) }
+{}
+
+/// An action on a region has one outcome: what is written for it, and the region after it.
+pub fn an_action_has_one_outcome()
+    ensures { (old : RegionState) (action : Action) (text other : List ℕ) (new another : RegionState) →
+        Performs old action text new → Performs old action other another → (text ≡ other) × (new ≡ another) }
+{
+    cx_region::region_laws::calls_decide();
+}
+
+/// The transcript of actions on a region is one, and so is the region behind them.
+pub fn a_transcript_is_one()
+    ensures { (old : RegionState) (actions : List Action) (text other : List ℕ) (new another : RegionState) →
+        Runs Performs old actions text new → Runs Performs old actions other another → (text ≡ other) × (new ≡ another) }
+{
+    an_action_has_one_outcome();
+}
