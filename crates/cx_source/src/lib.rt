@@ -13,6 +13,8 @@ mod tests;
 mod text;
 
 pub use cuts::{Mark, cut, first_mark, outside};
+pub use lines::{begins_with_letter, is_letter, is_name, is_name_character};
 pub use reader::{SourceReader, read_source};
 pub use source::{Item, Items, Source, SourceFault, Stmt};
+pub use statements::is_continued;
 pub use text::Text;

@@ -124,24 +124,24 @@ pub(crate) fn is_comment(text: &[u8]) -> bool
     }
 }
 
-/// Whether a character is a letter: `@`, `#` and `$` count as such.
+/// Whether a character is a letter: `@`, `#` and `$` count as such (GC33-4010, "Character Set").
 #[tactic(auto, unfolding(crate::specs::Lines::is_letter))]
-pub(crate) fn is_letter(c: u8) -> bool
+pub fn is_letter(c: u8) -> bool
     ensures { result ≡ is_letter c }
 {
     matches!(c, b'A'..=b'Z' | b'@' | b'#' | b'$')
 }
 
-/// Whether a character may stand in a name.
+/// Whether a character may stand in a name: a letter or a digit (GC33-4010, "Symbols").
 #[tactic(auto, unfolding(crate::specs::Lines::is_name_character))]
-pub(crate) fn is_name_character(c: u8) -> bool
+pub fn is_name_character(c: u8) -> bool
     ensures { result ≡ is_name_character c }
 {
     is_letter(c) || matches!(c, b'0'..=b'9')
 }
 
-/// Whether a text begins with a letter.
-pub(crate) fn begins_with_letter(text: &[u8]) -> bool
+/// Whether a text begins with a letter; an empty one doesn't.
+pub fn begins_with_letter(text: &[u8]) -> bool
     ensures { result ≡ begins_with_letter text.now }
 {
     match text {
@@ -150,9 +150,9 @@ pub(crate) fn begins_with_letter(text: &[u8]) -> bool
     }
 }
 
-/// Whether a text is a name.
+/// Whether a text is a name: 1 to 8 letters and digits, the first a letter (GC33-4010, "Symbols").
 #[tactic(auto, unfolding(crate::specs::Lines::is_name))]
-pub(crate) fn is_name(text: &[u8]) -> bool
+pub fn is_name(text: &[u8]) -> bool
     ensures { result ≡ is_name text.now }
 {
     begins_with_letter(text) && has_name_characters(text) && text.len() <= NAME_MAX

@@ -22,9 +22,10 @@ use std::collections::VecDeque;
 /// The columns of a continuation line on which its statement goes on.
 const CONTINUED: (usize, usize) = (16, 71);
 
-/// Whether the line behind continues the statement of this one.
+/// Whether the next line continues this one's statement: column 72 isn't blank, and the line either continues a statement
+/// itself (`continues`) or is no comment.
 #[tactic(auto, unfolding(crate::specs::Statements::is_continued))]
-pub(crate) fn is_continued(continues: bool, text: &[u8]) -> bool
+pub fn is_continued(continues: bool, text: &[u8]) -> bool
     ensures { result ≡ is_continued continues text.now }
 {
     is_marked(text) && (continues || !is_comment(text))
