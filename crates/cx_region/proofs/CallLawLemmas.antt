@@ -20,7 +20,7 @@ use Rattle.cx_region.specs.declared.call.CallFault.{CallFault}
 use Rattle.cx_region.specs.declared.call.CallFault.TheVariants.{Xarg, Xfun}
 use Rattle.cx_region.specs.Call.{Call, Block, address_in, argument_count, arguments_in, block_at, block_from, block_of, call_of, command_of, command_with, conditions_of, has_high_bit, is_argument, listed_in, marks_last_alone, only_if, place_of, places_of, resp, resp_place, then_result, words_at}
 use Rattle.cx_region.proofs.CallLemmas.{command_has, command_is}
-use Rattle.cx_region.specs.CallLaws.{IsCallAt, arguments_of, bytes_of_block, list_word}
+use Rattle.cx_region.specs.Laws.Calls.{IsCallAt, arguments_of, bytes_of_block, list_word}
 
 -- ---- results
 
