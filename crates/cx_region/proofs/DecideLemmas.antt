@@ -23,7 +23,7 @@ use Rattle.cx_region.specs.declared.asking.Asked.{Asked}
 use Rattle.cx_region.specs.declared.asking.Asked.TheVariants.{Answer, Give, Attach}
 use Rattle.cx_region.specs.declared.asking.Places.{Places}
 use Rattle.cx_region.specs.declared.asking.Start.{Start}
-use Rattle.cx_region.specs.declared.call.CallFault.{CallFault}
+use Rattle.cx_call.specs.declared.call.CallFault.{CallFault}
 use Rattle.cx_region.specs.declared.judging.Judgement.{Judgement}
 use Rattle.cx_region.specs.declared.judging.Judgement.TheVariants.{Unwritten, GoesOn, LevelEnds, TaskEnds}
 use Rattle.cx_region.specs.declared.pass.Pass.{Pass}
@@ -39,11 +39,11 @@ use Rattle.cx_region.specs.declared.replies.TurnReply.TheVariants as turn
 use Rattle.cx_region.specs.State.{Input, RegionState, TerminalState, TaskState}
 use Rattle.cx_region.specs.Tables.{terminal_of}
 use Rattle.cx_region.specs.Defining.{DefinesProgram, DefinesTerminal, DefinesTransaction, Loads, program_fault, terminal_fault, transaction_fault, with_new_terminal, with_clock, with_program, with_transaction}
-use Rattle.cx_region.specs.Eib.{eib_len}
+use Rattle.cx_call.specs.Eib.{eib_len}
 use Rattle.cx_region.specs.Attach.{ArePlaced, Attaches, HasNoPlaces, IsCopyPlace, IsTaskPlace, Keyed, KeyedAs, asked, attached, first_of_tasks, input_from, last_of_tasks, system_owner, with_copy_area, with_eib_area}
 use Rattle.cx_region.specs.Reach.{Reach, after_pass, reach_of, reply_of}
 use Rattle.cx_region.specs.Abend.{Abends, AbendsAt}
-use Rattle.cx_region.specs.Call.{Call, call_of}
+use Rattle.cx_call.specs.Call.{Call, call_of}
 use Rattle.cx_region.specs.Performing.{Called, Carries, Commanded, can_respond, fault_code, is_written, judged, list_of}
 use Rattle.cx_region.specs.Turn.{HalfTurn, Halted, RunsOn, TaskTurned, Turned, after_machine, machine_of, most_steps}
 use Rattle.cx_region.specs.Events.{Happens, Run}

@@ -1,5 +1,3 @@
-pub mod CallLemmas
-pub mod CallLawLemmas
 pub mod FreshLemmas
 pub mod TableLemmas
 pub mod AreaLemmas

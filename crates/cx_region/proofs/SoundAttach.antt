@@ -18,12 +18,12 @@ use Rattle.cx_region.specs.declared.asking.Asked.TheVariants.{Answer, Attach, Gi
 use Rattle.cx_region.specs.declared.replies.KeyReply.TheVariants as key
 use Rattle.cx_region.specs.declared.asking.Places.{Places}
 use Rattle.cx_region.specs.declared.asking.Start.{Start}
-use Rattle.cx_region.specs.declared.eib.Begun.{Begun}
+use Rattle.cx_call.specs.declared.eib.Begun.{Begun}
 use Rattle.cx_ebcdic.specs.Aids.{key_of}
 use Rattle.cx_region.specs.State.{Input, RegionState, TaskState, TerminalState}
 use Rattle.cx_region.specs.Names.{is_name4, is_name8}
 use Rattle.cx_region.specs.Tables.{fresh_terminal, program_of, terminal_in, terminal_of, transaction_of}
-use Rattle.cx_region.specs.Eib.{Field, eib_len, fields_at_attach, with_field, with_fields}
+use Rattle.cx_call.specs.Eib.{Field, eib_len, fields_at_attach, with_field, with_fields}
 use Rattle.cx_region.specs.Attach.{ArePlaced, IsCopyPlace, IsTaskPlace, asked, attached, asked_at, commarea_kept, entry_level, filled, first_of_tasks, fresh_task, input_asked, last_of_tasks, next_number, start_asked, system_owner, transaction_named, with_copy, with_copy_area, with_eib_area, with_task, with_task_areas}
 use Rattle.cx_region.specs.Parts.Placing.{IsSlotFree}
 use Rattle.cx_region.specs.Sound.{IsAreaOf, IsOwned, IsSound, IsSoundProgram, IsSoundTask, IsSoundTerminal, is_live}

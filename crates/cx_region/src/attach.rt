@@ -13,9 +13,9 @@ ghost use Rattle.cx_region.specs.Attach.{ArePlaced, Attaches, MayGrow, start_of,
 ghost use Rattle.cx_region.specs.Sound.{IsSound, IsSoundProgram};
 
 use crate::asking::{Asked, Places, Start};
-use crate::eib::{Begun, begin};
 use crate::replies::KeyReply;
 use crate::state::{Following, Input, Region, Task, Terminal};
+use cx_call::eib::{Begun, begin};
 use cx_ebcdic::{Aid, Name4, Name8};
 use cx_exec::Cpu;
 use cx_load::Loaded;

@@ -3,8 +3,8 @@
 use Rattle.std.specs.Prelude.{ℕ, ◌+◌, ◌*◌, ◌/◌, ◌%◌, List, [], ◌∷◌, Option, Some, None}
 use Rattle.std.specs.Int.{w16, w32, to_be_bytes}
 use Rattle.cx_storage.specs.Storage.{Storage, along, written}
-use Rattle.cx_region.specs.declared.eib.Begun.{Begun}
-use Rattle.cx_region.specs.declared.eib.Report.{Report}
+use Rattle.cx_call.specs.declared.eib.Begun.{Begun}
+use Rattle.cx_call.specs.declared.eib.Report.{Report}
 
 abbrev pub eib_len : ℕ
 eib_len = 88
@@ -13,7 +13,7 @@ eib_len = 88
 abbrev pub digit : ℕ → ℕ → ℕ
 digit n power = n / power % 10
 
--- a number of at most seven digits, packed with the sign C (POP, "Decimal Number Representation")
+-- a number of at most seven digits, packed with the sign C (GA22-7000, "Decimal Number Representation")
 unfoldable pub packed : ℕ → List ℕ
 packed n =
     (digit n 1000000 * 16 + digit n 100000) ∷ (digit n 10000 * 16 + digit n 1000) ∷ (digit n 100 * 16 + digit n 10)

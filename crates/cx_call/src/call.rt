@@ -4,7 +4,7 @@ ghost use Rattle.std.specs.List.{AllByRecursion, position};
 ghost use Rattle.std.specs.Result.{result_map_both};
 ghost use Rattle.cx_command.specs.Legal.{has_bit, is_legal, lists_conditions};
 ghost use Rattle.cx_storage.specs.Word.{word_at};
-ghost use Rattle.cx_region.specs.Call.{address_in, argument_count, arguments_in, block_of, call_of, command_of, command_with, conditions_of, has_high_bit, has_label, is_argument, listed_in, marks_last_alone, places_of, words_at};
+ghost use Rattle.cx_call.specs.Call.{address_in, argument_count, arguments_in, block_of, call_of, command_of, command_with, conditions_of, has_high_bit, has_label, is_argument, listed_in, marks_last_alone, places_of, words_at};
 
 use arrayvec::ArrayVec;
 use byteorder::{BigEndian, ByteOrder};
@@ -54,7 +54,7 @@ pub struct Call {
 impl Model for Call {
     ghost use Rattle.std.specs.Prelude.{◌<◌, ◌^◌};
     ghost use Rattle.std.specs.List.{AllByRecursion};
-    ghost use Rattle.cx_region.specs.Call.{Call};
+    ghost use Rattle.cx_call.specs.Call.{Call};
 
     ghost Value = { Call };
 
@@ -64,7 +64,7 @@ impl Model for Call {
 }
 
 impl Call {
-    ghost use Rattle.cx_region.specs.Call.{has_option, nohandle, place_of, resp_place};
+    ghost use Rattle.cx_call.specs.Call.{has_option, nohandle, place_of, resp_place};
 
     /// The command.
     pub fn command(&self) -> Command
@@ -174,7 +174,7 @@ struct Block {
 
 impl Model for Block {
     ghost use Rattle.std.specs.Prelude.{◌<◌, ◌^◌};
-    ghost use Rattle.cx_region.specs.Call.{Block};
+    ghost use Rattle.cx_call.specs.Call.{Block};
 
     ghost Value = { Block };
 

@@ -1,7 +1,7 @@
 use Rattle.std.proofs.Common.{◌≡◌, ◌-◌, ◌<◌, ◌^◌, length}
-use Rattle.cx_region.specs.Call.{words_at}
-use Rattle.cx_region.proofs.CallLemmas.{followed}
-use Rattle.cx_region.proofs.call.read_words.Given as goal
+use Rattle.cx_call.specs.Call.{words_at}
+use Rattle.cx_call.proofs.CallLemmas.{followed}
+use Rattle.cx_call.proofs.call.read_words.Given as goal
 
 -- the words read, and those in the rest of the list
 abbrev pub invariant-loop-k : goal.invariant-loop-k

@@ -11,7 +11,7 @@ use Rattle.cx_command.specs.declared.commands.TheConstants as commands
 use Rattle.cx_storage.specs.Storage.{Storage}
 use Rattle.cx_storage.specs.Word.{word_at}
 use Rattle.cx_command.specs.declared.legal.ListedCondition.{ListedCondition}
-use Rattle.cx_region.specs.Call.{command_with, has_high_bit, listed_in, marks_last_alone, words_at}
+use Rattle.cx_call.specs.Call.{command_with, has_high_bit, listed_in, marks_last_alone, words_at}
 
 abbrev pub listed : ℕ → ℕ → ListedCondition
 listed number label = record { number = number; label = label }

@@ -6,7 +6,7 @@ use Rattle.cx_command.specs.Commands.{row_of}
 use Rattle.cx_command.specs.Legal.{has_bit, is_legal, is_legal_list, lists_conditions}
 use Rattle.cx_storage.specs.Storage.{Storage, along, span, IsSound}
 use Rattle.cx_storage.specs.Word.{word_at}
-use Rattle.cx_region.specs.Call.{Call, address_in, arguments_in, call_of, has_high_bit, has_label, listed_in, place_of, resp, resp_place}
+use Rattle.cx_call.specs.Call.{Call, address_in, arguments_in, call_of, has_high_bit, has_label, listed_in, place_of, resp, resp_place}
 
 -- word k of the list
 abbrev pub list_word : Storage → ℕ → ℕ → Option ℕ

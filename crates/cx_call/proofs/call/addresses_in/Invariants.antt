@@ -1,7 +1,7 @@
 use Rattle.std.proofs.Common.{◌≡◌, ◌<◌, ◌^◌, map, take}
 use Rattle.std.specs.List.{AllByRecursion}
-use Rattle.cx_region.specs.Call.{address_in}
-use Rattle.cx_region.proofs.call.addresses_in.Given as goal
+use Rattle.cx_call.specs.Call.{address_in}
+use Rattle.cx_call.proofs.call.addresses_in.Given as goal
 
 -- the addresses in the words gone through
 abbrev pub invariant-loop-word : goal.invariant-loop-word

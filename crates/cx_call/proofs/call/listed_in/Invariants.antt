@@ -1,6 +1,6 @@
 use Rattle.std.proofs.Common.{◌≡◌, ◌*◌, ◌++◌, length, drop}
-use Rattle.cx_region.specs.Call.{listed_in}
-use Rattle.cx_region.proofs.call.listed_in.Given as goal
+use Rattle.cx_call.specs.Call.{listed_in}
+use Rattle.cx_call.proofs.call.listed_in.Given as goal
 
 -- the conditions in the bytes gone through, and those in the rest
 abbrev pub invariant-loop-k : goal.invariant-loop-k

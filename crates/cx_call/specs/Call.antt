@@ -13,8 +13,8 @@ use Rattle.cx_command.specs.Commands.{row_of}
 use Rattle.cx_command.specs.Legal.{has_bit, is_legal, is_legal_list, lists_conditions}
 use Rattle.cx_storage.specs.Storage.{Storage, along, span}
 use Rattle.cx_storage.specs.Word.{word_at}
-use Rattle.cx_region.specs.declared.call.CallFault.{CallFault}
-use Rattle.cx_region.specs.declared.call.CallFault.TheVariants.{Xarg, Xfun}
+use Rattle.cx_call.specs.declared.call.CallFault.{CallFault}
+use Rattle.cx_call.specs.declared.call.CallFault.TheVariants.{Xarg, Xfun}
 
 -- A command as its argument list gives it: option byte 1 (the options, or the number of listed conditions), option
 -- byte 2, the conditions that HANDLE and IGNORE CONDITION list, and the addresses of the arguments, RESP's last.

@@ -1,6 +1,6 @@
-//! Fields of a task's EIB.
+//! The fields of a task's EXEC interface block (SC33-0077, "EXEC Interface Block"): what attach and commands write into them.
 ghost use Rattle.std.specs.Prelude.{◌≡◌, ◌<◌, ◌≤◌, ◌+◌, ◌%◌, ◌^◌, None, Some, length};
-ghost use Rattle.cx_region.specs.Eib.{digit, field, fields_at_attach, fields_of_report, packed, reported, with_calen, with_field, with_fields};
+ghost use Rattle.cx_call.specs.Eib.{digit, field, fields_at_attach, fields_of_report, packed, reported, with_calen, with_field, with_fields};
 
 use cx_storage::Store;
 
@@ -87,8 +87,9 @@ fn put<S: Store>(store: &mut S, eib: u32, offset: u32, bytes: &[u8])
     store.write((eib + offset) % 0x100_0000, bytes);
 }
 
-/// Fills the EIB at an address for a task that begins.
-pub(crate) fn begin<S: Store>(store: &mut S, eib: u32, begun: &Begun)
+/// Fills the EIB at an address (below 2^24) for a task that begins: EIBTIME, EIBDATE, EIBTRNID, EIBTASKN, EIBTRMID, EIBCALEN and
+/// EIBAID, each where all its bytes are in storage. No other byte changes.
+pub fn begin<S: Store>(store: &mut S, eib: u32, begun: &Begun)
     requires { eib < 2 ^ 24 }
     ensures { S.storage store.new ≡ with_fields (S.storage store.old) eib (fields_at_attach begun.now) }
 {
@@ -101,9 +102,9 @@ pub(crate) fn begin<S: Store>(store: &mut S, eib: u32, begun: &Begun)
     put(store, eib, AID, &[begun.aid]);
 }
 
-/// Writes EIBCALEN, where it is set.
+/// Writes EIBCALEN into the EIB at an address (below 2^24), where one is given. No other byte changes.
 #[tactic(auto, unfolding(crate::specs::Eib::with_calen))]
-pub(crate) fn put_calen<S: Store>(store: &mut S, eib: u32, calen: Option<u16>)
+pub fn put_calen<S: Store>(store: &mut S, eib: u32, calen: Option<u16>)
     requires { eib < 2 ^ 24 }
     ensures { S.storage store.new ≡ with_calen (S.storage store.old) eib calen }
 {
@@ -112,9 +113,10 @@ pub(crate) fn put_calen<S: Store>(store: &mut S, eib: u32, calen: Option<u16>)
     }
 }
 
-/// Writes a command's report into the EIB at an address.
+/// Writes a command's report into the EIB at an address (below 2^24): EIBFN, EIBRCODE, EIBRESP, and EIBCALEN where the command
+/// sets it. No other byte changes.
 #[tactic(auto, unfolding(crate::specs::Eib::reported))]
-pub(crate) fn put_report<S: Store>(store: &mut S, eib: u32, report: &Report)
+pub fn put_report<S: Store>(store: &mut S, eib: u32, report: &Report)
     requires { eib < 2 ^ 24 }
     ensures { S.storage store.new ≡ reported (S.storage store.old) eib report.now }
 {
