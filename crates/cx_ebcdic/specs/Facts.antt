@@ -1,0 +1,2 @@
+-- Proved facts that other crates cite.
+pub mod Lookup
