@@ -11,7 +11,8 @@ use Rattle.cx_command.specs.declared.commands.Command.{Command}
 use Rattle.cx_command.specs.declared.legal.ListedCondition.{ListedCondition}
 use Rattle.cx_command.specs.Commands.{row_of}
 use Rattle.cx_command.specs.declared.options.CommandOption.{CommandOption}
-use Rattle.cx_command.specs.Legal.{are_apart, has_bit, is_legal, is_legal_list, lists_conditions}
+use Rattle.cx_command.specs.Laws.Rows.{are_apart}
+use Rattle.cx_command.specs.Legal.{has_bit, is_legal, is_legal_list, lists_conditions}
 use Rattle.cx_storage.specs.Storage.{Storage, along, span, IsSound}
 use Rattle.cx_storage.specs.Sound.{span_small}
 use Rattle.cx_storage.specs.Writes.{span_length}
