@@ -4,8 +4,6 @@
 mod asking;
 mod attach;
 mod call;
-#[cfg(test)]
-mod call_tests;
 mod defining;
 mod eib;
 mod ending;
@@ -17,8 +15,6 @@ mod pass;
 pub mod region_laws;
 mod replies;
 mod state;
-#[cfg(test)]
-mod tests;
 mod turn;
 mod turning;
 
