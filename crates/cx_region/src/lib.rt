@@ -3,8 +3,6 @@
 
 mod asking;
 mod attach;
-#[cfg(test)]
-mod call_tests;
 mod defining;
 mod ending;
 mod events;
@@ -14,8 +12,6 @@ mod pass;
 pub mod region_laws;
 mod replies;
 mod state;
-#[cfg(test)]
-mod tests;
 mod turn;
 mod turning;
 

@@ -7,8 +7,6 @@ pub mod laws;
 mod queues;
 mod resources;
 mod screen;
-#[cfg(test)]
-mod tests;
 
 pub use enqueues::Enqueues;
 pub use faults::ServiceFault;

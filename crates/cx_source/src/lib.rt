@@ -8,8 +8,6 @@ mod lines;
 mod reader;
 mod source;
 mod statements;
-#[cfg(test)]
-mod tests;
 mod text;
 
 pub use cuts::{Mark, cut, first_mark, outside};
