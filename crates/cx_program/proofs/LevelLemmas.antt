@@ -1,6 +1,6 @@
--- What follows from the definition of the nearest exit. These are proofs, and no definition cites them.
+-- The nearest exit with one level more.
 use Rattle.std.specs.Prelude.{◌≡◌, ◌<◌, ℕ, zero, suc, true, false, Option, Some, None, List, [], ◌∷◌, ◌++◌, length}
-use Rattle.std.proofs.Common.{refl, ap, ◌∙◌, arith}
+use Rattle.std.proofs.Common.{refl, ◌∙◌, arith}
 use Rattle.cx_program.specs.declared.level.Level.{Level}
 use Rattle.cx_program.specs.Levels.{IsNearestExit, has_exit, has_exit_at}
 
@@ -39,15 +39,3 @@ nearest_exit_off levels level (Some i) off nearest =
 pub nearest_exit_none : IsNearestExit [] None
 unfolding IsNearestExit
 nearest_exit_none = λ j. refl
-
--- at most one answer is the nearest exit
-pub nearest_exit_one : (levels : List Level) (one other : Option ℕ) → IsNearestExit levels one → IsNearestExit levels other → one ≡ other
-unfolding IsNearestExit
-nearest_exit_one levels None None one_is other_is = refl
-nearest_exit_one levels None (Some j) one_is other_is = let off : has_exit_at levels j ≡ false = one_is j in cc
-nearest_exit_one levels (Some i) None one_is other_is = let off : has_exit_at levels i ≡ false = other_is i in cc
-nearest_exit_one levels (Some i) (Some j) one_is other_is =
-    let not_below : i < j → ⊥ = λ below. let off : has_exit_at levels j ≡ false = one_is.1 j below in cc in
-    let not_above : j < i → ⊥ = λ above. let off : has_exit_at levels i ≡ false = other_is.1 i above in cc in
-    let same : i ≡ j = omega (arith, not_below, not_above) in
-    ap (λ (k : ℕ). Some k) same

@@ -1,4 +1,4 @@
--- What follows from the definitions of entries and of the choice. These are proofs, and no definition cites them.
+-- Entries given to conditions, and the conditions that wait.
 use Rattle.std.specs.Prelude.{◌≡◌, ◌≢◌, not, is_some}
 use Rattle.std.proofs.Common.{refl}
 use Rattle.cx_ebcdic.specs.Characters.{code_of, table}
