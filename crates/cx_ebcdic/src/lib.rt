@@ -12,4 +12,4 @@ mod tests;
 pub use aids::Aid;
 pub use characters::{display, to_ebcdic};
 pub use lines::{TextFault, encode_line};
-pub use names::{Name4, Name8};
+pub use names::{Name, Name4, Name8};

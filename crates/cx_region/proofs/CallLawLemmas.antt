@@ -11,7 +11,8 @@ use Rattle.cx_command.specs.declared.commands.Command.{Command}
 use Rattle.cx_command.specs.declared.legal.ListedCondition.{ListedCondition}
 use Rattle.cx_command.specs.Commands.{row_of}
 use Rattle.cx_command.specs.declared.options.CommandOption.{CommandOption}
-use Rattle.cx_command.specs.Legal.{are_apart, has_bit, is_legal, is_legal_list, lists_conditions}
+use Rattle.cx_command.specs.Laws.Rows.{are_apart}
+use Rattle.cx_command.specs.Legal.{has_bit, is_legal, is_legal_list, lists_conditions}
 use Rattle.cx_storage.specs.Storage.{Storage, along, span, IsSound}
 use Rattle.cx_storage.specs.Sound.{span_small}
 use Rattle.cx_storage.specs.Writes.{span_length}
@@ -20,7 +21,7 @@ use Rattle.cx_region.specs.declared.call.CallFault.{CallFault}
 use Rattle.cx_region.specs.declared.call.CallFault.TheVariants.{Xarg, Xfun}
 use Rattle.cx_region.specs.Call.{Call, Block, address_in, argument_count, arguments_in, block_at, block_from, block_of, call_of, command_of, command_with, conditions_of, has_high_bit, is_argument, listed_in, marks_last_alone, only_if, place_of, places_of, resp, resp_place, then_result, words_at}
 use Rattle.cx_region.proofs.CallLemmas.{command_has, command_is}
-use Rattle.cx_region.specs.CallLaws.{IsCallAt, arguments_of, bytes_of_block, list_word}
+use Rattle.cx_region.specs.Laws.Calls.{IsCallAt, arguments_of, bytes_of_block, list_word}
 
 -- ---- results
 

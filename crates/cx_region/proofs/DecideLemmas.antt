@@ -47,7 +47,7 @@ use Rattle.cx_region.specs.Call.{Call, call_of}
 use Rattle.cx_region.specs.Performing.{Called, Carries, Commanded, can_respond, fault_code, is_written, judged, list_of}
 use Rattle.cx_region.specs.Turn.{HalfTurn, Halted, RunsOn, TaskTurned, Turned, after_machine, machine_of, most_steps}
 use Rattle.cx_region.specs.Events.{Happens, Run}
-use Rattle.cx_region.specs.RegionLaws.{EventsDecide, RunsDecide}
+use Rattle.cx_region.specs.Laws.Regions.{EventsDecide, RunsDecide}
 
 -- what loading and the runs of a machine are known for
 abbrev pub LoadingDecides : Type 0

@@ -38,7 +38,7 @@ use Rattle.cx_region.specs.Attach.{Keyed, KeyedAs, Attaches, asked, asked_at, at
 use Rattle.cx_region.specs.Call.{Call, call_of}
 use Rattle.cx_region.specs.Performing.{Commanded, Called, Carries, can_respond, fault_code, is_written, judged, list_of, returned}
 use Rattle.cx_region.specs.Turn.{HalfTurn, Halted, RunsOn, Turned, TaskTurned, after_machine}
-use Rattle.cx_region.specs.RegionLaws.{KeyKeeps, KeysKeepToTheirTerminal, RefusedProgramsLeaveTheRegion, RefusedTerminalsLeaveTheRegion, RefusedTransactionsLeaveTheRegion, StillKeysLeaveTheRegion, StillTurnsLeaveTheRegion, TurnKeeps, TurnsKeepToTheirTask, changes_nothing, counter_after}
+use Rattle.cx_region.specs.Laws.Regions.{KeyKeeps, KeysKeepToTheirTerminal, RefusedProgramsLeaveTheRegion, RefusedTerminalsLeaveTheRegion, RefusedTransactionsLeaveTheRegion, StillKeysLeaveTheRegion, StillTurnsLeaveTheRegion, TurnKeeps, TurnsKeepToTheirTask, changes_nothing, counter_after}
 
 -- ---- names
 same_name : (one other : List ℕ) → (is_name4 one other ≡ true) ↔ (one ≡ other)

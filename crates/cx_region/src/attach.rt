@@ -4,7 +4,7 @@ ghost use Rattle.std.specs.List.{AllByRecursion};
 ghost use Rattle.std.specs.Option.{option_map};
 ghost use Rattle.std.specs.Map.{lookup, set_value};
 ghost use Rattle.cx_storage.specs.Storage.{is_of_other_slot, with_area, with_areas_kept};
-ghost use Rattle.cx_region.specs.Placing.{AreFaultsOf, IsSlotFree, input_of, ArePlacesBelow, IsCopyFault, IsPlaceFault};
+ghost use Rattle.cx_region.specs.Parts.Placing.{AreFaultsOf, IsSlotFree, input_of, ArePlacesBelow, IsCopyFault, IsPlaceFault};
 ghost use Rattle.cx_ebcdic.specs.Names.{padded};
 ghost use Rattle.cx_region.specs.Names.{is_name4};
 ghost use Rattle.cx_region.specs.Tables.{program_of, terminal_at, with_terminal, terminal_in, terminal_of, transaction_of};

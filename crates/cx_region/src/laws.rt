@@ -1,5 +1,5 @@
 //! What holds of every argument list.
-ghost use Rattle.cx_region.specs.CallLaws.{ArgumentsHavePlaces, CallIsRead, RespHasItsPlace};
+ghost use Rattle.cx_region.specs.Laws.Calls.{ArgumentsHavePlaces, CallIsRead, RespHasItsPlace};
 
 /// A call is read exactly where the list in storage has all that a call's list has.
 pub fn call_is_read()
