@@ -1,12 +1,11 @@
 -- For the laws.
-use Rattle.std.proofs.Common.{◌≡◌, ℕ, zero, suc, ◌<◌, ◌≤◌, Bool, true, false, cond, Option, Some, None, List, [], ◌∷◌, ◌++◌, length, refl, sym, ◌∙◌, ap, ⊎_elim, arith}
+use Rattle.std.proofs.Common.{◌≡◌, ℕ, zero, suc, ◌<◌, ◌≤◌, Bool, true, false, cond, Option, Some, None, List, [], ◌∷◌, ◌++◌, length, refl, sym, ◌∙◌, ap, arith}
 use Rattle.std.specs.Prelude.{slice_get, MatchOption, position, unwrap_or, ◌==◌, ◌≢◌}
 use Rattle.std.specs.Option.{option_map}
 use Rattle.std.specs.Map.{remove_entry}
-use Rattle.std.proofs.lemmas.Bool.{cases_Bool, cond-true, cond-false}
+use Rattle.std.proofs.lemmas.Bool.{cond-true}
 use Rattle.std.proofs.lemmas.Option.{none-some, same_Some}
 use Rattle.std.proofs.lemmas.Map.{lookup-remove_entry}
-use Rattle.indexmap.specs.IndexMap.{insert_entry}
 use Rattle.cx_service.specs.Lines.{parts_of, AreLinesOf, new_line}
 use Rattle.cx_service.specs.Screen.{filled, with_lines, cleared, ShowsText}
 use Rattle.cx_ebcdic.specs.Names.{is_name}

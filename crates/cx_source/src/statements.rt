@@ -12,8 +12,8 @@ ghost use Rattle.cx_source.specs.Statements.{
   written_on,
 };
 
-use crate::marks::{Mark, first_mark};
 use crate::lines::{columns, entries_of, is_comment, is_end, is_marked, skip_blanks, trimmed};
+use crate::marks::{Mark, first_mark};
 use crate::source::{Item, Stmt, Text};
 use cx_tables::List;
 use std::alloc::{AllocError, Global};
