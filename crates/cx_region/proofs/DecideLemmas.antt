@@ -13,7 +13,7 @@ use Rattle.cx_storage.specs.Areas.{place_decides}
 use Rattle.cx_load.specs.declared.loading.Loaded.{Loaded}
 use Rattle.cx_load.specs.Load.{IsLoaded, IsProgramPlace, first_of_programs, last_of_programs}
 use Rattle.cx_program.specs.Levels.{all_levels}
-use Rattle.cx_program.specs.LevelLaws.{nearest_exit_one}
+use Rattle.cx_program.specs.Facts.NearestExit.{nearest_exit_one}
 use Rattle.cx_exec.specs.declared.machine.Halt.{Halt}
 use Rattle.cx_exec.specs.declared.machine.Halt.TheVariants as halt
 use Rattle.cx_exec.specs.Machine.{Machine}

@@ -1,5 +1,4 @@
 pub mod FreshLemmas
-pub mod TableLemmas
 pub mod AreaLemmas
 pub mod PlacingLemmas
 pub mod UnwindLemmas

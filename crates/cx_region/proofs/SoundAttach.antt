@@ -28,7 +28,7 @@ use Rattle.cx_region.specs.Attach.{ArePlaced, IsCopyPlace, IsTaskPlace, asked, a
 use Rattle.cx_region.specs.Parts.Placing.{IsSlotFree}
 use Rattle.cx_region.specs.Sound.{IsAreaOf, IsOwned, IsSound, IsSoundProgram, IsSoundTask, IsSoundTerminal, is_live}
 use Rattle.cx_region.proofs.AreaLemmas.{all_areas_put, all_areas_written, area_kept_get, area_put, area_written, not_there}
-use Rattle.cx_region.proofs.TableLemmas.{distinct-set_value, each-set_value, found_meets}
+use Rattle.cx_tables.specs.Facts.Tables.{distinct-set_value, each-set_value, found_meets}
 use Rattle.cx_region.proofs.SoundDefining.{AreasStay, all_weaker, terminal_stays}
 use Rattle.cx_region.proofs.LiveLemmas.{live-set_value, live_at, numbered-set_value, slot_free, slot_from}
 

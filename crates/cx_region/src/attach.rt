@@ -352,7 +352,7 @@ fn fill_from<S: Store>(
 }
 
 /// Gives a terminal its task, and the input that it begins with.
-#[tactic(auto, using(crate::proofs::TableLemmas::set_value_absent))]
+#[tactic(auto, using(cx_tables::specs::Facts::Tables::set_value_absent))]
 fn start_at(terminals: &mut IndexMap<Name4, Terminal>, name: Name4, input: Input, task: Box<Task>)
     ensures { terminals.new.entries ≡ set_value (is_name4 name) terminals.old.entries
         (with_task (terminal_in terminals.old.entries name) input task.value) }
@@ -365,7 +365,7 @@ fn start_at(terminals: &mut IndexMap<Name4, Terminal>, name: Name4, input: Input
 }
 
 /// Holds an input for a terminal's task.
-#[tactic(auto, using(crate::proofs::TableLemmas::set_value_absent))]
+#[tactic(auto, using(cx_tables::specs::Facts::Tables::set_value_absent))]
 fn give_at(terminals: &mut IndexMap<Name4, Terminal>, name: Name4, input: Input)
     ensures { terminals.new.entries ≡ set_value (is_name4 name) terminals.old.entries
         (record (terminal_in terminals.old.entries name) { input = Some input }) }
