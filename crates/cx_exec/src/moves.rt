@@ -1,7 +1,8 @@
 //! MVC, XC and CLC: two operands of one length, byte by byte from left to right.
 
 ghost use Rattle.std.specs.Prelude.{◌≡◌, ◌<◌, ◌≤◌, ◌^◌, is_some, IfSome, IsTrue};
-ghost use Rattle.cx_storage.specs.Storage.{along, span};
+ghost use Rattle.cx_storage.specs.Address.{along};
+ghost use Rattle.cx_storage.specs.Storage.{span};
 ghost use Rattle.cx_exec.specs.State.{machine};
 ghost use Rattle.cx_exec.specs.Sequence.{rightward, content, StoresInOrder};
 ghost use Rattle.cx_exec.specs.Moves.{have_operands, moved, xored, IsLogicalCode, IsFirstDifference, compare_code, MvcEffect, XcEffect, ClcEffect};

@@ -1,7 +1,7 @@
 //! PACK and UNPK: two operands with lengths of their own, from right to left.
 
 ghost use Rattle.std.specs.Prelude.{◌≡◌, ◌+◌, ◌-◌, ◌<◌, ◌≤◌, ◌^◌, IsTrue};
-ghost use Rattle.cx_storage.specs.Storage.{along};
+ghost use Rattle.cx_storage.specs.Address.{along};
 ghost use Rattle.cx_exec.specs.State.{machine};
 ghost use Rattle.cx_exec.specs.Sequence.{leftward, behind, StoresInOrder};
 ghost use Rattle.cx_exec.specs.Zoned.{source, swapped, packed, packed_byte, unpacked, unpacked_half, fetched, have_both, PackEffect, UnpkEffect};

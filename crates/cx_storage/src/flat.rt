@@ -2,8 +2,8 @@
 ghost use Rattle.std.specs.Prelude.{◌≡◌, ℕ, ◌+◌, ◌-◌, ◌^◌, ◌<◌, ◌≤◌, [], length, vec_len, slice_get, slice_range, MatchOption, IfSome, OnSome, IsSome, IfOk, OnOk, OnErr, is_some};
 ghost use Rattle.cx_storage.specs.Storage.{byte_at, area_at, span, with_byte, put_held, with_area, with_areas_kept, starts_elsewhere, is_of_other_slot, IsTogether, IsSound};
 ghost use Rattle.cx_storage.specs.Place.{IsLeastPlace};
-ghost use Rattle.cx_storage.specs.Sound.{IsSound-prop};
-ghost use Rattle.cx_storage.specs.Flat.{walk, spot};
+ghost use Rattle.cx_storage.specs.Facts.Sound.{IsSound-prop};
+ghost use Rattle.cx_storage.specs.Parts.Flat.{walk, spot};
 
 use crate::areas::{Area, Owner};
 use crate::stores::Store;
@@ -253,7 +253,7 @@ pub struct FlatStore {
 
 impl FlatStore {
     /// An empty store. It takes no memory; `get_area` takes what it needs from `alloc`.
-    #[tactic(auto, using(crate::specs::Sound::sound_nil))]
+    #[tactic(auto, using(crate::specs::Facts::Sound::sound_nil))]
     pub fn new(alloc: Global) -> Self
         ensures { ⟦<FlatStore as Store>⟧.storage result ≡ [] }
     {

@@ -49,7 +49,7 @@ pub trait Store {
     /// Fills the buffer (at most 65,536 bytes) with the bytes from `a` (below 2^24) on, which go on at
     /// address 0 after X'FFFFFF'. False, and the buffer stays as it was, exactly where one of them is
     /// in no area.
-    #[tactic(auto, using(crate::specs::Bytes::span_gone, crate::specs::Bytes::span_present, crate::specs::Bytes::unwrap_absent, crate::proofs::Filling::joined_all))]
+    #[tactic(auto, using(crate::specs::Facts::Spans::span_gone, crate::specs::Facts::Spans::span_present, crate::proofs::WriteLemmas::unwrap_absent, crate::proofs::Filling::joined_all))]
     fn read(&self, a: u32, buffer: &mut [u8]) -> bool
         requires address { a < 2 ^ 24 }
         requires size { length buffer.old ≤ 65536 }
@@ -74,7 +74,7 @@ pub trait Store {
 
     /// Writes the bytes (at most 65,536) from `a` (below 2^24) on; they go on at address 0 after
     /// X'FFFFFF'. False, and no change, exactly where one of the addresses is in no area.
-    #[tactic(auto, using(crate::specs::Bytes::span_gone, crate::specs::Bytes::span_present, crate::specs::Bytes::with_bytes_more, crate::specs::Bytes::with_bytes_all, crate::specs::Bytes::written_none, crate::specs::Bytes::written_whole))]
+    #[tactic(auto, using(crate::specs::Facts::Spans::span_gone, crate::specs::Facts::Spans::span_present, crate::proofs::WriteLemmas::with_bytes_more, crate::proofs::WriteLemmas::with_bytes_all, crate::specs::Facts::Writes::written_none, crate::specs::Facts::Writes::written_whole))]
     fn write(&mut self, a: u32, bytes: &[u8]) -> bool
         requires address { a < 2 ^ 24 }
         requires size { length bytes.now ≤ 65536 }
@@ -141,7 +141,7 @@ pub trait Store {
 
 /// Whether each of the `n` bytes from `a` (below 2^24) on is in an area; they go on at address 0 after
 /// X'FFFFFF'. It takes no memory.
-#[tactic(auto, using(crate::specs::Bytes::span_gone, crate::specs::Bytes::span_present))]
+#[tactic(auto, using(crate::specs::Facts::Spans::span_gone, crate::specs::Facts::Spans::span_present))]
 pub fn has_span<S: Store>(store: &S, a: u32, n: usize) -> bool
     requires { a < 2 ^ 24 }
     ensures { result ≡ is_some (span (S.storage store.now) a n) }

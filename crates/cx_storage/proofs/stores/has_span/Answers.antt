@@ -1,5 +1,5 @@
 use Rattle.std.proofs.Common.{sym, ◌∙◌, arith, ◌-◌}
-use Rattle.cx_storage.specs.Bytes.{span_zero}
+use Rattle.cx_storage.proofs.WriteLemmas.{span_zero}
 use Rattle.cx_storage.proofs.stores.has_span.Goals as goal
 
 pub returns : goal.returns

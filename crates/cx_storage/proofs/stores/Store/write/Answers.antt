@@ -1,6 +1,7 @@
 use Rattle.std.proofs.Common.{◌≡◌, ◌-◌, is_some, true, sym, ◌∙◌, arith, length}
 use Rattle.cx_storage.specs.Storage.{span}
-use Rattle.cx_storage.specs.Bytes.{span_zero, with_bytes_all, written_whole}
+use Rattle.cx_storage.proofs.WriteLemmas.{span_zero, with_bytes_all}
+use Rattle.cx_storage.specs.Facts.Writes.{written_whole}
 use Rattle.cx_storage.proofs.stores.Store.write.Goals as goal
 
 pub returns-clause-present : goal.returns-clause-present

@@ -1,13 +1,14 @@
 -- What follows from soundness, and what keeps it.
-use Rattle.std.specs.Prelude.{◌≡◌, ℕ, zero, suc, ◌-◌, ◌^◌, ◌<◌, ◌≤◌, ◌⊎◌, Bool, true, false, List, [], ◌∷◌, map, length, replicate, slice_get, slice_set, Option, Some, None, is_some, nat_lt}
-use Rattle.std.proofs.Common.{refl, ◌∙◌, inl, inr, arith, length-set, get_or}
-use Rattle.std.specs.Option.{option_map, option_and_then}
+use Rattle.std.proofs.Common.{refl, ◌∙◌, inl, inr, arith, length-set, []}
+use Rattle.std.proofs.lemmas.Bool.{cases_Bool, and_parts, and_from, and_cases, leb-true, ltb-true, leb-false, ltb-false, le-leb, lt-ltb}
 use Rattle.std.proofs.lemmas.List.{length-replicate}
-use Rattle.std.specs.List.{AllByRecursion, AllByRecursion-prop, filter}
 use Rattle.std.specs.Coded.{×_prop, Unit-prop, le_prop, Coded-set, coded_ℕ}
-use Rattle.std.proofs.lemmas.Bool.{and_parts, and_from, and_cases, leb-true, ltb-true, leb-false, ltb-false, le-leb, lt-ltb, cases_Bool}
-use Rattle.cx_storage.specs.Storage.{Held, Storage, end_of, covers, put_byte, with_byte, with_bytes, written, byte_at, along, span, zeros, put_held, with_area, with_areas_kept, IsWhole, AreOrdered, IsSound}
+use Rattle.std.specs.List.{AllByRecursion, filter, AllByRecursion-prop}
+use Rattle.std.specs.Option.{option_and_then, option_map}
+use Rattle.std.specs.Prelude.{◌≡◌, ℕ, zero, suc, ◌-◌, ◌<◌, ◌≤◌, ◌⊎◌, Bool, true, false, List, ◌∷◌, length, replicate, slice_get, Option, Some, None, nat_lt, ◌^◌, slice_set, map, []}
 use Rattle.cx_storage.specs.Place.{Misses, CanPlace, IsLeastPlace}
+use Rattle.cx_storage.specs.Storage.{Held, Storage, end_of, covers, byte_at, zeros, put_held, with_area, with_areas_kept, IsWhole, IsSound, span, with_byte, put_byte, AreOrdered}
+use Rattle.cx_storage.specs.Address.{along}
 use Rattle.cx_storage.specs.declared.areas.Area.{Area}
 use Rattle.cx_storage.specs.declared.areas.Owner.{Owner}
 
@@ -189,33 +190,3 @@ span_small s a (suc n) bytes ok e = go (byte_at s a) (span s (along a 1) n) (λ 
     go (Some b) (Some bs) first rest e =
         let shape : b ∷ bs ≡ bytes = cc in
         rw (← shape) (first b refl, rest bs refl)
-
--- bytes written
-pub sound_with_bytes : (s : Storage) (a : ℕ) (bytes : List ℕ) → IsSound s → AllByRecursion (λ b. b < 256) bytes → IsSound (with_bytes s a bytes)
-unfolding with_bytes
-sound_with_bytes s a [] ok small = ok
-sound_with_bytes s a (b ∷ bs) ok small = sound_with_bytes (with_byte s a b) (along a 1) bs (sound_with_byte s a b ok small.0) small.1
-
-pub sound_written : (s : Storage) (a : ℕ) (bytes : List ℕ) → IsSound s → AllByRecursion (λ b. b < 256) bytes → IsSound (written s a bytes)
-unfolding written
-sound_written s a bytes ok small = elim (cases_Bool (is_some (span s a (length bytes)))) [
-  | inl e ↦ rw e (sound_with_bytes s a bytes ok small)
-  | inr e ↦ rw e ok
-]
-
--- any two areas: the first ends before the second starts
-pub areas_apart : (s : Storage) (i j : ℕ) (d : Held) → IsSound s → i < j → j < length s → end_of (get_or s i d).area ≤ (get_or s j d).area.start
-areas_apart [] i j d ok before within = absurd (omega arith)
-areas_apart (h ∷ hs) i zero d ok before within = absurd (omega arith)
-areas_apart (h ∷ hs) zero (suc j) d ok before within = All-get_or' hs j (IsSound-apart h hs ok) (omega arith)
-  where
-    All-get_or' : (t : Storage) (k : ℕ) → AllByRecursion (λ later. end_of h.area ≤ later.area.start) t → k < length t → end_of h.area ≤ (get_or t k d).area.start
-    All-get_or' [] k all l = absurd (omega arith)
-    All-get_or' (g ∷ gs) zero all l = all.0
-    All-get_or' (g ∷ gs) (suc k) all l = All-get_or' gs k all.1 (omega arith)
-areas_apart (h ∷ hs) (suc i) (suc j) d ok before within = areas_apart hs i j d (IsSound-tail h hs ok) (omega arith) (omega arith)
-
-pub area_whole : (s : Storage) (i : ℕ) (d : Held) → IsSound s → i < length s → IsWhole (get_or s i d)
-area_whole [] i d ok within = absurd (omega arith)
-area_whole (h ∷ hs) zero d ok within = IsSound-head h hs ok
-area_whole (h ∷ hs) (suc i) d ok within = area_whole hs i d (IsSound-tail h hs ok) (omega arith)

@@ -1,6 +1,6 @@
 -- How `FlatStore` goes over its areas.
-use Rattle.std.specs.Prelude.{ℕ, suc, ◌+◌, max, nat_le, nat_lt, if◌then◌else◌, [], ◌∷◌}
 use Rattle.std.specs.Int.{next_multiple_of}
+use Rattle.std.specs.Prelude.{ℕ, suc, ◌+◌, ◌∷◌, max, nat_lt, if◌then◌else◌, nat_le, []}
 use Rattle.cx_storage.specs.Storage.{Storage, end_of}
 
 -- the walk for len bytes: it stops where they fit before an area, and else goes on behind that area
