@@ -1,12 +1,16 @@
--- What holds of an image without a fault.
+-- A fit image has no fault, and the fault answered is the lowest.
 use Rattle.std.proofs.Common.{◌≡◌, ℕ, ◌<◌, ◌≤◌, Bool, true, false, cond, Option, Some, None, length, refl, sym, ◌∙◌, arith}
-use Rattle.std.specs.Prelude.{not, nat_le}
+use Rattle.std.specs.Prelude.{not, nat_le, ◌&&◌}
 use Rattle.std.proofs.lemmas.Bool.{and_from, le-leb, leb-true, lt-ltb, ltb-true, not-true, not-false}
 use Rattle.cx_code.specs.declared.image.Image.{Image}
 use Rattle.cx_load.specs.declared.checking.ImageFault.{ImageFault}
 use Rattle.cx_load.specs.declared.checking.ImageFault.TheVariants.{BadLength, EntryOutside, RelocOutside, Overlap, StgLength}
-use Rattle.cx_load.specs.Check.{has_length, has_entry, are_inside, all_apart, has_stg_length, applies, number_of, fault_of, IsFit, IsLowestFault}
-use Rattle.cx_load.proofs.ApartLemmas.{both}
+use Rattle.cx_load.specs.Check.{has_length, has_entry, are_inside, all_apart, has_stg_length, applies, fault_number, IsFit, IsLowestFault}
+use Rattle.cx_load.specs.Parts.Cascade.{fault_of}
+
+both : (a b : Bool) → (a && b) ≡ true → (a ≡ true) × (b ≡ true)
+both true b e = (refl, e)
+both false b e = absurd (cc)
 
 passed : (good : Bool) (fault : ImageFault) (rest : Option ImageFault) → cond (not good) (Some fault) rest ≡ None → (good ≡ true) × (rest ≡ None)
 passed true fault rest e = (refl, e)
@@ -77,7 +81,7 @@ failed a b c d e Overlap = not d
 failed a b c d e StgLength = not e
 
 none_below : (a b c d e : Bool) (n : ℕ) → (1 < n → a ≡ true) → (2 < n → b ≡ true) → (3 < n → c ≡ true) → (4 < n → d ≡ true) → n ≤ 5
-    → (other : ImageFault) → number_of other < n → failed a b c d e other ≡ false
+    → (other : ImageFault) → fault_number other < n → failed a b c d e other ≡ false
 none_below a b c d e n fa fb fc fd most BadLength l = rw (fa l) refl
 none_below a b c d e n fa fb fc fd most EntryOutside l = rw (fb l) refl
 none_below a b c d e n fa fb fc fd most RelocOutside l = rw (fc l) refl
@@ -85,7 +89,7 @@ none_below a b c d e n fa fb fc fd most Overlap l = rw (fd l) refl
 none_below a b c d e n fa fb fc fd most StgLength l = absurd (omega arith)
 
 first_failed : (a b c d e : Bool) (fault : ImageFault) → chain a b c d e ≡ Some fault
-    → (failed a b c d e fault ≡ true) × ((other : ImageFault) → number_of other < number_of fault → failed a b c d e other ≡ false)
+    → (failed a b c d e fault ≡ true) × ((other : ImageFault) → fault_number other < fault_number fault → failed a b c d e other ≡ false)
 first_failed false b c d e fault q =
     let same : BadLength ≡ fault = cc in
     rw (← same) (refl, none_below false b c d e 1 (λ l. absurd (omega arith)) (λ l. absurd (omega arith)) (λ l. absurd (omega arith)) (λ l. absurd (omega arith)) (omega arith))
@@ -104,7 +108,7 @@ first_failed true true true true false fault q =
 first_failed true true true true true fault q = absurd (cc)
 
 failed_first : (a b c d e : Bool) (fault : ImageFault) → failed a b c d e fault ≡ true
-    → ((other : ImageFault) → number_of other < number_of fault → failed a b c d e other ≡ false) → chain a b c d e ≡ Some fault
+    → ((other : ImageFault) → fault_number other < fault_number fault → failed a b c d e other ≡ false) → chain a b c d e ≡ Some fault
 failed_first a b c d e BadLength q low = rw (not-true a q) refl
 failed_first a b c d e EntryOutside q low = rw (not-false a (low BadLength (omega arith)), not-true b q) refl
 failed_first a b c d e RelocOutside q low = rw (not-false a (low BadLength (omega arith)), not-false b (low EntryOutside (omega arith)), not-true c q) refl
@@ -121,7 +125,7 @@ same_tests image RelocOutside = refl
 same_tests image Overlap = refl
 same_tests image StgLength = refl
 
--- the fault answered is the lowest that applies
+-- the first test that fails is for the lowest fault
 pub lowest_of_answered : (image : Image) (fault : ImageFault) → fault_of image ≡ Some fault → IsLowestFault image fault
 unfolding fault_of
 lowest_of_answered image fault e =
@@ -133,3 +137,34 @@ unfolding fault_of
 answered_of_lowest image fault lowest =
     failed_first (has_length image) (has_entry image) (are_inside (length image.text) image.relocs) (all_apart image.relocs) (has_stg_length image) fault
     (sym (same_tests image fault) ∙ lowest.met) (λ other below. sym (same_tests image other) ∙ lowest.lowest other below)
+
+-- an image has one lowest fault at most, and a fit one has none
+pub lowest_decides : (image : Image) (one other : ImageFault) → IsLowestFault image one → IsLowestFault image other → one ≡ other
+lowest_decides image one other first second =
+    let a = answered_of_lowest image one first in
+    let b = answered_of_lowest image other second in
+    cc
+
+pub fit_no_lowest : (image : Image) (fault : ImageFault) → IsFit image → IsLowestFault image fault → ⊥
+fit_no_lowest image fault fit lowest =
+    let a = no_fault_of_fit image fit in
+    let b = answered_of_lowest image fault lowest in
+    cc
+
+-- an image is fit where no fault applies, and no fault applies to a fit one
+pub fit_of_none : (image : Image) → ((fault : ImageFault) → applies fault image ≡ false) → IsFit image
+fit_of_none image none = fit_without_fault image (go (fault_of image) (λ fault e. lowest_of_answered image fault e))
+  where
+    go : (o : Option ImageFault) → ((fault : ImageFault) → o ≡ Some fault → IsLowestFault image fault) → o ≡ None
+    go None lowest = refl
+    go (Some fault) lowest =
+        let met = (lowest fault refl).met in
+        let not_met = none fault in
+        cc
+
+pub none_of_fit : (image : Image) → IsFit image → (fault : ImageFault) → applies fault image ≡ false
+none_of_fit image fit BadLength = rw (has_length_of image fit) refl
+none_of_fit image fit EntryOutside = rw (has_entry_of image fit) refl
+none_of_fit image fit RelocOutside = rw fit.inside refl
+none_of_fit image fit Overlap = rw fit.apart refl
+none_of_fit image fit StgLength = rw (has_stg_of image fit) refl
