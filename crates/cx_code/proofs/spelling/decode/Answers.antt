@@ -1,7 +1,7 @@
 -- What is read stands at the front of the bytes, and where nothing is read no front is an instruction.
 use Rattle.std.proofs.Common.{arith, sym}
 use Rattle.cx_code.proofs.ReadingLemmas.{reading-sound, reading-none}
-use Rattle.cx_code.proofs.coding.decode.Goals as goal
+use Rattle.cx_code.proofs.spelling.decode.Goals as goal
 
 pub returns-in_err-inst-clause-none : goal.returns-in_err-inst-clause-none
 returns-in_err-inst-clause-none c =

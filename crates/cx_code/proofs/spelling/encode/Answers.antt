@@ -2,7 +2,7 @@
 use Rattle.std.proofs.Common.{◌∙◌, ap}
 use Rattle.cx_code.specs.Table.{code_of}
 use Rattle.cx_code.proofs.SpellingLemmas.{made_spells}
-use Rattle.cx_code.proofs.coding.encode.Goals as goal
+use Rattle.cx_code.proofs.spelling.encode.Goals as goal
 
 pub returns-clause-spells : goal.returns-clause-spells
 returns-clause-spells c =

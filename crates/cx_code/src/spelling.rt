@@ -3,7 +3,8 @@
 ghost use Rattle.std.specs.Prelude.{◌≡◌, ◌+◌, ◌*◌, ◌/◌, ◌%◌, ◌<◌, ◌≤◌, ◌++◌, [], ◌∷◌, List, ℕ, length, take, IfSome, IfNone, option_map};
 ghost use Rattle.cx_code.specs.Table.{length_of, length_of_format};
 ghost use Rattle.cx_code.specs.Spelling.{Instruction, AreInRange, spelling, Spells, Reads};
-ghost use Rattle.cx_code.specs.Reading.{bytes_with, base_at, displacement_at, fields_in, fields_at, reading};
+ghost use Rattle.cx_code.specs.Parts.Bytes.{bytes_with};
+ghost use Rattle.cx_code.specs.Reading.{base_at, displacement_at, fields_in, fields_at, reading};
 
 use crate::instruction::{Fields, Inst};
 use crate::table::{Format, Op};
@@ -26,7 +27,7 @@ impl Model for CodeBytes {
 }
 
 impl CodeBytes {
-    // The operation code and the byte behind it.
+    /// The operation code and the byte behind it.
     fn start(code: u8, second: u8) -> CodeBytes
         ensures { result ≡ code ∷ second ∷ [] }
     {
@@ -36,7 +37,7 @@ impl CodeBytes {
         CodeBytes { bytes }
     }
 
-    // The bytes with a storage operand's halfword behind them: base and displacement.
+    /// The bytes with a storage operand's halfword behind them: base and displacement.
     fn with_address(mut self, base: u8, displacement: u16) -> CodeBytes
         requires room { length self ≤ 4 }
         requires base { base < 16 }
@@ -59,7 +60,7 @@ impl CodeBytes {
     }
 }
 
-// Two fields of four bits as a byte.
+/// Two fields of four bits as a byte.
 fn halves(left: u8, right: u8) -> u8
     requires left { left < 16 }
     requires right { right < 16 }
@@ -68,7 +69,7 @@ fn halves(left: u8, right: u8) -> u8
     left << 4 | right
 }
 
-// The bytes of an operation code and the fields behind it.
+/// The bytes of an operation code and the fields behind it.
 fn bytes_of(code: u8, fields: Fields) -> CodeBytes
     requires { AreInRange fields }
     ensures { result ≡ bytes_with code fields }
@@ -111,7 +112,7 @@ pub fn encode(inst: &Inst) -> CodeBytes
     bytes_of(inst.op().code(), inst.fields())
 }
 
-// Base and displacement of the halfword at a place.
+/// Base and displacement of the halfword at a place.
 fn address_at(bytes: &[u8], place: usize) -> (u8, u16)
     requires { place + 2 ≤ length bytes.now }
     ensures base { result.0 ≡ base_at place bytes.now }
@@ -121,7 +122,7 @@ fn address_at(bytes: &[u8], place: usize) -> (u8, u16)
     ((halfword >> 12) as u8, halfword & 0x0fff)
 }
 
-// The fields of a format in the bytes of an instruction.
+/// The fields of a format in the bytes of an instruction.
 #[tactic(auto, unfolding(crate::specs::Reading::fields_in))]
 fn fields_in(format: Format, bytes: &[u8]) -> Fields
     requires { length_of_format format ≤ length bytes.now }
@@ -182,7 +183,7 @@ fn fields_in(format: Format, bytes: &[u8]) -> Fields
     }
 }
 
-// The fields that a row has in the bytes of an instruction; a shift's R3 field is ignored.
+/// The fields that a row has in the bytes of an instruction; a shift's R3 field is ignored.
 #[tactic(auto, unfolding(crate::specs::Reading::fields_at))]
 fn fields_at(op: Op, bytes: &[u8]) -> Fields
     requires { length_of op ≤ length bytes.now }
@@ -196,7 +197,7 @@ fn fields_at(op: Op, bytes: &[u8]) -> Fields
     }
 }
 
-// The instruction at the front of the bytes.
+/// The instruction at the front of the bytes.
 #[tactic(auto, unfolding(crate::specs::Reading::reading))]
 pub(crate) fn instruction_at(bytes: &[u8]) -> Option<Inst>
     ensures { result ≡ reading bytes.now }
