@@ -1,4 +1,5 @@
-// The laws of storage, on functions that do nothing: each promises a statement of `specs/Laws.antt`.
+//! The laws of storage, on functions that do nothing: each promises a statement of `specs/Laws.antt`.
+
 ghost use Rattle.cx_storage.specs.Laws.Areas.{AreasApart, PresentInAreas, SameStorage, FreshArea, AreasFreed};
 ghost use Rattle.cx_storage.specs.Laws.Spans.{SpanIsBytes};
 ghost use Rattle.cx_storage.specs.Laws.Writes.{ByteAfterSet, ByteAfterWrite, NothingWritten, SpanAfterWrite, SpanAside, WriteKeepsAreas, OthersStay};
