@@ -13,9 +13,10 @@ use Rattle.cx_command.specs.Commands.{row_of}
 use Rattle.cx_command.specs.declared.options.CommandOption.{CommandOption}
 use Rattle.cx_command.specs.Laws.Rows.{are_apart}
 use Rattle.cx_command.specs.Legal.{has_bit, is_legal, is_legal_list, lists_conditions}
-use Rattle.cx_storage.specs.Storage.{Storage, along, span, IsSound}
-use Rattle.cx_storage.specs.Sound.{span_small}
-use Rattle.cx_storage.specs.Writes.{span_length}
+use Rattle.cx_storage.specs.Storage.{Storage, span, IsSound}
+use Rattle.cx_storage.specs.Address.{along}
+use Rattle.cx_storage.specs.Facts.Sound.{span_small}
+use Rattle.cx_storage.specs.Facts.Spans.{span_length}
 use Rattle.cx_storage.specs.Word.{word_at}
 use Rattle.cx_call.specs.declared.call.CallFault.{CallFault}
 use Rattle.cx_call.specs.declared.call.CallFault.TheVariants.{Xarg, Xfun}

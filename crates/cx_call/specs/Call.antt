@@ -11,7 +11,8 @@ use Rattle.cx_command.specs.declared.options.Mark.{Mark}
 use Rattle.cx_command.specs.declared.options.Mark.TheVariants.{Flag}
 use Rattle.cx_command.specs.Commands.{row_of}
 use Rattle.cx_command.specs.Legal.{has_bit, is_legal, is_legal_list, lists_conditions}
-use Rattle.cx_storage.specs.Storage.{Storage, along, span}
+use Rattle.cx_storage.specs.Storage.{Storage, span}
+use Rattle.cx_storage.specs.Address.{along}
 use Rattle.cx_storage.specs.Word.{word_at}
 use Rattle.cx_call.specs.declared.call.CallFault.{CallFault}
 use Rattle.cx_call.specs.declared.call.CallFault.TheVariants.{Xarg, Xfun}

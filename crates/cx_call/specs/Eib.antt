@@ -2,7 +2,8 @@
 -- Its layout, 88 bytes, is this product's own; bytes that no field names are zero at attach and are never written.
 use Rattle.std.specs.Prelude.{ℕ, ◌+◌, ◌*◌, ◌/◌, ◌%◌, List, [], ◌∷◌, Option, Some, None}
 use Rattle.std.specs.Int.{w16, w32, to_be_bytes}
-use Rattle.cx_storage.specs.Storage.{Storage, along, written}
+use Rattle.cx_storage.specs.Storage.{Storage, written}
+use Rattle.cx_storage.specs.Address.{along}
 use Rattle.cx_call.specs.declared.eib.Begun.{Begun}
 use Rattle.cx_call.specs.declared.eib.Report.{Report}
 

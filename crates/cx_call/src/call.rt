@@ -227,7 +227,7 @@ fn read_block<S: Store>(store: &S, list: u32) -> Result<Block, CallFault>
 }
 
 /// The word at an address, where its bytes are in storage.
-#[tactic(auto, using(cx_storage::specs::Words::word_read, cx_storage::specs::Words::word_absent))]
+#[tactic(auto, using(cx_storage::specs::Facts::Words::word_read, cx_storage::specs::Facts::Words::word_absent))]
 fn word_at<S: Store>(store: &S, a: u32) -> Option<u32>
     requires { a < 2 ^ 24 }
     ensures { result ≡ word_at (S.storage store.now) a }

@@ -9,7 +9,7 @@ use Rattle.cx_ebcdic.specs.declared.aids.Aid.{Aid}
 use Rattle.cx_code.specs.declared.image.Image.{Image}
 use Rattle.cx_storage.specs.declared.areas.Owner.{Owner}
 use Rattle.cx_storage.specs.Storage.{Storage}
-use Rattle.cx_storage.specs.Areas.{place_decides}
+use Rattle.cx_storage.specs.Facts.Places.{place_decides}
 use Rattle.cx_load.specs.declared.loading.Loaded.{Loaded}
 use Rattle.cx_load.specs.Load.{IsLoaded, IsProgramPlace, first_of_programs, last_of_programs}
 use Rattle.cx_program.specs.Levels.{all_levels}

@@ -9,10 +9,11 @@ use Rattle.std.proofs.lemmas.Option.{none-some}
 use Rattle.std.proofs.lemmas.Map.{length-set_value}
 use Rattle.cx_storage.specs.declared.areas.Area.{Area}
 use Rattle.cx_storage.specs.declared.areas.Owner.{Owner}
-use Rattle.cx_storage.specs.Storage.{Storage, area_at, along, with_area, IsSound as IsSoundStorage}
+use Rattle.cx_storage.specs.Storage.{Storage, area_at, with_area, IsSound as IsSoundStorage}
+use Rattle.cx_storage.specs.Address.{along}
 use Rattle.cx_storage.specs.Place.{CanPlace, IsLeastPlace}
-use Rattle.cx_storage.specs.Areas.{area_from}
-use Rattle.cx_storage.specs.Sound.{sound_with_area}
+use Rattle.cx_storage.specs.Storage.{area_from}
+use Rattle.cx_storage.specs.Facts.Sound.{sound_with_area}
 use Rattle.cx_load.specs.declared.loading.Loaded.{Loaded}
 use Rattle.cx_region.specs.declared.asking.Asked.TheVariants.{Answer, Attach, Give}
 use Rattle.cx_region.specs.declared.replies.KeyReply.TheVariants as key

@@ -5,9 +5,11 @@ use Rattle.std.specs.List.{AllByRecursion, IsDistinct}
 use Rattle.std.proofs.lemmas.Bool.{cases_Bool, cases_eq, eq-eqb, ne_eqb}
 use Rattle.std.proofs.lemmas.Option.{none-some, same_Some}
 use Rattle.cx_storage.specs.declared.areas.Area.{Area}
-use Rattle.cx_storage.specs.Storage.{Storage, area_at, areas_of, along, starts_elsewhere, with_areas_kept, IsWhole, IsSound as IsSoundStorage}
-use Rattle.cx_storage.specs.Areas.{area_from, area_of_areas}
-use Rattle.cx_storage.specs.Sound.{sound_with_areas_kept}
+use Rattle.cx_storage.specs.Storage.{Storage, area_at, areas_of, starts_elsewhere, with_areas_kept, IsWhole, IsSound as IsSoundStorage}
+use Rattle.cx_storage.specs.Address.{along}
+use Rattle.cx_storage.specs.Storage.{area_from}
+use Rattle.cx_storage.specs.Facts.Areas.{area_of_areas}
+use Rattle.cx_storage.specs.Facts.Sound.{sound_with_areas_kept}
 use Rattle.cx_exec.specs.Machine.{address}
 use Rattle.cx_program.specs.declared.level.Level.{Level}
 use Rattle.cx_program.specs.Levels.{Levels}
@@ -22,7 +24,7 @@ use Rattle.cx_command.specs.declared.commands.Command.TheVariants as command
 use Rattle.cx_command.specs.Conditions.{entry_of}
 use Rattle.cx_exec.specs.declared.machine.Halt.{Halt}
 use Rattle.cx_exec.specs.declared.machine.Halt.TheVariants as halt
-use Rattle.cx_storage.specs.Writes.{areas_after_write}
+use Rattle.cx_storage.specs.Facts.Writes.{areas_after_write}
 use Rattle.cx_call.specs.declared.call.CallFault.{CallFault}
 use Rattle.cx_region.specs.declared.judging.Judgement.{Judgement}
 use Rattle.cx_region.specs.declared.judging.Judgement.TheVariants.{GoesOn, LevelEnds, TaskEnds, Unwritten}

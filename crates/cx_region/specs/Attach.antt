@@ -9,7 +9,8 @@ use Rattle.cx_ebcdic.specs.Aids.{key_of}
 use Rattle.cx_ebcdic.specs.Names.{padded}
 use Rattle.cx_storage.specs.declared.areas.Owner.{Owner}
 use Rattle.cx_storage.specs.declared.areas.Kind.TheVariants.{System}
-use Rattle.cx_storage.specs.Storage.{Storage, along, with_area, written}
+use Rattle.cx_storage.specs.Storage.{Storage, with_area, written}
+use Rattle.cx_storage.specs.Address.{along}
 use Rattle.cx_storage.specs.Place.{IsLeastPlace}
 use Rattle.cx_load.specs.declared.loading.Loaded.{Loaded}
 use Rattle.cx_program.specs.declared.level.Level.{Level}

@@ -118,7 +118,7 @@ const EIB_LEN: u32 = 88;
 
 /// Makes an area of a task. NoStorage comes exactly where there is no place; then, and where a growth was refused, all
 /// is as before.
-#[tactic(auto, using(cx_storage::specs::Areas::place_decides, crate::proofs::PlacingLemmas::task_address, crate::proofs::PlacingLemmas::no_area))]
+#[tactic(auto, using(cx_storage::specs::Facts::Places::place_decides, crate::proofs::PlacingLemmas::task_address, crate::proofs::PlacingLemmas::no_area))]
 fn get_task_area<S: Store>(store: &mut S, len: u32, owner: Owner) -> Result<u32, StartFault>
     requires { 0 < len }
     ensures place { IfOk result (λ start. IsTaskPlace (S.storage store.old) len (Some start)) }

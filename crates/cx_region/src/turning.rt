@@ -19,7 +19,7 @@ use cx_command::{Command, Condition};
 use cx_ebcdic::Name4;
 use cx_exec::{Cpu, Halt, advance};
 use cx_program::{ConditionCode, LevelStack};
-use cx_storage::{Store, has_span};
+use cx_storage::Store;
 
 /// The most instructions of a half-turn.
 const MOST_STEPS: u32 = 65_536;
@@ -92,7 +92,7 @@ fn can_respond<S: Store>(store: &S, call: &Call) -> bool
     ensures { result ≡ can_respond (S.storage store.now) call.now }
 {
     match call.resp() {
-        Some(place) => has_span(store, place, 4),
+        Some(place) => store.has_span(place, 4),
         None => true,
     }
 }

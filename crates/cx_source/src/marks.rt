@@ -1,17 +1,7 @@
 //! Which characters of an operand lie outside apostrophes, and cutting an operand there.
 
 ghost use Rattle.std.specs.Prelude.{◌≡◌, ◌≤◌, ◌<◌, ◌+◌, ◌^◌, IfOk, length, map};
-ghost use Rattle.cx_source.specs.Marks.{
-  at_start,
-  first_mark,
-  is_length_attribute,
-  is_mark,
-  lies_outside,
-  outside,
-  parts,
-  passed,
-  within_behind,
-};
+ghost use Rattle.cx_source.specs.Marks.{at_start, first_mark, is_length_attribute, is_mark, lies_outside, outside, parts, passed, within_behind};
 
 use crate::lines::{BLANK, begins_with_letter, is_name_character};
 use std::alloc::{AllocError, Global};

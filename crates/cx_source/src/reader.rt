@@ -17,17 +17,7 @@ ghost use Rattle.std.specs.Prelude.{
 ghost use Rattle.std.specs.Str.Lines.{strip_carriage_return};
 ghost use Rattle.cx_source.specs.Lines.{text_of};
 ghost use Rattle.cx_source.specs.Faults.{source_from, source_of};
-ghost use Rattle.cx_source.specs.Reader.{
-  Answers,
-  ReadsAs,
-  Refuses,
-  at_start,
-  behind_line,
-  finish,
-  take_byte,
-  take_piece,
-  texts_with,
-};
+ghost use Rattle.cx_source.specs.Reader.{Answers, ReadsAs, Refuses, at_start, behind_line, finish, take_byte, take_piece, texts_with};
 
 use crate::faults::fault_of;
 use crate::lines::text_of;

@@ -2,15 +2,7 @@
 
 ghost use Rattle.std.specs.Prelude.{◌≡◌, ◌++◌, IfOk, false};
 ghost use Rattle.cx_source.specs.Lines.{is_marked};
-ghost use Rattle.cx_source.specs.Statements.{
-  is_continued,
-  is_last,
-  items_from,
-  operand_in,
-  statement_at,
-  statement_of,
-  written_on,
-};
+ghost use Rattle.cx_source.specs.Statements.{is_continued, is_last, items_from, operand_in, statement_at, statement_of, written_on};
 
 use crate::lines::{columns, entries_of, is_comment, is_end, is_marked, skip_blanks, trimmed};
 use crate::marks::{Mark, first_mark};

@@ -4,7 +4,8 @@ use Rattle.std.specs.Option.{option_map, option_and_then}
 use Rattle.cx_command.specs.declared.options.CommandOption.{CommandOption}
 use Rattle.cx_command.specs.Commands.{row_of}
 use Rattle.cx_command.specs.Legal.{has_bit, is_legal, is_legal_list, lists_conditions}
-use Rattle.cx_storage.specs.Storage.{Storage, along, span, IsSound}
+use Rattle.cx_storage.specs.Storage.{Storage, span, IsSound}
+use Rattle.cx_storage.specs.Address.{along}
 use Rattle.cx_storage.specs.Word.{word_at}
 use Rattle.cx_call.specs.Call.{Call, address_in, arguments_in, call_of, has_high_bit, has_label, listed_in, place_of, resp, resp_place}
 
