@@ -16,5 +16,3 @@ pub use instruction::{Fields, Inst};
 pub use table::{Format, Op, instruction_length};
 pub use text::line_text;
 
-#[cfg(test)]
-mod tests;

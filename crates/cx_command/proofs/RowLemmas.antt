@@ -1,7 +1,7 @@
 -- Each row of the table of commands is well formed, row by row by computation.
 use Rattle.std.proofs.Common.{IsTrue, refl}
 use Rattle.cx_command.specs.Commands.{row_of}
-use Rattle.cx_command.specs.Legal.{are_apart, has_own_bits, rules_name_options}
+use Rattle.cx_command.specs.Laws.Rows.{are_apart, has_own_bits, rules_name_options}
 use Rattle.cx_command.specs.declared.commands.Command.{Command}
 use Rattle.cx_command.specs.declared.commands.Command.TheVariants as command
 

@@ -4,7 +4,7 @@ use Rattle.std.specs.List.{find}
 use Rattle.std.specs.Str.{bytes_eq}
 use Rattle.std.proofs.lemmas.Bool.{eqb-true}
 use Rattle.std.proofs.lemmas.Slice.Eq.{bytes_eq-Decides}
-use Rattle.cx_ebcdic.specs.Lookup.{find_passes}
+use Rattle.cx_ebcdic.specs.Facts.Lookup.{find_passes}
 use Rattle.cx_command.specs.Commands.{row_of}
 use Rattle.cx_command.specs.Conditions.{entry_of}
 use Rattle.cx_command.specs.Options.{option_name}

@@ -1,7 +1,9 @@
+-- The definitions, in reading order, and then what the laws state.
 pub mod Conditions
 pub mod Options
 pub mod Commands
 pub mod Legal
+pub mod Laws
 pub use Rattle.cx_ebcdic.specs.Names
 pub use Rattle.cx_ebcdic.specs.Characters
 pub use Rattle.cx_ebcdic.specs.Lookup

@@ -1,7 +1,7 @@
 //! What holds of every row of the table of commands.
 ghost use Rattle.std.specs.Prelude.{IsTrue};
 ghost use Rattle.cx_command.specs.Commands.{row_of};
-ghost use Rattle.cx_command.specs.Legal.{are_apart, has_own_bits, rules_name_options};
+ghost use Rattle.cx_command.specs.Laws.Rows.{are_apart, has_own_bits, rules_name_options};
 ghost use Rattle.cx_command.specs.declared.commands.Command.{Command};
 
 /// Each option of a command has a bit of its own.

@@ -6,8 +6,6 @@ mod conditions;
 pub mod laws;
 mod legal;
 mod options;
-#[cfg(test)]
-mod tests;
 
 pub use commands::Command;
 pub use conditions::Condition;

@@ -4,7 +4,7 @@ use Rattle.std.specs.List.{find}
 use Rattle.std.specs.Str.{bytes_eq}
 use Rattle.std.proofs.lemmas.Bool.{eqb-true}
 use Rattle.std.proofs.lemmas.Slice.Eq.{bytes_eq-Decides}
-use Rattle.cx_ebcdic.specs.Lookup.{find_passes}
+use Rattle.cx_ebcdic.specs.Facts.Lookup.{find_passes}
 use Rattle.cx_ebcdic.specs.Aids.{key_of}
 use Rattle.cx_ebcdic.specs.declared.aids.Aid.{Aid}
 use Rattle.cx_ebcdic.specs.declared.aids.Aid.TheVariants.{Enter, Clear, Pa1, Pa2, Pf1, Pf2, Pf3, Pf4, Pf5, Pf6, Pf7, Pf8, Pf9, Pf10, Pf11, Pf12}

@@ -3,7 +3,7 @@ use Rattle.std.proofs.Common.{◌≡◌, ◌≢◌, ℕ, ◌⊎◌, Bool, true, 
 use Rattle.std.specs.Prelude.{option_map, unwrap_or}
 use Rattle.std.specs.List.{find, list_all}
 use Rattle.std.proofs.lemmas.Bool.{eqb-true}
-use Rattle.cx_ebcdic.specs.Lookup.{find_meets}
+use Rattle.cx_ebcdic.specs.Facts.Lookup.{find_meets}
 use Rattle.cx_ebcdic.specs.Characters.{table, code_of, shown_as}
 
 -- the row from which a code came

@@ -1,5 +1,6 @@
 -- Names of programs, transactions, terminals and queues, as the bytes that stand for them in storage.
 use Rattle.std.specs.Prelude.{ℕ, ◌-◌, Bool, ◌&&◌, ◌||◌, ◌==◌, nat_le, if◌then◌else◌, Option, None, List, ◌++◌, length, map, replicate, option_map}
+use Rattle.std.specs.Str.{bytes_eq}
 use Rattle.cx_ebcdic.specs.Lookup.{each_some}
 use Rattle.cx_ebcdic.specs.Characters.{code_of}
 
@@ -20,3 +21,7 @@ padded width bytes = bytes ++ replicate (width - length bytes) 0x40
 unfoldable pub name_of : ℕ → List ℕ → Option (List ℕ)
 name_of width text =
     if nat_le 1 (length text) && nat_le (length text) width then option_map (padded width) (each_some (map name_code text)) else None
+
+-- whether two names, as their bytes, are the same: tables are searched by it
+abbrev pub is_name : List ℕ → List ℕ → Bool
+is_name = bytes_eq

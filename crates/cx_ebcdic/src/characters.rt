@@ -1,3 +1,4 @@
+//! Characters and their EBCDIC codes.
 ghost use Rattle.std.specs.Prelude.{◌≡◌};
 ghost use Rattle.cx_ebcdic.specs.Characters.{code_of, shown_as};
 

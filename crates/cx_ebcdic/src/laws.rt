@@ -1,6 +1,9 @@
-//! What follows from the table of characters.
-ghost use Rattle.std.specs.Prelude.{◌≡◌, ◌≢◌, ◌⊎◌, ℕ, Some, None};
+//! What follows from the table of characters, and from what names are.
+ghost use Rattle.std.specs.Prelude.{◌≡◌, ◌≢◌, ◌⊎◌, ◌↔◌, ℕ, List, Some, None, true};
 ghost use Rattle.cx_ebcdic.specs.Characters.{code_of, shown_as};
+ghost use Rattle.cx_ebcdic.specs.Names.{is_name};
+
+use crate::names::Name;
 
 /// A character that has a code is what shows that code.
 pub fn shown_as_itself()
@@ -17,3 +20,18 @@ pub fn shown_by_its_character_or_a_period()
 pub fn period_has_one_code()
     ensures { code_of 46 ≡ Some 0x4B }
 {}
+
+/// Two names are the same exactly where their bytes are.
+pub fn names_are_their_bytes()
+    ensures { (one other : List ℕ) → (is_name one other ≡ true) ↔ (one ≡ other) }
+{}
+
+/// `==` of two names tells whether they are the same.
+pub fn names_are_compared_by_their_bytes<const WIDTH: usize>(
+    one: &Name<WIDTH>,
+    other: &Name<WIDTH>,
+) -> bool
+    ensures { result ≡ is_name one.now other.now }
+{
+    one == other
+}

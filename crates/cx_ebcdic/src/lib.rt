@@ -6,10 +6,8 @@ mod characters;
 pub mod laws;
 mod lines;
 mod names;
-#[cfg(test)]
-mod tests;
 
 pub use aids::Aid;
 pub use characters::{display, to_ebcdic};
 pub use lines::{TextFault, encode_line};
-pub use names::{Name4, Name8};
+pub use names::{Name, Name4, Name8};

@@ -1,3 +1,4 @@
+//! Lines of text in EBCDIC.
 ghost use Rattle.std.specs.Prelude.{◌≡◌, ◌↔◌, Some, IfOk, IsErrOf, map, is_none, position};
 ghost use Rattle.std.specs.List.{filter_map};
 ghost use Rattle.std.specs.Str.{chars};

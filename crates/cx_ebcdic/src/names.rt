@@ -1,3 +1,4 @@
+//! Names of programs, transactions, terminals and queues.
 ghost use Rattle.std.specs.Prelude.{◌≡◌, ◌≤◌, length, None};
 ghost use Rattle.cx_ebcdic.specs.Names.{name_code, name_of};
 
@@ -7,14 +8,19 @@ use std::marker::Model;
 /// The code of a blank.
 const BLANK: u8 = 0x40;
 
-/// A name of one to four characters, as the four bytes that stand for it, filled with blanks:
-/// of a transaction or a terminal.
+/// A name, as the bytes that stand for it, filled with blanks.
 #[derive(Clone, Copy, Debug, PartialEq, Eq, PartialOrd, Ord, Hash)]
-pub struct Name4 {
-    bytes: [u8; 4],
+pub struct Name<const WIDTH: usize> {
+    bytes: [u8; WIDTH],
 }
 
-impl Model for Name4 {
+/// A name of one to four characters: of a transaction or a terminal.
+pub type Name4 = Name<4>;
+
+/// A name of one to eight characters: of a program or a queue.
+pub type Name8 = Name<8>;
+
+impl<const WIDTH: usize> Model for Name<WIDTH> {
     ghost use Rattle.std.specs.Prelude.{List, ℕ};
 
     ghost Value = { List ℕ };
@@ -24,70 +30,27 @@ impl Model for Name4 {
     ghost inverse = { λ bytes. record { bytes = bytes } };
 }
 
-impl Name4 {
-    /// The name that a text spells: one to four of A to Z, 0 to 9, `@`, `#` and `$`.
+impl<const WIDTH: usize> Name<WIDTH> {
+    /// The name that a text spells: one to WIDTH of A to Z, 0 to 9, `@`, `#` and `$`.
     /// None for any other text.
-    pub fn from_text(text: &str) -> Option<Name4>
-        ensures { result ≡ name_of 4 text.now }
+    pub fn from_text(text: &str) -> Option<Self>
+        ensures { result ≡ name_of WIDTH text.now }
     {
         let bytes = padded_codes(text.as_bytes())?;
-        Some(Name4 { bytes })
+        Some(Name { bytes })
     }
 
     /// The name that is these bytes, whatever they are.
-    pub fn from_bytes(bytes: [u8; 4]) -> Name4
-        ensures { result ≡ bytes }
+    pub fn from_bytes(bytes: [u8; WIDTH]) -> Self
+        ensures { result ≡ bytes.entry }
     {
-        Name4 { bytes }
+        Name { bytes }
     }
 
-    /// The name's four bytes.
-    pub fn bytes(&self) -> [u8; 4]
+    /// The name's bytes.
+    pub fn bytes(&self) -> [u8; WIDTH]
         ensures value { result ≡ self.now }
-        ensures length { length self.now ≡ 4 }
-    {
-        self.bytes
-    }
-}
-
-/// A name of one to eight characters, as the eight bytes that stand for it, filled with blanks:
-/// of a program or a queue.
-#[derive(Clone, Copy, Debug, PartialEq, Eq, PartialOrd, Ord, Hash)]
-pub struct Name8 {
-    bytes: [u8; 8],
-}
-
-impl Model for Name8 {
-    ghost use Rattle.std.specs.Prelude.{List, ℕ};
-
-    ghost Value = { List ℕ };
-
-    ghost view = { λ name. name.bytes };
-
-    ghost inverse = { λ bytes. record { bytes = bytes } };
-}
-
-impl Name8 {
-    /// The name that a text spells: one to eight of A to Z, 0 to 9, `@`, `#` and `$`.
-    /// None for any other text.
-    pub fn from_text(text: &str) -> Option<Name8>
-        ensures { result ≡ name_of 8 text.now }
-    {
-        let bytes = padded_codes(text.as_bytes())?;
-        Some(Name8 { bytes })
-    }
-
-    /// The name that is these bytes, whatever they are.
-    pub fn from_bytes(bytes: [u8; 8]) -> Name8
-        ensures { result ≡ bytes }
-    {
-        Name8 { bytes }
-    }
-
-    /// The name's eight bytes.
-    pub fn bytes(&self) -> [u8; 8]
-        ensures value { result ≡ self.now }
-        ensures length { length self.now ≡ 8 }
+        ensures length { length self.now ≡ WIDTH }
     {
         self.bytes
     }

@@ -8,7 +8,7 @@ use Rattle.std.proofs.lemmas.Option.{none-some, same_Some}
 use Rattle.cx_storage.specs.Storage.{Storage, is_of_other_slot}
 use Rattle.cx_storage.specs.declared.areas.Area.{Area}
 use Rattle.cx_region.specs.State.{TerminalState}
-use Rattle.cx_region.specs.Placing.{IsSlotFree}
+use Rattle.cx_region.specs.Parts.Placing.{IsSlotFree}
 use Rattle.cx_region.specs.Sound.{AreNumbered, IsOwned, is_live}
 use Rattle.cx_region.proofs.SoundDefining.{all_weaker}
 

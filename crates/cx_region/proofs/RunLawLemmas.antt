@@ -2,7 +2,7 @@
 use Rattle.std.proofs.Common.{suc, [], ◌∷◌, refl, ap, subst}
 use Rattle.cx_region.specs.State.{RegionState}
 use Rattle.cx_region.specs.Events.{Run}
-use Rattle.cx_region.specs.RegionLaws.{EachIsAnswered, RunsJoin, RunsPart}
+use Rattle.cx_region.specs.Laws.Regions.{EachIsAnswered, RunsJoin, RunsPart}
 
 pub runs_join : RunsJoin
 unfolding Run

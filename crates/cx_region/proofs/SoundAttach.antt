@@ -18,17 +18,17 @@ use Rattle.cx_region.specs.declared.asking.Asked.TheVariants.{Answer, Attach, Gi
 use Rattle.cx_region.specs.declared.replies.KeyReply.TheVariants as key
 use Rattle.cx_region.specs.declared.asking.Places.{Places}
 use Rattle.cx_region.specs.declared.asking.Start.{Start}
-use Rattle.cx_region.specs.declared.eib.Begun.{Begun}
+use Rattle.cx_call.specs.declared.eib.Begun.{Begun}
 use Rattle.cx_ebcdic.specs.Aids.{key_of}
 use Rattle.cx_region.specs.State.{Input, RegionState, TaskState, TerminalState}
 use Rattle.cx_region.specs.Names.{is_name4, is_name8}
 use Rattle.cx_region.specs.Tables.{fresh_terminal, program_of, terminal_in, terminal_of, transaction_of}
-use Rattle.cx_region.specs.Eib.{Field, eib_len, fields_at_attach, with_field, with_fields}
+use Rattle.cx_call.specs.Eib.{Field, eib_len, fields_at_attach, with_field, with_fields}
 use Rattle.cx_region.specs.Attach.{ArePlaced, IsCopyPlace, IsTaskPlace, asked, attached, asked_at, commarea_kept, entry_level, filled, first_of_tasks, fresh_task, input_asked, last_of_tasks, next_number, start_asked, system_owner, transaction_named, with_copy, with_copy_area, with_eib_area, with_task, with_task_areas}
-use Rattle.cx_region.specs.Placing.{IsSlotFree}
+use Rattle.cx_region.specs.Parts.Placing.{IsSlotFree}
 use Rattle.cx_region.specs.Sound.{IsAreaOf, IsOwned, IsSound, IsSoundProgram, IsSoundTask, IsSoundTerminal, is_live}
 use Rattle.cx_region.proofs.AreaLemmas.{all_areas_put, all_areas_written, area_kept_get, area_put, area_written, not_there}
-use Rattle.cx_region.proofs.TableLemmas.{distinct-set_value, each-set_value, found_meets}
+use Rattle.cx_tables.specs.Facts.Tables.{distinct-set_value, each-set_value, found_meets}
 use Rattle.cx_region.proofs.SoundDefining.{AreasStay, all_weaker, terminal_stays}
 use Rattle.cx_region.proofs.LiveLemmas.{live-set_value, live_at, numbered-set_value, slot_free, slot_from}
 

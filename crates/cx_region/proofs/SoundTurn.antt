@@ -12,7 +12,7 @@ use Rattle.cx_exec.specs.Machine.{address}
 use Rattle.cx_program.specs.declared.level.Level.{Level}
 use Rattle.cx_program.specs.Levels.{Levels}
 use Rattle.cx_region.specs.State.{TaskState}
-use Rattle.cx_region.specs.Eib.{Field, eib_len, fields_of_report, reported, with_calen, with_field, with_fields}
+use Rattle.cx_call.specs.Eib.{Field, eib_len, fields_of_report, reported, with_calen, with_field, with_fields}
 use Rattle.cx_region.specs.Attach.{system_owner}
 use Rattle.cx_command.specs.declared.conditions.Condition.{Condition}
 use Rattle.cx_command.specs.declared.conditions.Condition.TheVariants.{Normal}
@@ -23,12 +23,12 @@ use Rattle.cx_command.specs.Conditions.{entry_of}
 use Rattle.cx_exec.specs.declared.machine.Halt.{Halt}
 use Rattle.cx_exec.specs.declared.machine.Halt.TheVariants as halt
 use Rattle.cx_storage.specs.Writes.{areas_after_write}
-use Rattle.cx_region.specs.declared.call.CallFault.{CallFault}
+use Rattle.cx_call.specs.declared.call.CallFault.{CallFault}
 use Rattle.cx_region.specs.declared.judging.Judgement.{Judgement}
 use Rattle.cx_region.specs.declared.judging.Judgement.TheVariants.{GoesOn, LevelEnds, TaskEnds, Unwritten}
 use Rattle.cx_region.specs.declared.pass.Pass.{Pass}
 use Rattle.cx_region.specs.Abend.{Abends, AbendsAt, Unwound, aica, asra, below, exit_storage, exit_task, unwound, without_stg, xarg, xfun}
-use Rattle.cx_region.specs.Call.{Call, call_of, resp_place}
+use Rattle.cx_call.specs.Call.{Call, call_of, resp_place}
 use Rattle.cx_region.specs.Performing.{Called, Carries, Commanded, can_respond, fault_code, is_written, judged, last_report, list_of, performed, responded, returned, with_report}
 use Rattle.cx_region.specs.Reach.{Reach}
 use Rattle.cx_region.specs.Turn.{HalfTurn, Halted, RunsOn, after_machine, at_command, machine_of, most_steps}

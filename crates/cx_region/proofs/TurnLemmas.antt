@@ -15,7 +15,8 @@ use Rattle.cx_region.specs.declared.replies.TurnReply.TheVariants as turn
 use Rattle.cx_region.specs.State.{RegionState, TaskState, TerminalState}
 use Rattle.cx_region.specs.Names.{is_name4}
 use Rattle.cx_region.specs.Reach.{Reach, with_parts}
-use Rattle.cx_region.specs.Turn.{HalfTurn, PartIdle, PartTurned, TaskTurned, Turned, with_shared}
+use Rattle.cx_region.specs.Turn.{HalfTurn, TaskTurned, Turned}
+use Rattle.cx_region.specs.Parts.HalfTurn.{PartIdle, PartTurned, with_shared}
 
 abbrev pub reach_at : Storage → List (List ℕ × Loaded) → Queues → Resources → TerminalState → TaskState → Reach
 reach_at storage programs queues resources terminal task =

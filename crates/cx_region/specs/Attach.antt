@@ -21,10 +21,10 @@ use Rattle.cx_region.specs.declared.asking.Asked.{Asked}
 use Rattle.cx_region.specs.declared.asking.Asked.TheVariants.{Answer, Give, Attach}
 use Rattle.cx_region.specs.declared.asking.Start.{Start}
 use Rattle.cx_region.specs.declared.asking.Places.{Places}
-use Rattle.cx_region.specs.declared.eib.Begun.{Begun}
+use Rattle.cx_call.specs.declared.eib.Begun.{Begun}
 use Rattle.cx_region.specs.State.{Input, Following, TaskState, TerminalState, RegionState}
 use Rattle.cx_region.specs.Tables.{program_of, transaction_of, terminal_at, terminal_of, with_terminal}
-use Rattle.cx_region.specs.Eib.{eib_len, fields_at_attach, with_fields}
+use Rattle.cx_call.specs.Eib.{eib_len, fields_at_attach, with_fields}
 
 abbrev pub first_of_tasks : ℕ
 first_of_tasks = 0x200000

@@ -8,7 +8,7 @@ use Rattle.cx_storage.specs.Storage.{Storage, zeros}
 use Rattle.cx_load.specs.declared.loading.Loaded.{Loaded}
 use Rattle.cx_load.specs.Load.{IsLoaded, IsProgramPlace}
 use Rattle.cx_region.specs.declared.replies.DefineFault.{DefineFault}
-use Rattle.cx_region.specs.declared.replies.DefineFault.TheVariants.{Duplicate, Full, Memory, NoProgram, NoRoom}
+use Rattle.cx_region.specs.declared.replies.DefineFault.TheVariants.{Duplicate, Full, NoProgram, NoRoom}
 use Rattle.cx_region.specs.State.{RegionState}
 use Rattle.cx_region.specs.Names.{is_name4, is_name8}
 use Rattle.cx_region.specs.Tables.{fresh_terminal, program_of, transaction_of, terminal_of}
@@ -40,12 +40,6 @@ abbrev pub Loads : RegionState → List ℕ → Image → Result Loaded DefineFa
 Loads old name image (Ok loaded) new = IsLoaded old.storage image loaded new.storage × (new ≡ with_program old name loaded new.storage)
 Loads old name image (Err NoRoom) new = IsProgramPlace old.storage (length image.text) None × (new ≡ old)
 Loads old name image (Err _) new = ⊥
-
--- loading is refused: storage has no place, or it has one and a growth was refused
-abbrev pub MatchLoadRefusal : Storage → ℕ → DefineFault → Type 0
-MatchLoadRefusal storage len NoRoom = IsProgramPlace storage len None
-MatchLoadRefusal storage len Memory = IsProgramPlace storage len None → ⊥
-MatchLoadRefusal storage len _ = ⊥
 
 -- a program is refused by its name or the limit, and all is as before; else it is loaded
 unfoldable pub DefinesProgram : RegionState → List ℕ → Image → Result Loaded DefineFault → RegionState → Type 0

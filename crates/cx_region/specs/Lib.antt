@@ -2,13 +2,8 @@
 pub mod State
 pub mod Names
 pub mod Tables
-pub mod Faults
 pub mod Defining
-pub mod Eib
 pub mod Attach
-pub mod Placing
-pub mod Call
-pub mod CallLaws
 pub mod Reach
 pub mod Abend
 pub mod Performing
@@ -16,7 +11,10 @@ pub mod Turn
 pub mod Events
 pub mod Looking
 pub mod Sound
-pub mod RegionLaws
+pub mod Laws
+pub mod Parts
+pub use Rattle.cx_call.specs.Call
+pub use Rattle.cx_call.specs.Eib
 pub use Rattle.cx_command.specs.Commands
 pub use Rattle.cx_command.specs.Conditions
 pub use Rattle.cx_command.specs.Legal

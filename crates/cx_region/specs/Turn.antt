@@ -7,21 +7,17 @@ use Rattle.cx_exec.specs.declared.machine.Halt.{Halt}
 use Rattle.cx_exec.specs.declared.machine.Halt.TheVariants as halt
 use Rattle.cx_exec.specs.Machine.{Machine}
 use Rattle.cx_exec.specs.Advance.{Advances}
-use Rattle.cx_storage.specs.Storage.{Storage}
-use Rattle.cx_load.specs.declared.loading.Loaded.{Loaded}
-use Rattle.cx_service.specs.Queues.{Queues}
-use Rattle.cx_service.specs.Resources.{Resources}
 use Rattle.cx_program.specs.Levels.{with_current}
 use Rattle.cx_region.specs.declared.pass.Pass.{Pass}
 use Rattle.cx_region.specs.declared.pass.Pass.TheVariants.{Stays}
 use Rattle.cx_region.specs.declared.replies.TurnReply.{TurnReply}
 use Rattle.cx_region.specs.declared.replies.TurnReply.TheVariants as turn
 use Rattle.cx_region.specs.Abend.{Abends, aica, asra}
-use Rattle.cx_region.specs.Call.{Call, call_of}
+use Rattle.cx_call.specs.Call.{Call, call_of}
 use Rattle.cx_region.specs.Performing.{Commanded, list_of, may_grow}
 use Rattle.cx_region.specs.State.{RegionState, TerminalState, TaskState}
 use Rattle.cx_region.specs.Tables.{terminal_of, task_of}
-use Rattle.cx_region.specs.Reach.{Reach, reach_of, after_pass, reply_of, resources_after, storage_after, terminal_after}
+use Rattle.cx_region.specs.Reach.{Reach, reach_of, after_pass, reply_of}
 
 -- the most instructions of a half-turn
 abbrev pub most_steps : ℕ
@@ -66,27 +62,6 @@ pub record RunsOn (before : Reach) (pass : Pass) (after : Reach) : Type 0 where
 unfoldable pub HalfTurn : Reach → Pass → Reach → Type 0
 HalfTurn before pass after = MatchBool before.task.due (Commanded before pass after) (RunsOn before pass after)
 
--- a half-turn by its parts: what it leaves of storage, programs, queues, resources and the terminal
-pub record PartTurned (before : Reach) (reply : TurnReply) (storage : Storage) (programs : List (List ℕ × Loaded)) (queues : Queues) (resources : Resources) (terminal : TerminalState) : Type 0 where
-  pub pass : Pass
-  pub reach : Reach
-  pub half_turn : HalfTurn before pass reach
-  pub answer : reply ≡ reply_of pass
-  pub storage_is : storage ≡ storage_after pass reach
-  pub programs_are : programs ≡ reach.programs
-  pub queues_are : queues ≡ reach.queues
-  pub resources_are : resources ≡ resources_after pass reach
-  pub terminal_is : terminal ≡ terminal_after pass reach
-
--- a terminal without a task: nothing changes
-pub record PartIdle (reply : TurnReply) (storage storage' : Storage) (programs programs' : List (List ℕ × Loaded)) (queues queues' : Queues) (resources resources' : Resources) (terminal terminal' : TerminalState) : Type 0 where
-  pub answer : reply ≡ turn.Idle
-  pub storage_stays : storage' ≡ storage
-  pub programs_stay : programs' ≡ programs
-  pub queues_stay : queues' ≡ queues
-  pub resources_stay : resources' ≡ resources
-  pub terminal_stays : terminal' ≡ terminal
-
 -- the turn of a terminal with a task: all else in the region is as before
 pub record TaskTurned (old : RegionState) (name : List ℕ) (terminal : TerminalState) (task : TaskState) (reply : TurnReply) (new : RegionState) : Type 0 where
   pub pass : Pass
@@ -113,8 +88,3 @@ due_call false region task = None
 -- A turn may take memory only where a command of some kinds is due.
 unfoldable pub turn_may_grow : RegionState → List ℕ → Bool
 turn_may_grow region name = option_map_or (λ task. option_map_or may_grow (due_call task.due region task) false) (task_of region name) false
-
--- the region with this storage, and these programs, queues, resources and terminals
-abbrev pub with_shared : RegionState → Storage → List (List ℕ × Loaded) → Queues → Resources → List (List ℕ × TerminalState) → RegionState
-with_shared region storage programs queues resources terminals =
-    record region { storage = storage; programs = programs; queues = queues; resources = resources; terminals = terminals }

@@ -1,5 +1,5 @@
 //! What holds of every event, and of every run of events.
-ghost use Rattle.cx_region.specs.RegionLaws.{CodesAreSpelled, ProgramsDecide, TransactionsDecide, TerminalsDecide, TurnsDecide, EachIsAnswered, EventsDecide, KeysDecide, KeysKeepToTheirTerminal, RefusedProgramsLeaveTheRegion, RefusedTerminalsLeaveTheRegion, RefusedTransactionsLeaveTheRegion, RunsDecide, RunsJoin, RunsPart, StillKeysLeaveTheRegion, StillTurnsLeaveTheRegion, TurnsKeepToTheirTask};
+ghost use Rattle.cx_region.specs.Laws.Regions.{CodesAreSpelled, ProgramsDecide, TransactionsDecide, TerminalsDecide, TurnsDecide, EachIsAnswered, EventsDecide, KeysDecide, KeysKeepToTheirTerminal, RefusedProgramsLeaveTheRegion, RefusedTerminalsLeaveTheRegion, RefusedTransactionsLeaveTheRegion, RunsDecide, RunsJoin, RunsPart, StillKeysLeaveTheRegion, StillTurnsLeaveTheRegion, TurnsKeepToTheirTask};
 
 /// A region and an event decide the reply and the region after it.
 pub fn events_decide()

@@ -4,7 +4,8 @@ ghost use Rattle.std.specs.Map.{lookup, set_value};
 ghost use Rattle.cx_service.specs.Resources.{AreSoundResources};
 ghost use Rattle.cx_region.specs.Names.{is_name4};
 ghost use Rattle.cx_region.specs.State.{RegionState, TaskState};
-ghost use Rattle.cx_region.specs.Turn.{HalfTurn, PartIdle, PartTurned, Turned, turn_may_grow, with_shared};
+ghost use Rattle.cx_region.specs.Turn.{HalfTurn, Turned, turn_may_grow};
+ghost use Rattle.cx_region.specs.Parts.HalfTurn.{PartIdle, PartTurned, with_shared};
 ghost use Rattle.cx_region.specs.Sound.{IsSound};
 
 use crate::pass::Pass;

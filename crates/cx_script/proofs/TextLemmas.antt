@@ -3,7 +3,7 @@ use Rattle.std.proofs.Common.{◌≡◌, ℕ, ◌<◌, ◌==◌, true, None, Som
 use Rattle.std.specs.List.{find, list_all}
 use borrow.Author.Tests.{ltb-true}
 use Rattle.cx_ebcdic.specs.Characters.{shown_as, table}
-use Rattle.cx_ebcdic.specs.Lookup.{find_meets}
+use Rattle.cx_ebcdic.specs.Facts.Lookup.{find_meets}
 
 all_below : list_all (λ row. nat_lt row.0 128) table ≡ true
 unfolding table

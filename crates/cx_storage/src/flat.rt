@@ -309,6 +309,3 @@ impl Store for FlatStore {
         drop_slot(&mut self.blocks, slot);
     }
 }
-
-#[cfg(test)]
-mod tests;

@@ -1,6 +1,6 @@
 use Rattle.std.proofs.Common.{ap}
 use Rattle.cx_region.specs.State.{RegionState}
-use Rattle.cx_region.specs.Placing.{input_of}
+use Rattle.cx_region.specs.Parts.Placing.{input_of}
 use Rattle.cx_region.proofs.SoundAttach.{asked_start, attached_is, entries_at, placed_in, sound_attached, start_free, start_program, storage_at}
 use Rattle.cx_region.proofs.state.Region.attach_task.Goals as goal
 

@@ -1,0 +1,3 @@
+-- Proved facts that other crates cite.
+pub mod Lookup
+pub mod Names

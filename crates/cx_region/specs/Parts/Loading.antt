@@ -1,0 +1,19 @@
+-- What a refused load of a program is answered.
+use Rattle.cx_load.specs.declared.loading.LoadFault.{LoadFault}
+use Rattle.cx_load.specs.declared.loading.LoadFault.TheVariants as load
+use Rattle.std.specs.Prelude.{ℕ, None}
+use Rattle.cx_storage.specs.Storage.{Storage}
+use Rattle.cx_load.specs.Load.{IsProgramPlace}
+use Rattle.cx_region.specs.declared.replies.DefineFault.{DefineFault}
+use Rattle.cx_region.specs.declared.replies.DefineFault.TheVariants.{Memory, NoRoom}
+
+-- loading is refused: storage has no place, or it has one and a growth was refused
+abbrev pub MatchLoadRefusal : Storage → ℕ → DefineFault → Type 0
+MatchLoadRefusal storage len NoRoom = IsProgramPlace storage len None
+MatchLoadRefusal storage len Memory = IsProgramPlace storage len None → ⊥
+MatchLoadRefusal storage len _ = ⊥
+
+-- the same, as a definition's refusal
+abbrev pub fault_from : LoadFault → DefineFault
+fault_from load.NoRoom = NoRoom
+fault_from load.Memory = Memory
