@@ -59,7 +59,7 @@ try_numbers() {
   shift
   seq "$count" | xargs -P "$(nproc)" -n "$to_each" bash -c 'try_each "$@"' _ "$@" "$count" > "$verdicts" 2>&1
   grep -vx '[a-z]*' "$verdicts" | head -20
-  [ "$(grep -cx '[a-z]*' "$verdicts")" = "$count" ]
+  [ "$(grep -cx '[a-z]*' "$verdicts")" = "$count" ] || { echo "$2, $3: not all of $count runs ended as they should" && false; }
 }
 
 # try_all JUDGE NAME CALLS SHORT PIECE: runs an example with each of its calls refused, as try_numbers. Sets count, how many
