@@ -11,8 +11,13 @@ use Rattle.cx_command.specs.declared.commands.Command.{Command}
 use Rattle.cx_command.specs.declared.legal.ListedCondition.{ListedCondition}
 use Rattle.cx_command.specs.Commands.{row_of}
 use Rattle.cx_command.specs.declared.options.CommandOption.{CommandOption}
-use Rattle.cx_command.specs.Laws.Rows.{are_apart}
-use Rattle.cx_command.specs.Legal.{has_bit, is_legal, is_legal_list, lists_conditions}
+use Rattle.cx_command.specs.Laws.Rows.{have_own_names}
+use Rattle.cx_command.specs.declared.options.OptionName.{OptionName}
+use Rattle.cx_command.specs.Options.{is_option}
+use Rattle.cx_command.specs.Arguments.{argument_index, arguments_in, is_argument}
+use Rattle.cx_command.specs.Commands.{command_with}
+use Rattle.cx_storage.specs.Address.{address_in}
+use Rattle.cx_command.specs.Legal.{is_legal, is_legal_list, lists_conditions}
 use Rattle.cx_storage.specs.Storage.{Storage, span, IsSound}
 use Rattle.cx_storage.specs.Address.{along}
 use Rattle.cx_storage.specs.Facts.Sound.{span_small}
@@ -20,8 +25,7 @@ use Rattle.cx_storage.specs.Facts.Spans.{span_length}
 use Rattle.cx_storage.specs.Word.{word_at}
 use Rattle.cx_call.specs.declared.call.CallFault.{CallFault}
 use Rattle.cx_call.specs.declared.call.CallFault.TheVariants.{Xarg, Xfun}
-use Rattle.cx_call.specs.Call.{Call, Block, address_in, argument_count, arguments_in, block_at, block_from, block_of, call_of, command_of, command_with, conditions_of, has_high_bit, is_argument, listed_in, marks_last_alone, only_if, place_of, places_of, resp, resp_place, then_result, words_at}
-use Rattle.cx_call.proofs.CallLemmas.{command_has, command_is}
+use Rattle.cx_call.specs.Call.{Call, Block, argument_count, block_at, block_from, block_of, call_of, command_of, conditions_of, has_high_bit, has_resp, listed_in, marks_last_alone, only_if, place_of, places_of, resp_place, then_result, words_at}
 use Rattle.cx_call.specs.Laws.Calls.{IsCallAt, arguments_of, bytes_of_block, list_word}
 
 -- ---- results
@@ -204,29 +208,33 @@ places_read s list n places h e =
 
 -- ---- from the call to its list
 
-command_read : (block : Block) (command : Command) → command_of block ≡ Ok command
+-- a command is found exactly by its function value
+abbrev AreFound : Type 0
+AreFound = (function : ℕ) (command : Command) → (command_with function ≡ Some command) ↔ ((row_of command).function ≡ function)
+
+command_read : AreFound → (block : Block) (command : Command) → command_of block ≡ Ok command
     → ((row_of command).function ≡ block.function) × IsTrue (is_legal command block.first block.second)
 unfolding command_of
-command_read block command e =
+command_read are_found block command e =
     let found = then_ok (ok_or (command_with block.function) Xfun) (λ command. only_if (is_legal command block.first block.second) command Xfun) command e in
     let kept = only_ok _ _ _ _ found.2 in
     at found.0 (some_ok _ _ _ found.1) kept.0 kept.1
   where
     at : (x : Command) → command_with block.function ≡ Some x → is_legal x block.first block.second ≡ true → x ≡ command
         → ((row_of command).function ≡ block.function) × IsTrue (is_legal command block.first block.second)
-    at x f legal same = rw (← same) (command_has block.function x f, legal)
+    at x f legal same = rw (← same) ((are_found block.function x).0 f, legal)
 
 call_with : Command → Block → List ListedCondition → List ℕ → Call
 call_with command block conditions places =
     record { command = command; first = block.first; second = block.second; conditions = conditions; places = places }
 
-has_all : (s : Storage) (list : ℕ) (block : Block) (command : Command) (conditions : List ListedCondition) (places : List ℕ)
+has_all : AreFound → (s : Storage) (list : ℕ) (block : Block) (command : Command) (conditions : List ListedCondition) (places : List ℕ)
     → IsSound s → list < 2 ^ 24 → block_of s list ≡ Ok block → command_of block ≡ Ok command → conditions_of s command block ≡ Ok conditions
     → places_of s list (argument_count command block conditions) ≡ Ok places → IsCallAt s list (call_with command block conditions places)
 unfolding argument_count call_with
-has_all s list block command conditions places ok h b c l p =
+has_all are_found s list block command conditions places ok h b c l p =
     let read = block_read s list block ok b in
-    let known = command_read block command c in
+    let known = command_read are_found block command c in
     let behind = conditions_read s list read.0 command block conditions read.1 read.2 l in
     let each = places_read s list (argument_count command block conditions) places h p in
     let long : length places ≡ argument_count command block conditions = each.0 in
@@ -239,15 +247,15 @@ has_all s list block command conditions places ok h b c l p =
       places = λ k lt. each.2 k (omega arith);
     }
 
-forward : (s : Storage) (list : ℕ) (call : Call) → IsSound s → list < 2 ^ 24 → call_of s list ≡ Ok call → IsCallAt s list call
+forward : AreFound → (s : Storage) (list : ℕ) (call : Call) → IsSound s → list < 2 ^ 24 → call_of s list ≡ Ok call → IsCallAt s list call
 unfolding call_of call_with
-forward s list call ok h e =
+forward are_found s list call ok h e =
     let b = then_ok _ _ call e in
     let c = then_ok _ _ call b.2 in
     let l = then_ok _ _ call c.2 in
     let p = then_ok _ _ call l.2 in
     let same : call_with c.0 b.0 l.0 p.0 ≡ call = cc in
-    rw (← same) (has_all s list b.0 c.0 l.0 p.0 ok h b.1 c.1 l.1 p.1)
+    rw (← same) (has_all are_found s list b.0 c.0 l.0 p.0 ok h b.1 c.1 l.1 p.1)
 
 -- ---- from the list to the call
 
@@ -266,10 +274,10 @@ block_there s list f a b e = go (word_at s list) e
         let bytes : span s (address_in word) 4 ≡ Some (f / 256 ∷ f % 256 ∷ a ∷ b ∷ []) = rw (place_itself word) at g in
         (word, refl, rw (bytes, whole) refl)
 
-command_there : (block : Block) (command : Command) → (row_of command).function ≡ block.function → is_legal command block.first block.second ≡ true → command_of block ≡ Ok command
+command_there : AreFound → (block : Block) (command : Command) → (row_of command).function ≡ block.function → is_legal command block.first block.second ≡ true → command_of block ≡ Ok command
 unfolding command_of
-command_there block command f legal =
-    let found : command_with block.function ≡ Some command = ap command_with (sym f) ∙ command_is command in
+command_there are_found block command f legal =
+    let found : command_with block.function ≡ Some command = (are_found block.function command).1 f in
     rw (found, legal) refl
 
 conditions_there : (s : Storage) (list word : ℕ) (command : Command) (block : Block) (conditions : List ListedCondition)
@@ -320,9 +328,9 @@ places_there s list n places h long each found =
         let same : slice_get (map address_in (drop 1 words)) i ≡ slice_get places i = sym (behind.1 i) ∙ ap (option_map address_in) (sym (at (i + 1) (omega arith))) ∙ found i (omega arith) in
         sym (unwrap_or-slice_get (map address_in (drop 1 words)) i 0) ∙ ap (λ o. unwrap_or o 0) same ∙ unwrap_or-slice_get places i 0)
 
-backward : (s : Storage) (list : ℕ) (call : Call) → list < 2 ^ 24 → IsCallAt s list call → call_of s list ≡ Ok call
+backward : AreFound → (s : Storage) (list : ℕ) (call : Call) → list < 2 ^ 24 → IsCallAt s list call → call_of s list ≡ Ok call
 unfolding call_of argument_count
-backward s list call h is =
+backward are_found s list call h is =
     let b = block_there s list (row_of call.command).function call.first call.second is.block in
     at b.0 b.1 b.2
   where
@@ -330,13 +338,13 @@ backward s list call h is =
         → block_of s list ≡ Ok (record { place = address_in word; function = (row_of call.command).function; first = call.first; second = call.second }) → call_of s list ≡ Ok call
     at word w b =
         let block : Block = record { place = address_in word; function = (row_of call.command).function; first = call.first; second = call.second } in
-        let c = command_there block call.command refl is.options in
+        let c = command_there are_found block call.command refl is.options in
         let l = conditions_there s list word call.command block call.conditions w refl is.conditions in
         let p : places_of s list (argument_count call.command block call.conditions) ≡ Ok call.places = places_there s list _ call.places h is.count (λ k le. rw (← is.count) (is.words k (rw is.count le))) (λ k lt. is.places k (rw is.count lt)) in
         rw (b, c, l, p) refl
 
-pub call_is_read : (s : Storage) (list : ℕ) (call : Call) → IsSound s → list < 2 ^ 24 → (call_of s list ≡ Ok call) ↔ IsCallAt s list call
-call_is_read s list call ok h = (forward s list call ok h, backward s list call h)
+pub call_is_read : AreFound → (s : Storage) (list : ℕ) (call : Call) → IsSound s → list < 2 ^ 24 → (call_of s list ≡ Ok call) ↔ IsCallAt s list call
+call_is_read are_found s list call ok h = (forward are_found s list call ok h, backward are_found s list call h)
 
 -- ---- the addresses of options and of RESP
 
@@ -352,13 +360,13 @@ all_filter test keeps (x ∷ xs) all =
     let rest = all_filter test keeps xs parts.1 in
     elim (cases_Bool (keeps x)) [ inl t ↦ rw t (and_from _ _ parts.0 rest) | inr f ↦ rw f rest ]
 
-apart_filter : (keeps : CommandOption → Bool) (options : List CommandOption) → are_apart options ≡ true → are_apart (filter keeps options) ≡ true
+apart_filter : (keeps : CommandOption → Bool) (options : List CommandOption) → have_own_names options ≡ true → have_own_names (filter keeps options) ≡ true
 apart_filter keeps [] apart = refl
 apart_filter keeps (option ∷ rest) apart =
     let parts = and_parts _ _ apart in
     let more = apart_filter keeps rest parts.1 in
     elim (cases_Bool (keeps option)) [
-      | inl t ↦ rw t (and_from _ _ (all_filter (λ other. not (other.bit == option.bit)) keeps rest parts.0) more)
+      | inl t ↦ rw t (and_from _ _ (all_filter (λ other. not (is_option other.name option.name)) keeps rest parts.0) more)
       | inr f ↦ rw f more
     ]
 
@@ -366,32 +374,41 @@ not_true : (b : Bool) → not b ≡ true → b ≡ false
 not_true false e = refl
 not_true true e = cc
 
-by_its_bit : (options : List CommandOption) (k : ℕ) (option : CommandOption) → are_apart options ≡ true → slice_get options k ≡ Some option
-    → position_or_len (λ other. other.bit == option.bit) options ≡ k
-by_its_bit [] k option apart e = cc
-by_its_bit (first ∷ rest) zero option apart e =
+-- two options are the same exactly where they are one
+abbrev AreThemselves : Type 0
+AreThemselves = (one other : OptionName) → (is_option one other ≡ true) ↔ (one ≡ other)
+
+unequal : (b : Bool) → (b ≡ true → ⊥) → b ≡ false
+unequal true never = absurd (never refl)
+unequal false never = refl
+
+by_its_name : AreThemselves → (options : List CommandOption) (k : ℕ) (option : CommandOption) → have_own_names options ≡ true
+    → slice_get options k ≡ Some option → position_or_len (λ other. is_option other.name option.name) options ≡ k
+by_its_name themselves [] k option apart e = cc
+by_its_name themselves (first ∷ rest) zero option apart e =
     let same : first ≡ option = cc in
-    rw (eq-eqb first.bit option.bit (ap (λ o. o.bit) same)) refl
-by_its_bit (first ∷ rest) (suc k) option apart e =
+    rw ((themselves first.name option.name).1 (ap (λ o. o.name) same)) refl
+by_its_name themselves (first ∷ rest) (suc k) option apart e =
     let parts = and_parts _ _ apart in
-    let differs : (option.bit == first.bit) ≡ false = not_true _ (all_at (λ other. not (other.bit == first.bit)) rest k option parts.0 e) in
-    let other : (first.bit == option.bit) ≡ false = elim (eqb_tells option.bit first.bit) [ inl t ↦ cc | inr f ↦ is_other first.bit option.bit (λ same. f.1 (sym same)) ] in
-    let more = by_its_bit rest k option parts.1 e in
+    let differs : is_option option.name first.name ≡ false = not_true _ (all_at (λ other. not (is_option other.name first.name)) rest k option parts.0 e) in
+    let other : is_option first.name option.name ≡ false = unequal (is_option first.name option.name) (λ held.
+    let back : is_option option.name first.name ≡ true = (themselves option.name first.name).1 (sym ((themselves first.name option.name).0 held)) in cc) in
+    let more = by_its_name themselves rest k option parts.1 e in
     rw (other, more) (omega arith)
 
-pub arguments_have_places : (s : Storage) (list : ℕ) (call : Call) (k : ℕ) (option : CommandOption)
-    → IsTrue (are_apart (row_of call.command).options) → IsCallAt s list call
-    → slice_get (arguments_of call) k ≡ Some option → (k < length call.places) × (place_of call option.bit ≡ slice_get call.places k)
-unfolding place_of arguments_in
-arguments_have_places s list call k option apart is e =
+pub arguments_have_places : AreThemselves → (s : Storage) (list : ℕ) (call : Call) (k : ℕ) (option : CommandOption)
+    → IsTrue (have_own_names (row_of call.command).options) → IsCallAt s list call
+    → slice_get (arguments_of call) k ≡ Some option → (k < length call.places) × (place_of call option.name ≡ slice_get call.places k)
+unfolding place_of argument_index arguments_in
+arguments_have_places themselves s list call k option apart is e =
     let within = slice_get_within (arguments_of call) k option e in
-    let at : position_or_len (λ other. other.bit == option.bit) (arguments_of call) ≡ k =
-    by_its_bit (arguments_of call) k option (apart_filter (is_argument call.first) (row_of call.command).options apart) e in
+    let at : position_or_len (λ other. is_option other.name option.name) (arguments_of call) ≡ k =
+    by_its_name themselves (arguments_of call) k option (apart_filter (is_argument call.first) (row_of call.command).options apart) e in
     (omega (arith, is.count), rw (at, lt-ltb _ _ within) refl)
 
-pub resp_has_its_place : (s : Storage) (list : ℕ) (call : Call) → IsCallAt s list call → is_some (resp_place call) ≡ has_bit call.second resp
+pub resp_has_its_place : (s : Storage) (list : ℕ) (call : Call) → IsCallAt s list call → is_some (resp_place call) ≡ has_resp call.second
 unfolding resp_place
-resp_has_its_place s list call is = elim (cases_Bool (has_bit call.second resp)) [
+resp_has_its_place s list call is = elim (cases_Bool (has_resp call.second)) [
   | inl t ↦
       let count = rw t at is.count in
       rw (t, slice_get-get_or call.places (length call.places - 1) 0 (omega (arith, count))) refl

@@ -1,64 +1,15 @@
 -- What the reading of a call needs, over plain variables.
-use Rattle.std.proofs.Common.{◌≡◌, ℕ, zero, suc, ◌+◌, ◌*◌, ◌<◌, ◌≤◌, ◌^◌, ◌%◌, ◌↔◌, Bool, false, ◌==◌, nat_lt, List, [], ◌∷◌, ◌++◌, length, drop, Option, Some, None, refl, sym, ap, ◌∙◌, arith, inl, inr, add-one, append_assoc, append-nil, length-drop, ◌/◌, slice_index}
+use Rattle.std.proofs.Common.{◌≡◌, ℕ, zero, suc, ◌+◌, ◌*◌, ◌<◌, ◌≤◌, ◌^◌, ◌%◌, Bool, false, ◌==◌, nat_lt, List, [], ◌∷◌, ◌++◌, length, drop, Option, Some, None, refl, ap, arith, inl, inr, add-one, append_assoc, append-nil, length-drop, ◌/◌, slice_index}
 use Rattle.std.specs.Option.{option_map}
-use Rattle.std.specs.List.{find, position, position_or_len}
+use Rattle.std.specs.List.{position, position_or_len}
 use Rattle.std.proofs.lemmas.Bool.{cases_Bool, ltb-false, eqb-true}
-use Rattle.cx_ebcdic.specs.Facts.Lookup.{find_passes}
-use Rattle.cx_command.specs.Commands.{row_of}
-use Rattle.cx_command.specs.declared.commands.Command.{Command}
-use Rattle.cx_command.specs.declared.commands.Command.TheVariants as command
-use Rattle.cx_command.specs.declared.commands.TheConstants as commands
 use Rattle.cx_storage.specs.Storage.{Storage}
 use Rattle.cx_storage.specs.Word.{word_at}
 use Rattle.cx_command.specs.declared.legal.ListedCondition.{ListedCondition}
-use Rattle.cx_call.specs.Call.{command_with, has_high_bit, listed_in, marks_last_alone, words_at}
+use Rattle.cx_call.specs.Call.{has_high_bit, listed_in, marks_last_alone, words_at}
 
 abbrev pub listed : ℕ → ℕ → ListedCondition
 listed number label = record { number = number; label = label }
-
--- ---- the command of a function value
-
-function_finds : (x : Command) → find (λ y. (row_of y).function == (row_of x).function) commands.Command.ALL ≡ Some x
-function_finds command.Address = refl
-function_finds command.HandleCondition = refl
-function_finds command.IgnoreCondition = refl
-function_finds command.PushHandle = refl
-function_finds command.PopHandle = refl
-function_finds command.Receive = refl
-function_finds command.WriteqTs = refl
-function_finds command.ReadqTs = refl
-function_finds command.DeleteqTs = refl
-function_finds command.Getmain = refl
-function_finds command.Freemain = refl
-function_finds command.Link = refl
-function_finds command.Xctl = refl
-function_finds command.Return = refl
-function_finds command.Abend = refl
-function_finds command.HandleAbend = refl
-function_finds command.Enq = refl
-function_finds command.Deq = refl
-function_finds command.Suspend = refl
-function_finds command.SendText = refl
-
--- an answer that is a command exactly where that command has the function value
-pub command_found : (n : ℕ) (r : Option Command) → ((x : Command) → (r ≡ Some x) ↔ ((row_of x).function ≡ n)) → r ≡ command_with n
-unfolding command_with
-command_found n (Some x) h = sym (ap (λ k. find (λ y. (row_of y).function == k) commands.Command.ALL) (sym ((h x).0 refl)) ∙ function_finds x)
-command_found n None h = sym (none_found (find (λ y. (row_of y).function == n) commands.Command.ALL)
-    (λ x e. (h x).1 (eqb-true _ _ (find_passes (λ y. (row_of y).function == n) commands.Command.ALL x e))))
-  where
-    none_found : (o : Option Command) → ((x : Command) → o ≡ Some x → None ≡ Some x) → o ≡ None
-    none_found None f = refl
-    none_found (Some x) f = sym (f x refl)
-
--- each command has its own function value, and what has a function value is found by it
-pub command_is : (x : Command) → command_with (row_of x).function ≡ Some x
-unfolding command_with
-command_is x = function_finds x
-
-pub command_has : (n : ℕ) (x : Command) → command_with n ≡ Some x → (row_of x).function ≡ n
-unfolding command_with
-command_has n x e = eqb-true _ _ (find_passes (λ y. (row_of y).function == n) commands.Command.ALL x e)
 
 -- ---- the high bit
 

@@ -1,18 +1,18 @@
 -- A command's argument list, read as a call (Application Programmer's Reference Manual, SC33-0077, the expansion of
 -- a command; the list's layout and the order of the tests are this project's own).
-use Rattle.std.specs.Prelude.{ℕ, ◌+◌, ◌-◌, ◌*◌, ◌%◌, ◌^◌, zero, suc, Bool, true, false, ◌&&◌, nat_le, ◌==◌, List, [], ◌∷◌, length, map, drop, count_by, slice_get, slice_index, Option, Some, None, Result, Ok, Err, if◌then◌else◌}
+use Rattle.std.specs.Prelude.{ℕ, ◌+◌, ◌-◌, ◌*◌, ◌^◌, zero, suc, Bool, true, false, nat_le, ◌==◌, List, [], ◌∷◌, length, map, drop, count_by, slice_get, slice_index, Option, Some, None, Result, Ok, Err, if◌then◌else◌}
 use Rattle.std.specs.Option.{option_map, option_and_then, ok_or}
-use Rattle.std.specs.List.{filter, find, position, position_or_len}
+use Rattle.std.specs.List.{position_or_len}
 use Rattle.cx_command.specs.declared.commands.Command.{Command}
-use Rattle.cx_command.specs.declared.commands.TheConstants as commands
 use Rattle.cx_command.specs.declared.legal.ListedCondition.{ListedCondition}
-use Rattle.cx_command.specs.declared.options.CommandOption.{CommandOption}
-use Rattle.cx_command.specs.declared.options.Mark.{Mark}
-use Rattle.cx_command.specs.declared.options.Mark.TheVariants.{Flag}
-use Rattle.cx_command.specs.Commands.{row_of}
+use Rattle.cx_command.specs.declared.options.CommonOption.TheVariants.{Nohandle, Resp}
+use Rattle.cx_command.specs.declared.options.OptionName.{OptionName}
+use Rattle.cx_command.specs.Arguments.{argument_index, arguments_in}
+use Rattle.cx_command.specs.Commands.{command_with, row_of}
+use Rattle.cx_command.specs.Options.{common_of}
 use Rattle.cx_command.specs.Legal.{has_bit, is_legal, is_legal_list, lists_conditions}
 use Rattle.cx_storage.specs.Storage.{Storage, span}
-use Rattle.cx_storage.specs.Address.{along}
+use Rattle.cx_storage.specs.Address.{address_in, along}
 use Rattle.cx_storage.specs.Word.{word_at}
 use Rattle.cx_call.specs.declared.call.CallFault.{CallFault}
 use Rattle.cx_call.specs.declared.call.CallFault.TheVariants.{Xarg, Xfun}
@@ -26,44 +26,22 @@ pub record Call : Type 0 where
   pub conditions : List ListedCondition
   pub places : List ℕ
 
--- the bits of option byte 2
-abbrev pub nohandle : ℕ
-nohandle = 0x80
+-- the address of an option's argument, where the call has the option and that an argument
+unfoldable pub place_of : Call → OptionName → Option ℕ
+place_of call name = option_and_then (slice_get call.places) (argument_index call.command call.first name)
 
-abbrev pub resp : ℕ
-resp = 0x40
+-- the call has RESP, or NOHANDLE
+abbrev pub has_resp : ℕ → Bool
+has_resp second = has_bit second (common_of Resp).bit
 
--- an option of option byte 1 is there
-unfoldable pub has_option : Call → ℕ → Bool
-has_option call bit = has_bit call.first bit
-
--- the option has an argument, and so a word in the list
-abbrev pub takes_argument : Mark → Bool
-takes_argument Flag = false
-takes_argument _ = true
-
--- an option that option byte 1 has, and that has an argument
-abbrev pub is_argument : ℕ → CommandOption → Bool
-is_argument first option = has_bit first option.bit && takes_argument option.mark
-
--- the options with an argument that option byte 1 has, in the order of their words
-unfoldable pub arguments_in : List CommandOption → ℕ → List CommandOption
-arguments_in options first = filter (is_argument first) options
-
--- the address of the argument of an option of option byte 1, where the option is there and has one
-unfoldable pub place_of : Call → ℕ → Option ℕ
-place_of call bit =
-    option_and_then (slice_get call.places) (position (λ option. option.bit == bit) (arguments_in (row_of call.command).options call.first))
+abbrev pub has_nohandle : ℕ → Bool
+has_nohandle second = has_bit second (common_of Nohandle).bit
 
 -- the address of RESP's word, the last one, where RESP is there
 unfoldable pub resp_place : Call → Option ℕ
-resp_place call = if has_bit call.second resp then slice_get call.places (length call.places - 1) else None
+resp_place call = if has_resp call.second then slice_get call.places (length call.places - 1) else None
 
 -- ---- reading
-
--- bits 8 to 31 of a word, an address
-abbrev pub address_in : ℕ → ℕ
-address_in word = word % 2 ^ 24
 
 -- bit 0 of a word
 abbrev pub has_high_bit : ℕ → Bool
@@ -101,10 +79,6 @@ block_at s place = option_map (block_from place) (span s place 4)
 unfoldable pub block_of : Storage → ℕ → Result Block CallFault
 block_of s list = ok_or (option_and_then (λ word. block_at s (address_in word)) (word_at s list)) Xarg
 
--- the command of a function value, where one has it
-unfoldable pub command_with : ℕ → Option Command
-command_with function = find (λ command. (row_of command).function == function) commands.Command.ALL
-
 -- the block's command, with legal option bytes
 unfoldable pub command_of : Block → Result Command CallFault
 command_of block = then_result (ok_or (command_with block.function) Xfun) (λ command.
@@ -129,7 +103,7 @@ has_label listed = listed.label == 0x80
 -- how many arguments there are: one for each present option that has one, one for each label, and RESP's
 unfoldable pub argument_count : Command → Block → List ListedCondition → ℕ
 argument_count command block conditions =
-    length (arguments_in (row_of command).options block.first) + count_by has_label conditions + (if has_bit block.second resp then 1 else 0)
+    length (arguments_in (row_of command).options block.first) + count_by has_label conditions + (if has_resp block.second then 1 else 0)
 
 -- the n words from a on, where all of them are in storage
 unfoldable pub words_at : Storage → ℕ → ℕ → Option (List ℕ)

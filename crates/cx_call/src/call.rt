@@ -4,19 +4,14 @@ ghost use Rattle.std.specs.List.{AllByRecursion, position};
 ghost use Rattle.std.specs.Result.{result_map_both};
 ghost use Rattle.cx_command.specs.Legal.{has_bit, is_legal, lists_conditions};
 ghost use Rattle.cx_storage.specs.Word.{word_at};
-ghost use Rattle.cx_call.specs.Call.{address_in, argument_count, arguments_in, block_of, call_of, command_of, command_with, conditions_of, has_high_bit, has_label, is_argument, listed_in, marks_last_alone, places_of, words_at};
+ghost use Rattle.cx_storage.specs.Address.{address_in};
+ghost use Rattle.cx_call.specs.Call.{argument_count, block_of, call_of, command_of, conditions_of, has_high_bit, has_label, listed_in, marks_last_alone, places_of, words_at};
 
 use arrayvec::ArrayVec;
 use byteorder::{BigEndian, ByteOrder};
-use cx_command::{Command, CommandOption, ListedCondition, has_bit};
-use cx_storage::Store;
+use cx_command::{Command, CommonOption, ListedCondition, OptionName, has_bit};
+use cx_storage::{Store, address_in, along, word_at};
 use std::marker::Model;
-
-/// NOHANDLE's bit in option byte 2.
-const NOHANDLE: u8 = 0x80;
-
-/// RESP's bit in option byte 2.
-const RESP: u8 = 0x40;
 
 /// The most conditions that HANDLE or IGNORE CONDITION lists.
 const CONDITIONS: usize = 16;
@@ -64,7 +59,8 @@ impl Model for Call {
 }
 
 impl Call {
-    ghost use Rattle.cx_call.specs.Call.{has_option, nohandle, place_of, resp_place};
+    ghost use Rattle.cx_command.specs.Arguments.{has_option};
+    ghost use Rattle.cx_call.specs.Call.{has_nohandle, place_of, resp_place};
 
     /// The command.
     pub fn command(&self) -> Command
@@ -80,23 +76,20 @@ impl Call {
         self.first
     }
 
-    /// Whether an option is there, by its bit in option byte 1. (Of HANDLE and IGNORE CONDITION that byte
-    /// counts conditions, and its bits are no options.)
-    #[tactic(auto, unfolding(crate::specs::Call::has_option))]
-    pub fn has(&self, bit: u8) -> bool
-        ensures { result ≡ has_option self.now bit }
+    /// Whether the call has an option of its command.
+    pub fn has(&self, name: OptionName) -> bool
+        ensures { result ≡ has_option self.now.command self.now.first name }
     {
-        has_bit(self.first, bit)
+        self.command.has_option(self.first, name)
     }
 
-    /// The address (below 2^24) of the argument of an option, by its bit in option byte 1. None where the
-    /// option is not there, or has no argument.
+    /// The address (below 2^24) of an option's argument. None where the option is not there, or has no argument.
     #[tactic(auto, unfolding(crate::specs::Call::place_of))]
-    pub fn place(&self, bit: u8) -> Option<u32>
-        ensures value { result ≡ place_of self.now bit }
+    pub fn place(&self, name: OptionName) -> Option<u32>
+        ensures value { result ≡ place_of self.now name }
         ensures address { IfSome result (λ place. place < 2 ^ 24) }
     {
-        let index = argument_index(self.command.options(), self.first, bit)?;
+        let index = self.command.argument_index(self.first, name)?;
         self.places.get(index).copied()
     }
 
@@ -106,7 +99,7 @@ impl Call {
         ensures value { result ≡ resp_place self.now }
         ensures address { IfSome result (λ place. place < 2 ^ 24) }
     {
-        if has_bit(self.second, RESP) {
+        if has_bit(self.second, CommonOption::Resp.bit()) {
             self.places.last().copied()
         } else {
             None
@@ -115,9 +108,9 @@ impl Call {
 
     /// Whether NOHANDLE is there.
     pub fn is_nohandle(&self) -> bool
-        ensures { result ≡ has_bit self.now.second nohandle }
+        ensures { result ≡ has_nohandle self.now.second }
     {
-        has_bit(self.second, NOHANDLE)
+        has_bit(self.second, CommonOption::Nohandle.bit())
     }
 
     /// The conditions that HANDLE or IGNORE CONDITION lists, in their order; none for other commands.
@@ -190,20 +183,13 @@ impl Block {
         ensures value { result ≡ command_of self.now }
         ensures legal { IfOk result (λ command. IsTrue (is_legal command self.now.first self.now.second)) }
     {
-        let command = command_with(self.function).ok_or(CallFault::Xfun)?;
+        let command = Command::from_function(self.function).ok_or(CallFault::Xfun)?;
         if command.is_legal(self.first, self.second) {
             Ok(command)
         } else {
             Err(CallFault::Xfun)
         }
     }
-}
-
-/// The command of a function value.
-fn command_with(function: u16) -> Option<Command>
-    ensures { result ≡ command_with function }
-{
-    Command::from_function(function)
 }
 
 /// The block that word 0 of a list addresses.
@@ -224,26 +210,6 @@ fn read_block<S: Store>(store: &S, list: u32) -> Result<Block, CallFault>
         first: bytes[2],
         second: bytes[3],
     })
-}
-
-/// The word at an address, where its bytes are in storage.
-#[tactic(auto, using(cx_storage::specs::Facts::Words::word_read, cx_storage::specs::Facts::Words::word_absent))]
-fn word_at<S: Store>(store: &S, a: u32) -> Option<u32>
-    requires { a < 2 ^ 24 }
-    ensures { result ≡ word_at (S.storage store.now) a }
-{
-    let mut bytes = [0; 4];
-    if !store.read(a, &mut bytes) {
-        return None;
-    }
-    Some(BigEndian::read_u32(&bytes))
-}
-
-/// Bits 8 to 31 of a word.
-fn address_in(word: u32) -> u32
-    ensures { result ≡ address_in word }
-{
-    word % 0x100_0000
 }
 
 /// Whether bit 0 of a word is set.
@@ -321,7 +287,7 @@ fn read_conditions<S: Store>(
     }
     let mut bytes = [0; 2 * CONDITIONS];
     let listed = &mut bytes[..2 * block.first as usize];
-    if !store.read((block.place + 4) % 0x100_0000, listed) {
+    if !store.read(along(block.place, 4), listed) {
         return Err(CallFault::Xarg);
     }
     let conditions = listed_in(listed);
@@ -355,38 +321,12 @@ fn argument_count(command: Command, block: &Block, conditions: &Conditions) -> u
     ensures value { result ≡ argument_count command block.now conditions.now }
     ensures most { result ≤ 17 }
 {
-    let resp = if has_bit(block.second, RESP) { 1 } else { 0 };
-    option_arguments(command.options(), block.first) + labels(conditions.as_slice()) + resp
-}
-
-/// How many of some options are there and have an argument.
-#[tactic(auto, unfolding(crate::specs::Call::arguments_in))]
-fn option_arguments(options: &[CommandOption], first: u8) -> usize
-    ensures value { result ≡ length (arguments_in options.now first) }
-    ensures most { result ≤ length options.now }
-{
-    options
-        .iter()
-        .filter(|option| is_argument(**option, first))
-        .count()
-}
-
-/// The place of an option among those that are there and have an argument.
-#[tactic(auto, unfolding(crate::specs::Call::arguments_in))]
-fn argument_index(options: &[CommandOption], first: u8, bit: u8) -> Option<usize>
-    ensures { result ≡ position (λ option. option.bit == bit) (arguments_in options.now first) }
-{
-    options
-        .iter()
-        .filter(|option| is_argument(**option, first))
-        .position(|option| option.bit == bit)
-}
-
-/// Whether an option is there and has an argument.
-fn is_argument(option: CommandOption, first: u8) -> bool
-    ensures { result ≡ is_argument first option }
-{
-    has_bit(first, option.bit) && option.mark.takes_argument()
+    let resp = if has_bit(block.second, CommonOption::Resp.bit()) {
+        1
+    } else {
+        0
+    };
+    command.argument_count(block.first) + labels(conditions.as_slice()) + resp
 }
 
 /// How many conditions have a label.
@@ -434,7 +374,7 @@ fn read_words<S: Store>(store: &S, list: u32, count: usize) -> Option<ArrayVec<u
             return None;
         };
         words.push(word);
-        at = (at + 4) % 0x100_0000;
+        at = along(at, 4);
     }
     Some(words)
 }

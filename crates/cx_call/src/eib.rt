@@ -1,29 +1,9 @@
 //! The fields of a task's EXEC interface block (SC33-0077, "EXEC Interface Block"): what attach and commands write into them.
 ghost use Rattle.std.specs.Prelude.{◌≡◌, ◌<◌, ◌≤◌, ◌+◌, ◌%◌, ◌^◌, None, Some, length};
-ghost use Rattle.cx_call.specs.Eib.{digit, field, fields_at_attach, fields_of_report, packed, reported, with_calen, with_field, with_fields};
+ghost use Rattle.cx_call.specs.Eib.{content, digit, fields_at_attach, fields_of_report, packed, reported, with_calen, with_field, with_fields};
 
-use cx_storage::Store;
-
-/// The offsets of the fields.
-const TIME: u32 = 0;
-
-const DATE: u32 = 4;
-
-const TRNID: u32 = 8;
-
-const TASKN: u32 = 12;
-
-const TRMID: u32 = 16;
-
-const CALEN: u32 = 24;
-
-const AID: u32 = 26;
-
-const FN: u32 = 27;
-
-const RCODE: u32 = 29;
-
-const RESP: u32 = 76;
+use cx_command::EibField;
+use cx_storage::{Store, along};
 
 /// What stands in a task's EIB at attach.
 #[derive(Clone, Copy, Debug, PartialEq, Eq)]
@@ -78,13 +58,12 @@ fn packed(n: u32) -> [u8; 4]
 
 /// Writes a field of the EIB at an address.
 #[tactic(auto, unfolding(crate::specs::Eib::with_field))]
-fn put<S: Store>(store: &mut S, eib: u32, offset: u32, bytes: &[u8])
+fn put<S: Store>(store: &mut S, eib: u32, field: EibField, bytes: &[u8])
     requires eib { eib < 2 ^ 24 }
-    requires offset { offset < 88 }
     requires few { length bytes.now ≤ 8 }
-    ensures { S.storage store.new ≡ with_field (S.storage store.old) eib (field offset bytes.now) }
+    ensures { S.storage store.new ≡ with_field (S.storage store.old) eib (content field bytes.now) }
 {
-    store.write((eib + offset) % 0x100_0000, bytes);
+    store.write(along(eib, field.offset()), bytes);
 }
 
 /// Fills the EIB at an address (below 2^24) for a task that begins: EIBTIME, EIBDATE, EIBTRNID, EIBTASKN, EIBTRMID, EIBCALEN and
@@ -93,13 +72,13 @@ pub fn begin<S: Store>(store: &mut S, eib: u32, begun: &Begun)
     requires { eib < 2 ^ 24 }
     ensures { S.storage store.new ≡ with_fields (S.storage store.old) eib (fields_at_attach begun.now) }
 {
-    put(store, eib, TIME, &packed(begun.time));
-    put(store, eib, DATE, &packed(begun.date));
-    put(store, eib, TRNID, &begun.tran);
-    put(store, eib, TASKN, &packed(begun.number));
-    put(store, eib, TRMID, &begun.terminal);
-    put(store, eib, CALEN, &begun.calen.to_be_bytes());
-    put(store, eib, AID, &[begun.aid]);
+    put(store, eib, EibField::Time, &packed(begun.time));
+    put(store, eib, EibField::Date, &packed(begun.date));
+    put(store, eib, EibField::Trnid, &begun.tran);
+    put(store, eib, EibField::Taskn, &packed(begun.number));
+    put(store, eib, EibField::Trmid, &begun.terminal);
+    put(store, eib, EibField::Calen, &begun.calen.to_be_bytes());
+    put(store, eib, EibField::Aid, &[begun.aid]);
 }
 
 /// Writes EIBCALEN into the EIB at an address (below 2^24), where one is given. No other byte changes.
@@ -109,7 +88,7 @@ pub fn put_calen<S: Store>(store: &mut S, eib: u32, calen: Option<u16>)
     ensures { S.storage store.new ≡ with_calen (S.storage store.old) eib calen }
 {
     if let Some(calen) = calen {
-        put(store, eib, CALEN, &calen.to_be_bytes());
+        put(store, eib, EibField::Calen, &calen.to_be_bytes());
     }
 }
 
@@ -120,8 +99,18 @@ pub fn put_report<S: Store>(store: &mut S, eib: u32, report: &Report)
     requires { eib < 2 ^ 24 }
     ensures { S.storage store.new ≡ reported (S.storage store.old) eib report.now }
 {
-    put(store, eib, FN, &report.function.to_be_bytes());
-    put(store, eib, RCODE, &[report.condition, 0, 0, 0, 0, 0]);
-    put(store, eib, RESP, &u32::from(report.condition).to_be_bytes());
+    put(store, eib, EibField::Fn, &report.function.to_be_bytes());
+    put(
+        store,
+        eib,
+        EibField::Rcode,
+        &[report.condition, 0, 0, 0, 0, 0],
+    );
+    put(
+        store,
+        eib,
+        EibField::Resp,
+        &u32::from(report.condition).to_be_bytes(),
+    );
     put_calen(store, eib, report.calen);
 }

@@ -39,7 +39,7 @@ use Rattle.cx_region.specs.declared.replies.TurnReply.TheVariants as turn
 use Rattle.cx_region.specs.State.{Input, RegionState, TerminalState, TaskState}
 use Rattle.cx_region.specs.Tables.{terminal_of}
 use Rattle.cx_region.specs.Defining.{DefinesProgram, DefinesTerminal, DefinesTransaction, Loads, program_fault, terminal_fault, transaction_fault, with_new_terminal, with_clock, with_program, with_transaction}
-use Rattle.cx_call.specs.Eib.{eib_len}
+use Rattle.cx_command.specs.Eib.{eib_len}
 use Rattle.cx_region.specs.Attach.{ArePlaced, Attaches, HasNoPlaces, IsCopyPlace, IsTaskPlace, Keyed, KeyedAs, asked, attached, first_of_tasks, input_from, last_of_tasks, system_owner, with_copy_area, with_eib_area}
 use Rattle.cx_region.specs.Reach.{Reach, after_pass, reach_of, reply_of}
 use Rattle.cx_region.specs.Abend.{Abends, AbendsAt}

@@ -12,7 +12,7 @@ use Rattle.cx_region.specs.declared.asking.Start.{Start}
 use Rattle.cx_region.specs.declared.attach.StartFault.{StartFault}
 use Rattle.cx_region.specs.declared.attach.StartFault.TheVariants.{Memory, NoStorage}
 use Rattle.cx_region.specs.Parts.Placing.{AreFaultsOf, IsCopyFault, IsPlaceFault, IsSlotFree}
-use Rattle.cx_call.specs.Eib.{eib_len}
+use Rattle.cx_command.specs.Eib.{eib_len}
 use Rattle.cx_region.specs.Attach.{ArePlaced, HasNoPlaces, IsCopyPlace, IsTaskPlace, first_of_tasks, last_of_tasks, system_owner, with_copy_area, with_eib_area, with_task_areas}
 use Rattle.cx_region.proofs.AreaLemmas.{freed_put, kept_all}
 

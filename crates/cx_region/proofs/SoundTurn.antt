@@ -14,7 +14,9 @@ use Rattle.cx_exec.specs.Machine.{address}
 use Rattle.cx_program.specs.declared.level.Level.{Level}
 use Rattle.cx_program.specs.Levels.{Levels}
 use Rattle.cx_region.specs.State.{TaskState}
-use Rattle.cx_call.specs.Eib.{Field, eib_len, fields_of_report, reported, with_calen, with_field, with_fields}
+use Rattle.cx_call.specs.Eib.{Content, fields_of_report, reported, with_calen, with_field, with_fields}
+use Rattle.cx_command.specs.Eib.{eib_field}
+use Rattle.cx_command.specs.Eib.{eib_len}
 use Rattle.cx_region.specs.Attach.{system_owner}
 use Rattle.cx_command.specs.declared.conditions.Condition.{Condition}
 use Rattle.cx_command.specs.declared.conditions.Condition.TheVariants.{Normal}
@@ -202,10 +204,10 @@ unfolding with_calen with_field
 calen_areas s eib None = refl
 calen_areas s eib (Some calen) = areas_after_write s (along eib 24) _
 
-fields_areas : (s : Storage) (eib : ℕ) (fields : List Field) → areas_of (with_fields s eib fields) ≡ areas_of s
+fields_areas : (s : Storage) (eib : ℕ) (fields : List Content) → areas_of (with_fields s eib fields) ≡ areas_of s
 unfolding with_field
 fields_areas s eib [] = refl
-fields_areas s eib (f ∷ fields) = fields_areas (with_field s eib f) eib fields ∙ areas_after_write s (along eib f.offset) f.bytes
+fields_areas s eib (f ∷ fields) = fields_areas (with_field s eib f) eib fields ∙ areas_after_write s (along eib (eib_field f.field).offset) f.bytes
 
 pub abends_kept : (P : Area → Type 0) (slot : ℕ) (s : Storage) (code : List ℕ) (before after : Reach) (pass : Pass) → IsSoundStorage s → areas_of before.storage ≡ areas_of s
     → AllByRecursion (λ h. P h.area) s → IsSoundTask s slot before.task → Abends code before pass after → Kept P slot s after.storage after.task

@@ -25,7 +25,8 @@ use Rattle.cx_region.specs.declared.asking.Places.{Places}
 use Rattle.cx_call.specs.declared.eib.Begun.{Begun}
 use Rattle.cx_region.specs.State.{Input, Following, TaskState, TerminalState, RegionState}
 use Rattle.cx_region.specs.Tables.{program_of, transaction_of, terminal_at, terminal_of, with_terminal}
-use Rattle.cx_call.specs.Eib.{eib_len, fields_at_attach, with_fields}
+use Rattle.cx_call.specs.Eib.{fields_at_attach, with_fields}
+use Rattle.cx_command.specs.Eib.{eib_len}
 
 abbrev pub first_of_tasks : ℕ
 first_of_tasks = 0x200000

@@ -14,7 +14,7 @@ use Rattle.cx_service.specs.Resources.{AreSoundResources}
 use Rattle.cx_region.specs.State.{TaskState, TerminalState, RegionState}
 use Rattle.cx_region.specs.Names.{is_name4, is_name8}
 use Rattle.cx_region.specs.Defining.{most_programs, most_transactions, most_terminals}
-use Rattle.cx_call.specs.Eib.{eib_len}
+use Rattle.cx_command.specs.Eib.{eib_len}
 use Rattle.cx_region.specs.Attach.{system_owner}
 
 -- the common work area: 512 bytes of the region's own

@@ -3,11 +3,13 @@ use Rattle.std.specs.Prelude.{◌≡◌, ℕ, ◌+◌, ◌*◌, ◌/◌, ◌%◌
 use Rattle.std.specs.Option.{option_map, option_and_then}
 use Rattle.cx_command.specs.declared.options.CommandOption.{CommandOption}
 use Rattle.cx_command.specs.Commands.{row_of}
-use Rattle.cx_command.specs.Legal.{has_bit, is_legal, is_legal_list, lists_conditions}
+use Rattle.cx_command.specs.Legal.{is_legal, is_legal_list, lists_conditions}
 use Rattle.cx_storage.specs.Storage.{Storage, span, IsSound}
 use Rattle.cx_storage.specs.Address.{along}
 use Rattle.cx_storage.specs.Word.{word_at}
-use Rattle.cx_call.specs.Call.{Call, address_in, arguments_in, call_of, has_high_bit, has_label, listed_in, place_of, resp, resp_place}
+use Rattle.cx_call.specs.Call.{Call, call_of, has_high_bit, has_label, has_resp, listed_in, place_of, resp_place}
+use Rattle.cx_command.specs.Arguments.{arguments_in}
+use Rattle.cx_storage.specs.Address.{address_in}
 
 -- word k of the list
 abbrev pub list_word : Storage → ℕ → ℕ → Option ℕ
@@ -31,7 +33,7 @@ pub record IsCallAt (s : Storage) (list : ℕ) (call : Call) : Type 0 where
       ((option_map listed_in (bytes_of_block s list 4 (2 * call.first)) ≡ Some call.conditions) × IsTrue (is_legal_list call.command call.conditions))
       (call.conditions ≡ [])
   -- there is an address for each present option with an argument, for each label, and for RESP
-  pub count : length call.places ≡ length (arguments_of call) + count_by has_label call.conditions + (if has_bit call.second resp then 1 else 0)
+  pub count : length call.places ≡ length (arguments_of call) + count_by has_label call.conditions + (if has_resp call.second then 1 else 0)
   -- word 0 and a word for each address are in storage, and the last alone has its high bit set
   pub words : (k : ℕ) → k ≤ length call.places → IsSomeAnd (list_word s list k) (λ word. has_high_bit word ≡ (k == length call.places))
   -- the addresses are those in the words behind word 0
@@ -44,8 +46,8 @@ CallIsRead = (s : Storage) (list : ℕ) (call : Call) → IsSound s → list < 2
 -- The k-th present option with an argument has the k-th address.
 abbrev pub ArgumentsHavePlaces : Type 0
 ArgumentsHavePlaces = (s : Storage) (list : ℕ) (call : Call) (k : ℕ) (option : CommandOption) → IsCallAt s list call
-    → slice_get (arguments_of call) k ≡ Some option → (k < length call.places) × (place_of call option.bit ≡ slice_get call.places k)
+    → slice_get (arguments_of call) k ≡ Some option → (k < length call.places) × (place_of call option.name ≡ slice_get call.places k)
 
 -- RESP has an address exactly where it is there.
 abbrev pub RespHasItsPlace : Type 0
-RespHasItsPlace = (s : Storage) (list : ℕ) (call : Call) → IsCallAt s list call → is_some (resp_place call) ≡ has_bit call.second resp
+RespHasItsPlace = (s : Storage) (list : ℕ) (call : Call) → IsCallAt s list call → is_some (resp_place call) ≡ has_resp call.second

@@ -1,6 +1,6 @@
 use Rattle.std.proofs.Common.{◌≡◌, ◌<◌, ◌^◌, map, take}
 use Rattle.std.specs.List.{AllByRecursion}
-use Rattle.cx_call.specs.Call.{address_in}
+use Rattle.cx_storage.specs.Address.{address_in}
 use Rattle.cx_call.proofs.call.addresses_in.Given as goal
 
 -- the addresses in the words gone through
