@@ -1,3 +1,4 @@
 pub mod TableLemmas
 pub mod RowLemmas
 pub mod JoinedLemmas
+pub mod ArgumentLemmas

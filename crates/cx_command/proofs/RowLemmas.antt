@@ -1,5 +1,5 @@
 -- Each row of the table of commands is well formed, row by row by computation.
-use Rattle.std.proofs.Common.{◌≡◌, Bool, true, IsTrue, refl}
+use Rattle.std.proofs.Common.{◌≡◌, ◌≤◌, Bool, length, lit≤, true, IsTrue, refl}
 use Rattle.std.specs.Prelude.{◌&&◌}
 use Rattle.cx_command.specs.Commands.{Row, row_of}
 use Rattle.cx_command.specs.Laws.Rows.{are_apart, has_own_bits, have_own_names, measured_have_length, rules_name_options}
@@ -58,3 +58,26 @@ own_names c = (parts c).3
 
 pub lengths : (c : Command) → IsTrue (measured_have_length (row_of c).options (row_of c).rules)
 lengths c = (parts c).4
+
+-- a command has at most as many options as a byte has bits
+pub few : (c : Command) → length (row_of c).options ≤ 8
+few command.Address = lit≤ tt
+few command.HandleCondition = lit≤ tt
+few command.IgnoreCondition = lit≤ tt
+few command.PushHandle = lit≤ tt
+few command.PopHandle = lit≤ tt
+few command.Receive = lit≤ tt
+few command.WriteqTs = lit≤ tt
+few command.ReadqTs = lit≤ tt
+few command.DeleteqTs = lit≤ tt
+few command.Getmain = lit≤ tt
+few command.Freemain = lit≤ tt
+few command.Link = lit≤ tt
+few command.Xctl = lit≤ tt
+few command.Return = lit≤ tt
+few command.Abend = lit≤ tt
+few command.HandleAbend = lit≤ tt
+few command.Enq = lit≤ tt
+few command.Deq = lit≤ tt
+few command.Suspend = lit≤ tt
+few command.SendText = lit≤ tt

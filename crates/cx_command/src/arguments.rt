@@ -30,10 +30,11 @@ impl Command {
     }
 
     /// How many of the options that option byte 1 has take an argument.
-    #[tactic(auto, unfolding(crate::specs::Arguments::arguments_in))]
+    #[tactic(auto, using(crate::proofs::RowLemmas::few), unfolding(crate::specs::Arguments::arguments_in))]
     pub fn argument_count(self, first: u8) -> usize
         ensures value { result ≡ length (arguments_in (row_of self).options first) }
-        ensures most { result ≤ length (row_of self).options }
+        ensures most { result ≤ 8 }
+        ensures within { result ≤ length (row_of self).options }
     {
         self.options()
             .iter()

@@ -1,6 +1,7 @@
 //! The layout of the EXEC interface block.
-ghost use Rattle.std.specs.Prelude.{◌≡◌};
-ghost use Rattle.cx_command.specs.Eib.{eib_field, eib_pieces};
+ghost use Rattle.std.specs.Prelude.{◌≡◌, ◌≤◌};
+ghost use Rattle.cx_command.specs.Eib.{eib_field, eib_len, eib_pieces};
+ghost use Rattle.cx_command.specs.Layout.{end_of};
 
 /// A field of the EXEC interface block.
 ///
@@ -82,7 +83,8 @@ impl EibField {
 
     /// Its offset from the block's first byte.
     pub fn offset(self) -> u32
-        ensures { result ≡ (eib_field self).offset }
+        ensures value { result ≡ (eib_field self).offset }
+        ensures within { end_of (eib_field self) ≤ eib_len }
     {
         match self {
             EibField::Time => 0,

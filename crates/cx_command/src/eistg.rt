@@ -1,6 +1,7 @@
 //! The layout of the head of a program's DFHEISTG.
-ghost use Rattle.std.specs.Prelude.{◌≡◌};
-ghost use Rattle.cx_command.specs.Eistg.{eistg_field};
+ghost use Rattle.std.specs.Prelude.{◌≡◌, ◌≤◌};
+ghost use Rattle.cx_command.specs.Eistg.{eistg_field, eistg_head};
+ghost use Rattle.cx_command.specs.Layout.{end_of};
 
 /// A field at the head of a program's DFHEISTG, before the program's own fields.
 ///
@@ -29,7 +30,8 @@ impl EistgField {
 
     /// Its offset from the first byte of DFHEISTG.
     pub fn offset(self) -> u32
-        ensures { result ≡ (eistg_field self).offset }
+        ensures value { result ≡ (eistg_field self).offset }
+        ensures within { end_of (eistg_field self) ≤ eistg_head }
     {
         match self {
             EistgField::Eipl => 0,

@@ -1,6 +1,7 @@
 //! What holds of every row of the table of commands, of its look-ups, and of the layouts.
-ghost use Rattle.std.specs.Prelude.{◌≡◌, ◌↔◌, ℕ, List, Some, IsTrue, true, map, sum_by};
+ghost use Rattle.std.specs.Prelude.{◌≡◌, ◌↔◌, ℕ, List, Some, IsTrue, true, map, slice_get, sum_by};
 ghost use Rattle.std.specs.List.{Contains};
+ghost use Rattle.cx_command.specs.Arguments.{argument_index, arguments_in};
 ghost use Rattle.cx_command.specs.Commands.{command_called, command_with, row_of};
 ghost use Rattle.cx_command.specs.Options.{is_option};
 ghost use Rattle.cx_command.specs.Eib.{eib_field, eib_fields, eib_len, eib_pieces};
@@ -10,6 +11,7 @@ ghost use Rattle.cx_command.specs.Laws.Rows.{are_apart, has_own_bits, have_own_n
 ghost use Rattle.cx_command.specs.declared.commands.Command.{Command};
 ghost use Rattle.cx_command.specs.declared.eib.EibField.{EibField};
 ghost use Rattle.cx_command.specs.declared.eistg.EistgField.{EistgField};
+ghost use Rattle.cx_command.specs.declared.options.CommandOption.{CommandOption};
 ghost use Rattle.cx_command.specs.declared.options.OptionName.{OptionName};
 
 /// Each option of a command has a bit of its own.
@@ -36,6 +38,12 @@ pub fn bytes_have_a_length()
 /// Two options are the same exactly where they are one option.
 pub fn options_are_themselves()
     ensures { (one other : OptionName) → (is_option one other ≡ true) ↔ (one ≡ other) }
+{}
+
+/// Each argument of an argument list is found by the name of its option.
+pub fn arguments_are_found_by_name()
+    ensures { (command : Command) (first k : ℕ) (option : CommandOption)
+        → slice_get (arguments_in (row_of command).options first) k ≡ Some option → argument_index command first option.name ≡ Some k }
 {}
 
 /// A command is found exactly by its function value, and exactly by its name.

@@ -3,7 +3,10 @@ ghost use Rattle.std.specs.Prelude.{◌≡◌, ◌↔◌, Some};
 ghost use Rattle.std.specs.List.{find};
 ghost use Rattle.std.specs.Str.{bytes_eq};
 ghost use Rattle.cx_command.specs.Arguments.{takes_argument};
+ghost use Rattle.cx_command.specs.Legal.{has_bit};
 ghost use Rattle.cx_command.specs.Options.{common_of, option_name};
+
+use crate::legal::has_bit;
 
 /// An option of a command that has a bit in option byte 1 of the argument list.
 ///
@@ -158,6 +161,13 @@ impl CommonOption {
             CommonOption::Nohandle => 0x80,
             CommonOption::Resp => 0x40,
         }
+    }
+
+    /// Whether option byte 2 has it.
+    pub fn is_in(self, second: u8) -> bool
+        ensures { result ≡ has_bit second (common_of self).bit }
+    {
+        has_bit(second, self.bit())
     }
 
     /// Whether it has an argument, and so the last word of the argument list.

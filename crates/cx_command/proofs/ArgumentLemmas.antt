@@ -1,0 +1,71 @@
+-- An argument is found by the name of its option.
+use Rattle.std.proofs.Common.{◌≡◌, ℕ, zero, suc, ◌↔◌, Bool, not, true, false, List, [], ◌∷◌, slice_get, Some, IsTrue, refl, sym, ◌∙◌, ap, inl, inr, arith, rules}
+use Rattle.std.specs.List.{filter, list_all, position_or_len}
+use Rattle.std.proofs.lemmas.Bool.{cases_Bool, lt-ltb, and_parts, and_from}
+use Rattle.std.proofs.lemmas.Option.{slice_get_within}
+use Rattle.cx_command.specs.declared.commands.Command.{Command}
+use Rattle.cx_command.specs.declared.options.CommandOption.{CommandOption}
+use Rattle.cx_command.specs.declared.options.OptionName.{OptionName}
+use Rattle.cx_command.specs.Options.{is_option}
+use Rattle.cx_command.specs.Commands.{row_of}
+use Rattle.cx_command.specs.Arguments.{argument_index, arguments_in, is_argument}
+use Rattle.cx_command.specs.Laws.Rows.{have_own_names}
+use Rattle.cx_command.proofs.RowLemmas.{own_names}
+
+same_option : (one other : OptionName) → (is_option one other ≡ true) ↔ (one ≡ other)
+same_option one other = search rules
+
+flipped : (one other : OptionName) → is_option one other ≡ false → is_option other one ≡ false
+flipped one other differ = elim (cases_Bool (is_option other one)) [
+  | inl t ↦
+      let yes : is_option one other ≡ true = (same_option one other).1 (sym ((same_option other one).0 t)) in
+      absurd (cc)
+  | inr f ↦ f
+]
+
+all_filter : {A : Type 0} (test keeps : A → Bool) (xs : List A) → list_all test xs ≡ true → list_all test (filter keeps xs) ≡ true
+all_filter test keeps [] all = refl
+all_filter test keeps (x ∷ xs) all =
+    let parts = and_parts _ _ all in
+    let rest = all_filter test keeps xs parts.1 in
+    elim (cases_Bool (keeps x)) [ inl t ↦ rw t (and_from _ _ parts.0 rest) | inr f ↦ rw f rest ]
+
+names_filter : (keeps : CommandOption → Bool) (options : List CommandOption) → have_own_names options ≡ true → have_own_names (filter keeps options) ≡ true
+names_filter keeps [] own = refl
+names_filter keeps (option ∷ rest) own =
+    let parts = and_parts _ _ own in
+    let more = names_filter keeps rest parts.1 in
+    elim (cases_Bool (keeps option)) [
+      | inl t ↦ rw t (and_from _ _ (all_filter (λ other. not (is_option other.name option.name)) keeps rest parts.0) more)
+      | inr f ↦ rw f more
+    ]
+
+all_at : {A : Type 0} (test : A → Bool) (xs : List A) (k : ℕ) (x : A) → list_all test xs ≡ true → slice_get xs k ≡ Some x → test x ≡ true
+all_at test [] k x all e = cc
+all_at test (y ∷ ys) zero x all e = let same : y ≡ x = cc in ap test (sym same) ∙ (and_parts _ _ all).0
+all_at test (y ∷ ys) (suc k) x all e = all_at test ys k x (and_parts _ _ all).1 e
+
+not_true : (b : Bool) → not b ≡ true → b ≡ false
+not_true false e = refl
+not_true true e = cc
+
+by_its_name : (options : List CommandOption) (k : ℕ) (option : CommandOption) → have_own_names options ≡ true → slice_get options k ≡ Some option
+    → position_or_len (λ other. is_option other.name option.name) options ≡ k
+by_its_name [] k option own e = cc
+by_its_name (first ∷ rest) zero option own e =
+    let same : first ≡ option = cc in
+    rw ((same_option first.name option.name).1 (ap (λ o. o.name) same)) refl
+by_its_name (first ∷ rest) (suc k) option own e =
+    let parts = and_parts _ _ own in
+    let differs : is_option option.name first.name ≡ false = not_true _ (all_at (λ other. not (is_option other.name first.name)) rest k option parts.0 e) in
+    let more = by_its_name rest k option parts.1 e in
+    rw (flipped option.name first.name differs, more) (omega arith)
+
+pub found_argument : (command : Command) (first k : ℕ) (option : CommandOption) → slice_get (arguments_in (row_of command).options first) k ≡ Some option
+    → argument_index command first option.name ≡ Some k
+unfolding argument_index arguments_in
+found_argument command first k option e =
+    let within = slice_get_within (filter (is_argument first) (row_of command).options) k option e in
+    let at : position_or_len (λ other. is_option other.name option.name) (filter (is_argument first) (row_of command).options) ≡ k =
+    by_its_name (filter (is_argument first) (row_of command).options) k option (names_filter (is_argument first) (row_of command).options (own_names command)) e in
+    rw (at, lt-ltb _ _ within) refl
