@@ -15,4 +15,3 @@ pub use image::{Bytes, Image, Offsets, Span, SpanKind};
 pub use instruction::{Fields, Inst};
 pub use table::{Format, Op, instruction_length};
 pub use text::line_text;
-

@@ -101,6 +101,22 @@ fn the_longest_text_has_a_line(rt: HostRuntime) -> Result<(), Fail> {
     Ok(())
 }
 
+/// The number of lines of a text of so many zero bytes, a line a byte.
+fn line_count(alloc: Global, size: u32) -> Result<usize, AllocError> {
+    let text = vec![in alloc; 0; size as usize]?;
+    let mut spans = Vec::new(alloc);
+    for k in 0..size {
+        spans.push(span(k, 1, SpanKind::Data))?;
+    }
+    Ok(disassemble(alloc, text.as_slice(), spans.as_slice())?.len())
+}
+
+#[test]
+fn each_byte_of_the_longest_text_may_have_a_line(rt: HostRuntime) -> Result<(), Fail> {
+    assert!(rt; line_count(rt.alloc(), 65_536)? == 65_536);
+    Ok(())
+}
+
 /// SLL 1,4(0).
 const SHIFT: Fields = Fields::Rs {
     r1: 1,

@@ -375,6 +375,19 @@ fn marks_are_found_outside_apostrophes(rt: HostRuntime) -> Result<(), Fail> {
     Ok(())
 }
 
+/// The numbers of flags and of parts of an operand of so many commas.
+fn cut_count(alloc: Global, size: usize) -> Result<(usize, usize), AllocError> {
+    let text = vec![in alloc; b','; size]?;
+    let flags = outside(alloc, text.as_slice())?.len();
+    Ok((flags, cut(alloc, text.as_slice(), Mark::Comma)?.len()))
+}
+
+#[test]
+fn a_long_operand_is_cut(rt: HostRuntime) -> Result<(), Fail> {
+    assert!(rt; cut_count(rt.alloc(), 560_000)? == (560_000, 560_001));
+    Ok(())
+}
+
 #[test]
 fn names_begin_with_a_letter(rt: HostRuntime) {
     assert!(rt; is_letter(b'$') && !is_letter(b'7') && !is_letter(b'a'));
