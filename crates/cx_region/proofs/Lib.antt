@@ -17,3 +17,4 @@ pub mod DecideLemmas
 pub mod RunLawLemmas
 pub mod RunLemmas
 pub mod CodeLemmas
+pub mod AskedLemmas
