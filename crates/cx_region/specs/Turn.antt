@@ -8,7 +8,7 @@ use Rattle.cx_exec.specs.declared.machine.Halt.TheVariants as halt
 use Rattle.cx_exec.specs.Machine.{Machine}
 use Rattle.cx_exec.specs.Advance.{Advances}
 use Rattle.cx_storage.specs.Storage.{Storage}
-use Rattle.cx_load.specs.declared.loading.Loaded.{Loaded}
+use Rattle.cx_load.specs.declared.program.Loaded.{Loaded}
 use Rattle.cx_service.specs.Queues.{Queues}
 use Rattle.cx_service.specs.Resources.{Resources}
 use Rattle.cx_program.specs.Levels.{with_current}

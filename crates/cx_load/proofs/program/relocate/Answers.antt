@@ -1,6 +1,6 @@
 use Rattle.std.proofs.Common.{length, arith}
 use Rattle.cx_load.proofs.ApartLemmas.{inside_at}
-use Rattle.cx_load.proofs.loading.relocate.Goals as goal
+use Rattle.cx_load.proofs.program.relocate.Goals as goal
 
 pub raise-requires : goal.raise-requires
 raise-requires c =

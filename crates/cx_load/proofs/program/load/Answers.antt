@@ -1,10 +1,10 @@
 use Rattle.std.proofs.Common.{◌≡◌, ◌∙◌, ap, length, Some, sym}
 use Rattle.cx_storage.specs.Facts.Places.{place_decides}
 use Rattle.cx_storage.specs.Storage.{with_area, written}
-use Rattle.cx_load.specs.Load.{IsProgramPlace, program_owner, text_at}
+use Rattle.cx_load.specs.Program.{IsProgramPlace, program_owner, text_at}
 use Rattle.cx_load.proofs.RelocateLemmas.{length-relocated}
 use Rattle.cx_load.proofs.LoadLemmas.{whole_list, loaded_from}
-use Rattle.cx_load.proofs.loading.load.Goals as goal
+use Rattle.cx_load.proofs.program.load.Goals as goal
 
 pub returns-clause-loaded : goal.returns-clause-loaded
 returns-clause-loaded g c =

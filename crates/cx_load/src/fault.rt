@@ -1,7 +1,7 @@
 //! Checking an image.
 
 ghost use Rattle.std.specs.Prelude.{◌≡◌, MatchOption, MatchResult};
-ghost use Rattle.cx_load.specs.Check.{IsFit, IsLowestFault, all_apart, are_apart, are_inside, fault_name, is_apart};
+ghost use Rattle.cx_load.specs.Fault.{IsFit, IsLowestFault, all_apart, are_apart, are_inside, fault_name, is_apart};
 ghost use Rattle.cx_load.specs.Parts.Cascade.{fault_of};
 
 use cx_code::Image;
@@ -53,7 +53,7 @@ pub struct CheckedImage {
 
 impl Model for CheckedImage {
     ghost use Rattle.cx_code.specs.declared.image.Image.{Image};
-    ghost use Rattle.cx_load.specs.Check.{IsFit};
+    ghost use Rattle.cx_load.specs.Fault.{IsFit};
 
     ghost Value = { Image };
 
@@ -94,7 +94,7 @@ fn fault_of(image: &Image) -> Option<ImageFault>
 }
 
 /// The fault of the first test that fails.
-#[tactic(auto, unfolding(crate::specs::Parts::Cascade::fault_of, crate::specs::Check::has_length, crate::specs::Check::has_entry, crate::specs::Check::has_stg_length))]
+#[tactic(auto, unfolding(crate::specs::Parts::Cascade::fault_of, crate::specs::Fault::has_length, crate::specs::Fault::has_entry, crate::specs::Fault::has_stg_length))]
 fn first_fault(image: &Image) -> Option<ImageFault>
     ensures { result ≡ fault_of image.now }
 {
@@ -116,7 +116,7 @@ fn first_fault(image: &Image) -> Option<ImageFault>
 }
 
 /// Whether each relocated word stands in a text of so many bytes.
-#[tactic(auto, unfolding(crate::specs::Check::are_inside))]
+#[tactic(auto, unfolding(crate::specs::Fault::are_inside))]
 fn are_inside(size: usize, relocs: &[u32]) -> bool
     ensures { result ≡ are_inside size relocs.now }
 {
@@ -124,7 +124,7 @@ fn are_inside(size: usize, relocs: &[u32]) -> bool
 }
 
 /// Whether two words share no byte.
-#[tactic(auto, unfolding(crate::specs::Check::are_apart))]
+#[tactic(auto, unfolding(crate::specs::Fault::are_apart))]
 fn are_apart(r: u32, q: u32) -> bool
     ensures { result ≡ are_apart r q }
 {
@@ -132,7 +132,7 @@ fn are_apart(r: u32, q: u32) -> bool
 }
 
 /// Whether a word shares no byte with any of these.
-#[tactic(auto, unfolding(crate::specs::Check::is_apart))]
+#[tactic(auto, unfolding(crate::specs::Fault::is_apart))]
 fn is_apart(r: u32, relocs: &[u32]) -> bool
     ensures { result ≡ is_apart r relocs.now }
 {

@@ -1,8 +1,8 @@
 use Rattle.std.proofs.Common.{◌≡◌, ◌+◌, ◌-◌, ◌%◌, ◌^◌, ◌∙◌, arith}
 use Rattle.byteorder.specs.Endian.{big_bytes, big_from}
-use Rattle.cx_load.specs.Relocate.{raised}
+use Rattle.cx_load.specs.Relocation.{raised}
 use Rattle.cx_load.proofs.RelocateLemmas.{put_word, word_of_part}
-use Rattle.cx_load.proofs.loading.raise.Goals as goal
+use Rattle.cx_load.proofs.program.raise.Goals as goal
 
 pub returns : goal.returns
 unfolding raised

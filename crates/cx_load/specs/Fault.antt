@@ -2,8 +2,8 @@
 use Rattle.std.specs.Prelude.{◌≡◌, ℕ, ◌+◌, ◌<◌, ◌≤◌, IsTrue, Bool, true, false, ◌&&◌, ◌||◌, not, nat_le, nat_lt, List, [], ◌∷◌, length, codes}
 use Rattle.std.specs.List.{list_all}
 use Rattle.cx_code.specs.declared.image.Image.{Image}
-use Rattle.cx_load.specs.declared.checking.ImageFault.{ImageFault}
-use Rattle.cx_load.specs.declared.checking.ImageFault.TheVariants.{BadLength, EntryOutside, RelocOutside, Overlap, StgLength}
+use Rattle.cx_load.specs.declared.fault.ImageFault.{ImageFault}
+use Rattle.cx_load.specs.declared.fault.ImageFault.TheVariants.{BadLength, EntryOutside, RelocOutside, Overlap, StgLength}
 
 -- a text of 1 to 65,536 bytes
 unfoldable pub has_length : Image → Bool

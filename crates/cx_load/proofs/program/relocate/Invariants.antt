@@ -1,6 +1,6 @@
 use Rattle.std.proofs.Common.{◌≡◌, length, drop}
-use Rattle.cx_load.specs.Relocate.{relocated}
-use Rattle.cx_load.proofs.loading.relocate.Given as goal
+use Rattle.cx_load.specs.Relocation.{relocated}
+use Rattle.cx_load.proofs.program.relocate.Given as goal
 
 -- the words so far are raised, and the bytes are as many as before
 abbrev pub invariant-loop-r : goal.invariant-loop-r

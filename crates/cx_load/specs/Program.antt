@@ -6,8 +6,8 @@ use Rattle.cx_storage.specs.declared.areas.Owner.{Owner}
 use Rattle.cx_storage.specs.declared.areas.Kind.TheVariants.{Fixed}
 use Rattle.cx_storage.specs.Storage.{Storage, span, with_area, written}
 use Rattle.cx_storage.specs.Place.{IsLeastPlace}
-use Rattle.cx_load.specs.declared.loading.Loaded.{Loaded}
-use Rattle.cx_load.specs.Relocate.{relocated}
+use Rattle.cx_load.specs.declared.program.Loaded.{Loaded}
+use Rattle.cx_load.specs.Relocation.{relocated}
 
 -- the addresses between which programs stand
 abbrev pub first_of_programs : ℕ

@@ -1,12 +1,12 @@
 //! Loading a checked image.
 
 ghost use Rattle.std.specs.Prelude.{◌≡◌, ◌+◌, ◌≤◌, ◌<◌, ◌^◌, ◌↔◌, IsTrue, IfOk, OnErr, IsErrOf, MatchBool, None, length};
-ghost use Rattle.cx_load.specs.Check.{are_inside};
-ghost use Rattle.cx_load.specs.Relocate.{raised, relocated};
-ghost use Rattle.cx_load.specs.Load.{IsLoaded, IsProgramPlace};
-ghost use Rattle.cx_load.specs.declared.loading.LoadFault.TheVariants.{Memory};
+ghost use Rattle.cx_load.specs.Fault.{are_inside};
+ghost use Rattle.cx_load.specs.Relocation.{raised, relocated};
+ghost use Rattle.cx_load.specs.Program.{IsLoaded, IsProgramPlace};
+ghost use Rattle.cx_load.specs.declared.program.LoadFault.TheVariants.{Memory};
 
-use crate::checking::CheckedImage;
+use crate::fault::CheckedImage;
 use byteorder::{BigEndian, ByteOrder};
 use cx_storage::{Kind, Owner, Store};
 use std::alloc::{AllocError, Global};
@@ -54,7 +54,7 @@ impl From<AllocError> for LoadFault {
 }
 
 /// Raises the word at an offset by an address, modulo 2^32.
-#[tactic(auto, unfolding(crate::specs::Relocate::raised))]
+#[tactic(auto, unfolding(crate::specs::Relocation::raised))]
 fn raise(bytes: &mut [u8], r: usize, at: u32)
     requires { r + 4 ≤ length bytes.old }
     ensures { bytes.new ≡ raised at r bytes.old }
