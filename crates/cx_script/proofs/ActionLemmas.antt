@@ -6,7 +6,7 @@ use Rattle.cx_load.specs.declared.checking.ImageFault.{ImageFault}
 use Rattle.cx_region.specs.State.{RegionState}
 use Rattle.cx_region.specs.RegionLaws.{ProgramsDecide, TransactionsDecide, TerminalsDecide, KeysDecide, TurnsDecide}
 use Rattle.cx_region.specs.Attach.{input_from}
-use Rattle.cx_script.specs.Performing.{ByFault, Performs}
+use Rattle.cx_script.specs.Effects.{ByFault, Performs}
 use Rattle.cx_script.specs.Texts.{defined_text, key_text, program_text, turn_text}
 use Rattle.cx_script.specs.declared.actions.Action.{Action}
 use Rattle.cx_script.specs.declared.actions.Action.TheVariants as action

@@ -1,5 +1,5 @@
 -- What a line of a script asks where it is not in a block.
-use Rattle.std.specs.Prelude.{ℕ, Bool, true, ◌==◌, if◌then◌else◌, Option, Some, unwrap_or, ◌≤◌, length, List, [], ◌∷◌, codes}
+use Rattle.std.specs.Prelude.{ℕ, Bool, true, ◌==◌, if◌then◌else◌, Option, Some, unwrap_or, List, [], ◌∷◌, codes}
 use Rattle.std.specs.Option.{option_and_then, option_map}
 use Rattle.std.specs.List.{find}
 use Rattle.std.specs.Str.{bytes_eq}
@@ -8,7 +8,6 @@ use Rattle.cx_ebcdic.specs.Aids.{key_of}
 use Rattle.cx_ebcdic.specs.declared.aids.Aid.{Aid}
 use Rattle.cx_ebcdic.specs.declared.aids.Aid.TheVariants.{Enter, Clear, Pa1, Pa2, Pf1, Pf2, Pf3, Pf4, Pf5, Pf6, Pf7, Pf8, Pf9, Pf10, Pf11, Pf12}
 use Rattle.cx_script.specs.Words.{word, behind, number_of, codes_of_key}
-use Rattle.cx_script.specs.declared.actions.Action.{Action}
 use Rattle.cx_script.specs.declared.actions.Action.TheVariants as action
 use Rattle.cx_script.specs.declared.actions.Line.{Line}
 use Rattle.cx_script.specs.declared.actions.Line.TheVariants as line
@@ -73,13 +72,3 @@ unfoldable pub line_of : List ℕ → Option Line
 line_of text =
     if is_idle text then Some line.Idle
     else option_and_then (λ v. option_and_then (asked v) (behind text)) (verb_of (word text))
-
--- What the region's calls take: a time of six digits and a date of five, and at most 1,920 bytes of a key.
-abbrev pub IsAllowed : Action → Type 0
-IsAllowed (action.Clock time date) = (time ≤ 999999) × (date ≤ 99999)
-IsAllowed (action.Key terminal aid bytes) = length bytes ≤ 1920
-IsAllowed _ = Unit {0}
-
-abbrev pub IsAllowedLine : Line → Type 0
-IsAllowedLine (line.Action a) = IsAllowed a
-IsAllowedLine _ = Unit {0}

@@ -5,7 +5,8 @@ ghost use Rattle.std.specs.List.{find};
 ghost use Rattle.std.specs.Option.{option_map};
 ghost use Rattle.cx_ebcdic.specs.Aids.{key_of};
 ghost use Rattle.std.specs.Str.{bytes_eq};
-ghost use Rattle.cx_script.specs.Actions.{IsAllowedLine, aid_of, asked, is_idle, key_words, line_of, verb_name, verb_of};
+ghost use Rattle.cx_script.specs.Parts.Allowed.{IsAllowedLine};
+ghost use Rattle.cx_script.specs.Actions.{aid_of, asked, is_idle, key_words, line_of, verb_name, verb_of};
 
 use crate::words::{codes_of_key, name4, name8, number, split_word};
 use cx_code::{Bytes, Image};
