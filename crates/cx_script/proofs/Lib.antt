@@ -11,3 +11,4 @@ pub mod FaultLemmas
 pub mod WholeLemmas
 pub mod ActionLemmas
 pub mod InputLemmas
+pub mod BadLineLemmas

@@ -1,3 +1,4 @@
 -- The statements of laws.
 pub mod WholeScripts
 pub mod Inputs
+pub mod BadLines

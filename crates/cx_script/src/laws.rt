@@ -8,6 +8,7 @@ ghost use Rattle.cx_region.specs.State.{RegionState};
 ghost use Rattle.cx_script.specs.Effects.{Performs};
 ghost use Rattle.cx_script.specs.Transcript.{Runs};
 ghost use Rattle.cx_script.specs.Laws.WholeScripts.{OkIsTheWholeScript};
+ghost use Rattle.cx_script.specs.Laws.BadLines.{BadLinesAreBad};
 ghost use Rattle.cx_script.specs.Laws.Inputs.{FailuresAreTold, InputsDecide, PastTheBoundIsReadBound, ReadBoundIsPastTheBound, ReadIsAFailure};
 ghost use Rattle.cx_script.specs.declared.actions.Action.{Action};
 ghost use Rattle.cx_script.specs.declared.faults.Summary.{Summary};
@@ -37,6 +38,12 @@ pub fn the_input_decides()
 {
     an_action_has_one_outcome();
 }
+
+/// A line that is told as BadLine is one of the script's: bad where it stands, or the beginning of a block that the script's
+/// end leaves open. No line in front of it is bad, and exactly what these complete is done.
+pub fn bad_lines_are_bad()
+    ensures { BadLinesAreBad }
+{}
 
 /// An action on a region has one outcome: what is written for it, and the region after it.
 pub fn an_action_has_one_outcome()
