@@ -16,5 +16,6 @@ pub mod SoundTurned
 pub mod KeepsLemmas
 pub mod DecideLemmas
 pub mod RunLawLemmas
+pub mod EventLemmas
 pub mod RunLemmas
 pub mod CodeLemmas

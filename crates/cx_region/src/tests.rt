@@ -172,7 +172,11 @@ fn key_event(alloc: Global, bytes: &[u8]) -> Result<Event, Fail>
     ensures { IfOk result IsAllowed }
 {
     let bytes = Vec::from_slice(alloc, bytes)?;
-    Ok(Event::Key(terminal(FIRST), Aid::Enter, bytes))
+    Ok(Event::Key(
+        terminal(FIRST),
+        Aid::Enter,
+        Bytes::from_vec(bytes),
+    ))
 }
 
 /// The replies to a program's definitions, its key and two turns, as one run.
