@@ -2,3 +2,4 @@
 pub mod WholeScripts
 pub mod Inputs
 pub mod BadLines
+pub mod Events

@@ -9,6 +9,7 @@ ghost use Rattle.cx_script.specs.Effects.{Performs};
 ghost use Rattle.cx_script.specs.Transcript.{Runs};
 ghost use Rattle.cx_script.specs.Laws.WholeScripts.{OkIsTheWholeScript};
 ghost use Rattle.cx_script.specs.Laws.BadLines.{BadLinesAreBad};
+ghost use Rattle.cx_script.specs.Laws.Events.{ScriptsRunTheirEvents};
 ghost use Rattle.cx_script.specs.Laws.Inputs.{FailuresAreTold, InputsDecide, PastTheBoundIsReadBound, ReadBoundIsPastTheBound, ReadIsAFailure};
 ghost use Rattle.cx_script.specs.declared.actions.Action.{Action};
 ghost use Rattle.cx_script.specs.declared.faults.Summary.{Summary};
@@ -50,7 +51,7 @@ pub fn an_action_has_one_outcome()
     ensures { (old : RegionState) (action : Action) (text other : List ℕ) (new another : RegionState) →
         Performs old action text new → Performs old action other another → (text ≡ other) × (new ≡ another) }
 {
-    cx_region::region_laws::calls_decide();
+    cx_region::region_laws::events_decide();
 }
 
 /// The transcript of actions on a region is one, and so is the region behind them.
@@ -60,3 +61,9 @@ pub fn a_transcript_is_one()
 {
     an_action_has_one_outcome();
 }
+
+/// A run of a script's actions is a run of its events: the region behind it is that behind the events that the actions give,
+/// in order, and each reply is the one that was written.
+pub fn a_script_runs_its_events()
+    ensures { ScriptsRunTheirEvents }
+{}
