@@ -2,7 +2,6 @@
 use Rattle.std.proofs.Common.{◌≡◌, ℕ, Bool, true, false, Option, Some, None, List, [], ◌∷◌, length, refl, sym, ◌∙◌, ap, subst, inl, inr}
 use Rattle.std.specs.Prelude.{◌⊎◌, MatchOption, MatchResult, MatchBool, Result, Ok, Err}
 use Rattle.std.specs.Prelude.{◌==◌, ◌&&◌, not}
-use Rattle.std.specs.Global.{Vec}
 use Rattle.std.proofs.lemmas.Bool.{true≢false}
 use Rattle.std.proofs.lemmas.Option.{same_Some, none-some}
 use Rattle.cx_ebcdic.specs.declared.aids.Aid.{Aid}
@@ -301,8 +300,8 @@ unfolding Happens
 clock_reply old time date reply.Clock new h = (refl, h)
 clock_reply old time date _ new h = absurd h
 
-key_reply : (old : RegionState) (name : List ℕ) (aid : Aid) (bytes : Vec ℕ) (r : Reply) (new : RegionState) → Happens old (event.Key name aid bytes) r new
-    → (answer : KeyReply) × (r ≡ reply.Key answer) × Keyed old name (input_from aid bytes.items) answer new
+key_reply : (old : RegionState) (name : List ℕ) (aid : Aid) (bytes : List ℕ) (r : Reply) (new : RegionState) → Happens old (event.Key name aid bytes) r new
+    → (answer : KeyReply) × (r ≡ reply.Key answer) × Keyed old name (input_from aid bytes) answer new
 unfolding Happens
 key_reply old name aid bytes (reply.Key answer) new h = (answer, refl, h)
 key_reply old name aid bytes _ new h = absurd h
@@ -338,7 +337,7 @@ events_decide loading runs old (event.Clock time date) r s a b h k =
 events_decide loading runs old (event.Key name aid bytes) r s a b h k =
     let one = key_reply old name aid bytes r a h in
     let two = key_reply old name aid bytes s b k in
-    let same = key_decides old name (input_from aid bytes.items) one.0 two.0 a b one.2 two.2 in
+    let same = key_decides old name (input_from aid bytes) one.0 two.0 a b one.2 two.2 in
     (replies_same (λ x. reply.Key x) r s one.0 two.0 one.1 two.1 same.0, same.1)
 events_decide loading runs old (event.Turn name) r s a b h k =
     let one = turn_reply old name r a h in

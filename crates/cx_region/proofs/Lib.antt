@@ -13,4 +13,5 @@ pub mod SoundTurned
 pub mod KeepsLemmas
 pub mod DecideLemmas
 pub mod RunLawLemmas
+pub mod EventLemmas
 pub mod RunLemmas

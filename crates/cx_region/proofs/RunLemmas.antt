@@ -1,10 +1,11 @@
 -- A run goes on by one event.
-use Rattle.std.proofs.Common.{◌≡◌, ℕ, zero, suc, ◌+◌, ◌<◌, ◌≤◌, List, [], ◌∷◌, ◌++◌, length, take, get_or, Bool, false, refl, ◌∙◌, subst, arith}
-use Rattle.std.specs.Prelude.{if◌then◌else◌, not}
+use Rattle.std.proofs.Common.{◌≡◌, ℕ, Some, ap, sym, inl, inr, zero, suc, ◌+◌, ◌<◌, ◌≤◌, List, [], ◌∷◌, ◌++◌, length, take, get_or, refl, ◌∙◌, subst, arith}
+use Rattle.std.specs.Prelude.{slice_get}
+use Rattle.std.proofs.lemmas.Option.{slice_get-get_or}
 use Rattle.cx_region.specs.declared.replies.Event.{Event}
 use Rattle.cx_region.specs.declared.replies.Reply.{Reply}
 use Rattle.cx_region.specs.State.{RegionState}
-use Rattle.cx_region.specs.Events.{Happens, Run, RunStopped}
+use Rattle.cx_region.specs.Events.{Happens, MayTakeMemory, Run, RunStopped}
 
 -- no event
 pub run_none : (r : RegionState) (events : List Event) → Run r (take 0 events) [] r
@@ -41,9 +42,16 @@ run_all old new events k replies all run = subst (λ (es : List Event). Run old 
     take_whole (e ∷ es) zero h = absurd (omega arith)
     take_whole (e ∷ es) (suc n) h = rw (take_whole es n (omega arith)) refl
 
-pub run_stopped : (old new : RegionState) (events : List Event) (k : ℕ) (replies : List Reply) → k ≤ length events → Run old (take k events) replies new → RunStopped old events k new
-run_stopped old new events k replies within run = record { within = within; replies = replies; run = run }
+-- in front of the first event
+pub run_unbegun : (r : RegionState) (events : List Event) → (length events ≡ 0 → ⊥) → RunStopped r events 0 r
+run_unbegun r events some = record { within = omega (arith, some); replies = []; run = run_none r events; due = inl refl }
 
--- what was pushed, where that succeeded
-pub pushed : (items more same : List Reply) (b e : Bool) → items ≡ (if b then more else same) → b ≡ not e → e ≡ false → items ≡ more
-pushed items more same b e is c d = is ∙ rw (c, d) refl
+-- at an event that may take memory
+pub run_stopped : (old mid new : RegionState) (events : List Event) (k : ℕ) (event : Event) (replies : List Reply) → k < length events → event ≡ get_or events k event
+    → Run old (take k events) replies mid → new ≡ mid → MayTakeMemory mid event → RunStopped old events k new
+run_stopped old mid new events k event replies within is run same grows =
+    let there : slice_get events k ≡ Some event = slice_get-get_or events k event within ∙ ap Some (sym is) in
+    record {
+      within = within; replies = replies; run = subst (λ (r : RegionState). Run old (take k events) replies r) (sym same) run;
+      due = inr (rw there (subst (λ (r : RegionState). MayTakeMemory r event) (sym same) grows));
+    }

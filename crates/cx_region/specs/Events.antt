@@ -1,14 +1,15 @@
 -- Events of a region, and runs of them.
-use Rattle.std.specs.Prelude.{◌≡◌, ℕ, ◌≤◌, List, [], ◌∷◌, length, take}
+use Rattle.std.specs.Prelude.{◌≡◌, ℕ, ◌<◌, ◌≤◌, ◌⊎◌, true, None, IsSomeAnd, List, [], ◌∷◌, length, take, slice_get}
 use Rattle.std.specs.List.{AllByRecursion}
 use Rattle.cx_region.specs.declared.replies.Event.{Event}
 use Rattle.cx_region.specs.declared.replies.Event.TheVariants as event
 use Rattle.cx_region.specs.declared.replies.Reply.{Reply}
 use Rattle.cx_region.specs.declared.replies.Reply.TheVariants as reply
+use Rattle.cx_load.specs.Program.{IsProgramPlace}
 use Rattle.cx_region.specs.State.{RegionState}
-use Rattle.cx_region.specs.Defining.{DefinesProgram, DefinesTransaction, DefinesTerminal, with_clock}
-use Rattle.cx_region.specs.Attach.{Keyed, input_from}
-use Rattle.cx_region.specs.Turn.{Turned}
+use Rattle.cx_region.specs.Defining.{DefinesProgram, DefinesTransaction, DefinesTerminal, program_fault, transaction_fault, terminal_fault, with_clock}
+use Rattle.cx_region.specs.Attach.{Keyed, MayGrow, asked, input_from}
+use Rattle.cx_region.specs.Turn.{Turned, turn_may_grow}
 
 -- one event: its reply and the region after it
 unfoldable pub Happens : RegionState → Event → Reply → RegionState → Type 0
@@ -16,7 +17,7 @@ Happens old (event.Program name image) (reply.Program result) new = DefinesProgr
 Happens old (event.Transaction tran program) (reply.Transaction result) new = DefinesTransaction old tran program result new
 Happens old (event.Terminal name) (reply.Terminal result) new = DefinesTerminal old name result new
 Happens old (event.Clock time date) reply.Clock new = new ≡ with_clock old time date
-Happens old (event.Key name aid bytes) (reply.Key answer) new = Keyed old name (input_from aid bytes.items) answer new
+Happens old (event.Key name aid bytes) (reply.Key answer) new = Keyed old name (input_from aid bytes) answer new
 Happens old (event.Turn name) (reply.Turn answer) new = Turned old name answer new
 Happens old _ _ new = ⊥
 
@@ -26,16 +27,28 @@ Run old [] [] new = new ≡ old
 Run old (event ∷ events) (reply ∷ replies) new = (between : RegionState) × Happens old event reply between × Run between events replies new
 Run old _ _ new = ⊥
 
--- a run that stopped after so many events, and left the region as these did
+-- An event may take memory: a definition only where no refusal meets it, and a program only where storage has a place for
+-- it; a key and a turn as theirs may; a clock never.
+unfoldable pub MayTakeMemory : RegionState → Event → Type 0
+MayTakeMemory region (event.Program name image) = (program_fault region name ≡ None) × (IsProgramPlace region.storage (length image.text) None → ⊥)
+MayTakeMemory region (event.Transaction tran program) = transaction_fault region tran program ≡ None
+MayTakeMemory region (event.Terminal name) = terminal_fault region name ≡ None
+MayTakeMemory region (event.Clock time date) = ⊥
+MayTakeMemory region (event.Key name aid bytes) = MayGrow (asked region name (input_from aid bytes).bytes) region.storage
+MayTakeMemory region (event.Turn name) = turn_may_grow region name ≡ true
+
+-- A run that stopped after so many events, and left the region as these did: in front of all of them, or at an event
+-- that may take memory.
 pub record RunStopped (old : RegionState) (events : List Event) (done : ℕ) (new : RegionState) : Type 0 where
-  pub within : done ≤ length events
+  pub within : done < length events
   pub replies : List Reply
   pub run : Run old (take done events) replies new
+  pub due : (done ≡ 0) ⊎ IsSomeAnd (slice_get events done) (MayTakeMemory new)
 
 -- what the calls take: a time and a date of six and five digits, and at most 1,920 bytes of input
 abbrev pub IsAllowed : Event → Type 0
 IsAllowed (event.Clock time date) = (time ≤ 999999) × (date ≤ 99999)
-IsAllowed (event.Key name aid bytes) = length bytes.items ≤ 1920
+IsAllowed (event.Key name aid bytes) = length bytes ≤ 1920
 IsAllowed _ = Unit {0}
 
 abbrev pub AreAllowed : List Event → Type 0

@@ -1,6 +1,6 @@
-//! Runs of events.
+//! Events, and runs of them.
 ghost use Rattle.std.specs.Prelude.{◌≡◌, ◌≤◌, IfOk, IfErr, OnErr, length};
-ghost use Rattle.cx_region.specs.Events.{AreAllowed, Happens, IsAllowed, Run, RunStopped};
+ghost use Rattle.cx_region.specs.Events.{AreAllowed, Happens, IsAllowed, MayTakeMemory, Run, RunStopped};
 ghost use Rattle.cx_region.specs.Sound.{IsSound};
 
 use crate::replies::{DefineFault, Event, Reply, RunStop};
@@ -9,11 +9,16 @@ use cx_storage::Store;
 use std::alloc::AllocError;
 
 impl<S: Store + Drop> Region<S> {
-    /// Does one event.
-    #[tactic(auto, unfolding(crate::specs::Events::Happens, crate::specs::Defining::DefinesTransaction, crate::specs::Defining::DefinesTerminal))]
-    fn happen(&mut self, event: &Event) -> Result<Reply, AllocError>
+    /// Does one event: the call that it names. What that call takes is asked of it: a clock as for `set_clock`, at most
+    /// 1,920 bytes of a key. A refusal of the call is its reply.
+    ///
+    /// An error comes only where a growth was refused, no refusal is due, and the event may take memory. Then all is as
+    /// before.
+    #[tactic(auto, using(crate::proofs::EventLemmas::program_memory, crate::proofs::EventLemmas::transaction_memory, crate::proofs::EventLemmas::terminal_memory, crate::proofs::EventLemmas::key_memory, crate::proofs::EventLemmas::turn_memory), unfolding(crate::specs::Events::Happens, crate::specs::Defining::DefinesTransaction, crate::specs::Defining::DefinesTerminal))]
+    pub fn happen(&mut self, event: &Event) -> Result<Reply, AllocError>
         requires { IsAllowed event.now }
         ensures happens { IfOk result (λ reply. Happens self.old event.now reply self.new) }
+        ensures memory { OnErr result (MayTakeMemory self.old event.now) }
         ensures err { OnErr result (self.new ≡ self.old) }
         ensures sound { IsSound self.new }
     {
@@ -50,21 +55,22 @@ impl<S: Store + Drop> Region<S> {
     /// Does events in order, and answers their replies. What each call takes is asked of each event: a clock as for
     /// `set_clock`, at most 1,920 bytes of a key.
     ///
-    /// It stops where a growth was refused: the region is as the events done left it.
+    /// It stops where a growth was refused: in front of the first event, where there is no memory for the replies, else at
+    /// an event that may take memory. The region is as the events done left it.
     pub fn run(&mut self, events: &[Event]) -> Result<Vec<Reply>, RunStop>
         requires { AreAllowed events.now }
         ensures ok { IfOk result (λ replies. Run self.old events.now replies.items self.new) }
         ensures stopped { IfErr result (λ stop. RunStopped self.old events.now stop.done self.new) }
         ensures sound { IsSound self.new }
     {
-        let mut replies = Vec::new(self.alloc);
+        let Ok(mut replies) = Vec::with_capacity(self.alloc, events.len()) else {
+            return Err(RunStop { done: 0 });
+        };
         for (i, event) in events.iter().enumerate() {
             let Ok(reply) = self.happen(event) else {
                 return Err(RunStop { done: i });
             };
-            if replies.push(reply).is_err() {
-                return Err(RunStop { done: i + 1 });
-            }
+            replies.push_reserved(reply);
         }
         Ok(replies)
     }

@@ -2,6 +2,7 @@
 ghost use Rattle.std.specs.Prelude.{◌≡◌};
 ghost use Rattle.cx_region.specs.declared.replies.DefineFault.TheVariants.{Memory};
 
+use cx_code::Bytes;
 use cx_command::Condition;
 use cx_ebcdic::{Aid, Name4, Name8};
 use cx_exec::Cpu;
@@ -114,7 +115,7 @@ pub enum Event {
     /// `set_clock`: the time as hhmmss, the date as yyddd.
     Clock(u32, u32),
     /// `key`: the terminal, the key, and the bytes that it sends.
-    Key(Name4, Aid, Vec<u8>),
+    Key(Name4, Aid, Bytes),
     /// `turn`: the terminal.
     Turn(Name4),
 }

@@ -5,7 +5,10 @@ pub mod HexLines
 pub mod RunLemmas
 pub mod TakeLemmas
 pub mod TextLemmas
-pub mod PerformLemmas
+pub mod EffectLemmas
 pub mod OutcomeLemmas
+pub mod FaultLemmas
 pub mod WholeLemmas
 pub mod ActionLemmas
+pub mod InputLemmas
+pub mod BadLineLemmas

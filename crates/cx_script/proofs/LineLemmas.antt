@@ -6,7 +6,7 @@ use Rattle.std.specs.List.{slice_split, position_or_len, onto_first}
 use Rattle.std.specs.Str.Lines.{strip_carriage_return}
 use Rattle.std.proofs.lemmas.List.Splits.{slice_split_first, length-slice_split}
 use Rattle.cx_script.specs.Lines.{lines_met, lines_of_parts, last_met}
-use Rattle.cx_script.specs.declared.reading.Ending.{Ending}
+use Rattle.cx_script.specs.declared.input.Ending.{Ending}
 
 abbrev feed : ℕ → Bool
 feed b = b == 10

@@ -10,12 +10,13 @@ use Rattle.cx_script.specs.Blocks.{step_at}
 use Rattle.cx_script.specs.Script.{Script, script_from, script_of, line_count, fault_at, before, led_to}
 use Rattle.cx_script.specs.Lines.{lines_met}
 use Rattle.cx_script.specs.declared.faults.Summary.{Summary}
-use Rattle.cx_script.specs.Running.{Runs, WroteAll, WroteSome, Stops, Ends, Acts, Acted, TakesLine, Reached, behind_done}
+use Rattle.cx_script.specs.Transcript.{Runs, WroteAll, WroteSome, Stops, Ends}
+use Rattle.cx_script.specs.Parts.Progress.{Acts, Acted, TakesLine, Reached, behind_done}
 use Rattle.cx_script.specs.declared.actions.Action.{Action}
 use Rattle.cx_script.specs.declared.blocks.Step.{Step}
 use Rattle.cx_script.specs.declared.faults.RunFault.{RunFault}
 use Rattle.cx_script.specs.declared.faults.RunFault.TheVariants.{BadLine, Read, Write, Memory, ReadBound}
-use Rattle.cx_script.specs.declared.reading.Ending.{Ending}
+use Rattle.cx_script.specs.declared.input.Ending.{Ending}
 
 -- the actions of a line
 abbrev of_line : Option Action → List Action

@@ -1,7 +1,7 @@
 -- What becomes of one line.
 use Rattle.std.proofs.Common.{◌≡◌, ℕ, List, None, Some, Option, Result, Ok, Err, refl}
 use Rattle.cx_script.specs.ImageBlock.{ImageBlock}
-use Rattle.cx_script.specs.Running.{Acted, TakesLine}
+use Rattle.cx_script.specs.Parts.Progress.{Acted, TakesLine}
 use Rattle.cx_script.specs.declared.actions.Action.{Action}
 use Rattle.cx_script.specs.declared.blocks.Step.{Step}
 use Rattle.cx_script.specs.declared.faults.RunFault.{RunFault}

@@ -1,5 +1,5 @@
 -- What a line of a script asks where it is not in a block.
-use Rattle.std.specs.Prelude.{ℕ, Bool, true, ◌==◌, if◌then◌else◌, Option, Some, unwrap_or, ◌≤◌, length, List, [], ◌∷◌, codes}
+use Rattle.std.specs.Prelude.{ℕ, Bool, true, ◌==◌, if◌then◌else◌, Option, Some, unwrap_or, List, [], ◌∷◌, codes}
 use Rattle.std.specs.Option.{option_and_then, option_map}
 use Rattle.std.specs.List.{find}
 use Rattle.std.specs.Str.{bytes_eq}
@@ -7,8 +7,8 @@ use Rattle.cx_ebcdic.specs.Names.{name_of}
 use Rattle.cx_ebcdic.specs.Aids.{key_of}
 use Rattle.cx_ebcdic.specs.declared.aids.Aid.{Aid}
 use Rattle.cx_ebcdic.specs.declared.aids.Aid.TheVariants.{Enter, Clear, Pa1, Pa2, Pf1, Pf2, Pf3, Pf4, Pf5, Pf6, Pf7, Pf8, Pf9, Pf10, Pf11, Pf12}
+use Rattle.cx_region.specs.declared.replies.Event.TheVariants as event
 use Rattle.cx_script.specs.Words.{word, behind, number_of, codes_of_key}
-use Rattle.cx_script.specs.declared.actions.Action.{Action}
 use Rattle.cx_script.specs.declared.actions.Action.TheVariants as action
 use Rattle.cx_script.specs.declared.actions.Line.{Line}
 use Rattle.cx_script.specs.declared.actions.Line.TheVariants as line
@@ -51,16 +51,16 @@ key_words text =
 
 -- a key with its text: none is the empty one
 abbrev pub with_text : List ℕ × Aid × Option (List ℕ) → Option Line
-with_text key = option_map (λ bytes. line.Action (action.Key key.0 key.1 bytes)) (codes_of_key (unwrap_or key.2 []))
+with_text key = option_map (λ bytes. line.Action (action.Event (event.Key key.0 key.1 bytes))) (codes_of_key (unwrap_or key.2 []))
 
 -- what a line asks by its first word and the words behind it
 unfoldable pub asked : Verb → List ℕ → Option Line
 asked verb.Image text = option_map (λ p. line.Image p.0 p.1) (pair_of (name_of 8) (number_of 1 9) text)
-asked verb.Transaction text = option_map (λ p. line.Action (action.Transaction p.0 p.1)) (pair_of (name_of 4) (name_of 8) text)
-asked verb.Terminal text = option_map (λ name. line.Action (action.Terminal name)) (name_of 4 text)
-asked verb.Clock text = option_map (λ p. line.Action (action.Clock p.0 p.1)) (pair_of (number_of 6 6) (number_of 5 5) text)
+asked verb.Transaction text = option_map (λ p. line.Action (action.Event (event.Transaction p.0 p.1))) (pair_of (name_of 4) (name_of 8) text)
+asked verb.Terminal text = option_map (λ name. line.Action (action.Event (event.Terminal name))) (name_of 4 text)
+asked verb.Clock text = option_map (λ p. line.Action (action.Event (event.Clock p.0 p.1))) (pair_of (number_of 6 6) (number_of 5 5) text)
 asked verb.Key text = option_and_then with_text (key_words text)
-asked verb.Turn text = option_map (λ name. line.Action (action.Turn name)) (name_of 4 text)
+asked verb.Turn text = option_map (λ name. line.Action (action.Event (event.Turn name))) (name_of 4 text)
 asked verb.Screen text = option_map (λ name. line.Action (action.Screen name)) (name_of 4 text)
 
 -- an empty line, or one that begins with an asterisk
@@ -73,13 +73,3 @@ unfoldable pub line_of : List ℕ → Option Line
 line_of text =
     if is_idle text then Some line.Idle
     else option_and_then (λ v. option_and_then (asked v) (behind text)) (verb_of (word text))
-
--- What the region's calls take: a time of six digits and a date of five, and at most 1,920 bytes of a key.
-abbrev pub IsAllowed : Action → Type 0
-IsAllowed (action.Clock time date) = (time ≤ 999999) × (date ≤ 99999)
-IsAllowed (action.Key terminal aid bytes) = length bytes ≤ 1920
-IsAllowed _ = Unit {0}
-
-abbrev pub IsAllowedLine : Line → Type 0
-IsAllowedLine (line.Action a) = IsAllowed a
-IsAllowedLine _ = Unit {0}

@@ -1,14 +1,16 @@
+-- The definitions, in reading order.
 pub mod Devices
-pub mod Reading
+pub mod Input
 pub mod Lines
 pub mod Words
 pub mod Actions
 pub mod ImageBlock
 pub mod Blocks
 pub mod Script
-pub mod Running
 pub mod Texts
-pub mod Performing
+pub mod Effects
+pub mod Transcript
 pub mod Outcome
 pub mod Status
-pub mod Whole
+pub mod Laws
+pub mod Parts

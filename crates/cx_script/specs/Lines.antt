@@ -2,8 +2,8 @@
 use Rattle.std.specs.Prelude.{ℕ, Bool, ◌==◌, nat_lt, if◌then◌else◌, List, [], ◌∷◌, length}
 use Rattle.std.specs.List.{slice_split}
 use Rattle.std.specs.Str.Lines.{strip_carriage_return}
-use Rattle.cx_script.specs.declared.reading.Ending.{Ending}
-use Rattle.cx_script.specs.declared.reading.Ending.TheVariants.{AtEnd, Failed, PastBound}
+use Rattle.cx_script.specs.declared.input.Ending.{Ending}
+use Rattle.cx_script.specs.declared.input.Ending.TheVariants.{AtEnd, Failed, PastBound}
 
 -- a line has at most 4,096 bytes
 abbrev pub is_too_long : List ℕ → Bool

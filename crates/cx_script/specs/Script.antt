@@ -3,8 +3,8 @@ use Rattle.std.specs.Prelude.{ℕ, ◌+◌, Option, Some, None, List, [], ◌∷
 use Rattle.cx_script.specs.declared.actions.Action.{Action}
 use Rattle.cx_script.specs.declared.faults.RunFault.{RunFault}
 use Rattle.cx_script.specs.declared.faults.RunFault.TheVariants as fault
-use Rattle.cx_script.specs.declared.reading.Ending.{Ending}
-use Rattle.cx_script.specs.declared.reading.Ending.TheVariants.{AtEnd, Failed, PastBound}
+use Rattle.cx_script.specs.declared.input.Ending.{Ending}
+use Rattle.cx_script.specs.declared.input.Ending.TheVariants.{AtEnd, Failed, PastBound}
 use Rattle.cx_script.specs.Lines.{lines_met}
 use Rattle.cx_script.specs.ImageBlock.{ImageBlock}
 use Rattle.cx_script.specs.declared.blocks.Step.{Step}

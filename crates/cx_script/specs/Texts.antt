@@ -9,6 +9,10 @@ use Rattle.cx_load.specs.declared.fault.ImageFault.TheVariants as image
 use Rattle.cx_load.specs.declared.program.Loaded.{Loaded}
 use Rattle.cx_region.specs.declared.replies.DefineFault.{DefineFault}
 use Rattle.cx_region.specs.declared.replies.DefineFault.TheVariants as define
+use Rattle.cx_region.specs.declared.replies.Event.{Event}
+use Rattle.cx_region.specs.declared.replies.Event.TheVariants as event
+use Rattle.cx_region.specs.declared.replies.Reply.{Reply}
+use Rattle.cx_region.specs.declared.replies.Reply.TheVariants as reply
 use Rattle.cx_region.specs.declared.replies.KeyReply.{KeyReply}
 use Rattle.cx_region.specs.declared.replies.KeyReply.TheVariants as key
 use Rattle.cx_region.specs.declared.replies.TurnReply.{TurnReply}
@@ -104,6 +108,16 @@ key_text name reply = written_line (codes "KEY") (shown_name name ∷ key_reply_
 
 unfoldable pub turn_text : List ℕ → TurnReply → List ℕ
 turn_text name reply = written_line (codes "TURN") (shown_name name ∷ turn_reply_name reply ∷ option_to_list (turn_reply_detail reply))
+
+-- what is written for the reply to an event
+unfoldable pub reply_text : Event → Reply → List ℕ
+reply_text (event.Program name image) (reply.Program answer) = program_text name answer
+reply_text (event.Transaction tran program) (reply.Transaction answer) = defined_text (codes "TRANSACTION") tran answer
+reply_text (event.Terminal name) (reply.Terminal answer) = defined_text (codes "TERMINAL") name answer
+reply_text (event.Clock time date) reply.Clock = clock_text
+reply_text (event.Key name aid bytes) (reply.Key answer) = key_text name answer
+reply_text (event.Turn name) (reply.Turn answer) = turn_text name answer
+reply_text _ _ = []
 
 -- ---- pages: the lines that are not wholly blank, each with its number
 -- without the blanks at its end

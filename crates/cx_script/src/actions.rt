@@ -5,28 +5,24 @@ ghost use Rattle.std.specs.List.{find};
 ghost use Rattle.std.specs.Option.{option_map};
 ghost use Rattle.cx_ebcdic.specs.Aids.{key_of};
 ghost use Rattle.std.specs.Str.{bytes_eq};
-ghost use Rattle.cx_script.specs.Actions.{IsAllowedLine, aid_of, asked, is_idle, key_words, line_of, verb_name, verb_of};
+ghost use Rattle.cx_script.specs.Parts.Allowed.{IsAllowedLine};
+ghost use Rattle.cx_script.specs.declared.actions.Action.TheVariants as action;
+ghost use Rattle.cx_script.specs.declared.actions.Line.TheVariants as line;
+ghost use Rattle.cx_script.specs.Actions.{aid_of, asked, is_idle, key_words, line_of, verb_name, verb_of};
 
 use crate::words::{codes_of_key, name4, name8, number, split_word};
-use cx_code::{Bytes, Image};
+use cx_code::Image;
 use cx_ebcdic::{Aid, Name4, Name8};
+use cx_region::Event;
 use std::alloc::{AllocError, Global};
 
 /// What is done for a line, or for a block of lines.
 #[derive(Drop)]
 pub enum Action {
-    /// Defines a program from an image.
+    /// Checks an image, and defines a program from it where it has no fault.
     Image(Name8, Image),
-    /// Defines a transaction with its program.
-    Transaction(Name4, Name8),
-    /// Defines a terminal.
-    Terminal(Name4),
-    /// Sets the clock: the time as hhmmss, the date as yyddd.
-    Clock(u32, u32),
-    /// Sends a key from a terminal, with the codes of a text.
-    Key(Name4, Aid, Bytes),
-    /// Turns the task of a terminal.
-    Turn(Name4),
+    /// An event of the region.
+    Event(Event),
     /// Shows the screen of a terminal.
     Screen(Name4),
 }
@@ -114,6 +110,13 @@ fn aid_of(name: &[u8]) -> Option<Aid>
     aid_in(&Aid::ALL, name)
 }
 
+/// The line that asks an event.
+fn event_line(event: Event) -> Line
+    ensures { result ≡ line.Action (action.Event event) }
+{
+    Line::Action(Action::Event(event))
+}
+
 /// The line that begins an image's block, by what is behind its first word.
 #[tactic(auto, unfolding(crate::specs::Actions::asked))]
 fn image_line(text: &[u8]) -> Option<Line>
@@ -133,7 +136,7 @@ fn transaction_line(text: &[u8]) -> Option<Line>
     let (word, rest) = split_word(text);
     let name = name4(word)?;
     let program = name8(rest?)?;
-    Some(Line::Action(Action::Transaction(name, program)))
+    Some(event_line(Event::Transaction(name, program)))
 }
 
 /// CLOCK, by what is behind its first word.
@@ -145,7 +148,7 @@ fn clock_line(text: &[u8]) -> Option<Line>
     let (word, rest) = split_word(text);
     let time = number(word, 6, 6)?;
     let date = number(rest?, 5, 5)?;
-    Some(Line::Action(Action::Clock(time, date)))
+    Some(event_line(Event::Clock(time, date)))
 }
 
 /// The terminal and the key of KEY, and what is behind them.
@@ -171,7 +174,7 @@ fn key_line(alloc: Global, text: &[u8]) -> Result<Option<Line>, AllocError>
     let Some(codes) = codes_of_key(alloc, behind.unwrap_or(b""))? else {
         return Ok(None);
     };
-    Ok(Some(Line::Action(Action::Key(name, aid, codes))))
+    Ok(Some(event_line(Event::Key(name, aid, codes))))
 }
 
 /// What a line asks by its first word and what is behind it.
@@ -183,10 +186,10 @@ fn asked(alloc: Global, verb: Verb, text: &[u8]) -> Result<Option<Line>, AllocEr
     match verb {
         Verb::Image => Ok(image_line(text)),
         Verb::Transaction => Ok(transaction_line(text)),
-        Verb::Terminal => Ok(name4(text).map(|name| Line::Action(Action::Terminal(name)))),
+        Verb::Terminal => Ok(name4(text).map(|name| event_line(Event::Terminal(name)))),
         Verb::Clock => Ok(clock_line(text)),
         Verb::Key => key_line(alloc, text),
-        Verb::Turn => Ok(name4(text).map(|name| Line::Action(Action::Turn(name)))),
+        Verb::Turn => Ok(name4(text).map(|name| event_line(Event::Turn(name)))),
         Verb::Screen => Ok(name4(text).map(|name| Line::Action(Action::Screen(name)))),
     }
 }

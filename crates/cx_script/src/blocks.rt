@@ -1,7 +1,7 @@
 //! Lines and blocks: what each line of a script leads to.
 
 ghost use Rattle.std.specs.Prelude.{◌≡◌, ◌≤◌, ◌/◌, ◌++◌, IfOk, IfSome, MatchOption, true, false, length};
-ghost use Rattle.cx_script.specs.Actions.{IsAllowed, IsAllowedLine};
+ghost use Rattle.cx_script.specs.Parts.Allowed.{IsAllowed, IsAllowedLine};
 ghost use Rattle.cx_script.specs.Words.{hex_bytes};
 ghost use Rattle.cx_script.specs.Blocks.{block_action, step_at, step_of, step_within, with_bytes};
 

@@ -5,12 +5,15 @@ ghost use Rattle.std.specs.Str.Lines.{lines};
 ghost use Rattle.cx_script.specs.Lines.{lines_met};
 ghost use Rattle.cx_script.specs.Outcome.{RanScript};
 ghost use Rattle.cx_region.specs.State.{RegionState};
-ghost use Rattle.cx_script.specs.Performing.{Performs};
-ghost use Rattle.cx_script.specs.Running.{Runs};
-ghost use Rattle.cx_script.specs.Whole.{IsTranscribed};
+ghost use Rattle.cx_script.specs.Effects.{Performs};
+ghost use Rattle.cx_script.specs.Transcript.{Runs};
+ghost use Rattle.cx_script.specs.Laws.WholeScripts.{OkIsTheWholeScript};
+ghost use Rattle.cx_script.specs.Laws.BadLines.{BadLinesAreBad};
+ghost use Rattle.cx_script.specs.Laws.Events.{ScriptsRunTheirEvents};
+ghost use Rattle.cx_script.specs.Laws.Inputs.{FailuresAreTold, InputsDecide, PastTheBoundIsReadBound, ReadBoundIsPastTheBound, ReadIsAFailure};
 ghost use Rattle.cx_script.specs.declared.actions.Action.{Action};
 ghost use Rattle.cx_script.specs.declared.faults.Summary.{Summary};
-ghost use Rattle.cx_script.specs.declared.reading.Ending.TheVariants.{AtEnd};
+ghost use Rattle.cx_script.specs.declared.input.Ending.TheVariants.{AtEnd};
 
 /// The lines of a script that is read to its end are those that the standard library cuts a text into: an LF
 /// ends each, one CR before it is dropped, and bytes behind the last LF are a line too.
@@ -21,9 +24,26 @@ pub fn lines_are_lines()
 /// Where a run answers Ok, all that the reader had was read: it is a script without a fault, its lines are counted,
 /// and its transcript was written, and nothing else.
 pub fn ok_is_the_whole_script()
-    ensures { (most : ℕ) (left left_after written written_after : Option (List ℕ)) (summary : Summary) →
-        RanScript most left left_after (Ok summary) written written_after →
-        IfSome left (λ input. IsTranscribed input summary.lines written written_after) }
+    ensures { OkIsTheWholeScript }
+{}
+
+/// What the reader has and where it fails decide the answer and the transcript, unless want of memory or the writer
+/// stops the run. ReadBound comes exactly where the reader has more than 16,777,216 bytes and no fault stands in these; Read
+/// only where a read failed; and where one failed, the answer tells it, or the fault that stands in front of it.
+pub fn the_input_decides()
+    ensures decide { InputsDecide }
+    ensures bound { ReadBoundIsPastTheBound }
+    ensures bounded { PastTheBoundIsReadBound }
+    ensures read { ReadIsAFailure }
+    ensures told { FailuresAreTold }
+{
+    an_action_has_one_outcome();
+}
+
+/// A line that is told as BadLine is one of the script's: bad where it stands, or the beginning of a block that the script's
+/// end leaves open. No line in front of it is bad, and exactly what these complete is done.
+pub fn bad_lines_are_bad()
+    ensures { BadLinesAreBad }
 {}
 
 /// An action on a region has one outcome: what is written for it, and the region after it.
@@ -31,7 +51,7 @@ pub fn an_action_has_one_outcome()
     ensures { (old : RegionState) (action : Action) (text other : List ℕ) (new another : RegionState) →
         Performs old action text new → Performs old action other another → (text ≡ other) × (new ≡ another) }
 {
-    cx_region::region_laws::calls_decide();
+    cx_region::region_laws::events_decide();
 }
 
 /// The transcript of actions on a region is one, and so is the region behind them.
@@ -41,3 +61,9 @@ pub fn a_transcript_is_one()
 {
     an_action_has_one_outcome();
 }
+
+/// A run of a script's actions is a run of its events: the region behind it is that behind the events that the actions give,
+/// in order, and each reply is the one that was written.
+pub fn a_script_runs_its_events()
+    ensures { ScriptsRunTheirEvents }
+{}

@@ -4,24 +4,22 @@
 mod actions;
 mod blocks;
 mod devices;
+mod effects;
 mod faults;
+mod input;
 pub mod laws;
 mod lines;
 mod memory;
-mod performing;
-mod reading;
-mod running;
+mod output;
+mod run;
 mod script;
 mod streams;
-#[cfg(test)]
-mod tests;
 mod texts;
 mod words;
-mod writing;
 
 pub use devices::{DeviceFault, ScriptIn, ScriptOut};
 pub use faults::{RunFault, Summary, status};
+pub use input::Ending;
 pub use memory::{MemoryIn, MemoryOut};
-pub use reading::Ending;
 pub use script::run_script;
 pub use streams::Std;

@@ -4,9 +4,9 @@ ghost use Rattle.std.specs.Prelude.{◌≡◌, ◌<◌, ◌==◌, ◌∷◌, ◌
 ghost use Rattle.std.specs.Option.{option_map, option_to_list};
 ghost use Rattle.std.specs.Str.Lines.{strip_carriage_return};
 ghost use Rattle.cx_script.specs.Lines.{is_too_long, last_met, lines_met};
-ghost use Rattle.cx_script.specs.declared.reading.Ending.{Ending};
+ghost use Rattle.cx_script.specs.declared.input.Ending.{Ending};
 
-use crate::reading::Ending;
+use crate::input::Ending;
 
 /// The most bytes that a line may have.
 const MOST_IN_LINE: usize = 4_096;

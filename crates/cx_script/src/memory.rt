@@ -1,6 +1,8 @@
 //! Devices over memory: a slice that is read, and a slice that is filled.
 
-ghost use Rattle.std.specs.Prelude.{◌≡◌, ◌≤◌, Some, [], false, length, take};
+ghost use Rattle.std.specs.Prelude.{◌≡◌, ◌≤◌, ◌-◌, ◌||◌, IfOk, Some, Ok, [], false, length, min, take};
+ghost use Rattle.std.specs.Io.KnownBytes.{WriteAppends};
+ghost use Rattle.cx_script.specs.Devices.{is_refused};
 
 use crate::devices::{DeviceFault, ScriptIn, ScriptOut};
 
@@ -61,6 +63,13 @@ impl<'a> MemoryOut<'a> {
         }
     }
 
+    /// How many bytes it has room for yet. A write takes as many of its bytes.
+    pub fn room(&self) -> usize
+        ensures { result ≡ length self.now.buffer.now - self.now.len }
+    {
+        self.buffer.len() - self.len
+    }
+
     /// What was written.
     pub fn text(&self) -> &[u8]
         ensures { ⟦<MemoryOut<'a> as ScriptOut>⟧.written self.now ≡ Some result.now }
@@ -74,10 +83,17 @@ impl<'a> ScriptOut for MemoryOut<'a> {
 
     ghost has_failed = { λ s. s.failed };
 
-    fn write(&mut self, bytes: &[u8]) -> Result<usize, DeviceFault> {
+    /// Takes all bytes that it has room for.
+    fn write(&mut self, bytes: &[u8]) -> Result<usize, DeviceFault>
+        ensures bound { IfOk result (λ n. n ≤ length bytes.now) }
+        ensures bytes { WriteAppends (Some (take self.old.len self.old.buffer.now)) (Some (take self.new.len self.new.buffer.now)) result bytes.now }
+        ensures failure { self.new.failed ≡ (self.old.failed || is_refused result bytes.now) }
+        ensures all { result ≡ Ok (min (length bytes.now) (length self.old.buffer.now - self.old.len)) }
+        ensures room { length self.new.buffer.now - self.new.len
+            ≡ length self.old.buffer.now - self.old.len - min (length bytes.now) (length self.old.buffer.now - self.old.len) }
+    {
         let len = self.len;
-        let room = self.buffer.len() - len;
-        let n = bytes.len().min(room);
+        let n = bytes.len().min(self.room());
         self.buffer[len..len + n].copy_from_slice(&bytes[..n]);
         self.len = len + n;
         if n == 0 && !bytes.is_empty() {

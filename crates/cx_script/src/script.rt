@@ -2,16 +2,16 @@
 
 ghost use Rattle.std.specs.Prelude.{◌≡◌, ◌<◌, ◌^◌, true, false, length};
 ghost use Rattle.cx_region.specs.Defining.{fresh_region};
-ghost use Rattle.cx_script.specs.Performing.{Performs};
-ghost use Rattle.cx_script.specs.Reading.{is_failure};
+ghost use Rattle.cx_script.specs.Effects.{Performs};
+ghost use Rattle.cx_script.specs.Input.{is_failure};
 ghost use Rattle.cx_script.specs.Script.{line_count, script_of};
 ghost use Rattle.cx_script.specs.Outcome.{RanScript};
-ghost use Rattle.cx_script.specs.Running.{Ends, is_read, is_write};
+ghost use Rattle.cx_script.specs.Transcript.{Ends, is_read, is_write};
 
 use crate::devices::{ScriptIn, ScriptOut};
 use crate::faults::{RunFault, Summary};
-use crate::reading::{Ending, read_input};
-use crate::running::Run;
+use crate::input::{Ending, read_input};
+use crate::run::Run;
 use cx_region::Region;
 use cx_storage::FlatStore;
 use std::alloc::Global;
@@ -39,27 +39,6 @@ fn run_read<W: ScriptOut>(
     Run::new(region).run(alloc, writer, bytes, ending)
 }
 
-/// Runs a script of at most so many bytes on a fresh region.
-#[tactic(auto, using(crate::proofs::OutcomeLemmas::ran_read, crate::proofs::OutcomeLemmas::ran_nothing))]
-pub(crate) fn run_bounded<R: ScriptIn, W: ScriptOut>(
-    alloc: Global,
-    reader: &mut R,
-    writer: &mut W,
-    most: usize,
-) -> Result<Summary, RunFault>
-    requires reader { R.has_failed reader.old ≡ false }
-    requires writer { W.has_failed writer.old ≡ false }
-    requires most { most < 2 ^ 32 }
-    ensures ran { RanScript most (R.left reader.old) (R.left reader.new) result (W.written writer.old) (W.written writer.new) }
-    ensures read { is_read result ≡ true → R.has_failed reader.new ≡ true }
-    ensures write { W.has_failed writer.new ≡ is_write result }
-{
-    match read_input(alloc, reader, most) {
-        Ok(input) => run_read(alloc, writer, input.bytes.as_slice(), input.ending),
-        Err(_) => Err(RunFault::Memory),
-    }
-}
-
 /// Runs a script: does what its lines ask, in order, on a fresh region, and writes the transcript.
 ///
 /// Neither device may have failed. The fault that comes first in the script is answered, and everything
@@ -67,6 +46,7 @@ pub(crate) fn run_bounded<R: ScriptIn, W: ScriptOut>(
 /// ReadBound where the script has more than 16,777,216 bytes, behind the complete lines. Write comes where
 /// a write failed or took no byte: what was written is then a front of a transcript. Memory comes only
 /// where a growth was refused: some of the lines are done then, and their transcript is written.
+#[tactic(auto, using(crate::proofs::OutcomeLemmas::ran_read, crate::proofs::OutcomeLemmas::ran_nothing))]
 pub fn run_script<R: ScriptIn, W: ScriptOut>(
     alloc: Global,
     reader: &mut R,
@@ -74,9 +54,13 @@ pub fn run_script<R: ScriptIn, W: ScriptOut>(
 ) -> Result<Summary, RunFault>
     requires reader { R.has_failed reader.old ≡ false }
     requires writer { W.has_failed writer.old ≡ false }
-    ensures ran { RanScript MOST_BYTES (R.left reader.old) (R.left reader.new) result (W.written writer.old) (W.written writer.new) }
+    ensures ran { RanScript (R.left reader.old) (R.left reader.new) (R.has_failed reader.new) result
+        (W.written writer.old) (W.written writer.new) }
     ensures read { is_read result ≡ true → R.has_failed reader.new ≡ true }
     ensures write { W.has_failed writer.new ≡ is_write result }
 {
-    run_bounded(alloc, reader, writer, MOST_BYTES)
+    match read_input(alloc, reader, MOST_BYTES) {
+        Ok(input) => run_read(alloc, writer, input.bytes.as_slice(), input.ending),
+        Err(_) => Err(RunFault::Memory),
+    }
 }

@@ -3,11 +3,11 @@
 ghost use Rattle.std.specs.Prelude.{◌≡◌, ◌<◌, ◌≤◌, ◌+◌, ◌++◌, IfOk, OnOk, [], ◌∷◌, codes, length, map, take, take_while, slice_index};
 ghost use Rattle.std.specs.Option.{option_copied, option_map};
 ghost use Rattle.cx_ebcdic.specs.Characters.{shown_as};
-ghost use Rattle.cx_script.specs.Texts.{defined_text, clock_text, define_fault_name, hex_digit, image_fault_name, is_filled, key_reply_name, key_text, page_from, page_line, program_text, refused_text, screen_text, shown, shown_name, six_digits, trimmed, turn_reply_detail, turn_reply_name, turn_text, two_digits, written_line};
+ghost use Rattle.cx_script.specs.Texts.{clock_text, define_fault_name, defined_text, hex_digit, image_fault_name, is_filled, key_reply_name, key_text, page_from, page_line, program_text, refused_text, reply_text, screen_text, shown, shown_name, six_digits, trimmed, turn_reply_detail, turn_reply_name, turn_text, two_digits, written_line};
 
 use cx_ebcdic::{Name4, Name8, display};
 use cx_load::{ImageFault, Loaded};
-use cx_region::{DefineFault, KeyReply, TurnReply};
+use cx_region::{DefineFault, Event, KeyReply, Reply, TurnReply};
 use cx_service::{COLUMNS, Screen};
 use std::alloc::{AllocError, Global};
 
@@ -158,7 +158,7 @@ pub fn refused_image(alloc: Global, name: Name8, fault: ImageFault) -> Result<Ve
 
 /// The line of a program's definition.
 #[tactic(auto, unfolding(crate::specs::Texts::program_text, crate::specs::Texts::refused_text))]
-pub fn program_text(
+fn program_text(
     alloc: Global,
     name: Name8,
     answer: Result<Loaded, DefineFault>,
@@ -194,7 +194,7 @@ fn defined_text(
 }
 
 /// The line of a transaction's definition.
-pub fn transaction_text(
+fn transaction_text(
     alloc: Global,
     name: Name4,
     answer: Result<(), DefineFault>,
@@ -205,7 +205,7 @@ pub fn transaction_text(
 }
 
 /// The line of a terminal's definition.
-pub fn terminal_text(
+fn terminal_text(
     alloc: Global,
     name: Name4,
     answer: Result<(), DefineFault>,
@@ -216,7 +216,7 @@ pub fn terminal_text(
 }
 
 /// The line of a clock that is set.
-pub fn clock_text(alloc: Global) -> Result<Vec<u8>, AllocError>
+fn clock_text(alloc: Global) -> Result<Vec<u8>, AllocError>
     ensures { IfOk result (λ text. text.items ≡ clock_text) }
 {
     written_line(alloc, b"CLOCK", &[b"SET"])
@@ -231,7 +231,7 @@ fn reply_line(alloc: Global, verb: &[u8], name: &[u8], reply: &[u8]) -> Result<V
 
 /// The line of a key.
 #[tactic(auto, unfolding(crate::specs::Texts::key_text))]
-pub fn key_text(alloc: Global, name: Name4, reply: KeyReply) -> Result<Vec<u8>, AllocError>
+fn key_text(alloc: Global, name: Name4, reply: KeyReply) -> Result<Vec<u8>, AllocError>
     ensures { IfOk result (λ text. text.items ≡ key_text name reply) }
 {
     let name = shown_name4(alloc, name)?;
@@ -286,7 +286,7 @@ fn detailed_line(
 
 /// The line of a turn.
 #[tactic(auto, unfolding(crate::specs::Texts::turn_text))]
-pub fn turn_text(alloc: Global, name: Name4, reply: TurnReply) -> Result<Vec<u8>, AllocError>
+fn turn_text(alloc: Global, name: Name4, reply: TurnReply) -> Result<Vec<u8>, AllocError>
     ensures { IfOk result (λ text. text.items ≡ turn_text name reply) }
 {
     let name = shown_name4(alloc, name)?;
@@ -294,6 +294,24 @@ pub fn turn_text(alloc: Global, name: Name4, reply: TurnReply) -> Result<Vec<u8>
     match turn_reply_detail(alloc, &reply)? {
         Some(detail) => detailed_line(alloc, &name, answer, &detail),
         None => reply_line(alloc, b"TURN", &name, answer),
+    }
+}
+
+/// What is written for the reply to an event.
+#[tactic(auto, unfolding(crate::specs::Texts::reply_text))]
+pub fn reply_text(alloc: Global, event: &Event, reply: Reply) -> Result<Vec<u8>, AllocError>
+    ensures { IfOk result (λ text. text.items ≡ reply_text event.now reply) }
+{
+    match (event, reply) {
+        (Event::Program(name, _), Reply::Program(answer)) => program_text(alloc, *name, answer),
+        (Event::Transaction(name, _), Reply::Transaction(answer)) => {
+            transaction_text(alloc, *name, answer)
+        }
+        (Event::Terminal(name), Reply::Terminal(answer)) => terminal_text(alloc, *name, answer),
+        (Event::Clock(_, _), Reply::Clock) => clock_text(alloc),
+        (Event::Key(name, _, _), Reply::Key(answer)) => key_text(alloc, *name, answer),
+        (Event::Turn(name), Reply::Turn(answer)) => turn_text(alloc, *name, answer),
+        _ => Ok(Vec::new(alloc)),
     }
 }
 

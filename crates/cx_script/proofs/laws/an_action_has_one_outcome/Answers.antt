@@ -2,6 +2,4 @@ use Rattle.cx_script.proofs.ActionLemmas.{actions_decide}
 use Rattle.cx_script.proofs.laws.an_action_has_one_outcome.Goals as goal
 
 pub returns : goal.returns
-returns c =
-    actions_decide c.calls_decide.ensures.programs c.calls_decide.ensures.transactions c.calls_decide.ensures.terminals c.calls_decide.ensures.keys
-    c.calls_decide.ensures.turns
+returns c = actions_decide c.events_decide.ensures

@@ -1,19 +1,30 @@
-use Rattle.std.proofs.Common.{arith, subst}
+use Rattle.std.proofs.Common.{arith, subst, Err, IsOk, ◌≡◌, Result, Ok}
 use Rattle.cx_region.specs.Sound.{IsSound}
-use Rattle.cx_region.proofs.RunLemmas.{pushed, run_more, run_none, run_stopped}
+use Rattle.cx_region.proofs.RunLemmas.{run_more, run_none, run_stopped, run_unbegun}
 use Rattle.cx_region.proofs.state.Region.run.Goals as goal
 
+not_ok : {A E : Type 0} (r : Result A E) (e : E) → r ≡ Err e → IsOk r → ⊥
+not_ok (Ok a) e is ok = cc
+not_ok (Err f) e is ok = cc
+
+pub returns-in_default-clause-stopped : goal.returns-in_default-clause-stopped
+returns-in_default-clause-stopped g c =
+    run_unbegun c.args.self.now c.args.events.now (λ none. not_ok c.with_capacity.result _ c.in_default.is (c.with_capacity.ensures.succeeds none))
+
 pub loop-i-init : goal.loop-i-init
-loop-i-init g c = (rw c.new-replies.ensures.items (run_none c.args.self.now c.args.events.now), subst IsSound c.self.view_is c.self.invariant)
+loop-i-init g c =
+    (rw c.in-Ok.ensures.items (run_none c.args.self.now c.args.events.now), subst IsSound c.self.view_is c.self.invariant, c.in-Ok.ensures.len, c.in-Ok.ensures.capacity)
 
 pub loop-i-preserved : goal.loop-i-preserved
 loop-i-preserved g c = (
-  rw (pushed _ _ _ _ _ c.push.ensures.items c.is_err.ensures.negation c.if-is_err.false)
-      (run_more c.args.self.now c.loop-i.self c.happen.new.self c.args.events.now c.loop-i.i c.index-events-i.result _ c.in-Ok.reply c.loop-i-test.true c.index-events-i.is c.loop-i.invariant.0 c.in-Ok.ensures.happens),
-  c.in-Ok.ensures.sound,
+  rw c.push_reserved.ensures.items
+      (run_more c.args.self.now c.loop-i.self c.happen.new.self c.args.events.now c.loop-i.i c.index-events-i.result _ c.in-Ok-happen.reply c.loop-i-test.true c.index-events-i.is c.loop-i.invariant.0 c.in-Ok-happen.ensures.happens),
+  c.in-Ok-happen.ensures.sound,
+  omega (arith, c.push_reserved.ensures.len, c.loop-i.invariant.2),
+  rw c.push_reserved.ensures.capacity c.loop-i.invariant.3,
 )
 
-pub returns-then-is_err-clause-stopped : goal.returns-then-is_err-clause-stopped
-returns-then-is_err-clause-stopped g c =
-    run_stopped c.args.self.now c.happen.new.self c.args.events.now _ _ (omega arith)
-    (run_more c.args.self.now c.loop-i.self c.happen.new.self c.args.events.now c.loop-i.i c.index-events-i.result _ c.in-Ok.reply c.loop-i-test.true c.index-events-i.is c.loop-i.invariant.0 c.in-Ok.ensures.happens)
+pub returns-in_default-happen-clause-stopped : goal.returns-in_default-happen-clause-stopped
+returns-in_default-happen-clause-stopped g c =
+    run_stopped c.args.self.now c.loop-i.self c.happen.new.self c.args.events.now c.loop-i.i c.index-events-i.result _ c.loop-i-test.true c.index-events-i.is
+    c.loop-i.invariant.0 c.in_default-happen.ensures.err c.in_default-happen.ensures.memory

@@ -1,0 +1,21 @@
+-- What the program does, and its status.
+use Rattle.std.specs.Prelude.{ℕ, Bool, List, Option, Result, Ok, Err}
+use Rattle.cx_script.specs.Outcome.{RanScript}
+use Rattle.cx_script.specs.Status.{status_of}
+use Rattle.cx_script.specs.declared.faults.RunFault.{RunFault}
+use Rattle.cx_script.specs.declared.faults.Summary.{Summary}
+use Rattle.cx_script.specs.declared.faults.RunFault.TheVariants as fault
+use Rattle.cicsedf.specs.declared.program.Refusal.{Refusal}
+use Rattle.cicsedf.specs.declared.program.Refusal.TheVariants.{Usage, Memory}
+
+-- The program's status: that of the run; where its words are refused 2, or that of a run without memory.
+abbrev pub program_status : Result (Result Summary RunFault) Refusal → ℕ
+program_status (Ok answer) = status_of answer
+program_status (Err Usage) = 2
+program_status (Err Memory) = status_of (Err fault.Memory)
+
+-- a run of the script that a reader has
+pub record RanFrom (left : Option (List ℕ)) (answer : Result Summary RunFault) (written written_after : Option (List ℕ)) : Type 0 where
+  pub left_after : Option (List ℕ)
+  pub failed : Bool
+  pub ran : RanScript left left_after failed answer written written_after

@@ -1,0 +1,64 @@
+//! What the program decides: what it runs, and its status.
+
+ghost use Rattle.std.specs.Prelude.{◌≡◌, false, IfOk, OnErr, Err};
+ghost use Rattle.cx_script.specs.Transcript.{is_write};
+ghost use Rattle.cx_script.specs.declared.faults.RunFault.TheVariants.{Read as ReadFault};
+ghost use Rattle.cicsedf.specs.Program.{RanFrom, program_status};
+
+use cx_script::{RunFault, ScriptOut, Std, Summary, run_script, status};
+use std::alloc::Global;
+use std::io::Read;
+
+/// The status where the words are refused.
+const USAGE_STATUS: u8 = 2;
+
+/// Why the program's words are refused.
+#[derive(Clone, Copy, Debug, PartialEq, Eq)]
+pub enum Refusal {
+    /// They are others than at most one file.
+    Usage,
+    /// A growth was refused.
+    Memory,
+}
+
+/// Runs the script that a reader has.
+pub fn run_reader<F: Read + Drop, W: ScriptOut>(
+    alloc: Global,
+    input: F,
+    output: &mut W,
+) -> Result<Summary, RunFault>
+    requires { W.has_failed output.old ≡ false }
+    ensures ran { RanFrom (F.remaining input) result (W.written output.old) (W.written output.new) }
+    ensures write { W.has_failed output.new ≡ is_write result }
+{
+    run_script(alloc, &mut Std::new(input), output)
+}
+
+/// Runs the script of a file, by what opening it answered. A file that can't be opened is one that can't be read, and
+/// nothing is written.
+pub fn run_opened<F: Read + Drop, E: Drop, W: ScriptOut>(
+    alloc: Global,
+    opened: Result<F, E>,
+    output: &mut W,
+) -> Result<Summary, RunFault>
+    requires { W.has_failed output.old ≡ false }
+    ensures ran { IfOk opened (λ file. RanFrom (F.remaining file) result (W.written output.old) (W.written output.new)) }
+    ensures unopened { OnErr opened (result ≡ Err ReadFault) }
+    ensures unwritten { OnErr opened (W.written output.new ≡ W.written output.old) }
+{
+    match opened {
+        Ok(file) => run_reader(alloc, file, output),
+        Err(_) => Err(RunFault::Read),
+    }
+}
+
+/// The program's status: that of the run, or where its words are refused 2, or 4 for want of memory.
+pub fn program_status(outcome: &Result<Result<Summary, RunFault>, Refusal>) -> u8
+    ensures { result ≡ program_status outcome.now }
+{
+    match outcome {
+        Ok(answer) => status(answer),
+        Err(Refusal::Usage) => USAGE_STATUS,
+        Err(Refusal::Memory) => status(&Err(RunFault::Memory)),
+    }
+}

@@ -1,0 +1,64 @@
+-- An event that was answered by want of memory may take some.
+use Rattle.std.proofs.Common.{◌≡◌, ℕ, Bool, true, false, cond, List, length, None, Some, Option, Result, Ok, Err, MatchOption, IsOkUnless, IsErrOf, IsOk, OnErr, refl, ap}
+use Rattle.cx_code.specs.declared.image.Image.{Image}
+use Rattle.cx_ebcdic.specs.declared.aids.Aid.{Aid}
+use Rattle.cx_load.specs.Program.{IsProgramPlace}
+use Rattle.cx_load.specs.declared.program.Loaded.{Loaded}
+use Rattle.cx_region.specs.State.{RegionState}
+use Rattle.cx_region.specs.Attach.{MayGrow, asked, input_from}
+use Rattle.cx_region.specs.Defining.{program_fault, transaction_fault, terminal_fault}
+use Rattle.cx_region.specs.Events.{MayTakeMemory}
+use Rattle.cx_region.specs.Turn.{turn_may_grow}
+use Rattle.cx_region.specs.declared.replies.DefineFault.{DefineFault}
+use Rattle.cx_region.specs.declared.replies.DefineFault.TheVariants.{Duplicate, Full, Memory, NoProgram}
+use Rattle.cx_region.specs.declared.replies.Event.TheVariants as event
+
+-- no refusal is want of memory
+three : (a b c : Bool) → cond a (Some Duplicate) (cond b (Some Full) (cond c (Some NoProgram) None)) ≡ Some Memory → ⊥
+three true b c e = cc
+three false true c e = cc
+three false false true e = cc
+three false false false e = cc
+
+two : (a b : Bool) → cond a (Some Duplicate) (cond b (Some Full) None) ≡ Some Memory → ⊥
+two true b e = cc
+two false true e = cc
+two false false e = cc
+
+none_due : {A : Type 0} (due : Option DefineFault) (r : Result A DefineFault) → (due ≡ Some Memory → ⊥) → MatchOption due (IsOkUnless r Memory) (IsErrOf r) → r ≡ Err Memory → due ≡ None
+none_due None r never h e = refl
+none_due (Some fault) (Ok done) never h e = cc
+none_due (Some fault) (Err other) never h e = let same : fault ≡ Memory = cc in absurd (never (ap Some same))
+
+pub program_memory : (old : RegionState) (name : List ℕ) (image : Image) (r : Result Loaded DefineFault)
+    → (IsErrOf r Memory → (program_fault old name ≡ None) × (IsProgramPlace old.storage (length image.text) None → ⊥)) → IsErrOf r Memory → MayTakeMemory old (event.Program name image)
+unfolding MayTakeMemory
+program_memory old name image r h e = h e
+
+pub transaction_memory : (old : RegionState) (tran program : List ℕ) (r : Result (Unit {0}) DefineFault)
+    → MatchOption (transaction_fault old tran program) (IsOkUnless r Memory) (IsErrOf r) → r ≡ Err Memory → MayTakeMemory old (event.Transaction tran program)
+unfolding MayTakeMemory transaction_fault
+transaction_memory old tran program r h e = none_due (transaction_fault old tran program) r (λ m. three _ _ _ m) h e
+
+pub terminal_memory : (old : RegionState) (name : List ℕ) (r : Result (Unit {0}) DefineFault)
+    → MatchOption (terminal_fault old name) (IsOkUnless r Memory) (IsErrOf r) → r ≡ Err Memory → MayTakeMemory old (event.Terminal name)
+unfolding MayTakeMemory terminal_fault
+terminal_memory old name r h e = none_due (terminal_fault old name) r (λ m. two _ _ m) h e
+
+pub key_memory : (old : RegionState) (name : List ℕ) (aid : Aid) (bytes : List ℕ) → MayGrow (asked old name (input_from aid bytes).bytes) old.storage → MayTakeMemory old (event.Key name aid bytes)
+unfolding MayTakeMemory
+key_memory old name aid bytes h = h
+
+grown : {A E : Type 0} (b : Bool) (r : Result A E) (fault : E) → (b ≡ false → IsOk r) → r ≡ Err fault → b ≡ true
+grown true r fault h e = refl
+grown false (Ok a) fault h e = cc
+grown false (Err f) fault h e = let ok = h refl in cc
+
+pub turn_memory : {A E : Type 0} (old : RegionState) (name : List ℕ) (r : Result A E) (fault : E) → (turn_may_grow old name ≡ false → IsOk r) → r ≡ Err fault → MayTakeMemory old (event.Turn name)
+unfolding MayTakeMemory
+turn_memory old name r fault h e = grown (turn_may_grow old name) r fault h e
+
+-- what holds anyway holds of an error
+pub on_err : {A E : Type 0} (r : Result A E) (P : Type 0) → P → OnErr r P
+on_err (Ok a) P p = tt
+on_err (Err e) P p = p

@@ -1,0 +1,164 @@
+-- What the reader has, and where it fails, decide the answer.
+use Rattle.std.proofs.Common.{◌≡◌, ℕ, ◌≤◌, Bool, true, false, List, ◌++◌, length, None, Some, Option, Result, Ok, Err, refl, sym, ap, ◌∙◌, subst, arith}
+use Rattle.std.specs.Io.KnownBytes.{Appends, Consumes}
+use Rattle.std.specs.Result.{result_err}
+use Rattle.std.proofs.lemmas.List.{append_cancel_right}
+use Rattle.cx_region.specs.State.{RegionState}
+use Rattle.cx_region.specs.Defining.{fresh_region}
+use Rattle.cx_script.specs.Input.{Reads, is_failure, most_bytes}
+use Rattle.cx_script.specs.Script.{Script, script_of, line_count}
+use Rattle.cx_script.specs.Transcript.{Ends, Stops, WroteAll}
+use Rattle.cx_script.specs.Effects.{Performs}
+use Rattle.cx_script.specs.Outcome.{HasRead}
+use Rattle.cx_script.specs.Laws.Inputs.{was_stopped, InputsDecide, IsPastBound, IsTold, FailuresAreTold, PastTheBoundIsReadBound, ReadBoundIsPastTheBound, ReadIsAFailure}
+use Rattle.cx_script.specs.declared.actions.Action.{Action}
+use Rattle.cx_script.specs.declared.faults.RunFault.{RunFault}
+use Rattle.cx_script.specs.declared.faults.RunFault.TheVariants.{BadLine, Read, Write, Memory, ReadBound}
+use Rattle.cx_script.specs.declared.faults.Summary.{Summary}
+use Rattle.cx_script.specs.declared.input.Ending.{Ending}
+use Rattle.cx_script.specs.declared.input.Ending.TheVariants.{AtEnd, Failed, PastBound}
+use Rattle.cx_script.proofs.FaultLemmas.{has_this, may_have}
+use Rattle.cx_script.proofs.WholeLemmas.{one_transcript}
+
+-- what was read, where the run was not stopped
+read_of : (answer : Result Summary RunFault) (ending : Ending) (left after : Option (List ℕ)) (bytes : List ℕ) → was_stopped answer ≡ false
+    → HasRead answer ending left after bytes → Reads most_bytes ending left after bytes
+read_of (Ok s) ending left after bytes e p = p
+read_of (Err (BadLine n)) ending left after bytes e p = p
+read_of (Err Read) ending left after bytes e p = p
+read_of (Err Write) ending left after bytes e p = cc
+read_of (Err Memory) ending left after bytes e p = cc
+read_of (Err ReadBound) ending left after bytes e p = p
+
+same_failed : (input : List ℕ) (after later : Option (List ℕ)) (bytes other : List ℕ) → Consumes (Some input) after bytes → Consumes (Some input) later other
+    → after ≡ later → bytes ≡ other
+same_failed input None later bytes other p q e = absurd p
+same_failed input (Some x) None bytes other p q e = absurd q
+same_failed input (Some x) (Some y) bytes other p q e =
+    let same : x ≡ y = cc in
+    append_cancel_right bytes other y (subst (λ r. bytes ++ r ≡ other ++ y) same (sym p ∙ q))
+
+-- two readings of the same bytes
+same_reads : (ending another : Ending) (input : List ℕ) (after later : Option (List ℕ)) (bytes other : List ℕ)
+    → Reads most_bytes ending (Some input) after bytes → Reads most_bytes another (Some input) later other
+    → length bytes ≤ most_bytes → length other ≤ most_bytes → is_failure ending ≡ is_failure another
+    → (is_failure ending ≡ true → after ≡ later) → (ending ≡ another) × (bytes ≡ other)
+same_reads AtEnd AtEnd input after later bytes other p q few less f e = (refl, sym p ∙ q)
+same_reads AtEnd Failed input after later bytes other p q few less f e = cc
+same_reads AtEnd PastBound input after later bytes other p q few less f e = let long = q.0 in absurd (omega (arith, ap length p))
+same_reads Failed AtEnd input after later bytes other p q few less f e = cc
+same_reads Failed Failed input after later bytes other p q few less f e = (refl, same_failed input after later bytes other p q (e refl))
+same_reads Failed PastBound input after later bytes other p q few less f e = cc
+same_reads PastBound AtEnd input after later bytes other p q few less f e = let long = p.0 in absurd (omega (arith, ap length q))
+same_reads PastBound Failed input after later bytes other p q few less f e = cc
+same_reads PastBound PastBound input after later bytes other p q few less f e = (refl, sym p.1 ∙ q.1)
+
+-- a fault of the script's own
+own : {S : Type 0} (performs : S → Action → List ℕ → S → Type 0) (old : S) (script : Script) (fault : RunFault) (before after : Option (List ℕ))
+    → was_stopped (Err fault) ≡ false → Stops performs old script fault before after
+    → (script.fault ≡ Some fault) × WroteAll performs old script.actions before after
+unfolding Stops
+own performs old script (BadLine n) before after e s = s
+own performs old script Read before after e s = s
+own performs old script Write before after e s = cc
+own performs old script Memory before after e s = cc
+own performs old script ReadBound before after e s = s
+
+-- the fault of a run that was not stopped, and what it wrote
+pub told : (script : Script) (lines : ℕ) (answer : Result Summary RunFault) (before after : Option (List ℕ)) → was_stopped answer ≡ false
+    → Ends Performs fresh_region script lines answer before after → (result_err answer ≡ script.fault) × WroteAll Performs fresh_region script.actions before after
+told script lines (Ok s) before after e h = (sym h.0, h.2)
+told script lines (Err fault) before after e h = let o = own Performs fresh_region script fault before after e h in (sym o.0, o.1)
+
+same_answer : (script : Script) (lines : ℕ) (answer other : Result Summary RunFault) (before after later : Option (List ℕ)) → was_stopped answer ≡ false → was_stopped other ≡ false
+    → Ends Performs fresh_region script lines answer before after → Ends Performs fresh_region script lines other before later → answer ≡ other
+same_answer script lines (Ok s) (Ok t) before after later e f p q = ap (λ (n : ℕ). let s : Summary = record { lines = n } in let r : Result Summary RunFault = Ok s in r) (p.1 ∙ sym q.1)
+same_answer script lines (Ok s) (Err g) before after later e f p q = let o = own Performs fresh_region script g before later f q in let none = p.0 in let some = o.0 in cc
+same_answer script lines (Err g) (Ok s) before after later e f p q = let o = own Performs fresh_region script g before after e p in let none = q.0 in let some = o.0 in cc
+same_answer script lines (Err g) (Err h) before after later e f p q =
+    let o = own Performs fresh_region script g before after e p in
+    let m = own Performs fresh_region script h before later f q in
+    let one = o.0 in let two = m.0 in cc
+
+appended : (text : List ℕ) (after later : Option (List ℕ)) (a b : List ℕ) → a ≡ b → Appends (Some text) after a → Appends (Some text) later b → after ≡ later
+appended text None later a b e p q = absurd p
+appended text (Some x) None a b e p q = absurd q
+appended text (Some x) (Some y) a b e p q = ap Some (p ∙ ap (λ l. text ++ l) e ∙ sym q)
+
+module _ (decides : (old : RegionState) (action : Action) (text other : List ℕ) (new another : RegionState) → Performs old action text new → Performs old action other another → (text ≡ other) × (new ≡ another)) where
+  same_text : (actions : List Action) (text : List ℕ) (after later : Option (List ℕ)) → WroteAll Performs fresh_region actions (Some text) after
+      → WroteAll Performs fresh_region actions (Some text) later → after ≡ later
+  same_text actions text after later p q =
+      let one = one_transcript Performs decides fresh_region actions p.text q.text p.new q.new p.runs q.runs in
+      appended text after later p.text q.text one.0 p.written q.written
+
+  both : (ending another : Ending) (bytes other : List ℕ) (answer second : Result Summary RunFault) (text : List ℕ) (after later : Option (List ℕ))
+      → ending ≡ another → bytes ≡ other → was_stopped answer ≡ false → was_stopped second ≡ false
+      → Ends Performs fresh_region (script_of ending bytes) (line_count ending bytes) answer (Some text) after
+      → Ends Performs fresh_region (script_of another other) (line_count another other) second (Some text) later
+      → (answer ≡ second) × (after ≡ later)
+  both ending another bytes other answer second text after later e b f g p q =
+      let moved = subst (λ (k : Ending). Ends Performs fresh_region (script_of k other) (line_count k other) second (Some text) later) (sym e) q in
+      let there = subst (λ (l : List ℕ). Ends Performs fresh_region (script_of ending l) (line_count ending l) second (Some text) later) (sym b) moved in
+      let first = told (script_of ending bytes) (line_count ending bytes) answer (Some text) after f p in
+      let last = told (script_of ending bytes) (line_count ending bytes) second (Some text) later g there in (
+        same_answer (script_of ending bytes) (line_count ending bytes) answer second (Some text) after later f g p there,
+        same_text (script_of ending bytes).actions text after later first.1 last.1,
+      )
+
+  pub inputs_decide : InputsDecide
+  inputs_decide input after later failed answer other text written_after written_later p q e f g =
+      let fails : is_failure p.ending ≡ is_failure q.ending = sym p.failure ∙ q.failure in
+      let same = same_reads p.ending q.ending input after later p.bytes q.bytes (read_of answer p.ending (Some input) after p.bytes f p.read)
+      (read_of other q.ending (Some input) later q.bytes g q.read) p.within q.within fails (λ h. e (p.failure ∙ h)) in
+      both p.ending q.ending p.bytes q.bytes answer other text written_after written_later same.0 same.1 f g p.ends q.ends
+
+-- by why no more was read
+past_bound : (ending : Ending) (input bytes : List ℕ) (after : Option (List ℕ)) (failed : Bool) → Reads most_bytes ending (Some input) after bytes → failed ≡ is_failure ending
+    → (script_of ending bytes).fault ≡ Some ReadBound → IsPastBound input failed
+past_bound AtEnd input bytes after failed p f e = let h = has_this AtEnd bytes (Some ReadBound) e in cc
+past_bound Failed input bytes after failed p f e = let h = has_this Failed bytes (Some ReadBound) e in cc
+past_bound PastBound input bytes after failed p f e =
+    record { longer = p.0; faultless = ap (λ (l : List ℕ). (script_of PastBound l).fault) p.1 ∙ e; unfailed = f }
+
+pub read_bound_is : ReadBoundIsPastTheBound
+read_bound_is input after failed written written_after r =
+    let o = own Performs fresh_region (script_of r.ending r.bytes) ReadBound written written_after refl r.ends in
+    past_bound r.ending input r.bytes after failed r.read r.failure o.0
+
+err_is : (answer : Result Summary RunFault) (fault : RunFault) → result_err answer ≡ Some fault → answer ≡ Err fault
+err_is (Ok s) fault e = cc
+err_is (Err f) fault e = let same : f ≡ fault = cc in ap Err same
+
+bounded : (ending : Ending) (input bytes : List ℕ) (after : Option (List ℕ)) (failed : Bool) → Reads most_bytes ending (Some input) after bytes → length bytes ≤ most_bytes → failed ≡ is_failure ending
+    → IsPastBound input failed → (script_of ending bytes).fault ≡ Some ReadBound
+bounded AtEnd input bytes after failed p few f h = let long = h.longer in absurd (omega (arith, ap length p))
+bounded Failed input bytes after failed p few f h = let good = h.unfailed in cc
+bounded PastBound input bytes after failed p few f h = ap (λ (l : List ℕ). (script_of PastBound l).fault) (sym p.1) ∙ h.faultless
+
+pub is_read_bound : PastTheBoundIsReadBound
+is_read_bound input after failed answer written written_after r h e =
+    let fault = bounded r.ending input r.bytes after failed (read_of answer r.ending (Some input) after r.bytes e r.read) r.within r.failure h in
+    let t = told (script_of r.ending r.bytes) (line_count r.ending r.bytes) answer written written_after e r.ends in
+    err_is answer ReadBound (t.0 ∙ fault)
+
+only_failed : (ending : Ending) → may_have ending (Some Read) ≡ true → is_failure ending ≡ true
+only_failed AtEnd e = cc
+only_failed Failed e = refl
+only_failed PastBound e = cc
+
+pub read_is : ReadIsAFailure
+read_is left after failed written written_after r =
+    let o = own Performs fresh_region (script_of r.ending r.bytes) Read written written_after refl r.ends in
+    r.failure ∙ only_failed r.ending (has_this r.ending r.bytes (Some Read) o.0)
+
+told_by : (ending : Ending) (left after : Option (List ℕ)) (bytes : List ℕ) (answer : Result Summary RunFault) → Reads most_bytes ending left after bytes → true ≡ is_failure ending
+    → result_err answer ≡ (script_of ending bytes).fault → IsTold left after answer
+told_by AtEnd left after bytes answer p f e = cc
+told_by Failed left after bytes answer p f e = record { bytes = bytes; read = p; told = e }
+told_by PastBound left after bytes answer p f e = cc
+
+pub failures_told : FailuresAreTold
+failures_told left after answer written written_after r e =
+    let t = told (script_of r.ending r.bytes) (line_count r.ending r.bytes) answer written written_after e r.ends in
+    told_by r.ending left after r.bytes answer (read_of answer r.ending left after r.bytes e r.read) r.failure t.0

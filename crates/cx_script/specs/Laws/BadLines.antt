@@ -1,0 +1,50 @@
+-- Which line a bad line is, and what was done before it.
+use Rattle.std.specs.Prelude.{◌≡◌, ℕ, ◌+◌, ◌-◌, ◌≤◌, ◌⊎◌, true, false, codes, List, [], ◌∷◌, length, take, slice_get, Option, Some, None, IsSomeAnd}
+use Rattle.std.specs.Str.{bytes_eq}
+use Rattle.cx_script.specs.Actions.{line_of}
+use Rattle.cx_script.specs.Blocks.{step_at}
+use Rattle.cx_script.specs.ImageBlock.{ImageBlock}
+use Rattle.cx_script.specs.Lines.{is_too_long, lines_met}
+use Rattle.cx_script.specs.Script.{Script, script_from, script_of}
+use Rattle.cx_script.specs.Words.{hex_bytes}
+use Rattle.cx_script.specs.declared.blocks.Step.{Step}
+use Rattle.cx_script.specs.declared.faults.RunFault.TheVariants.{BadLine, Read}
+use Rattle.cx_script.specs.declared.input.Ending.{Ending}
+use Rattle.cx_script.specs.declared.input.Ending.TheVariants.{AtEnd, Failed}
+
+-- the block that a line leaves to the next one
+abbrev pub block_after : Option Step → Option ImageBlock
+block_after None = None
+block_after (Some step) = step.block
+
+-- the block that the line behind these lines is in; the first of them has this number, and is in this block
+unfoldable pub block_behind : ℕ → Option ImageBlock → List (List ℕ) → Option ImageBlock
+block_behind number block [] = block
+block_behind number block (line ∷ lines) = block_behind (number + 1) (block_after (step_at number block line)) lines
+
+-- A bad line where it stands: it is too long; or it is no line of a script outside a block, and in one neither the
+-- block's end nor pairs of hexadecimal digits.
+abbrev pub IsBadIn : Option ImageBlock → List ℕ → Type 0
+IsBadIn None line = (is_too_long line ≡ true) ⊎ (line_of line ≡ None)
+IsBadIn (Some block) line = (is_too_long line ≡ true) ⊎ ((bytes_eq line (codes "/*") ≡ false) × (hex_bytes line ≡ None))
+
+-- the line with this number is bad where it stands
+abbrev pub IsBadThere : List (List ℕ) → ℕ → Type 0
+IsBadThere lines number = IsSomeAnd (slice_get lines (number - 1)) (IsBadIn (block_behind 1 None (take (number - 1) lines)))
+
+-- it begins a block that the script's end leaves without its own
+abbrev pub IsLeftOpen : Ending → List (List ℕ) → ℕ → Type 0
+IsLeftOpen ending lines number = (ending ≡ AtEnd) × IsSomeAnd (block_behind 1 None lines) (λ block. block.line ≡ number)
+
+-- A bad line of these lines: it is one of them, and bad; those in front of it are not, and exactly what they complete
+-- is done.
+pub record IsBadLine (ending : Ending) (lines : List (List ℕ)) (number : ℕ) (script : Script) : Type 0 where
+  pub first : 1 ≤ number
+  pub last : number ≤ length lines
+  pub bad : IsBadThere lines number ⊎ IsLeftOpen ending lines number
+  pub done : script_from Failed 1 None (take (number - 1) lines) ≡ record { actions = script.actions; fault = Some Read }
+
+-- a script's BadLine is one
+abbrev pub BadLinesAreBad : Type 0
+BadLinesAreBad = (ending : Ending) (bytes : List ℕ) (number : ℕ) → (script_of ending bytes).fault ≡ Some (BadLine number)
+    → IsBadLine ending (lines_met ending bytes) number (script_of ending bytes)

@@ -1,0 +1,13 @@
+//! Tests of scripts, over public calls: transcripts, lines, devices, the program's lines.
+#![tactic(auto)]
+
+#[cfg(test)]
+mod bound;
+#[cfg(test)]
+mod devices;
+#[cfg(test)]
+mod lines;
+#[cfg(test)]
+mod runs;
+#[cfg(test)]
+mod transcripts;
