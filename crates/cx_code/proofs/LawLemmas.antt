@@ -8,7 +8,8 @@ use Rattle.cx_code.specs.declared.instruction.Fields.{Fields}
 use Rattle.cx_code.specs.declared.instruction.Fields.TheVariants.{Rr, Rx, Rs, Si, Ss, Ss2}
 use Rattle.cx_code.specs.Table.{row_of, ops, code_of, name_of, length_of, length_of_code, is_shift, op_at, op_named}
 use Rattle.cx_code.specs.Spelling.{Instruction, instruction, IsWellFormed, spelling, Spells, Reads, with_r3_zero, AreBytes}
-use Rattle.cx_code.specs.Reading.{bytes_with, reading, canonical, canonical_as}
+use Rattle.cx_code.specs.Parts.Bytes.{bytes_with}
+use Rattle.cx_code.specs.Reading.{reading, canonical, canonical_as}
 use Rattle.cx_code.proofs.TableLemmas.{op_at-code_of, op_named-name_of, code_of-op_at, name_of-op_named, each_row}
 use Rattle.cx_code.proofs.SpellingLemmas.{spelling_bytes}
 use Rattle.cx_code.proofs.ReadingLemmas.{reading-Reads, reading-sound, length-Reads, AreBytes-spelling, shift_format}

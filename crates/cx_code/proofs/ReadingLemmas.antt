@@ -10,7 +10,8 @@ use Rattle.cx_code.specs.declared.instruction.Fields.{Fields}
 use Rattle.cx_code.specs.declared.instruction.Fields.TheVariants.{Rr, Rx, Rs, Si, Ss, Ss2}
 use Rattle.cx_code.specs.Table.{row_of, code_of, format_of, length_of, length_of_format, is_shift, op_at}
 use Rattle.cx_code.specs.Spelling.{Instruction, instruction, AreInRange, format_with, r3_of, IsWellFormed, spelling, Spells, Reads, with_r3_zero, AreBytes}
-use Rattle.cx_code.specs.Reading.{bytes_with, reading, reading_as, fields_in, fields_at, without_r3, base_at, displacement_at}
+use Rattle.cx_code.specs.Parts.Bytes.{bytes_with}
+use Rattle.cx_code.specs.Reading.{reading, reading_as, fields_in, fields_at, without_r3, base_at, displacement_at}
 use Rattle.cx_code.proofs.TableLemmas.{op_at-code_of, code_of-op_at}
 use Rattle.cx_code.proofs.SpellingLemmas.{spelling_bytes}
 

@@ -1,6 +1,6 @@
 -- What is read at the front of bytes. The laws of `laws` say that this is `Reads`, and, where the
 -- spelling is canonical, `Spells`.
-use Rattle.std.specs.Prelude.{ℕ, ◌+◌, ◌*◌, ◌/◌, ◌%◌, List, [], ◌∷◌, length, Option, Some, None, option_and_then, slice_index, nat_lt, if◌then◌else◌}
+use Rattle.std.specs.Prelude.{ℕ, ◌/◌, ◌%◌, List, length, Option, Some, None, option_and_then, slice_index, nat_lt, if◌then◌else◌}
 use Rattle.std.specs.Str.{bytes_eq}
 use Rattle.byteorder.specs.Endian.{big_from}
 use Rattle.cx_code.specs.declared.table.Op.{Op}
@@ -10,17 +10,6 @@ use Rattle.cx_code.specs.declared.instruction.Fields.{Fields}
 use Rattle.cx_code.specs.declared.instruction.Fields.TheVariants.{Rr, Rx, Rs, Si, Ss, Ss2}
 use Rattle.cx_code.specs.Table.{op_at, format_of, length_of, is_shift}
 use Rattle.cx_code.specs.Spelling.{Instruction, instruction, spelling}
-
--- the bytes that the code and the fields make, one by one; they are the spelling
-abbrev pub bytes_with : ℕ → Fields → List ℕ
-bytes_with c (Rr r1 r2) = c ∷ (16 * r1 + r2) ∷ []
-bytes_with c (Rx r1 x2 b2 d2) = c ∷ (16 * r1 + x2) ∷ (16 * b2 + d2 / 256) ∷ (d2 % 256) ∷ []
-bytes_with c (Rs r1 r3 b2 d2) = c ∷ (16 * r1 + r3) ∷ (16 * b2 + d2 / 256) ∷ (d2 % 256) ∷ []
-bytes_with c (Si i2 b1 d1) = c ∷ i2 ∷ (16 * b1 + d1 / 256) ∷ (d1 % 256) ∷ []
-bytes_with c (Ss l b1 d1 b2 d2) =
-    c ∷ l ∷ (16 * b1 + d1 / 256) ∷ (d1 % 256) ∷ (16 * b2 + d2 / 256) ∷ (d2 % 256) ∷ []
-bytes_with c (Ss2 l1 l2 b1 d1 b2 d2) =
-    c ∷ (16 * l1 + l2) ∷ (16 * b1 + d1 / 256) ∷ (d1 % 256) ∷ (16 * b2 + d2 / 256) ∷ (d2 % 256) ∷ []
 
 -- the halves of the second byte, and base and displacement in the halfword at a place
 abbrev pub left_half : List ℕ → ℕ

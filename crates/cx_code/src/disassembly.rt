@@ -4,9 +4,9 @@ ghost use Rattle.std.specs.Prelude.{◌≡◌, IfOk};
 ghost use Rattle.cx_code.specs.Reading.{canonical};
 ghost use Rattle.cx_code.specs.Lines.{bytes_in, line_of, lines};
 
-use crate::coding::{encode, instruction_at};
 use crate::image::{Bytes, Span, SpanKind};
 use crate::instruction::Inst;
+use crate::spelling::{encode, instruction_at};
 use std::alloc::{AllocError, Global};
 
 /// What a line of a disassembly stands for.
@@ -29,7 +29,7 @@ pub struct Line {
     pub what: What,
 }
 
-// The instruction whose canonical spelling these bytes are, all of them.
+/// The instruction whose canonical spelling these bytes are, all of them.
 #[tactic(auto, unfolding(crate::specs::Reading::canonical))]
 fn canonical(bytes: &[u8]) -> Option<Inst>
     ensures { result ≡ canonical bytes.now }
@@ -38,7 +38,7 @@ fn canonical(bytes: &[u8]) -> Option<Inst>
     (encode(&inst).as_slice() == bytes).then_some(inst)
 }
 
-// The bytes of a span that stand in the text.
+/// The bytes of a span that stand in the text.
 fn bytes_in<'a>(text: &'a [u8], span: Span) -> &'a [u8]
     ensures { result.now ≡ bytes_in text.now span }
 {
@@ -47,7 +47,7 @@ fn bytes_in<'a>(text: &'a [u8], span: Span) -> &'a [u8]
     bytes
 }
 
-// The line of a span.
+/// The line of a span.
 #[tactic(auto, unfolding(crate::specs::Lines::line_of))]
 fn line_of(alloc: Global, text: &[u8], span: Span) -> Result<Line, AllocError>
     ensures { IfOk result (λ line. line ≡ line_of text.now span) }

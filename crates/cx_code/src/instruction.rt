@@ -81,7 +81,7 @@ impl Fields {
         }
     }
 
-    // The fields with the third register put to zero.
+    /// The fields with the third register put to zero.
     pub(crate) fn without_r3(self) -> Fields
         ensures { result ≡ without_r3 self }
     {
@@ -91,7 +91,7 @@ impl Fields {
         }
     }
 
-    // Whether each field is in its range.
+    /// Whether each field is in its range.
     fn is_in_range(self) -> bool
         ensures { IsTrue result ↔ AreInRange self }
     {
@@ -150,7 +150,7 @@ impl Inst {
         }
     }
 
-    // The instruction of a row with fields that are known to fit it.
+    /// The instruction of a row with fields that are known to fit it.
     pub(crate) fn from_parts(op: Op, fields: Fields) -> Inst
         requires { IsWellFormed (instruction op fields) }
         ensures { result ≡ instruction op fields }

@@ -1,20 +1,18 @@
 //! The instructions of a System/370 subset: their table, their spelling as bytes, and disassembly.
 #![tactic(auto)]
 
-mod coding;
 mod disassembly;
 mod image;
 mod instruction;
 pub mod laws;
+mod spelling;
 mod table;
 mod text;
 
-pub use coding::{CodeBytes, decode, encode};
 pub use disassembly::{Line, What, disassemble};
 pub use image::{Bytes, Image, Offsets, Span, SpanKind};
 pub use instruction::{Fields, Inst};
+pub use spelling::{CodeBytes, decode, encode};
 pub use table::{Format, Op, instruction_length};
 pub use text::line_text;
 
-#[cfg(test)]
-mod tests;

@@ -164,7 +164,7 @@ pub enum Op {
 }
 
 impl Op {
-    // All instructions, in the order of their codes.
+    /// All instructions, in the order of their codes.
     const ALL: [Op; 56] = [
         Op::Balr,
         Op::Bctr,
@@ -224,7 +224,7 @@ impl Op {
         Op::Unpk,
     ];
 
-    // The row of the table: mnemonic, operation code, format.
+    /// The row of the table: mnemonic, operation code, format.
     #[tactic(auto, unfolding(crate::specs::Table::row_of))]
     fn row(self) -> (&'static str, u8, Format)
         ensures { of result.0.now result.1 result.2 ≡ row_of self }
@@ -339,5 +339,17 @@ impl Op {
         ensures { result ≡ op_named name.now }
     {
         Op::ALL.iter().copied().find(|op| op.name() == name)
+    }
+
+    /// The instruction whose mnemonic these bytes are, in capital letters (ASCII); `None` where the
+    /// table has none.
+    #[tactic(auto, unfolding(crate::specs::Table::op_named, crate::specs::Table::ops))]
+    pub fn from_name_bytes(name: &[u8]) -> Option<Op>
+        ensures { result ≡ op_named name.now }
+    {
+        Op::ALL
+            .iter()
+            .copied()
+            .find(|op| op.name().as_bytes() == name)
     }
 }

@@ -8,8 +8,8 @@ use crate::instruction::{Fields, Inst};
 use std::alloc::{AllocError, Global};
 use std::fmt::Write;
 
-// Writes a storage operand whose length field is `l` at the end of a text: `D(L,B)`, where L is the
-// count of bytes.
+/// Writes a storage operand whose length field is `l` at the end of a text: `D(L,B)`, where L is the
+/// count of bytes.
 fn push_counted(text: &mut String, d: u16, l: u8, b: u8) -> Result<(), AllocError>
     ensures { OnOk result (string_bytes text.new ≡ string_bytes text.old ++ indexed d (l + 1) b) }
 {
@@ -17,7 +17,7 @@ fn push_counted(text: &mut String, d: u16, l: u8, b: u8) -> Result<(), AllocErro
     write!(text, "{d}({count},{b})")
 }
 
-// Writes operands at the end of a text, in the assembler's order and as decimal numbers.
+/// Writes operands at the end of a text, in the assembler's order and as decimal numbers.
 #[tactic(auto, unfolding(crate::specs::Text::operands))]
 fn push_operands(text: &mut String, is_shift: bool, fields: Fields) -> Result<(), AllocError>
     ensures { OnOk result (string_bytes text.new ≡ string_bytes text.old ++ operands is_shift fields) }
@@ -47,7 +47,7 @@ fn push_operands(text: &mut String, is_shift: bool, fields: Fields) -> Result<()
     }
 }
 
-// The text of an instruction: its mnemonic, a blank and its operands.
+/// The text of an instruction: its mnemonic, a blank and its operands.
 #[tactic(auto, unfolding(crate::specs::Text::instruction_text))]
 fn instruction_text(alloc: Global, inst: &Inst) -> Result<String, AllocError>
     ensures { IfOk result (λ text. string_bytes text ≡ instruction_text inst.now) }
@@ -58,7 +58,7 @@ fn instruction_text(alloc: Global, inst: &Inst) -> Result<String, AllocError>
     Ok(text)
 }
 
-// Writes a byte as two hexadecimal digits at the end of a text.
+/// Writes a byte as two hexadecimal digits at the end of a text.
 #[tactic(auto, using(std::proofs::lemmas::Fmt::hex_byte))]
 fn push_hex_byte(text: &mut String, byte: u8) -> Result<(), AllocError>
     ensures { OnOk result (string_bytes text.new ≡ string_bytes text.old ++ hex_pair byte) }
@@ -66,7 +66,7 @@ fn push_hex_byte(text: &mut String, byte: u8) -> Result<(), AllocError>
     write!(text, "{byte:02X}")
 }
 
-// Writes bytes as hexadecimal digits at the end of a text.
+/// Writes bytes as hexadecimal digits at the end of a text.
 fn push_hex(text: &mut String, bytes: &[u8]) -> Result<(), AllocError>
     ensures { OnOk result (string_bytes text.new ≡ string_bytes text.old ++ hex_text bytes.now) }
 {
@@ -76,7 +76,7 @@ fn push_hex(text: &mut String, bytes: &[u8]) -> Result<(), AllocError>
     Ok(())
 }
 
-// The text of a constant of these bytes.
+/// The text of a constant of these bytes.
 fn data_text(alloc: Global, bytes: &[u8]) -> Result<String, AllocError>
     ensures { IfOk result (λ text. string_bytes text ≡ codes "DC X'" ++ hex_text bytes.now ++ codes "'") }
 {

@@ -11,8 +11,6 @@ mod eistg;
 pub mod laws;
 mod legal;
 mod options;
-#[cfg(test)]
-mod tests;
 
 pub use abends::Abend;
 pub use commands::Command;

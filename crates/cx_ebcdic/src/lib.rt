@@ -6,8 +6,6 @@ mod characters;
 pub mod laws;
 mod lines;
 mod names;
-#[cfg(test)]
-mod tests;
 
 pub use aids::Aid;
 pub use characters::{display, to_ebcdic};

@@ -3,8 +3,9 @@ use Rattle.std.proofs.Common.{◌≡◌, ℕ, zero, suc, ◌+◌, ◌^◌, ◌<�
 use Rattle.std.specs.Option.{option_map, option_and_then}
 use Rattle.std.proofs.lemmas.Bool.{and_parts, cases_lt}
 use Rattle.std.proofs.lemmas.Nat.{xor_of_8}
-use Rattle.cx_storage.specs.Storage.{Storage, byte_at, along, distance, span, with_byte, IsSound}
-use Rattle.cx_storage.specs.Writes.{span_has}
+use Rattle.cx_storage.specs.Storage.{Storage, byte_at, span, with_byte, IsSound}
+use Rattle.cx_storage.specs.Address.{along, distance}
+use Rattle.cx_storage.specs.Facts.Spans.{span_has}
 use Rattle.cx_exec.specs.declared.rows.Ahead.{Ahead}
 use Rattle.cx_exec.specs.Machine.{Machine}
 use Rattle.cx_exec.specs.Sequence.{Order, rightward, seen, Value, StoresInOrder, content}

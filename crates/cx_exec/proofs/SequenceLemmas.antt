@@ -4,10 +4,10 @@ use Rattle.std.specs.Option.{option_map}
 use Rattle.std.specs.List.{list_any}
 use Rattle.std.proofs.lemmas.Bool.{cases_lt, lt-ltb, le-ltb}
 use Rattle.cx_storage.specs.Storage.{Storage, byte_at, covers, with_byte, IsSound}
-use Rattle.cx_storage.specs.Sound.{sound_with_byte, byte_small, byte_beyond}
-use Rattle.cx_storage.specs.Bytes.{byte_after_set, byte_after_set_elsewhere}
-use Rattle.cx_storage.specs.Writes.{areas_after_set}
-use Rattle.cx_storage.specs.Areas.{present_in_areas, same_storage}
+use Rattle.cx_storage.specs.Facts.Sound.{sound_with_byte, byte_small, byte_beyond}
+use Rattle.cx_storage.specs.Facts.Writes.{byte_after_set, byte_after_set_elsewhere}
+use Rattle.cx_storage.specs.Facts.Writes.{areas_after_set}
+use Rattle.cx_storage.specs.Facts.Areas.{present_in_areas, same_storage}
 use Rattle.cx_exec.specs.Sequence.{Order, rightward, leftward, seen, Value, StoresInOrder, content}
 
 -- numbers and addresses belong together

@@ -3,8 +3,9 @@ use Rattle.std.proofs.Common.{◌≡◌, ℕ, zero, suc, ◌+◌, ◌-◌, ◌*�
 use Rattle.std.proofs.lemmas.Bool.{le-ltb}
 use Rattle.std.proofs.Math.Nat.{div-div-eq-div-mul}
 use Rattle.std.proofs.lemmas.Nat.{pow-add}
-use Rattle.cx_storage.specs.Storage.{Storage, byte_at, along, distance, span}
-use Rattle.cx_storage.specs.Writes.{span_from, span_at, span_length}
+use Rattle.cx_storage.specs.Storage.{Storage, byte_at, span}
+use Rattle.cx_storage.specs.Address.{along, distance}
+use Rattle.cx_storage.specs.Facts.Spans.{span_from, span_at, span_length}
 use Rattle.cx_exec.specs.Sequence.{rightward, StoresInOrder}
 use Rattle.cx_exec.specs.Moves.{moved}
 use Rattle.cx_exec.specs.Decimal.{half, IsDecimal, first_digits, decimal_number, IsReadAs, digit, digit_pair, decimal_bytes}

@@ -2,10 +2,11 @@
 use Rattle.std.proofs.Common.{if◌then◌else◌, ◌≡◌, ℕ, ◌+◌, ◌-◌, ◌*◌, ◌%◌, ◌^◌, ◌<◌, ◌≤◌, ◌==◌, true, Some, is_some, nat_lt, refl, sym, ◌∙◌, ap, inl, inr, arith}
 use Rattle.std.specs.Option.{option_map}
 use Rattle.std.proofs.lemmas.Bool.{and_parts, cases_Bool, cases_lt, cases_eq, lt-ltb, le-ltb, eq-eqb, ne_eqb}
-use Rattle.cx_storage.specs.Storage.{Storage, byte_at, along, span, with_byte, IsSound}
-use Rattle.cx_storage.specs.Sound.{byte_small}
-use Rattle.cx_storage.specs.Bytes.{byte_after_set_elsewhere}
-use Rattle.cx_storage.specs.Writes.{span_has}
+use Rattle.cx_storage.specs.Storage.{Storage, byte_at, span, with_byte, IsSound}
+use Rattle.cx_storage.specs.Address.{along}
+use Rattle.cx_storage.specs.Facts.Sound.{byte_small}
+use Rattle.cx_storage.specs.Facts.Writes.{byte_after_set_elsewhere}
+use Rattle.cx_storage.specs.Facts.Spans.{span_has}
 use Rattle.cx_exec.specs.declared.rows.Ahead.{Ahead}
 use Rattle.cx_exec.specs.Machine.{Machine}
 use Rattle.cx_exec.specs.Sequence.{leftward, behind, Value, StoresInOrder}

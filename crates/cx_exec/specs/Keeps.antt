@@ -6,7 +6,7 @@ use Rattle.cx_code.specs.declared.instruction.Fields.{Fields}
 use Rattle.cx_code.specs.declared.instruction.Fields.TheVariants.{Rr, Rx, Rs, Si, Ss, Ss2}
 use Rattle.cx_code.specs.Spelling.{Instruction}
 use Rattle.cx_storage.specs.Storage.{areas_of, span}
-use Rattle.cx_storage.specs.Writes.{areas_after_set, areas_after_write}
+use Rattle.cx_storage.specs.Facts.Writes.{areas_after_set, areas_after_write}
 use Rattle.cx_exec.specs.declared.machine.Interruption.{Interruption}
 use Rattle.cx_exec.specs.declared.machine.Interruption.TheVariants as interruption
 use Rattle.cx_exec.specs.declared.machine.Step.{Step}

@@ -1,7 +1,8 @@
 -- ICM and STCM (POP, "Insert Characters under Mask", "Store Characters under Mask"): the bytes of a register whose
 -- bits of the mask are one, from left to right, and as many bytes of storage in a row.
 use Rattle.std.specs.Prelude.{ℕ, zero, suc, ◌+◌, ◌-◌, ◌*◌, ◌/◌, ◌%◌, ◌^◌, ◌<◌, ◌≤◌, Bool, ◌==◌, List, [], ◌∷◌, ◌++◌, is_some, slice_set, if◌then◌else◌}
-use Rattle.cx_storage.specs.Storage.{Storage, along, span}
+use Rattle.cx_storage.specs.Storage.{Storage, span}
+use Rattle.cx_storage.specs.Address.{along}
 use Rattle.cx_exec.specs.declared.rows.Ahead.{Ahead}
 use Rattle.cx_exec.specs.Machine.{Machine, reg}
 use Rattle.cx_exec.specs.Frame.{Outcome, Goes}

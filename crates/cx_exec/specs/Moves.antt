@@ -1,7 +1,8 @@
 -- MVC, XC and CLC (POP, "Move", "Exclusive Or", "Compare Logical"): two operands of n bytes, from left to right.
 use Rattle.std.specs.Prelude.{◌≡◌, ◌≢◌, ℕ, zero, suc, ◌<◌, Bool, ◌&&◌, Option, Some, None, is_some, bit_xor, nat_lt, option_and_then, MatchBool, if◌then◌else◌}
 use Rattle.std.specs.Option.{option_map}
-use Rattle.cx_storage.specs.Storage.{Storage, byte_at, along, span}
+use Rattle.cx_storage.specs.Storage.{Storage, byte_at, span}
+use Rattle.cx_storage.specs.Address.{along}
 use Rattle.cx_exec.specs.declared.machine.Interruption.TheVariants as interruption
 use Rattle.cx_exec.specs.declared.rows.Ahead.{Ahead}
 use Rattle.cx_exec.specs.Machine.{Machine}

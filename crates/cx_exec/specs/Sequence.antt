@@ -1,7 +1,8 @@
 -- Bytes that are stored one after the other (POP, "Move", "Exclusive Or", "Pack", "Unpack", "Translate": where
 -- operands overlap, the result is as if each byte were stored before the next ones are fetched).
 use Rattle.std.specs.Prelude.{◌≡◌, ℕ, ◌+◌, ◌-◌, ◌%◌, ◌^◌, ◌<◌, ◌≤◌, Option, nat_lt, unwrap_or, if◌then◌else◌}
-use Rattle.cx_storage.specs.Storage.{Storage, byte_at, along, distance, areas_of, IsSound}
+use Rattle.cx_storage.specs.Storage.{Storage, byte_at, areas_of, IsSound}
+use Rattle.cx_storage.specs.Address.{along, distance}
 
 -- an order of storing: the address of the k-th byte, and the number that an address has in it
 pub record Order : Type 0 where

@@ -1,7 +1,8 @@
 -- What the definitions of rows with lengths, decimal numbers and masks come to, as the module `laws` promises it.
 use Rattle.std.specs.Prelude.{◌≡◌, ℕ, ◌^◌, ◌<◌, ◌≤◌, Some, is_some, true, ℤ, unsigned_abs}
 use Rattle.byteorder.specs.Endian.{big_bytes}
-use Rattle.cx_storage.specs.Storage.{Storage, along, distance, span}
+use Rattle.cx_storage.specs.Storage.{Storage, span}
+use Rattle.cx_storage.specs.Address.{along, distance}
 use Rattle.cx_exec.specs.Sequence.{rightward, StoresInOrder}
 use Rattle.cx_exec.specs.Moves.{moved}
 use Rattle.cx_exec.specs.Decimal.{IsReadAs, decimal_bytes}

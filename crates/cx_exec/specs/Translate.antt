@@ -1,6 +1,7 @@
 -- TR and TRT (POP, "Translate", "Translate and Test"): n argument bytes, from left to right, and a table.
 use Rattle.std.specs.Prelude.{◌≡◌, ◌≢◌, ℕ, ◌+◌, ◌*◌, ◌/◌, ◌^◌, ◌<◌, ◌==◌, true, Ok, Err, Option, Some, None, is_some, slice_set, option_and_then, MatchOption, if◌then◌else◌}
-use Rattle.cx_storage.specs.Storage.{Storage, byte_at, along, span}
+use Rattle.cx_storage.specs.Storage.{Storage, byte_at, span}
+use Rattle.cx_storage.specs.Address.{along}
 use Rattle.cx_exec.specs.declared.machine.Interruption.TheVariants as interruption
 use Rattle.cx_exec.specs.declared.rows.Ahead.{Ahead}
 use Rattle.cx_exec.specs.Machine.{Machine, reg}

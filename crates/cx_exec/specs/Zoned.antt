@@ -2,7 +2,8 @@
 -- counted from the right, and an operand is named by the address of its last byte.
 use Rattle.std.specs.Prelude.{ℕ, ◌+◌, ◌-◌, ◌*◌, ◌/◌, ◌%◌, Bool, ◌&&◌, ◌==◌, Option, Some, is_some, nat_lt, option_and_then, if◌then◌else◌}
 use Rattle.std.specs.Option.{option_map}
-use Rattle.cx_storage.specs.Storage.{Storage, along, span}
+use Rattle.cx_storage.specs.Storage.{Storage, span}
+use Rattle.cx_storage.specs.Address.{along}
 use Rattle.cx_exec.specs.declared.rows.Ahead.{Ahead}
 use Rattle.cx_exec.specs.Machine.{Machine}
 use Rattle.cx_exec.specs.Frame.{Outcome, Goes}

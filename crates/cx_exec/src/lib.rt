@@ -19,10 +19,6 @@ mod rows;
 mod runs;
 mod shifts;
 mod stepping;
-#[cfg(test)]
-mod string_tests;
-#[cfg(test)]
-mod tests;
 mod translate;
 mod zoned;
 

@@ -8,7 +8,7 @@ use crate::machine::{Cpu, Interruption};
 use crate::moves::{along, content, logical_code};
 use crate::operands::put_bytes;
 use crate::rows::Ahead;
-use cx_storage::{Store, has_span};
+use cx_storage::Store;
 
 /// The `k`-th byte (`k` is below 4) of a word, the leftmost first.
 fn byte_of(word: u32, k: u32) -> u8
@@ -136,7 +136,7 @@ pub(crate) fn icm<S: Store>(
     ensures { IcmEffect r1 mask a ahead (machine cpu.old (S.storage store.now)) result (machine cpu.new (S.storage store.now)) }
 {
     let count = number_taken(mask, 4);
-    if !has_span(store, a, count as usize) {
+    if !store.has_span(a, count as usize) {
         return Err(Interruption::Addressing);
     }
     cpu.regs[r1 as usize] = word_inserted(store, a, mask, cpu.regs[r1 as usize]);

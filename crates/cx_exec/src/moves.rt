@@ -1,14 +1,15 @@
 //! MVC, XC and CLC: two operands of one length, byte by byte from left to right.
 
 ghost use Rattle.std.specs.Prelude.{◌≡◌, ◌<◌, ◌≤◌, ◌^◌, is_some, IfSome, IsTrue};
-ghost use Rattle.cx_storage.specs.Storage.{along, span};
+ghost use Rattle.cx_storage.specs.Address.{along};
+ghost use Rattle.cx_storage.specs.Storage.{span};
 ghost use Rattle.cx_exec.specs.State.{machine};
 ghost use Rattle.cx_exec.specs.Sequence.{rightward, content, StoresInOrder};
 ghost use Rattle.cx_exec.specs.Moves.{have_operands, moved, xored, IsLogicalCode, IsFirstDifference, compare_code, MvcEffect, XcEffect, ClcEffect};
 
 use crate::machine::{Cpu, Interruption};
 use crate::rows::Ahead;
-use cx_storage::{Store, has_span};
+use cx_storage::Store;
 
 /// The address `k` bytes (at most 256) after `a` (below 2^24); after X'FFFFFF' comes 0.
 pub(crate) fn along(a: u32, k: u32) -> u32
@@ -34,7 +35,7 @@ fn have_operands<S: Store>(store: &S, n: u32, a1: u32, a2: u32) -> bool
     requires second { a2 < 2 ^ 24 }
     ensures { result ≡ have_operands (S.storage store.now) n a1 a2 }
 {
-    has_span(store, a1, n as usize) && has_span(store, a2, n as usize)
+    store.has_span(a1, n as usize) && store.has_span(a2, n as usize)
 }
 
 /// The first of `n` places at which two operands differ.

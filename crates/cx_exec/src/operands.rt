@@ -24,7 +24,7 @@ pub(crate) fn byte_at<S: Store>(store: &S, a: u32) -> Result<u8, Interruption>
 }
 
 /// The halfword at an address, extended to a word by its sign, or interruption 5.
-#[tactic(auto, using(cx_storage::specs::Words::halfword_read, cx_storage::specs::Words::halfword_absent), unfolding(crate::specs::Operands::halfword_operand))]
+#[tactic(auto, using(cx_storage::specs::Facts::Words::halfword_read, cx_storage::specs::Facts::Words::halfword_absent), unfolding(crate::specs::Operands::halfword_operand))]
 pub(crate) fn halfword_at<S: Store>(store: &S, a: u32) -> Result<u32, Interruption>
     requires { a < 2 ^ 24 }
     ensures { result ≡ halfword_operand (S.storage store.now) a }
@@ -37,7 +37,7 @@ pub(crate) fn halfword_at<S: Store>(store: &S, a: u32) -> Result<u32, Interrupti
 }
 
 /// The word at an address, or interruption 5.
-#[tactic(auto, using(cx_storage::specs::Words::word_read, cx_storage::specs::Words::word_absent), unfolding(crate::specs::Operands::word_operand))]
+#[tactic(auto, using(cx_storage::specs::Facts::Words::word_read, cx_storage::specs::Facts::Words::word_absent), unfolding(crate::specs::Operands::word_operand))]
 pub(crate) fn word_at<S: Store>(store: &S, a: u32) -> Result<u32, Interruption>
     requires { a < 2 ^ 24 }
     ensures { result ≡ word_operand (S.storage store.now) a }

@@ -10,7 +10,7 @@ use crate::machine::{Cpu, Interruption};
 use crate::moves::{along, content};
 use crate::numbers::inserted;
 use crate::rows::Ahead;
-use cx_storage::{Store, has_span};
+use cx_storage::Store;
 
 /// The table's byte for the `k`-th argument byte (`k` is at most 256), where both are present.
 fn table_byte<S: Store>(store: &S, a1: u32, a2: u32, k: u32) -> Option<u8>
@@ -134,7 +134,7 @@ pub(crate) fn trt<S: Store>(
     requires address { ahead.next < 2 ^ 24 }
     ensures { TrtEffect n a1 a2 ahead (machine cpu.old (S.storage store.now)) result (machine cpu.new (S.storage store.now)) }
 {
-    if !has_span(store, a1, n as usize) {
+    if !store.has_span(a1, n as usize) {
         return Err(Interruption::Addressing);
     }
     let Some(k) = first_found(store, n, a1, a2) else {

@@ -1,7 +1,7 @@
 //! PACK and UNPK: two operands with lengths of their own, from right to left.
 
 ghost use Rattle.std.specs.Prelude.{◌≡◌, ◌+◌, ◌-◌, ◌<◌, ◌≤◌, ◌^◌, IsTrue};
-ghost use Rattle.cx_storage.specs.Storage.{along};
+ghost use Rattle.cx_storage.specs.Address.{along};
 ghost use Rattle.cx_exec.specs.State.{machine};
 ghost use Rattle.cx_exec.specs.Sequence.{leftward, behind, StoresInOrder};
 ghost use Rattle.cx_exec.specs.Zoned.{source, swapped, packed, packed_byte, unpacked, unpacked_half, fetched, have_both, PackEffect, UnpkEffect};
@@ -9,7 +9,7 @@ ghost use Rattle.cx_exec.specs.Zoned.{source, swapped, packed, packed_byte, unpa
 use crate::machine::{Cpu, Interruption};
 use crate::moves::{along, content};
 use crate::rows::Ahead;
-use cx_storage::{Store, has_span};
+use cx_storage::Store;
 
 /// The address `k` bytes (at most 256) before `a` (below 2^24); before 0 comes X'FFFFFF'.
 fn behind(a: u32, k: u32) -> u32
@@ -133,7 +133,7 @@ fn have_both<S: Store>(store: &S, n1: u32, a1: u32, n2: u32, a2: u32) -> bool
     requires second { a2 < 2 ^ 24 }
     ensures { result ≡ have_both (S.storage store.now) n1 a1 n2 a2 }
 {
-    has_span(store, a1, n1 as usize) && has_span(store, a2, n2 as usize)
+    store.has_span(a1, n1 as usize) && store.has_span(a2, n2 as usize)
 }
 
 /// PACK. The operands, of `n1` and `n2` bytes, begin at `a1` and `a2`.

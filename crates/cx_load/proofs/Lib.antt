@@ -1,4 +1,3 @@
 pub mod ApartLemmas
 pub mod RelocateLemmas
-pub mod FitLemmas
 pub mod LoadLemmas

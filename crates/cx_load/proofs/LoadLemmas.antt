@@ -3,10 +3,14 @@ use Rattle.std.proofs.Common.{◌≡◌, ℕ, ◌+◌, ◌<◌, ◌≤◌, true,
 use Rattle.std.specs.Prelude.{is_some, slice_index}
 use Rattle.std.proofs.lemmas.List.{get_or-replicate, length-replicate, take-append-le, take_all}
 use Rattle.cx_storage.specs.declared.areas.Owner.{Owner}
-use Rattle.cx_storage.specs.Storage.{Storage, along, byte_at, covers, span, with_area, written}
-use Rattle.cx_storage.specs.Sound.{covers_from}
-use Rattle.cx_storage.specs.Areas.{area_from, byte_after_get, place_decides}
-use Rattle.cx_storage.specs.Writes.{span_from, span_after_write}
+use Rattle.cx_storage.specs.Storage.{Storage, byte_at, covers, span, with_area, written}
+use Rattle.cx_storage.specs.Address.{along}
+use Rattle.cx_storage.specs.Facts.Sound.{covers_from}
+use Rattle.cx_storage.specs.Storage.{area_from}
+use Rattle.cx_storage.specs.Facts.Areas.{byte_after_get}
+use Rattle.cx_storage.specs.Facts.Places.{place_decides}
+use Rattle.cx_storage.specs.Facts.Spans.{span_from}
+use Rattle.cx_storage.specs.Facts.Writes.{span_after_write}
 use Rattle.cx_storage.specs.Place.{IsLeastPlace, CanPlace}
 use Rattle.cx_code.specs.declared.image.Image.{Image}
 use Rattle.cx_load.specs.declared.loading.Loaded.{Loaded}

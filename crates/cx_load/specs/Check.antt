@@ -1,5 +1,5 @@
 -- What makes an image fit to be loaded (this product's own).
-use Rattle.std.specs.Prelude.{◌≡◌, ℕ, ◌+◌, ◌<◌, ◌≤◌, IsTrue, Bool, true, false, ◌&&◌, ◌||◌, not, nat_le, nat_lt, List, [], ◌∷◌, length, Option, Some, None, if◌then◌else◌}
+use Rattle.std.specs.Prelude.{◌≡◌, ℕ, ◌+◌, ◌<◌, ◌≤◌, IsTrue, Bool, true, false, ◌&&◌, ◌||◌, not, nat_le, nat_lt, List, [], ◌∷◌, length, codes}
 use Rattle.std.specs.List.{list_all}
 use Rattle.cx_code.specs.declared.image.Image.{Image}
 use Rattle.cx_load.specs.declared.checking.ImageFault.{ImageFault}
@@ -21,14 +21,6 @@ are_inside size relocs = list_all (λ r. nat_le (r + 4) size) relocs
 unfoldable pub are_apart : ℕ → ℕ → Bool
 are_apart r q = nat_le (r + 4) q || nat_le (q + 4) r
 
--- whether a byte is one of the four of the word at an offset
-abbrev pub is_of_word : ℕ → ℕ → Bool
-is_of_word k r = nat_le r k && nat_lt k (r + 4)
-
--- no byte is of both words
-abbrev pub SharesNoByte : ℕ → ℕ → Type 0
-SharesNoByte r q = (k : ℕ) → IsTrue (is_of_word k r) → IsTrue (is_of_word k q) → ⊥
-
 -- a word shares no byte with any of these
 unfoldable pub is_apart : ℕ → List ℕ → Bool
 is_apart r relocs = list_all (λ q. are_apart r q) relocs
@@ -42,6 +34,14 @@ all_apart (r ∷ relocs) = is_apart r relocs && all_apart relocs
 unfoldable pub has_stg_length : Image → Bool
 has_stg_length image = nat_le 80 image.stg_len && nat_le image.stg_len 65520
 
+-- the name of a fault
+abbrev pub fault_name : ImageFault → List ℕ
+fault_name BadLength = codes "BadLength"
+fault_name EntryOutside = codes "EntryOutside"
+fault_name RelocOutside = codes "RelocOutside"
+fault_name Overlap = codes "Overlap"
+fault_name StgLength = codes "StgLength"
+
 -- whether a fault applies
 abbrev pub applies : ImageFault → Image → Bool
 applies BadLength image = not (has_length image)
@@ -51,26 +51,17 @@ applies Overlap image = not (all_apart image.relocs)
 applies StgLength image = not (has_stg_length image)
 
 -- the number of a fault
-abbrev pub number_of : ImageFault → ℕ
-number_of BadLength = 1
-number_of EntryOutside = 2
-number_of RelocOutside = 3
-number_of Overlap = 4
-number_of StgLength = 5
+abbrev pub fault_number : ImageFault → ℕ
+fault_number BadLength = 1
+fault_number EntryOutside = 2
+fault_number RelocOutside = 3
+fault_number Overlap = 4
+fault_number StgLength = 5
 
 -- a fault that applies where none of a lower number does
 pub record IsLowestFault (image : Image) (fault : ImageFault) : Type 0 where
   pub met : IsTrue (applies fault image)
-  pub lowest : (other : ImageFault) → number_of other < number_of fault → applies other image ≡ false
-
--- the first of the faults that applies, or none
-unfoldable pub fault_of : Image → Option ImageFault
-fault_of image =
-    if not (has_length image) then Some BadLength
-    else (if not (has_entry image) then Some EntryOutside
-    else (if not (are_inside (length image.text) image.relocs) then Some RelocOutside
-    else (if not (all_apart image.relocs) then Some Overlap
-    else (if not (has_stg_length image) then Some StgLength else None))))
+  pub lowest : (other : ImageFault) → fault_number other < fault_number fault → applies other image ≡ false
 
 -- what holds of an image without a fault
 pub record IsFit (image : Image) : Type 0 where

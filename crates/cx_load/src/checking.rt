@@ -1,9 +1,11 @@
 //! Checking an image.
 
-ghost use Rattle.std.specs.Prelude.{◌≡◌, Some, None, MatchResult};
-ghost use Rattle.cx_load.specs.Check.{IsFit, all_apart, are_apart, are_inside, fault_of, has_entry, has_length, has_stg_length, is_apart};
+ghost use Rattle.std.specs.Prelude.{◌≡◌, MatchOption, MatchResult};
+ghost use Rattle.cx_load.specs.Check.{IsFit, IsLowestFault, all_apart, are_apart, are_inside, fault_name, is_apart};
+ghost use Rattle.cx_load.specs.Parts.Cascade.{fault_of};
 
 use cx_code::Image;
+use std::fmt::{Display, Formatter, Write};
 use std::marker::Model;
 use thiserror::Error;
 
@@ -11,20 +13,36 @@ use thiserror::Error;
 #[derive(Clone, Copy, Debug, PartialEq, Eq, Error)]
 pub enum ImageFault {
     /// The text is empty, or longer than 65,536 bytes.
-    #[error("BadLength")]
     BadLength,
     /// The entry is no offset of the text.
-    #[error("EntryOutside")]
     EntryOutside,
     /// A relocated word goes past the text.
-    #[error("RelocOutside")]
     RelocOutside,
     /// Two relocated words share a byte.
-    #[error("Overlap")]
     Overlap,
     /// The working storage is shorter than 80 bytes, or longer than 65,520.
-    #[error("StgLength")]
     StgLength,
+}
+
+impl ImageFault {
+    /// The fault's name.
+    pub fn name(self) -> &'static str
+        ensures { result.now ≡ fault_name self }
+    {
+        match self {
+            ImageFault::BadLength => "BadLength",
+            ImageFault::EntryOutside => "EntryOutside",
+            ImageFault::RelocOutside => "RelocOutside",
+            ImageFault::Overlap => "Overlap",
+            ImageFault::StgLength => "StgLength",
+        }
+    }
+}
+
+impl Display for ImageFault {
+    fn fmt<W: Write>(&self, f: &mut Formatter<W>) -> Result<(), std::fmt::Error> {
+        f.write_str(self.name())
+    }
 }
 
 /// An image without a fault. `check` alone makes one.
@@ -34,22 +52,20 @@ pub struct CheckedImage {
 }
 
 impl Model for CheckedImage {
-    ghost use Rattle.std.specs.Prelude.{◌≡◌, None};
     ghost use Rattle.cx_code.specs.declared.image.Image.{Image};
-    ghost use Rattle.cx_load.specs.Check.{fault_of};
+    ghost use Rattle.cx_load.specs.Check.{IsFit};
 
     ghost Value = { Image };
 
     ghost view = { λ checked. checked.image };
 
-    ghost invariant = { λ checked. fault_of checked.image ≡ None };
+    ghost invariant = { λ checked. IsFit checked.image };
 }
 
 impl CheckedImage {
     /// The image, which has no fault.
     pub fn image(&self) -> &Image
         ensures value { result.now ≡ self.now }
-        ensures checked { fault_of self.now ≡ None }
         ensures fit { IsFit self.now }
     {
         &self.image
@@ -57,11 +73,11 @@ impl CheckedImage {
 }
 
 /// Checks an image. It is Ok exactly where no fault applies; otherwise the image is given back with
-/// the first fault that does. It takes no memory.
+/// the lowest fault that does. It takes no memory.
 pub fn check(image: Image) -> Result<CheckedImage, (Image, ImageFault)>
     ensures { MatchResult result
-        (λ checked. (checked ≡ image) × (fault_of image ≡ None))
-        (λ refused. (refused.0 ≡ image) × (fault_of image ≡ Some refused.1)) }
+        (λ checked. (checked ≡ image) × IsFit image)
+        (λ refused. (refused.0 ≡ image) × IsLowestFault image refused.1) }
 {
     match fault_of(&image) {
         Some(fault) => Err((image, fault)),
@@ -69,9 +85,17 @@ pub fn check(image: Image) -> Result<CheckedImage, (Image, ImageFault)>
     }
 }
 
-/// The first fault of an image.
-#[tactic(auto, unfolding(crate::specs::Check::fault_of, crate::specs::Check::has_length, crate::specs::Check::has_entry, crate::specs::Check::has_stg_length))]
+/// The lowest fault of an image.
+#[tactic(auto, using(crate::specs::Facts::Faults::fit_without_fault, crate::specs::Facts::Faults::lowest_of_answered))]
 fn fault_of(image: &Image) -> Option<ImageFault>
+    ensures { MatchOption result (IsFit image.now) (IsLowestFault image.now) }
+{
+    first_fault(image)
+}
+
+/// The fault of the first test that fails.
+#[tactic(auto, unfolding(crate::specs::Parts::Cascade::fault_of, crate::specs::Check::has_length, crate::specs::Check::has_entry, crate::specs::Check::has_stg_length))]
+fn first_fault(image: &Image) -> Option<ImageFault>
     ensures { result ≡ fault_of image.now }
 {
     let size = image.text.as_slice().len();

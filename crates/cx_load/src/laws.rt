@@ -1,25 +1,26 @@
 //! What the facts of a checked image, relocation and loading mean, on functions that do nothing.
 
-ghost use Rattle.std.specs.Prelude.{◌≡◌, ◌+◌, ◌%◌, ◌^◌, ◌<◌, ◌≤◌, ◌↔◌, ℕ, List, IsTrue, None, Some, false, length, slice_index};
+ghost use Rattle.std.specs.Prelude.{◌≡◌, ◌+◌, ◌%◌, ◌^◌, ◌<◌, ◌≤◌, ◌↔◌, ℕ, List, IsTrue, false, length, slice_index};
 ghost use Rattle.std.specs.List.{list_any};
 ghost use Rattle.cx_code.specs.declared.image.Image.{Image};
 ghost use Rattle.cx_storage.specs.Storage.{Storage};
 ghost use Rattle.cx_load.specs.declared.checking.ImageFault.{ImageFault};
 ghost use Rattle.cx_load.specs.declared.loading.Loaded.{Loaded};
-ghost use Rattle.cx_load.specs.Check.{IsFit, IsLowestFault, SharesNoByte, all_apart, are_inside, fault_of, is_of_word};
+ghost use Rattle.cx_load.specs.Check.{IsFit, IsLowestFault, all_apart, applies, are_inside};
+ghost use Rattle.cx_load.specs.Laws.Words.{SharesNoByte, is_of_word};
 ghost use Rattle.cx_load.specs.Load.{IsLoaded};
 ghost use Rattle.cx_load.specs.Relocate.{relocated, word_in};
 
-/// A fault is answered exactly where it applies and none of a lower number does.
+/// An image has one lowest fault at most, and none exactly where it is fit.
 pub fn the_lowest_fault()
-    ensures { (image : Image) (fault : ImageFault) → (fault_of image ≡ Some fault) ↔ IsLowestFault image fault }
+    ensures decides { (image : Image) (one other : ImageFault) → IsLowestFault image one → IsLowestFault image other → one ≡ other }
+    ensures none { (image : Image) (fault : ImageFault) → IsFit image → IsLowestFault image fault → ⊥ }
 {}
 
 /// No fault applies exactly to an image with each of the facts of a fit one: among them that each
 /// relocated word ends in the text, and that no two of them, at any two places of the list, share a byte.
-#[tactic(auto, using(crate::proofs::FitLemmas::fit_without_fault, crate::proofs::FitLemmas::no_fault_of_fit))]
 pub fn facts_of_checked()
-    ensures none { (image : Image) → (fault_of image ≡ None) ↔ IsFit image }
+    ensures none { (image : Image) → ((fault : ImageFault) → applies fault image ≡ false) ↔ IsFit image }
     ensures inside { (size : ℕ) (relocs : List ℕ) → IsTrue (are_inside size relocs)
         ↔ ((i : ℕ) → i < length relocs → slice_index relocs i + 4 ≤ size) }
     ensures apart { (relocs : List ℕ) → IsTrue (all_apart relocs)

@@ -4,8 +4,8 @@
 mod checking;
 pub mod laws;
 mod loading;
-#[cfg(test)]
-mod tests;
 
 pub use checking::{CheckedImage, ImageFault, check};
-pub use loading::{LoadFault, Loaded, load};
+pub use loading::{
+    FIRST_OF_PROGRAMS, LAST_OF_PROGRAMS, LoadFault, Loaded, has_room, load, program_place,
+};

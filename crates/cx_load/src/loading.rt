@@ -1,6 +1,6 @@
 //! Loading a checked image.
 
-ghost use Rattle.std.specs.Prelude.{◌≡◌, ◌+◌, ◌≤◌, ◌<◌, ◌^◌, ◌↔◌, IsTrue, IfOk, OnErr, IsErrOf, None, length};
+ghost use Rattle.std.specs.Prelude.{◌≡◌, ◌+◌, ◌≤◌, ◌<◌, ◌^◌, ◌↔◌, IsTrue, IfOk, OnErr, IsErrOf, MatchBool, None, length};
 ghost use Rattle.cx_load.specs.Check.{are_inside};
 ghost use Rattle.cx_load.specs.Relocate.{raised, relocated};
 ghost use Rattle.cx_load.specs.Load.{IsLoaded, IsProgramPlace};
@@ -12,10 +12,11 @@ use cx_storage::{Kind, Owner, Store};
 use std::alloc::{AllocError, Global};
 use thiserror::Error;
 
-/// The addresses between which programs stand.
-const FIRST_OF_PROGRAMS: u32 = 0x010000;
+/// The first address of the range in which programs stand.
+pub const FIRST_OF_PROGRAMS: u32 = 0x010000;
 
-const LAST_OF_PROGRAMS: u32 = 0x1FFFFF;
+/// The last address of the range in which programs stand.
+pub const LAST_OF_PROGRAMS: u32 = 0x1FFFFF;
 
 /// Programs are the region's own, and stay.
 const PROGRAM_OWNER: Owner = Owner {
@@ -73,6 +74,26 @@ fn relocate(bytes: &mut [u8], relocs: &[u32], at: u32)
     }
 }
 
+/// The least place in the program range for `len` bytes (at least 1); None where there is none. It
+/// takes no memory.
+pub fn program_place<S: Store>(store: &S, len: u32) -> Option<u32>
+    requires { 0 < len }
+    ensures { IsProgramPlace (S.storage store.now) len result }
+{
+    store.place(FIRST_OF_PROGRAMS, LAST_OF_PROGRAMS, len)
+}
+
+/// Whether a program of `len` bytes (at least 1) has room: whether the program range has a place for
+/// it. It takes no memory.
+#[tactic(auto, using(crate::proofs::LoadLemmas::place_found))]
+pub fn has_room<S: Store>(store: &S, len: u32) -> bool
+    requires { 0 < len }
+    ensures { MatchBool result (IsProgramPlace (S.storage store.now) len None → ⊥)
+        (IsProgramPlace (S.storage store.now) len None) }
+{
+    program_place(store, len).is_some()
+}
+
 /// Loads a checked image: the text stands at the least place from X'010000' to X'1FFFFF', in a fixed
 /// area of slot 0, each relocated word raised by that address modulo 2^32. NoRoom exactly where there is
 /// no place; Memory only where a growth was refused. Either leaves the store as it was.
@@ -90,7 +111,7 @@ pub fn load<S: Store>(
     let checked = image.image();
     let text = checked.text.as_slice();
     let len = text.len() as u32;
-    let Some(at) = store.place(FIRST_OF_PROGRAMS, LAST_OF_PROGRAMS, len) else {
+    let Some(at) = program_place(store, len) else {
         return Err(LoadFault::NoRoom);
     };
     let mut bytes = text.to_vec(alloc)?;

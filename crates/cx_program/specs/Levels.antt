@@ -1,8 +1,22 @@
 -- The program levels of a task (Application Programmer's Reference Manual, SC33-0077, "Program Control"; HANDLE ABEND).
-use Rattle.std.specs.Prelude.{◌≡◌, ◌<◌, ℕ, Bool, true, false, Option, Some, None, List, [], ◌∷◌, ◌++◌, is_some, reverse, slice_get}
+use Rattle.std.specs.Prelude.{◌≡◌, ◌<◌, ℕ, Bool, true, false, Option, Some, None, List, [], ◌∷◌, ◌++◌, is_some, replicate, reverse, slice_get}
 use Rattle.std.specs.Option.{option_map_or}
 use Rattle.cx_program.specs.declared.level.Level.{Level}
 use Rattle.cx_program.specs.Entries.{label_on}
+use Rattle.cx_program.specs.Handles.{no_handles}
+
+-- what stands in an unused place of a stack: a level of no program, of which nothing is kept
+abbrev pub unused : Level
+unused =
+    record {
+      program = replicate 8 0x40;
+      stg = 0;
+      stg_len = 0;
+      calen = 0;
+      regs = replicate 16 0;
+      cc = 0;
+      handles = no_handles;
+    }
 
 -- The current level, and the levels that called it one after another, the nearest first.
 pub record Levels : Type 0 where

@@ -1,8 +1,7 @@
 pub mod Entries
 pub mod Handles
-pub mod HandleLaws
 pub mod Levels
 pub mod Lending
-pub mod LevelLaws
+pub mod Facts
 pub use Rattle.cx_command.specs.Conditions
 pub use Rattle.cx_ebcdic.specs.Names

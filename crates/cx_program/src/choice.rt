@@ -1,3 +1,5 @@
+//! What is done for a condition.
+
 use cx_ebcdic::Name4;
 
 /// What is done for a condition that a command met.

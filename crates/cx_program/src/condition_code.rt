@@ -1,3 +1,4 @@
+//! Condition codes of the machine.
 ghost use Rattle.std.specs.Prelude.{◌≡◌, ◌≤◌};
 
 use std::marker::Model;

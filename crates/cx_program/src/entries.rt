@@ -67,14 +67,23 @@ impl Exit {
 /// The entry of each condition that a program can handle: all but NORMAL.
 #[derive(Clone, Copy, Debug, PartialEq, Eq, Default)]
 pub struct Entries {
+    /// That of ERROR, which also serves each condition that has none and doesn't wait.
     pub error: Entry,
+    /// INVREQ's entry.
     pub invreq: Entry,
+    /// NOSPACE's entry.
     pub nospace: Entry,
+    /// LENGERR's entry.
     pub lengerr: Entry,
+    /// ITEMERR's entry.
     pub itemerr: Entry,
+    /// PGMIDERR's entry.
     pub pgmiderr: Entry,
+    /// NOSTG's entry.
     pub nostg: Entry,
+    /// QIDERR's entry.
     pub qiderr: Entry,
+    /// ENQBUSY's entry.
     pub enqbusy: Entry,
 }
 
@@ -121,6 +130,8 @@ impl Entries {
 /// All that a level's program has asked for: what PUSH HANDLE keeps and POP HANDLE puts back.
 #[derive(Clone, Copy, Debug, PartialEq, Eq, Default)]
 pub struct Handling {
+    /// The entries for conditions.
     pub entries: Entries,
+    /// The exit that takes an abend.
     pub exit: Exit,
 }

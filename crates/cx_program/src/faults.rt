@@ -1,3 +1,5 @@
+//! Why a call is refused.
+
 use thiserror::Error;
 
 /// Why a call on handles or levels is refused. What it was called on is then as before.

@@ -172,7 +172,7 @@ fn without_entry(condition: Condition, error: Entry) -> Choice
 }
 
 /// The code of the abend that a condition leads to.
-#[tactic(auto, using(crate::specs::HandleLaws::has_code_or_waits))]
+#[tactic(auto, using(crate::proofs::HandleLemmas::has_code_or_waits))]
 fn abend_code(condition: Condition) -> Name4
     requires exceptional { condition ≢ Condition.Normal }
     requires not_error { condition ≢ Condition.Error }

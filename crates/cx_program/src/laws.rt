@@ -11,7 +11,7 @@ ghost use Rattle.cx_program.specs.declared.entries.Entry.{Entry};
 ghost use Rattle.cx_program.specs.declared.level.Level.{Level};
 
 /// Giving a condition an entry changes that condition's entry, and no other.
-#[tactic(auto, using(crate::specs::HandleLaws::entry_for_same, crate::specs::HandleLaws::entry_for_other))]
+#[tactic(auto, using(crate::proofs::HandleLemmas::entry_for_same, crate::proofs::HandleLemmas::entry_for_other))]
 pub fn an_entry_is_given_to_one_condition()
     ensures given { (entries : Entries) (condition : Condition) (entry : Entry) → condition ≢ Normal
         → entry_for (with_entry entries condition entry) condition ≡ entry }
@@ -20,20 +20,20 @@ pub fn an_entry_is_given_to_one_condition()
 {}
 
 /// Two sets of entries that answer alike for each condition are one.
-#[tactic(auto, using(crate::specs::HandleLaws::entries_same))]
+#[tactic(auto, using(crate::proofs::HandleLemmas::entries_same))]
 pub fn entries_are_their_answers()
     ensures { (a b : Entries) → ((condition : Condition) → entry_for a condition ≡ entry_for b condition) → a ≡ b }
 {}
 
 /// A condition for which a choice is made leads to an abend exactly where it doesn't wait.
-#[tactic(auto, using(crate::specs::HandleLaws::has_code_or_waits))]
+#[tactic(auto, using(crate::proofs::HandleLemmas::has_code_or_waits))]
 pub fn conditions_wait_or_abend()
     ensures { (condition : Condition) → condition ≢ Normal → condition ≢ Error
         → is_some (abend_code_of condition) ≡ not (waits condition) }
 {}
 
 /// At most one answer is the nearest exit of some levels.
-#[tactic(auto, using(crate::specs::LevelLaws::nearest_exit_one))]
+#[tactic(auto, using(crate::specs::Facts::NearestExit::nearest_exit_one))]
 pub fn the_nearest_exit_is_one()
     ensures { (levels : List Level) (one other : Option ℕ) → IsNearestExit levels one → IsNearestExit levels other
         → one ≡ other }

@@ -23,10 +23,10 @@ pub struct Level {
 }
 
 impl Default for Level {
-    ghost use Rattle.std.specs.Prelude.{◌≡◌, replicate};
-    ghost use Rattle.cx_program.specs.Handles.{no_handles};
+    ghost use Rattle.std.specs.Prelude.{◌≡◌};
+    ghost use Rattle.cx_program.specs.Levels.{unused};
 
-    ghost is_default = { λ level. (level.program ≡ replicate 8 0x40) × (level.handles ≡ no_handles) };
+    ghost is_default = { λ level. level ≡ unused };
 
     /// What stands in an unused place of a stack: a level of no program.
     fn default() -> Level {

@@ -9,8 +9,6 @@ mod handles;
 pub mod laws;
 mod level;
 mod stack;
-#[cfg(test)]
-mod tests;
 
 pub use choice::Choice;
 pub use condition_code::ConditionCode;

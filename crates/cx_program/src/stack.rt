@@ -121,7 +121,7 @@ impl LevelStack {
 }
 
 /// The index of the nearest level whose exit is on, of the current one and its callers.
-#[tactic(auto, using(crate::specs::LevelLaws::nearest_exit_on, crate::specs::LevelLaws::nearest_exit_off))]
+#[tactic(auto, using(crate::proofs::LevelLemmas::nearest_exit_on, crate::proofs::LevelLemmas::nearest_exit_off))]
 fn nearest_exit(callers: &[Level], current: &Level) -> Option<usize>
     ensures { IsNearestExit (callers.now ++ current.now ∷ []) result }
 {

@@ -8,9 +8,10 @@ use Rattle.cx_storage.specs.declared.areas.Area.{Area}
 use Rattle.cx_storage.specs.declared.areas.Owner.{Owner}
 use Rattle.cx_storage.specs.Storage.{Storage, Held, area_at, areas_of, with_area, put_held, zeros, written, with_areas_kept, IsWhole, IsSound}
 use Rattle.cx_storage.specs.Place.{Misses, CanPlace}
-use Rattle.cx_storage.specs.Areas.{area_from, area_after_get, area_after_free, area_of_areas}
-use Rattle.cx_storage.specs.Sound.{All-put_held, All-filter}
-use Rattle.cx_storage.specs.Writes.{areas_after_write}
+use Rattle.cx_storage.specs.Storage.{area_from}
+use Rattle.cx_storage.specs.Facts.Areas.{area_after_get, area_after_free, area_of_areas}
+use Rattle.cx_storage.specs.Facts.Sound.{All-put_held, All-filter}
+use Rattle.cx_storage.specs.Facts.Writes.{areas_after_write}
 
 -- no area starts where one may be placed
 pub not_there : (s : Storage) (len b : ℕ) → 0 < len → AllByRecursion IsWhole s → AllByRecursion (Misses len b) s → area_at s b ≡ None

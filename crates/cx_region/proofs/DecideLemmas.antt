@@ -9,11 +9,11 @@ use Rattle.cx_ebcdic.specs.declared.aids.Aid.{Aid}
 use Rattle.cx_code.specs.declared.image.Image.{Image}
 use Rattle.cx_storage.specs.declared.areas.Owner.{Owner}
 use Rattle.cx_storage.specs.Storage.{Storage}
-use Rattle.cx_storage.specs.Areas.{place_decides}
+use Rattle.cx_storage.specs.Facts.Places.{place_decides}
 use Rattle.cx_load.specs.declared.loading.Loaded.{Loaded}
 use Rattle.cx_load.specs.Load.{IsLoaded, IsProgramPlace, first_of_programs, last_of_programs}
 use Rattle.cx_program.specs.Levels.{all_levels}
-use Rattle.cx_program.specs.LevelLaws.{nearest_exit_one}
+use Rattle.cx_program.specs.Facts.NearestExit.{nearest_exit_one}
 use Rattle.cx_exec.specs.declared.machine.Halt.{Halt}
 use Rattle.cx_exec.specs.declared.machine.Halt.TheVariants as halt
 use Rattle.cx_exec.specs.Machine.{Machine}
@@ -23,7 +23,7 @@ use Rattle.cx_region.specs.declared.asking.Asked.{Asked}
 use Rattle.cx_region.specs.declared.asking.Asked.TheVariants.{Answer, Give, Attach}
 use Rattle.cx_region.specs.declared.asking.Places.{Places}
 use Rattle.cx_region.specs.declared.asking.Start.{Start}
-use Rattle.cx_region.specs.declared.call.CallFault.{CallFault}
+use Rattle.cx_call.specs.declared.call.CallFault.{CallFault}
 use Rattle.cx_region.specs.declared.judging.Judgement.{Judgement}
 use Rattle.cx_region.specs.declared.judging.Judgement.TheVariants.{Unwritten, GoesOn, LevelEnds, TaskEnds}
 use Rattle.cx_region.specs.declared.pass.Pass.{Pass}
@@ -39,11 +39,11 @@ use Rattle.cx_region.specs.declared.replies.TurnReply.TheVariants as turn
 use Rattle.cx_region.specs.State.{Input, RegionState, TerminalState, TaskState}
 use Rattle.cx_region.specs.Tables.{terminal_of}
 use Rattle.cx_region.specs.Defining.{DefinesProgram, DefinesTerminal, DefinesTransaction, Loads, program_fault, terminal_fault, transaction_fault, with_new_terminal, with_clock, with_program, with_transaction}
-use Rattle.cx_region.specs.Eib.{eib_len}
+use Rattle.cx_command.specs.Eib.{eib_len}
 use Rattle.cx_region.specs.Attach.{ArePlaced, Attaches, HasNoPlaces, IsCopyPlace, IsTaskPlace, Keyed, KeyedAs, asked, attached, first_of_tasks, input_from, last_of_tasks, system_owner, with_copy_area, with_eib_area}
 use Rattle.cx_region.specs.Reach.{Reach, after_pass, reach_of, reply_of}
 use Rattle.cx_region.specs.Abend.{Abends, AbendsAt}
-use Rattle.cx_region.specs.Call.{Call, call_of}
+use Rattle.cx_call.specs.Call.{Call, call_of}
 use Rattle.cx_region.specs.Performing.{Called, Carries, Commanded, can_respond, fault_code, is_written, judged, list_of}
 use Rattle.cx_region.specs.Turn.{HalfTurn, Halted, RunsOn, TaskTurned, Turned, after_machine, machine_of, most_steps}
 use Rattle.cx_region.specs.Events.{Happens, Run}

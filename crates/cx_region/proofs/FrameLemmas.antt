@@ -4,12 +4,12 @@ use Rattle.std.specs.Prelude.{MatchBool, MatchResult, not, ◌&&◌}
 use Rattle.cx_exec.specs.declared.machine.Halt.{Halt}
 use Rattle.cx_exec.specs.declared.machine.Halt.TheVariants as halt
 use Rattle.cx_program.specs.declared.level.Level.{Level}
-use Rattle.cx_region.specs.declared.call.CallFault.{CallFault}
+use Rattle.cx_call.specs.declared.call.CallFault.{CallFault}
 use Rattle.cx_region.specs.declared.judging.Judgement.{Judgement}
 use Rattle.cx_region.specs.declared.judging.Judgement.TheVariants.{GoesOn, LevelEnds, TaskEnds, Unwritten}
 use Rattle.cx_region.specs.declared.pass.Pass.{Pass}
 use Rattle.cx_region.specs.Abend.{Abends, AbendsAt, aica, asra, exit_taken, xarg, xfun}
-use Rattle.cx_region.specs.Call.{Call, call_of}
+use Rattle.cx_call.specs.Call.{Call, call_of}
 use Rattle.cx_region.specs.Performing.{Called, Carries, Commanded, can_respond, fault_code, is_written, judged, list_of, returned}
 use Rattle.cx_region.specs.Reach.{Reach}
 use Rattle.cx_region.specs.Turn.{HalfTurn, Halted, RunsOn, after_machine}

@@ -3,7 +3,7 @@ use Rattle.std.proofs.Common.{◌≡◌, ℕ, Option, Some, None, true, is_some,
 use Rattle.std.specs.Prelude.{[]}
 use Rattle.cx_storage.specs.Storage.{Storage, with_area, put_held}
 use Rattle.cx_storage.specs.Place.{CanPlace, IsLeastPlace}
-use Rattle.cx_storage.specs.Areas.{place_decides}
+use Rattle.cx_storage.specs.Facts.Places.{place_decides}
 use Rattle.cx_region.specs.Defining.{fresh_storage, region_owner}
 
 least : IsLeastPlace [] 0x001000 0x0011FF 512 (Some 0x001000)

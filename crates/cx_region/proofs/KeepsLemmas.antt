@@ -27,7 +27,7 @@ use Rattle.cx_region.specs.declared.judging.Judgement.{Judgement}
 use Rattle.cx_region.specs.declared.judging.Judgement.TheVariants.{Unwritten, GoesOn, LevelEnds, TaskEnds}
 use Rattle.cx_region.specs.declared.pass.Pass.{Pass}
 use Rattle.cx_region.specs.declared.pass.Pass.TheVariants.{Stays, Ends}
-use Rattle.cx_region.specs.declared.call.CallFault.{CallFault}
+use Rattle.cx_call.specs.declared.call.CallFault.{CallFault}
 use Rattle.cx_region.specs.State.{Input, RegionState, TerminalState, TaskState}
 use Rattle.cx_region.specs.Names.{is_name4}
 use Rattle.cx_region.specs.Tables.{program_of, terminal_of, transaction_of, with_terminal}
@@ -35,7 +35,7 @@ use Rattle.cx_region.specs.Defining.{DefinesProgram, DefinesTerminal, DefinesTra
 use Rattle.cx_region.specs.Reach.{Reach, reach_of, reply_of, after_pass}
 use Rattle.cx_region.specs.Abend.{Abends, AbendsAt}
 use Rattle.cx_region.specs.Attach.{Keyed, KeyedAs, Attaches, asked, asked_at, attached, input_asked, start_asked, start_of, transaction_named}
-use Rattle.cx_region.specs.Call.{Call, call_of}
+use Rattle.cx_call.specs.Call.{Call, call_of}
 use Rattle.cx_region.specs.Performing.{Commanded, Called, Carries, can_respond, fault_code, is_written, judged, list_of, returned}
 use Rattle.cx_region.specs.Turn.{HalfTurn, Halted, RunsOn, Turned, TaskTurned, after_machine}
 use Rattle.cx_region.specs.Laws.Regions.{KeyKeeps, KeysKeepToTheirTerminal, RefusedProgramsLeaveTheRegion, RefusedTerminalsLeaveTheRegion, RefusedTransactionsLeaveTheRegion, StillKeysLeaveTheRegion, StillTurnsLeaveTheRegion, TurnKeeps, TurnsKeepToTheirTask, changes_nothing, counter_after}

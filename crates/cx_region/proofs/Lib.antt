@@ -1,7 +1,4 @@
-pub mod CallLemmas
-pub mod CallLawLemmas
 pub mod FreshLemmas
-pub mod TableLemmas
 pub mod AreaLemmas
 pub mod PlacingLemmas
 pub mod UnwindLemmas

@@ -9,26 +9,29 @@ use Rattle.std.proofs.lemmas.Option.{none-some}
 use Rattle.std.proofs.lemmas.Map.{length-set_value}
 use Rattle.cx_storage.specs.declared.areas.Area.{Area}
 use Rattle.cx_storage.specs.declared.areas.Owner.{Owner}
-use Rattle.cx_storage.specs.Storage.{Storage, area_at, along, with_area, IsSound as IsSoundStorage}
+use Rattle.cx_storage.specs.Storage.{Storage, area_at, with_area, IsSound as IsSoundStorage}
+use Rattle.cx_storage.specs.Address.{along}
 use Rattle.cx_storage.specs.Place.{CanPlace, IsLeastPlace}
-use Rattle.cx_storage.specs.Areas.{area_from}
-use Rattle.cx_storage.specs.Sound.{sound_with_area}
+use Rattle.cx_storage.specs.Storage.{area_from}
+use Rattle.cx_storage.specs.Facts.Sound.{sound_with_area}
 use Rattle.cx_load.specs.declared.loading.Loaded.{Loaded}
 use Rattle.cx_region.specs.declared.asking.Asked.TheVariants.{Answer, Attach, Give}
 use Rattle.cx_region.specs.declared.replies.KeyReply.TheVariants as key
 use Rattle.cx_region.specs.declared.asking.Places.{Places}
 use Rattle.cx_region.specs.declared.asking.Start.{Start}
-use Rattle.cx_region.specs.declared.eib.Begun.{Begun}
+use Rattle.cx_call.specs.declared.eib.Begun.{Begun}
 use Rattle.cx_ebcdic.specs.Aids.{key_of}
 use Rattle.cx_region.specs.State.{Input, RegionState, TaskState, TerminalState}
 use Rattle.cx_region.specs.Names.{is_name4, is_name8}
 use Rattle.cx_region.specs.Tables.{fresh_terminal, program_of, terminal_in, terminal_of, transaction_of}
-use Rattle.cx_region.specs.Eib.{Field, eib_len, fields_at_attach, with_field, with_fields}
+use Rattle.cx_call.specs.Eib.{Content, fields_at_attach, with_field, with_fields}
+use Rattle.cx_command.specs.Eib.{eib_field}
+use Rattle.cx_command.specs.Eib.{eib_len}
 use Rattle.cx_region.specs.Attach.{ArePlaced, IsCopyPlace, IsTaskPlace, asked, attached, asked_at, commarea_kept, entry_level, filled, first_of_tasks, fresh_task, input_asked, last_of_tasks, next_number, start_asked, system_owner, transaction_named, with_copy, with_copy_area, with_eib_area, with_task, with_task_areas}
 use Rattle.cx_region.specs.Parts.Placing.{IsSlotFree}
 use Rattle.cx_region.specs.Sound.{IsAreaOf, IsOwned, IsSound, IsSoundProgram, IsSoundTask, IsSoundTerminal, is_live}
 use Rattle.cx_region.proofs.AreaLemmas.{all_areas_put, all_areas_written, area_kept_get, area_put, area_written, not_there}
-use Rattle.cx_region.proofs.TableLemmas.{distinct-set_value, each-set_value, found_meets}
+use Rattle.cx_tables.specs.Facts.Tables.{distinct-set_value, each-set_value, found_meets}
 use Rattle.cx_region.proofs.SoundDefining.{AreasStay, all_weaker, terminal_stays}
 use Rattle.cx_region.proofs.LiveLemmas.{live-set_value, live_at, numbered-set_value, slot_free, slot_from}
 
@@ -144,10 +147,10 @@ owned_own r name t u a len ok there same live =
     or_second false b e = e
 
 -- ---- the areas of a task that starts
-area_fields : (s : Storage) (eib : ℕ) (fields : List Field) (x : ℕ) → area_at (with_fields s eib fields) x ≡ area_at s x
+area_fields : (s : Storage) (eib : ℕ) (fields : List Content) (x : ℕ) → area_at (with_fields s eib fields) x ≡ area_at s x
 unfolding with_field
 area_fields s eib [] x = refl
-area_fields s eib (f ∷ fields) x = area_fields (with_field s eib f) eib fields x ∙ area_written s (along eib f.offset) f.bytes x
+area_fields s eib (f ∷ fields) x = area_fields (with_field s eib f) eib fields x ∙ area_written s (along eib (eib_field f.field).offset) f.bytes x
 
 area_copy : (s : Storage) (place : Option ℕ) (bytes : List ℕ) (x : ℕ) → area_at (with_copy s place bytes) x ≡ area_at s x
 unfolding with_copy
@@ -161,10 +164,10 @@ area_filled s places begun commarea x =
     ∙ area_copy (with_fields s places.eib (fields_at_attach begun)) places.commarea commarea x
     ∙ area_fields s places.eib (fields_at_attach begun) x
 
-owned_fields : (P : Area → Type 0) (s : Storage) (eib : ℕ) (fields : List Field) → AllByRecursion (λ h. P h.area) s → AllByRecursion (λ h. P h.area) (with_fields s eib fields)
+owned_fields : (P : Area → Type 0) (s : Storage) (eib : ℕ) (fields : List Content) → AllByRecursion (λ h. P h.area) s → AllByRecursion (λ h. P h.area) (with_fields s eib fields)
 unfolding with_field
 owned_fields P s eib [] all = all
-owned_fields P s eib (f ∷ fields) all = owned_fields P (with_field s eib f) eib fields (all_areas_written P s (along eib f.offset) f.bytes all)
+owned_fields P s eib (f ∷ fields) all = owned_fields P (with_field s eib f) eib fields (all_areas_written P s (along eib (eib_field f.field).offset) f.bytes all)
 
 owned_copy : (P : Area → Type 0) (s : Storage) (place : Option ℕ) (bytes : List ℕ) → AllByRecursion (λ h. P h.area) s → AllByRecursion (λ h. P h.area) (with_copy s place bytes)
 unfolding with_copy

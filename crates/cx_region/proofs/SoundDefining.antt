@@ -25,7 +25,7 @@ use Rattle.cx_region.specs.Tables.{fresh_terminal}
 use Rattle.cx_region.specs.Defining.{fresh_region, fresh_storage, program_fault, terminal_fault, transaction_fault}
 use Rattle.cx_region.specs.Sound.{AreNumbered, IsOwned, IsSound, IsSoundLevel, IsSoundProgram, IsSoundTask, IsSoundTerminal, is_live}
 use Rattle.cx_region.proofs.AreaLemmas.{area_kept_get, area_written, all_areas_put, all_areas_written}
-use Rattle.cx_region.proofs.TableLemmas.{insert_entry_absent, each-insert_entry}
+use Rattle.cx_tables.specs.Facts.Tables.{insert_entry_absent, each-insert_entry}
 
 -- a refusal that isn't the first one doesn't apply
 pub no_fault : {F : Type 0} (b : Bool) (fault : F) (others : Option F) → cond b (Some fault) others ≡ None → (b ≡ false) × (others ≡ None)

@@ -5,14 +5,18 @@ use Rattle.std.specs.List.{AllByRecursion, IsDistinct}
 use Rattle.std.proofs.lemmas.Bool.{cases_Bool, cases_eq, eq-eqb, ne_eqb}
 use Rattle.std.proofs.lemmas.Option.{none-some, same_Some}
 use Rattle.cx_storage.specs.declared.areas.Area.{Area}
-use Rattle.cx_storage.specs.Storage.{Storage, area_at, areas_of, along, starts_elsewhere, with_areas_kept, IsWhole, IsSound as IsSoundStorage}
-use Rattle.cx_storage.specs.Areas.{area_from, area_of_areas}
-use Rattle.cx_storage.specs.Sound.{sound_with_areas_kept}
+use Rattle.cx_storage.specs.Storage.{Storage, area_at, areas_of, starts_elsewhere, with_areas_kept, IsWhole, IsSound as IsSoundStorage}
+use Rattle.cx_storage.specs.Address.{along}
+use Rattle.cx_storage.specs.Storage.{area_from}
+use Rattle.cx_storage.specs.Facts.Areas.{area_of_areas}
+use Rattle.cx_storage.specs.Facts.Sound.{sound_with_areas_kept}
 use Rattle.cx_exec.specs.Machine.{address}
 use Rattle.cx_program.specs.declared.level.Level.{Level}
 use Rattle.cx_program.specs.Levels.{Levels}
 use Rattle.cx_region.specs.State.{TaskState}
-use Rattle.cx_region.specs.Eib.{Field, eib_len, fields_of_report, reported, with_calen, with_field, with_fields}
+use Rattle.cx_call.specs.Eib.{Content, fields_of_report, reported, with_calen, with_field, with_fields}
+use Rattle.cx_command.specs.Eib.{eib_field}
+use Rattle.cx_command.specs.Eib.{eib_len}
 use Rattle.cx_region.specs.Attach.{system_owner}
 use Rattle.cx_command.specs.declared.conditions.Condition.{Condition}
 use Rattle.cx_command.specs.declared.conditions.Condition.TheVariants.{Normal}
@@ -22,13 +26,13 @@ use Rattle.cx_command.specs.declared.commands.Command.TheVariants as command
 use Rattle.cx_command.specs.Conditions.{entry_of}
 use Rattle.cx_exec.specs.declared.machine.Halt.{Halt}
 use Rattle.cx_exec.specs.declared.machine.Halt.TheVariants as halt
-use Rattle.cx_storage.specs.Writes.{areas_after_write}
-use Rattle.cx_region.specs.declared.call.CallFault.{CallFault}
+use Rattle.cx_storage.specs.Facts.Writes.{areas_after_write}
+use Rattle.cx_call.specs.declared.call.CallFault.{CallFault}
 use Rattle.cx_region.specs.declared.judging.Judgement.{Judgement}
 use Rattle.cx_region.specs.declared.judging.Judgement.TheVariants.{GoesOn, LevelEnds, TaskEnds, Unwritten}
 use Rattle.cx_region.specs.declared.pass.Pass.{Pass}
 use Rattle.cx_region.specs.Abend.{Abends, AbendsAt, Unwound, aica, asra, below, exit_storage, exit_task, unwound, without_stg, xarg, xfun}
-use Rattle.cx_region.specs.Call.{Call, call_of, resp_place}
+use Rattle.cx_call.specs.Call.{Call, call_of, resp_place}
 use Rattle.cx_region.specs.Performing.{Called, Carries, Commanded, can_respond, fault_code, is_written, judged, last_report, list_of, performed, responded, returned, with_report}
 use Rattle.cx_region.specs.Reach.{Reach}
 use Rattle.cx_region.specs.Turn.{HalfTurn, Halted, RunsOn, after_machine, at_command, machine_of, most_steps}
@@ -200,10 +204,10 @@ unfolding with_calen with_field
 calen_areas s eib None = refl
 calen_areas s eib (Some calen) = areas_after_write s (along eib 24) _
 
-fields_areas : (s : Storage) (eib : ℕ) (fields : List Field) → areas_of (with_fields s eib fields) ≡ areas_of s
+fields_areas : (s : Storage) (eib : ℕ) (fields : List Content) → areas_of (with_fields s eib fields) ≡ areas_of s
 unfolding with_field
 fields_areas s eib [] = refl
-fields_areas s eib (f ∷ fields) = fields_areas (with_field s eib f) eib fields ∙ areas_after_write s (along eib f.offset) f.bytes
+fields_areas s eib (f ∷ fields) = fields_areas (with_field s eib f) eib fields ∙ areas_after_write s (along eib (eib_field f.field).offset) f.bytes
 
 pub abends_kept : (P : Area → Type 0) (slot : ℕ) (s : Storage) (code : List ℕ) (before after : Reach) (pass : Pass) → IsSoundStorage s → areas_of before.storage ≡ areas_of s
     → AllByRecursion (λ h. P h.area) s → IsSoundTask s slot before.task → Abends code before pass after → Kept P slot s after.storage after.task

@@ -20,7 +20,7 @@ use Rattle.cx_region.specs.Names.{is_name4}
 use Rattle.cx_region.specs.Reach.{Reach, reach_of, resources_after, storage_after, terminal_after}
 use Rattle.cx_region.specs.Turn.{TaskTurned, Turned}
 use Rattle.cx_region.specs.Sound.{AreNumbered, IsOwned, IsSound, IsSoundLevel, IsSoundTask, IsSoundTerminal, is_live}
-use Rattle.cx_region.proofs.TableLemmas.{distinct-set_value, found_meets}
+use Rattle.cx_tables.specs.Facts.Tables.{distinct-set_value, found_meets}
 use Rattle.cx_region.proofs.AreaLemmas.{area_kept_any, kept_pass}
 use Rattle.cx_region.proofs.SoundDefining.{all_weaker}
 use Rattle.cx_region.proofs.LiveLemmas.{live-set_value, numbered-set_value, slot_from}

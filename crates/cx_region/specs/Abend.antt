@@ -10,7 +10,7 @@ use Rattle.cx_program.specs.Levels.{Levels, all_levels, with_current, IsNearestE
 use Rattle.cx_region.specs.declared.pass.Pass.{Pass}
 use Rattle.cx_region.specs.declared.pass.Pass.TheVariants.{Stays, Ends}
 use Rattle.cx_region.specs.declared.replies.TurnReply.TheVariants as turn
-use Rattle.cx_region.specs.Eib.{with_calen}
+use Rattle.cx_call.specs.Eib.{with_calen}
 use Rattle.cx_region.specs.State.{TaskState}
 use Rattle.cx_region.specs.Reach.{Reach}
 

@@ -9,7 +9,8 @@ use Rattle.cx_ebcdic.specs.Aids.{key_of}
 use Rattle.cx_ebcdic.specs.Names.{padded}
 use Rattle.cx_storage.specs.declared.areas.Owner.{Owner}
 use Rattle.cx_storage.specs.declared.areas.Kind.TheVariants.{System}
-use Rattle.cx_storage.specs.Storage.{Storage, along, with_area, written}
+use Rattle.cx_storage.specs.Storage.{Storage, with_area, written}
+use Rattle.cx_storage.specs.Address.{along}
 use Rattle.cx_storage.specs.Place.{IsLeastPlace}
 use Rattle.cx_load.specs.declared.loading.Loaded.{Loaded}
 use Rattle.cx_program.specs.declared.level.Level.{Level}
@@ -21,10 +22,11 @@ use Rattle.cx_region.specs.declared.asking.Asked.{Asked}
 use Rattle.cx_region.specs.declared.asking.Asked.TheVariants.{Answer, Give, Attach}
 use Rattle.cx_region.specs.declared.asking.Start.{Start}
 use Rattle.cx_region.specs.declared.asking.Places.{Places}
-use Rattle.cx_region.specs.declared.eib.Begun.{Begun}
+use Rattle.cx_call.specs.declared.eib.Begun.{Begun}
 use Rattle.cx_region.specs.State.{Input, Following, TaskState, TerminalState, RegionState}
 use Rattle.cx_region.specs.Tables.{program_of, transaction_of, terminal_at, terminal_of, with_terminal}
-use Rattle.cx_region.specs.Eib.{eib_len, fields_at_attach, with_fields}
+use Rattle.cx_call.specs.Eib.{fields_at_attach, with_fields}
+use Rattle.cx_command.specs.Eib.{eib_len}
 
 abbrev pub first_of_tasks : ℕ
 first_of_tasks = 0x200000

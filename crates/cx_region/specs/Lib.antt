@@ -3,9 +3,7 @@ pub mod State
 pub mod Names
 pub mod Tables
 pub mod Defining
-pub mod Eib
 pub mod Attach
-pub mod Call
 pub mod Reach
 pub mod Abend
 pub mod Performing
@@ -15,6 +13,8 @@ pub mod Looking
 pub mod Sound
 pub mod Laws
 pub mod Parts
+pub use Rattle.cx_call.specs.Call
+pub use Rattle.cx_call.specs.Eib
 pub use Rattle.cx_command.specs.Commands
 pub use Rattle.cx_command.specs.Conditions
 pub use Rattle.cx_command.specs.Legal

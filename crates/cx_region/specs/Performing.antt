@@ -15,16 +15,16 @@ use Rattle.cx_exec.specs.Machine.{address}
 use Rattle.cx_storage.specs.Storage.{Storage, span, written}
 use Rattle.cx_program.specs.declared.level.Level.{Level}
 use Rattle.cx_program.specs.Levels.{Levels}
-use Rattle.cx_region.specs.declared.call.CallFault.{CallFault}
-use Rattle.cx_region.specs.declared.call.CallFault.TheVariants.{Xarg, Xfun}
+use Rattle.cx_call.specs.declared.call.CallFault.{CallFault}
+use Rattle.cx_call.specs.declared.call.CallFault.TheVariants.{Xarg, Xfun}
 use Rattle.cx_region.specs.declared.judging.Judgement.{Judgement}
 use Rattle.cx_region.specs.declared.judging.Judgement.TheVariants.{Unwritten, GoesOn, LevelEnds, TaskEnds}
 use Rattle.cx_region.specs.declared.pass.Pass.{Pass}
 use Rattle.cx_region.specs.declared.pass.Pass.TheVariants.{Stays, Ends}
 use Rattle.cx_region.specs.declared.replies.TurnReply.TheVariants as turn
 use Rattle.cx_region.specs.Abend.{Abends, without_stg, xarg, xfun}
-use Rattle.cx_region.specs.Call.{Call, call_of, resp_place}
-use Rattle.cx_region.specs.Eib.{reported}
+use Rattle.cx_call.specs.Call.{Call, call_of, resp_place}
+use Rattle.cx_call.specs.Eib.{reported}
 use Rattle.cx_region.specs.State.{TaskState}
 use Rattle.cx_region.specs.Reach.{Reach}
 

@@ -6,7 +6,7 @@ use Rattle.std.specs.Map.{keys_of}
 use Rattle.cx_storage.specs.declared.areas.Area.{Area}
 use Rattle.cx_storage.specs.declared.areas.Kind.TheVariants.{Fixed}
 use Rattle.cx_storage.specs.Storage.{Storage, area_at, IsSound as IsSoundStorage}
-use Rattle.cx_storage.specs.Areas.{area_from}
+use Rattle.cx_storage.specs.Storage.{area_from}
 use Rattle.cx_load.specs.declared.loading.Loaded.{Loaded}
 use Rattle.cx_program.specs.declared.level.Level.{Level}
 use Rattle.cx_service.specs.Queues.{AreSoundQueues}
@@ -14,7 +14,7 @@ use Rattle.cx_service.specs.Resources.{AreSoundResources}
 use Rattle.cx_region.specs.State.{TaskState, TerminalState, RegionState}
 use Rattle.cx_region.specs.Names.{is_name4, is_name8}
 use Rattle.cx_region.specs.Defining.{most_programs, most_transactions, most_terminals}
-use Rattle.cx_region.specs.Eib.{eib_len}
+use Rattle.cx_command.specs.Eib.{eib_len}
 use Rattle.cx_region.specs.Attach.{system_owner}
 
 -- the common work area: 512 bytes of the region's own

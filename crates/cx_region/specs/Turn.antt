@@ -13,7 +13,7 @@ use Rattle.cx_region.specs.declared.pass.Pass.TheVariants.{Stays}
 use Rattle.cx_region.specs.declared.replies.TurnReply.{TurnReply}
 use Rattle.cx_region.specs.declared.replies.TurnReply.TheVariants as turn
 use Rattle.cx_region.specs.Abend.{Abends, aica, asra}
-use Rattle.cx_region.specs.Call.{Call, call_of}
+use Rattle.cx_call.specs.Call.{Call, call_of}
 use Rattle.cx_region.specs.Performing.{Commanded, list_of, may_grow}
 use Rattle.cx_region.specs.State.{RegionState, TerminalState, TaskState}
 use Rattle.cx_region.specs.Tables.{terminal_of, task_of}

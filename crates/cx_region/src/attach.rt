@@ -1,7 +1,7 @@
 //! A key of a terminal: a task is attached, or the input is held for the one that is there.
 ghost use Rattle.std.specs.Prelude.{◌≡◌, ◌≢◌, ◌<◌, ◌≤◌, ◌+◌, ◌^◌, ◌==◌, false, if◌then◌else◌, [], None, Some, length, unwrap_or, IfOk, IfErr, OnOk, OnErr, IfSome, position, MatchOption};
 ghost use Rattle.std.specs.List.{AllByRecursion};
-ghost use Rattle.std.specs.Option.{option_map};
+ghost use Rattle.std.specs.Option.{option_copied, option_map};
 ghost use Rattle.std.specs.Map.{lookup, set_value};
 ghost use Rattle.cx_storage.specs.Storage.{is_of_other_slot, with_area, with_areas_kept};
 ghost use Rattle.cx_region.specs.Parts.Placing.{AreFaultsOf, IsSlotFree, input_of, ArePlacesBelow, IsCopyFault, IsPlaceFault};
@@ -13,9 +13,9 @@ ghost use Rattle.cx_region.specs.Attach.{ArePlaced, Attaches, MayGrow, start_of,
 ghost use Rattle.cx_region.specs.Sound.{IsSound, IsSoundProgram};
 
 use crate::asking::{Asked, Places, Start};
-use crate::eib::{Begun, begin};
 use crate::replies::KeyReply;
 use crate::state::{Following, Input, Region, Task, Terminal};
+use cx_call::eib::{Begun, begin};
 use cx_ebcdic::{Aid, Name4, Name8};
 use cx_exec::Cpu;
 use cx_load::Loaded;
@@ -118,7 +118,7 @@ const EIB_LEN: u32 = 88;
 
 /// Makes an area of a task. NoStorage comes exactly where there is no place; then, and where a growth was refused, all
 /// is as before.
-#[tactic(auto, using(cx_storage::specs::Areas::place_decides, crate::proofs::PlacingLemmas::task_address, crate::proofs::PlacingLemmas::no_area))]
+#[tactic(auto, using(cx_storage::specs::Facts::Places::place_decides, crate::proofs::PlacingLemmas::task_address, crate::proofs::PlacingLemmas::no_area))]
 fn get_task_area<S: Store>(store: &mut S, len: u32, owner: Owner) -> Result<u32, StartFault>
     requires { 0 < len }
     ensures place { IfOk result (λ start. IsTaskPlace (S.storage store.old) len (Some start)) }
@@ -352,7 +352,7 @@ fn fill_from<S: Store>(
 }
 
 /// Gives a terminal its task, and the input that it begins with.
-#[tactic(auto, using(crate::proofs::TableLemmas::set_value_absent))]
+#[tactic(auto, using(cx_tables::specs::Facts::Tables::set_value_absent))]
 fn start_at(terminals: &mut IndexMap<Name4, Terminal>, name: Name4, input: Input, task: Box<Task>)
     ensures { terminals.new.entries ≡ set_value (is_name4 name) terminals.old.entries
         (with_task (terminal_in terminals.old.entries name) input task.value) }
@@ -365,7 +365,7 @@ fn start_at(terminals: &mut IndexMap<Name4, Terminal>, name: Name4, input: Input
 }
 
 /// Holds an input for a terminal's task.
-#[tactic(auto, using(crate::proofs::TableLemmas::set_value_absent))]
+#[tactic(auto, using(cx_tables::specs::Facts::Tables::set_value_absent))]
 fn give_at(terminals: &mut IndexMap<Name4, Terminal>, name: Name4, input: Input)
     ensures { terminals.new.entries ≡ set_value (is_name4 name) terminals.old.entries
         (record (terminal_in terminals.old.entries name) { input = Some input }) }
@@ -425,13 +425,42 @@ impl<S: Store + Drop> Region<S> {
         ensures value { result ≡ asked self.now name bytes.now }
         ensures sound { IsSound self.now }
     {
-        let Some(terminal) = self.terminals.get(&name) else {
+        let Some(terminal) = self.terminal(name) else {
             return Asked::Answer(KeyReply::NoSuchTerminal);
         };
+        self.asked_at(terminal, bytes)
+    }
+
+    /// The terminal of a name.
+    fn terminal(&self, name: Name4) -> Option<&Terminal>
+        ensures value { option_copied result ≡ terminal_of self.now name }
+        ensures sound { IsSound self.now }
+    {
+        self.terminals.get(&name)
+    }
+
+    /// What a key of this terminal asks for.
+    fn asked_at(&self, terminal: &Terminal, bytes: &[u8]) -> Asked
+        ensures { result ≡ asked_at self.now bytes.now terminal.now }
+    {
         match terminal.asked_of_task() {
             Some(asked) => asked,
             None => self.start_asked(terminal, terminal.transaction_named(bytes)),
         }
+    }
+
+    /// The program's name of a transaction.
+    fn transaction(&self, tran: Name4) -> Option<Name8>
+        ensures { result ≡ transaction_of self.now tran }
+    {
+        self.transactions.get(&tran).copied()
+    }
+
+    /// Where the program of a name stands.
+    fn program(&self, name: Name8) -> Option<Loaded>
+        ensures { result ≡ program_of self.now name }
+    {
+        self.common.programs.get(&name).copied()
     }
 
     /// What a key asks for where the terminal has no task.
@@ -439,10 +468,10 @@ impl<S: Store + Drop> Region<S> {
     fn start_asked(&self, terminal: &Terminal, tran: Name4) -> Asked
         ensures { result ≡ start_asked self.now terminal.now tran }
     {
-        let Some(program) = self.transactions.get(&tran).copied() else {
+        let Some(program) = self.transaction(tran) else {
             return Asked::Answer(KeyReply::NoSuchTransaction);
         };
-        let Some(loaded) = self.common.programs.get(&program).copied() else {
+        let Some(loaded) = self.program(program) else {
             return Asked::Answer(KeyReply::NoSuchTransaction);
         };
         terminal.start_of(tran, program, loaded)

@@ -7,10 +7,10 @@ ghost use Rattle.cx_program.specs.Levels.{IsNearestExit, all_levels};
 ghost use Rattle.cx_region.specs.Reach.{Reach, with_parts};
 ghost use Rattle.cx_region.specs.Abend.{Abends, AbendsAt, at_exit, below, exit_label, exit_storage, exit_task, unwound, without_stg};
 
-use crate::eib::put_calen;
 use crate::pass::Pass;
 use crate::replies::TurnReply;
 use crate::state::Task;
+use cx_call::eib::put_calen;
 use cx_ebcdic::Name4;
 use cx_exec::Cpu;
 use cx_program::{Level, LevelStack};

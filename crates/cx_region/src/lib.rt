@@ -3,30 +3,21 @@
 
 mod asking;
 mod attach;
-mod call;
-#[cfg(test)]
-mod call_tests;
 mod defining;
-mod eib;
 mod ending;
 mod events;
 mod judging;
-pub mod laws;
 mod looking;
 mod pass;
 pub mod region_laws;
 mod replies;
 mod state;
-#[cfg(test)]
-mod tests;
 mod turn;
 mod turning;
 
 #[doc(hidden)]
 pub use asking::{Asked, Places, Start};
-pub use call::{Call, CallFault, read_call};
-#[doc(hidden)]
-pub use eib::{Begun, Report};
+pub use cx_call::{Call, CallFault, read_call};
 #[doc(hidden)]
 pub use judging::Judgement;
 pub use looking::command_name;

@@ -4,22 +4,22 @@ ghost use Rattle.std.specs.Option.{option_map_or};
 ghost use Rattle.cx_exec.specs.Machine.{address};
 ghost use Rattle.cx_storage.specs.Storage.{span};
 ghost use Rattle.cx_region.specs.Reach.{Reach, with_parts};
-ghost use Rattle.cx_region.specs.Call.{call_of, resp_place};
+ghost use Rattle.cx_call.specs.Call.{call_of, resp_place};
 ghost use Rattle.cx_region.specs.Performing.{Called, Carries, Commanded, can_respond, fault_code, gone_on, is_written, judged, judged_by, level_or_task, list_of, responded, return_row, suspend_row, with_report, returned};
 ghost use Rattle.cx_region.specs.Turn.{HalfTurn, Halted, RunsOn, at_command_task};
 
-use crate::call::{Call, CallFault, read_call};
-use crate::eib::{Report, put_report};
 use crate::ending::{abend, address, free_stg};
 use crate::judging::Judgement;
 use crate::pass::Pass;
 use crate::replies::TurnReply;
 use crate::state::Task;
+use cx_call::eib::{Report, put_report};
+use cx_call::{Call, CallFault, read_call};
 use cx_command::{Command, Condition};
 use cx_ebcdic::Name4;
 use cx_exec::{Cpu, Halt, advance};
 use cx_program::{ConditionCode, LevelStack};
-use cx_storage::{Store, has_span};
+use cx_storage::Store;
 
 /// The most instructions of a half-turn.
 const MOST_STEPS: u32 = 65_536;
@@ -92,7 +92,7 @@ fn can_respond<S: Store>(store: &S, call: &Call) -> bool
     ensures { result ≡ can_respond (S.storage store.now) call.now }
 {
     match call.resp() {
-        Some(place) => has_span(store, place, 4),
+        Some(place) => store.has_span(place, 4),
         None => true,
     }
 }

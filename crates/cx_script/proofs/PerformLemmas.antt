@@ -1,7 +1,7 @@
 -- An action performed, by what the region answered.
 use Rattle.std.proofs.Common.{◌≡◌, ◌≢◌, ℕ, List, None, Some, Option, Result, Ok, Err, MatchOption, IsOkUnless, IsErrOf, OnOk, OnErr, codes, refl, sym, ap, subst}
 use Rattle.cx_code.specs.declared.image.Image.{Image}
-use Rattle.cx_load.specs.Check.{fault_of}
+use Rattle.cx_load.specs.Parts.Cascade.{fault_of}
 use Rattle.cx_load.specs.declared.checking.ImageFault.{ImageFault}
 use Rattle.cx_load.specs.declared.loading.Loaded.{Loaded}
 use Rattle.cx_region.specs.State.{RegionState}

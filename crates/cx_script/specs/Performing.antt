@@ -2,7 +2,7 @@
 use Rattle.std.specs.Prelude.{◌≡◌, ℕ, List, codes, Option, Some, None, Result}
 use Rattle.std.specs.Option.{option_map}
 use Rattle.cx_code.specs.declared.image.Image.{Image}
-use Rattle.cx_load.specs.Check.{fault_of}
+use Rattle.cx_load.specs.Parts.Cascade.{fault_of}
 use Rattle.cx_load.specs.declared.checking.ImageFault.{ImageFault}
 use Rattle.cx_load.specs.declared.loading.Loaded.{Loaded}
 use Rattle.cx_region.specs.State.{RegionState}

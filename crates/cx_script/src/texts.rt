@@ -3,30 +3,7 @@
 ghost use Rattle.std.specs.Prelude.{◌≡◌, ◌<◌, ◌≤◌, ◌+◌, ◌++◌, IfOk, OnOk, [], ◌∷◌, codes, length, map, take, take_while, slice_index};
 ghost use Rattle.std.specs.Option.{option_copied, option_map};
 ghost use Rattle.cx_ebcdic.specs.Characters.{shown_as};
-ghost use Rattle.cx_script.specs.Texts.{
-  defined_text,
-  clock_text,
-  define_fault_name,
-  hex_digit,
-  image_fault_name,
-  is_filled,
-  key_reply_name,
-  key_text,
-  page_from,
-  page_line,
-  program_text,
-  refused_text,
-  screen_text,
-  shown,
-  shown_name,
-  six_digits,
-  trimmed,
-  turn_reply_detail,
-  turn_reply_name,
-  turn_text,
-  two_digits,
-  written_line,
-};
+ghost use Rattle.cx_script.specs.Texts.{defined_text, clock_text, define_fault_name, hex_digit, image_fault_name, is_filled, key_reply_name, key_text, page_from, page_line, program_text, refused_text, screen_text, shown, shown_name, six_digits, trimmed, turn_reply_detail, turn_reply_name, turn_text, two_digits, written_line};
 
 use cx_ebcdic::{Name4, Name8, display};
 use cx_load::{ImageFault, Loaded};

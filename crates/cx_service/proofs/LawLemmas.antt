@@ -1,15 +1,14 @@
 -- For the laws.
-use Rattle.std.proofs.Common.{◌≡◌, ℕ, zero, suc, ◌<◌, ◌≤◌, Bool, true, false, cond, Option, Some, None, List, [], ◌∷◌, ◌++◌, length, refl, sym, ◌∙◌, ap, ⊎_elim, arith}
+use Rattle.std.proofs.Common.{◌≡◌, ℕ, zero, suc, ◌<◌, ◌≤◌, Bool, true, false, cond, Option, Some, None, List, [], ◌∷◌, ◌++◌, length, refl, sym, ◌∙◌, ap, arith}
 use Rattle.std.specs.Prelude.{slice_get, MatchOption, position, unwrap_or, ◌==◌, ◌≢◌}
 use Rattle.std.specs.Option.{option_map}
 use Rattle.std.specs.Map.{remove_entry}
-use Rattle.std.proofs.lemmas.Bool.{cases_Bool, cond-true, cond-false}
+use Rattle.std.proofs.lemmas.Bool.{cond-true}
 use Rattle.std.proofs.lemmas.Option.{none-some, same_Some}
 use Rattle.std.proofs.lemmas.Map.{lookup-remove_entry}
-use Rattle.indexmap.specs.IndexMap.{insert_entry}
 use Rattle.cx_service.specs.Lines.{parts_of, AreLinesOf, new_line}
 use Rattle.cx_service.specs.Screen.{filled, with_lines, cleared, ShowsText}
-use Rattle.cx_service.specs.Names.{is_name}
+use Rattle.cx_ebcdic.specs.Names.{is_name}
 use Rattle.cx_service.specs.Queues.{Queue, Queues, AreSoundQueues, queue_of, queue_or_empty, last_read_of, write_fault, rewrite_fault, with_item, without_queue}
 use Rattle.cx_service.specs.Resources.{Resources, hold_of, hold_fault, enq_fault}
 use Rattle.cx_service.specs.declared.resources.ResourceName.{ResourceName}
@@ -17,7 +16,8 @@ use Rattle.cx_service.specs.declared.resources.Hold.{Hold}
 use Rattle.cx_service.specs.declared.faults.ServiceFault.{ServiceFault}
 use Rattle.cx_service.specs.declared.faults.ServiceFault.TheVariants.{Lengerr, Itemerr, Nospace, Qiderr, Enqbusy, Invreq, Memory}
 use Rattle.cx_service.proofs.LineLemmas.{one_lines, short_first, parts_whole}
-use Rattle.cx_service.proofs.QueueSound.{is_name-laws}
+use Rattle.cx_ebcdic.specs.Facts.Names.{is_name-laws}
+use Rattle.cx_tables.specs.Facts.Lookups.{lookup-insert_entry-same}
 
 pub short_text : (text : List ℕ) → position (λ byte. byte == new_line) text ≡ None → length text ≤ 80 → AreLinesOf text (text ∷ [])
 short_text text none short = short_first text text None [] (parts_whole text none) short refl
@@ -34,13 +34,6 @@ in_place (top ∷ rest) (line ∷ lines) zero within = refl
 in_place (top ∷ rest) (line ∷ lines) (suc row) within = in_place rest lines row (omega arith)
 
 -- ---- a queue that is made anew
-put_found : (queues : Queues) (name : List ℕ) (queue : Queue) → queue_of (insert_entry is_name queues name queue) name ≡ Some queue
-put_found [] name queue = cond-true _ _ _ (is_name-laws.refl name)
-put_found (e ∷ es) name queue = ⊎_elim
-    (λ yes. ap (λ l. queue_of l name) (cond-true (is_name name e.0) ((e.0, queue) ∷ es) (e ∷ insert_entry is_name es name queue) yes) ∙ cond-true (is_name name e.0) (Some queue) (queue_of es name) yes)
-    (λ no. ap (λ l. queue_of l name) (cond-false (is_name name e.0) ((e.0, queue) ∷ es) (e ∷ insert_entry is_name es name queue) no) ∙ cond-false (is_name name e.0) (Some e.1) (queue_of (insert_entry is_name es name queue) name) no ∙ put_found es name queue)
-    (cases_Bool (is_name name e.0))
-
 last_of : Option Queue → Option ℕ
 last_of o = let queue : Queue = unwrap_or o (record { items = []; last_read = 0 }) in Some queue.last_read
 
@@ -51,7 +44,7 @@ begins_anew queues name bytes sound =
     lookup-remove_entry is_name-laws (is_name name) (is_name-laws.congr name) name queues sound.distinct
     ∙ cond-true (is_name name name) None (queue_of queues name) (is_name-laws.refl name) in
     let queue : Queue = queue_or_empty (remove_entry (is_name name) queues) name in
-    ap (option_map (λ (q : Queue). q.last_read)) (put_found (remove_entry (is_name name) queues) name (record queue { items = queue.items ++ bytes ∷ [] }))
+    ap (option_map (λ (q : Queue). q.last_read)) (lookup-insert_entry-same is_name is_name-laws (remove_entry (is_name name) queues) name (record queue { items = queue.items ++ bytes ∷ [] }))
     ∙ ap last_of gone
 
 -- ---- Memory is none of the conditions

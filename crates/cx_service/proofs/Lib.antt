@@ -1,6 +1,5 @@
 pub mod LineLemmas
 pub mod ScreenLemmas
-pub mod QueueLemmas
 pub mod ItemLemmas
 pub mod QueueSound
 pub mod ResourceSound

@@ -6,7 +6,7 @@ use Rattle.std.proofs.lemmas.Bool.{cases_Bool, cases_lt, cases_eq, le-leb, lt-le
 use Rattle.std.proofs.lemmas.Option.{cond_some, slice_get-get_or, slice_get_past, none-some, same_Some}
 use Rattle.std.proofs.lemmas.List.Splits.{slice_split_first, slice_split-cons_yes, slice_split-cons_no}
 use Rattle.cx_service.specs.Lines.{blank, columns, new_line, parts_of, IsBreak, IsLastBreak, line_before, left_behind, Breaks, ArePartLines, AreLines, AreLinesOf}
-use Rattle.cx_service.specs.LineSteps.{IsFirstPart, AreLinesLeft, IsLastBreakBelow}
+use Rattle.cx_service.specs.Parts.LineSteps.{IsFirstPart, AreLinesLeft, IsLastBreakBelow}
 
 -- ---- the last break, searched upward
 pub last_break_yes : (part : List ℕ) (k : ℕ) → IsBreak part k → IsLastBreakBelow (k + 1) part (Some k)
@@ -20,9 +20,6 @@ last_break_no part k (Some b) not_here so_far =
 pub last_break_all : (part : List ℕ) (last : Option ℕ) → IsLastBreakBelow 81 part last → IsLastBreak part last
 last_break_all part None so_far = λ k is. so_far k (let to : k ≤ 80 = is.to in omega arith) is
 last_break_all part (Some b) so_far = (so_far.0, λ k is. so_far.1 k (let to : k ≤ 80 = is.to in omega arith) is)
-
-pub last_break_none : (part : List ℕ) → IsLastBreakBelow 1 part None
-last_break_none part k below is = absurd (let from : 1 ≤ k = is.from in omega arith)
 
 pub break_here : (part : List ℕ) (k : ℕ) → 1 ≤ k → k < 81 → k < length part → get_or part k 0 ≡ 64 → IsBreak part k
 break_here part k from to within at = record { from = from; to = omega arith; at_blank = slice_get-get_or part k 0 within ∙ ap Some at }

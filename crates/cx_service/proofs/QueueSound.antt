@@ -1,7 +1,6 @@
 -- What always holds of the queues is kept, and what becomes of the bytes of all.
-use Rattle.std.proofs.Common.{◌≡◌, ℕ, zero, suc, ◌+◌, ◌-◌, ◌<◌, ◌≤◌, Bool, true, false, cond, Option, Some, None, List, [], ◌∷◌, ◌++◌, length, get_or, refl, sym, ◌∙◌, ap, subst, arith, rules, nat_le}
-use Rattle.std.specs.Prelude.{◌&&◌, is_none, unwrap_or, sum_by, slice_get, slice_set, ◌==◌, ◌↔◌}
-use Rattle.std.specs.Cmp.{IsEquivalence}
+use Rattle.std.proofs.Common.{◌≡◌, ℕ, zero, suc, ◌+◌, ◌-◌, ◌<◌, ◌≤◌, Bool, true, false, cond, Option, Some, None, List, [], ◌∷◌, ◌++◌, length, get_or, refl, sym, ◌∙◌, ap, subst, arith, nat_le}
+use Rattle.std.specs.Prelude.{◌&&◌, is_none, unwrap_or, sum_by, slice_get, slice_set, ◌==◌}
 use Rattle.std.specs.Option.{option_map, option_and_then}
 use Rattle.std.specs.List.{AllByRecursion, IsDistinct}
 use Rattle.std.specs.Map.{set_value, keys_of, values_of, remove_entry}
@@ -12,31 +11,13 @@ use Rattle.std.proofs.lemmas.List.Sums.{sum_by_push, sum_by-set}
 use Rattle.std.proofs.lemmas.Map.{length-set_value}
 use Rattle.std.proofs.lemmas.Map.Entries.{sum_by-set_value, sum_by-remove_entry}
 use Rattle.indexmap.specs.IndexMap.{insert_entry}
-use Rattle.cx_service.specs.Names.{is_name}
+use Rattle.cx_ebcdic.specs.Names.{is_name}
+use Rattle.cx_ebcdic.specs.Facts.Names.{is_name-laws}
 use Rattle.cx_service.specs.Queues.{Queue, Queues, most_queues, most_items, most_data, is_item_length, queue_of, queue_or_empty, count_of, last_read_of, numbered, item_len_of, size_of, data_of, write_fault, rewrite_fault, read_fault, with_item, with_item_at, with_last_read, IsSoundQueue, AreSoundQueues}
-use Rattle.cx_service.proofs.QueueLemmas.{insert_entry_present, insert_entry_absent, found_meets, each-set_value, each-remove_entry, each-insert_entry, length-remove_entry, distinct-set_value, distinct-insert_entry}
-
--- ---- names
-same_name : (one other : List ℕ) → (is_name one other ≡ true) ↔ (one ≡ other)
-same_name one other = search rules
-
-false_unless : (b : Bool) → (b ≡ true → ⊥) → b ≡ false
-false_unless true not_true = absurd (not_true refl)
-false_unless false not_true = refl
-
-pub is_name-laws : IsEquivalence is_name
-is_name-laws = record {
-  refl = λ x. (same_name x x).1 refl;
-  symm = λ x y. by x y (is_name x y) refl;
-  congr = λ x y z same. ap (λ n. is_name n z) ((same_name x y).0 same);
-}
-  where
-    by : (x y : List ℕ) (b : Bool) → is_name x y ≡ b → is_name x y ≡ is_name y x
-    by x y true held = ap (λ n. is_name n y) ((same_name x y).0 held) ∙ ap (λ n. is_name y n) (sym ((same_name x y).0 held))
-    by x y false differ = differ ∙ sym (false_unless (is_name y x) (λ held. true≢false (sym ((same_name x y).1 (sym ((same_name y x).0 held))) ∙ differ)))
+use Rattle.cx_tables.specs.Facts.Tables.{insert_entry_present, insert_entry_absent, found_meets, each-set_value, each-remove_entry, each-insert_entry, length-remove_entry, distinct-set_value, distinct-insert_entry}
 
 -- ---- what conditions tell
-no_fault : {F : Type 0} (b : Bool) (fault : F) (others : Option F) → cond b (Some fault) others ≡ None → (b ≡ false) × (others ≡ None)
+pub no_fault : {F : Type 0} (b : Bool) (fault : F) (others : Option F) → cond b (Some fault) others ≡ None → (b ≡ false) × (others ≡ None)
 no_fault true fault others e = absurd (none-some fault (sym e))
 no_fault false fault others e = (refl, e)
 
@@ -56,9 +37,6 @@ may_write queues name len none =
     record { long = not-false _ a.0; numbers = leb-false _ _ b.0; named = c.0; light = ltb-false _ _ d.0 }
 
 -- ---- a queue, or the empty one
-empty : Queue
-empty = record { items = []; last_read = 0 }
-
 record Fits (queue : Queue) : Type 0 where
   few : length queue.items ≤ 32767
   lengths : AllByRecursion (λ item. is_item_length (length item) ≡ true) queue.items

@@ -1,21 +1,17 @@
 -- What always holds of the resources is kept.
-use Rattle.std.proofs.Common.{◌≡◌, ℕ, ◌+◌, ◌-◌, ◌<◌, ◌≤◌, Bool, true, false, cond, Option, Some, None, [], ◌∷◌, length, refl, sym, ◌∙◌, ap, ⊎_elim, arith}
+use Rattle.std.proofs.Common.{◌≡◌, ℕ, ◌+◌, ◌-◌, ◌<◌, ◌≤◌, false, Option, Some, None, [], ◌∷◌, length, refl, ◌∙◌, ap, ⊎_elim, arith}
 use Rattle.std.specs.Prelude.{not, ◌==◌}
 use Rattle.std.specs.List.{AllByRecursion, IsDistinct, filter}
 use Rattle.std.specs.Map.{set_value, keys_of, remove_entry}
 use Rattle.std.proofs.lemmas.Bool.{cases_Bool, cond-true, cond-false, leb-false, eqb-false, eq-eqb, ne_eqb}
-use Rattle.std.proofs.lemmas.Option.{none-some}
 use Rattle.std.proofs.lemmas.List.{length_push}
 use Rattle.std.proofs.lemmas.Map.{length-set_value}
 use Rattle.indexmap.specs.IndexMap.{insert_entry}
 use Rattle.cx_service.specs.Resources.{Resources, is_resource, most_resources, most_count, hold_of, hold_fault, enq_fault, count_at, enqueued, with_count_down, dequeued, without_owner, IsSoundHold, AreSoundResources}
 use Rattle.cx_service.specs.declared.resources.ResourceName.{ResourceName}
 use Rattle.cx_service.specs.declared.resources.Hold.{Hold}
-use Rattle.cx_service.proofs.QueueLemmas.{insert_entry_present, insert_entry_absent, found_meets, each-set_value, each-remove_entry, each-insert_entry, length-remove_entry, distinct-set_value, distinct-remove_entry, distinct-filter}
-
-no_fault : {F : Type 0} (b : Bool) (fault : F) (others : Option F) → cond b (Some fault) others ≡ None → (b ≡ false) × (others ≡ None)
-no_fault true fault others e = absurd (none-some fault (sym e))
-no_fault false fault others e = (refl, e)
+use Rattle.cx_service.proofs.QueueSound.{no_fault}
+use Rattle.cx_tables.specs.Facts.Tables.{insert_entry_present, insert_entry_absent, found_meets, each-set_value, each-remove_entry, each-insert_entry, length-remove_entry, distinct-set_value, distinct-remove_entry, distinct-filter, each-filter, length-filter}
 
 -- ---- ENQ
 pub enqueued_keeps : (resources : Resources) (slot : ℕ) (name : ResourceName) → AreSoundResources resources → enq_fault resources slot name ≡ None → IsDistinct is_resource (keys_of (enqueued resources slot name)) → AreSoundResources (enqueued resources slot name)
@@ -120,20 +116,6 @@ dequeued_more resources slot name hold is own more =
     ∙ cond-false (hold.count == 1) _ _ (ne_eqb hold.count 1 more)
 
 -- ---- the end of a task
-each-filter : (P : Hold → Type 0) (test : ResourceName × Hold → Bool) (es : Resources) → AllByRecursion (λ e. P e.1) es → AllByRecursion (λ e. P e.1) (filter test es)
-each-filter P test [] all = tt
-each-filter P test (e ∷ es) all = ⊎_elim
-    (λ yes. rw yes (all.0, each-filter P test es all.1))
-    (λ no. rw no (each-filter P test es all.1))
-    (cases_Bool (test e))
-
-length-filter : (test : ResourceName × Hold → Bool) (es : Resources) → length (filter test es) ≤ length es
-length-filter test [] = omega arith
-length-filter test (e ∷ es) = ⊎_elim
-    (λ yes. rw yes (omega (arith, length-filter test es)))
-    (λ no. rw no (omega (arith, length-filter test es)))
-    (cases_Bool (test e))
-
 pub released_keeps : (resources : Resources) (slot : ℕ) → AreSoundResources resources → AreSoundResources (without_owner resources slot)
 unfolding without_owner
 released_keeps resources slot sound =

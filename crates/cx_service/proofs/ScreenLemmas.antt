@@ -4,7 +4,7 @@ use Rattle.std.specs.Prelude.{slice_set}
 use Rattle.std.specs.List.{AllByRecursion}
 use Rattle.std.proofs.lemmas.List.{length-replicate, append-nil, append_assoc, length_push}
 use Rattle.cx_service.specs.Lines.{blank, columns, parts_of, AreLinesOf}
-use Rattle.cx_service.specs.LineSteps.{AreLinesLeft}
+use Rattle.cx_service.specs.Parts.LineSteps.{AreLinesLeft}
 use Rattle.cx_service.proofs.LineLemmas.{lines_fit, left_lines_exist}
 use Rattle.cx_service.specs.Screen.{rows, filled, with_lines, IsScreen, blank_screen, cleared, ShowsText}
 

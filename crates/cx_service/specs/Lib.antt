@@ -1,8 +1,8 @@
 pub mod Lines
 pub mod Screen
-pub mod LineSteps
-pub mod Names
 pub mod Queues
-pub mod NameBytes
 pub mod ResourceNames
 pub mod Resources
+pub mod Facts
+pub mod Parts
+pub use Rattle.cx_ebcdic.specs.Names

@@ -5,7 +5,7 @@ use Rattle.std.specs.Option.{option_map, option_and_then}
 use Rattle.std.specs.List.{AllByRecursion, IsDistinct}
 use Rattle.std.specs.Map.{lookup, set_value, keys_of, values_of, remove_entry}
 use Rattle.indexmap.specs.IndexMap.{insert_entry}
-use Rattle.cx_service.specs.Names.{is_name}
+use Rattle.cx_ebcdic.specs.Names.{is_name}
 use Rattle.cx_service.specs.declared.faults.ServiceFault.{ServiceFault}
 use Rattle.cx_service.specs.declared.faults.ServiceFault.TheVariants.{Lengerr, Itemerr, Nospace, Qiderr}
 

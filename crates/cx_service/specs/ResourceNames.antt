@@ -1,4 +1,4 @@
--- Names of resources: bytes or an address.
+-- Names of resources: bytes or an address (SC33-0077, "Task Control": ENQ and DEQ).
 use Rattle.std.specs.Prelude.{ℕ, Bool, ◌&&◌, nat_le}
 
 -- a length that a name of bytes may have

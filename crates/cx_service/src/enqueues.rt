@@ -159,7 +159,7 @@ fn take_off(resources: &mut IndexMap<ResourceName, Hold>, slot: u8, name: &Resou
 }
 
 /// Sets the count of a resource that is held.
-#[tactic(auto, using(crate::proofs::QueueLemmas::set_value_absent))]
+#[tactic(auto, using(cx_tables::specs::Facts::Tables::set_value_absent))]
 fn set_count(resources: &mut IndexMap<ResourceName, Hold>, name: &ResourceName, count: u16)
     ensures { (hold : Hold) → hold_of resources.old.entries name.now ≡ Some hold
         → resources.new.entries ≡ set_value (is_resource name.now) resources.old.entries (record hold { count = count }) }

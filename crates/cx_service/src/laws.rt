@@ -4,7 +4,6 @@ ghost use Rattle.std.specs.List.{AllByRecursion};
 ghost use Rattle.cx_service.specs.declared.faults.ServiceFault.TheVariants.{Memory};
 ghost use Rattle.cx_service.specs.declared.resources.ResourceName.{ResourceName};
 ghost use Rattle.cx_service.specs.Lines.{new_line, columns, AreLinesOf};
-ghost use Rattle.cx_service.specs.Names.{is_name};
 ghost use Rattle.cx_service.specs.Screen.{filled, with_lines, IsScreen, ShowsText};
 ghost use Rattle.cx_service.specs.Queues.{Queues, AreSoundQueues, last_read_of, write_fault, rewrite_fault, with_item, without_queue};
 ghost use Rattle.cx_service.specs.Resources.{Resources, is_resource, enq_fault, without_owner};
@@ -42,11 +41,6 @@ pub fn lines_are_shown_in_place()
     ensures { (screen lines : List (List ℕ)) (row : ℕ) → row < length screen
         → MatchOption (slice_get lines row) (slice_get (with_lines screen lines) row ≡ slice_get screen row)
         (λ line. slice_get (with_lines screen lines) row ≡ Some (filled line)) }
-{}
-
-/// Two names are the same exactly where their bytes are.
-pub fn names_are_their_bytes()
-    ensures { (one other : List ℕ) → (is_name one other ≡ true) ↔ (one ≡ other) }
 {}
 
 /// Two names of resources are the same exactly where both are the same bytes or both the same address.

@@ -7,14 +7,12 @@ pub mod laws;
 mod queues;
 mod resources;
 mod screen;
-#[cfg(test)]
-mod tests;
 
 pub use enqueues::Enqueues;
 pub use faults::ServiceFault;
 pub use queues::Queues;
-// A crate can name the queues in a contract only if the types of their fields are exported.
+// A crate can name the queues in a contract only if the type of their fields is exported.
 #[doc(hidden)]
-pub use queues::{Item, Queue};
+pub use queues::Queue;
 pub use resources::{Hold, NameBytes, ResourceName};
 pub use screen::{COLUMNS, ROWS, Screen};

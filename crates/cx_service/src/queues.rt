@@ -6,6 +6,7 @@ ghost use Rattle.cx_service.specs.Queues.{is_item_length as is_length, queue_of,
 
 use crate::faults::ServiceFault;
 use cx_ebcdic::Name8;
+use cx_tables::List;
 use indexmap::IndexMap;
 use std::alloc::{AllocError, Global};
 use std::marker::Model;
@@ -23,42 +24,7 @@ const MOST_BYTES: usize = 32_767;
 const MOST_DATA: usize = 4_194_304;
 
 /// An item of a queue: its bytes.
-#[derive(Drop)]
-pub struct Item {
-    bytes: Vec<u8>,
-}
-
-impl Model for Item {
-    ghost use Rattle.std.specs.Prelude.{List, ℕ};
-
-    ghost Value = { List ℕ };
-
-    ghost view = { λ item. item.bytes.items };
-}
-
-impl Item {
-    /// An item of these bytes.
-    fn new(alloc: Global, bytes: &[u8]) -> Result<Item, AllocError>
-        ensures { IfOk result (λ item. item ≡ bytes.now) }
-    {
-        let bytes = Vec::from_slice(alloc, bytes)?;
-        Ok(Item { bytes })
-    }
-
-    /// Its bytes.
-    fn bytes(&self) -> &[u8]
-        ensures { result.now ≡ self.now }
-    {
-        self.bytes.as_slice()
-    }
-
-    /// The number of its bytes.
-    fn len(&self) -> usize
-        ensures { result ≡ length self.now }
-    {
-        self.bytes.len()
-    }
-}
+pub type Item = List<u8>;
 
 /// A queue: its items, and the number of the item last read, counted from 1; 0 where none was.
 #[derive(Drop)]
@@ -116,7 +82,7 @@ impl Queue {
         requires { size_of self.now < 2 ^ 64 }
         ensures { result ≡ size_of self.now }
     {
-        self.items.iter().map(|item| item.len()).sum()
+        self.items.iter().map(|item| item.as_slice().len()).sum()
     }
 
     /// Puts an item last, and answers its number.
@@ -206,7 +172,7 @@ impl Queues {
     {
         let queue = self.queues.get(&name)?;
         let item = queue.item(n)?;
-        Some(item.bytes())
+        Some(item.as_slice())
     }
 
     /// The number of bytes of a queue's item n, counted from 1; None where there is no such item or queue.
@@ -286,7 +252,7 @@ impl Queues {
     {
         self.can_rewrite(name, n, bytes.len())?;
         let old_len = self.item_len(name, n).unwrap_or(0);
-        let item = Item::new(self.alloc, bytes)?;
+        let item = Item::from_slice(self.alloc, bytes)?;
         put_at(&mut self.queues, name, n, item);
         self.item_bytes = self.item_bytes - old_len + bytes.len();
         Ok(())
@@ -376,7 +342,7 @@ fn put_last(
     ensures number { IfOk result (λ n. n ≡ unwrap_or (count_of queues.old.entries name) 0 + 1) }
     ensures err { OnErr result (queues.new.entries ≡ queues.old.entries) }
 {
-    let item = Item::new(alloc, bytes)?;
+    let item = Item::from_slice(alloc, bytes)?;
     match queues.get_mut(&name) {
         Some(queue) => {
             let number = queue.push(item)?;
@@ -406,7 +372,7 @@ fn put_first(
 }
 
 /// Puts an item in the place of item n of a queue, where it is there.
-#[tactic(auto, using(crate::proofs::QueueLemmas::set_value_absent), unfolding(crate::specs::Queues::with_item_at))]
+#[tactic(auto, using(cx_tables::specs::Facts::Tables::set_value_absent), unfolding(crate::specs::Queues::with_item_at))]
 fn put_at(queues: &mut IndexMap<Name8, Queue>, name: Name8, n: usize, item: Item)
     ensures { queues.new.entries ≡ with_item_at queues.old.entries name n item }
 {
@@ -417,7 +383,7 @@ fn put_at(queues: &mut IndexMap<Name8, Queue>, name: Name8, n: usize, item: Item
 }
 
 /// Makes item n of a queue the one last read, where the queue is there.
-#[tactic(auto, using(crate::proofs::QueueLemmas::set_value_absent), unfolding(crate::specs::Queues::with_last_read))]
+#[tactic(auto, using(cx_tables::specs::Facts::Tables::set_value_absent), unfolding(crate::specs::Queues::with_last_read))]
 fn mark_read(queues: &mut IndexMap<Name8, Queue>, name: Name8, n: usize)
     ensures { queues.new.entries ≡ with_last_read queues.old.entries name n }
 {

@@ -21,7 +21,8 @@ impl Model for NameBytes {
 
     ghost Value = { List ℕ };
 
-    ghost use Rattle.cx_service.specs.NameBytes.{IsPadded, padded_back};
+    ghost use Rattle.cx_service.specs.Facts.NameBytes.{padded_back};
+    ghost use Rattle.cx_service.specs.Parts.NameBytes.{IsPadded};
 
     ghost view = { λ name. take name.len name.bytes };
 

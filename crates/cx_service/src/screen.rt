@@ -2,7 +2,7 @@
 ghost use Rattle.std.specs.Prelude.{◌≡◌, ℕ, ◌==◌, ◌<◌, ◌≤◌, List, ◌∷◌, length, false, position};
 ghost use Rattle.std.specs.Option.{option_map};
 ghost use Rattle.cx_service.specs.Lines.{new_line, IsLastBreak, AreLinesOf};
-ghost use Rattle.cx_service.specs.LineSteps.{IsFirstPart, AreLinesLeft};
+ghost use Rattle.cx_service.specs.Parts.LineSteps.{IsFirstPart, AreLinesLeft};
 ghost use Rattle.cx_service.specs.Screen.{blank_screen, filled, IsScreen, ShowsText};
 
 use std::marker::Model;

@@ -1,5 +1,6 @@
--- What is wrong with a source: the first faulty line, and which fault that line has.
-use Rattle.std.specs.Prelude.{ℕ, ◌+◌, Bool, false, ◌&&◌, ◌||◌, not, ◌==◌, nat_lt, if◌then◌else◌, Option, Some, None, Result, Ok, Err, List, [], ◌∷◌, length, map, is_none}
+-- What is wrong with a source: the first faulty line, and which fault that line has (GC33-4010, "Assembler Language Coding
+-- Conventions"; the number of lines and the order of the faults are this product's own).
+use Rattle.std.specs.Prelude.{ℕ, ◌+◌, Bool, false, ◌&&◌, ◌||◌, not, ◌==◌, nat_lt, if◌then◌else◌, Option, Some, None, Result, Ok, Err, List, [], ◌∷◌, length, map, is_none, codes}
 use Rattle.std.specs.List.{list_any}
 use Rattle.std.specs.Option.{option_or}
 use Rattle.std.specs.Str.Lines.{lines}
@@ -8,7 +9,16 @@ use Rattle.cx_source.specs.Lines.{columns, is_written, text_of, is_comment, is_n
 use Rattle.cx_source.specs.Statements.{is_continued, is_last, up_to_end, items_from}
 use Rattle.cx_source.specs.declared.source.Source.{Source}
 use Rattle.cx_source.specs.declared.source.SourceFault.{SourceFault}
-use Rattle.cx_source.specs.declared.source.SourceFault.TheVariants.{BadCharacter, BadName, BadContinuation, TooLong, NoEnd}
+use Rattle.cx_source.specs.declared.source.SourceFault.TheVariants.{BadCharacter, BadName, BadContinuation, TooLong, NoEnd, Memory}
+
+-- a fault's name
+abbrev pub fault_name : SourceFault → List ℕ
+fault_name (TooLong number) = codes "TooLong"
+fault_name (BadCharacter number) = codes "BadCharacter"
+fault_name (BadContinuation number) = codes "BadContinuation"
+fault_name (BadName number) = codes "BadName"
+fault_name (NoEnd number) = codes "NoEnd"
+fault_name Memory = codes "Memory"
 
 -- What begins in column 1 of a statement's first line is a name, or nothing begins there.
 unfoldable pub is_well_named : List ℕ → Bool

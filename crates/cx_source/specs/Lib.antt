@@ -1,5 +1,5 @@
 pub mod Lines
-pub mod Outside
+pub mod Marks
 pub mod Statements
 pub mod Faults
 pub mod Reader

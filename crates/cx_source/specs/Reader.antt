@@ -1,4 +1,4 @@
--- What a reader of a source is after the bytes that it was fed.
+-- What a reader of a source is after the bytes that it was fed (this product's own; the source is that of GC33-4010).
 use Rattle.std.specs.Prelude.{ℕ, ◌+◌, ◌≡◌, Bool, false, ◌==◌, if◌then◌else◌, Option, Some, None, Result, Ok, Err, List, [], ◌∷◌, ◌++◌, length, fold}
 use Rattle.std.specs.Str.Lines.{strip_carriage_return}
 use Rattle.cx_source.specs.Lines.{text_of}

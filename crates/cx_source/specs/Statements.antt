@@ -3,8 +3,8 @@
 use Rattle.std.specs.Prelude.{ℕ, ◌+◌, Bool, true, false, ◌&&◌, ◌||◌, not, if◌then◌else◌, Option, Some, None, List, [], ◌∷◌, ◌++◌, take, codes}
 use Rattle.std.specs.Str.{bytes_eq}
 use Rattle.cx_source.specs.Lines.{trimmed, skip_blanks, columns, is_marked, is_comment, is_end, entries_of}
-use Rattle.cx_source.specs.Outside.{first_mark}
-use Rattle.cx_source.specs.declared.cuts.Mark.TheVariants.{Blank}
+use Rattle.cx_source.specs.Marks.{first_mark}
+use Rattle.cx_source.specs.declared.marks.Mark.TheVariants.{Blank}
 use Rattle.cx_source.specs.declared.source.Stmt.{Stmt}
 use Rattle.cx_source.specs.declared.source.Item.{Item}
 

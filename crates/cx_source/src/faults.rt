@@ -1,13 +1,7 @@
 //! What may be wrong with one line.
 
 ghost use Rattle.std.specs.Prelude.{◌≡◌, ◌≤◌, IfNone};
-ghost use Rattle.cx_source.specs.Faults.{
-  fault_of,
-  has_bad_character,
-  has_bad_continuation,
-  is_too_long,
-  is_well_named,
-};
+ghost use Rattle.cx_source.specs.Faults.{fault_of, has_bad_character, has_bad_continuation, is_too_long, is_well_named};
 
 use crate::lines::{columns, entries_of, has_written, is_comment, is_name, text_of};
 use crate::source::SourceFault;

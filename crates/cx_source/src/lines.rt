@@ -2,24 +2,7 @@
 
 ghost use Rattle.std.specs.Prelude.{◌≡◌, ◌≤◌, length, position};
 ghost use Rattle.std.specs.List.{list_all, list_any, position_or_len};
-ghost use Rattle.cx_source.specs.Lines.{
-  begins_with_letter,
-  behind_word,
-  columns,
-  entries_of,
-  is_blank,
-  is_comment,
-  is_end,
-  is_letter,
-  is_marked,
-  is_name,
-  is_name_character,
-  is_written,
-  skip_blanks,
-  text_of,
-  trimmed,
-  word,
-};
+ghost use Rattle.cx_source.specs.Lines.{begins_with_letter, behind_word, columns, entries_of, is_blank, is_comment, is_end, is_letter, is_marked, is_name, is_name_character, is_written, skip_blanks, text_of, trimmed, word};
 
 /// A blank.
 pub(crate) const BLANK: u8 = b' ';

@@ -17,23 +17,12 @@ ghost use Rattle.std.specs.Prelude.{
 ghost use Rattle.std.specs.Str.Lines.{strip_carriage_return};
 ghost use Rattle.cx_source.specs.Lines.{text_of};
 ghost use Rattle.cx_source.specs.Faults.{source_from, source_of};
-ghost use Rattle.cx_source.specs.Reader.{
-  Answers,
-  ReadsAs,
-  Refuses,
-  at_start,
-  behind_line,
-  finish,
-  take_byte,
-  take_piece,
-  texts_with,
-};
+ghost use Rattle.cx_source.specs.Reader.{Answers, ReadsAs, Refuses, at_start, behind_line, finish, take_byte, take_piece, texts_with};
 
 use crate::faults::fault_of;
 use crate::lines::text_of;
-use crate::source::{Items, Source, SourceFault};
-use crate::statements::{copied, is_continued, is_last, items_of};
-use crate::text::Text;
+use crate::source::{Items, Source, SourceFault, Text};
+use crate::statements::{is_continued, is_last, items_of};
 use std::alloc::{AllocError, Global};
 use std::collections::VecDeque;
 use std::marker::Model;
@@ -96,7 +85,7 @@ fn take_line(
     if let Progress::Faulty(_) = progress {
         return Ok(progress);
     }
-    texts.push_back(copied(alloc, text_of(line))?)?;
+    texts.push_back(Text::from_slice(alloc, text_of(line))?)?;
     Ok(progress)
 }
 
@@ -126,7 +115,7 @@ fn finish_line(
     match behind_line(continues, number, line) {
         Progress::Expects(_) => Err(SourceFault::NoEnd(number + 1)),
         Progress::Ended => {
-            texts.push_back(copied(alloc, text_of(line))?)?;
+            texts.push_back(Text::from_slice(alloc, text_of(line))?)?;
             source_from(alloc, texts)
         }
         Progress::Faulty(fault) => Err(fault),

@@ -1,11 +1,17 @@
 //! A source as its lines and statements, and what may be wrong with one.
 
-ghost use Rattle.std.specs.Prelude.{◌≡◌};
+ghost use Rattle.std.specs.Prelude.{◌≡◌, IfOk};
+ghost use Rattle.cx_source.specs.Faults.{fault_name};
 
-use crate::text::Text;
-use std::alloc::{AllocError, AllocFailed};
-use std::marker::Model;
+use cx_tables::List;
+use std::alloc::{AllocError, AllocFailed, Global};
 use thiserror::Error;
+
+/// A text, as its bytes.
+pub type Text = List<u8>;
+
+/// A list of lines.
+pub type Items = List<Item>;
 
 /// A statement.
 #[derive(Debug, Drop)]
@@ -16,6 +22,21 @@ pub struct Stmt {
     pub operation: Text,
     /// The operand without its remark, joined over the lines that continue it; empty where there is none.
     pub operand: Text,
+}
+
+impl Stmt {
+    /// The same statement, with texts of its own.
+    ///
+    /// An error comes only where a growth was refused.
+    pub fn copied(&self, alloc: Global) -> Result<Stmt, AllocError>
+        ensures { IfOk result (λ copy. copy ≡ self.now) }
+    {
+        Ok(Stmt {
+            name: List::from_slice(alloc, self.name.as_slice())?,
+            operation: List::from_slice(alloc, self.operation.as_slice())?,
+            operand: List::from_slice(alloc, self.operand.as_slice())?,
+        })
+    }
 }
 
 /// A line of a source.
@@ -29,42 +50,22 @@ pub struct Item {
     pub stmt: Option<Stmt>,
 }
 
-/// A list of lines.
-#[derive(Debug, Drop)]
-pub struct Items {
-    items: Vec<Item>,
-}
-
-impl Model for Items {
-    ghost use Rattle.std.specs.Prelude.{List};
-    ghost use Rattle.cx_source.specs.declared.source.Item.{Item};
-
-    ghost Value = { List Item };
-
-    ghost view = { λ items. items.items.items };
-}
-
-impl Items {
-    /// The list of these lines. It takes no memory.
-    pub fn from_vec(items: Vec<Item>) -> Items
-        ensures { result ≡ items.items }
+impl Item {
+    /// The same line, with texts of its own.
+    ///
+    /// An error comes only where a growth was refused.
+    pub fn copied(&self, alloc: Global) -> Result<Item, AllocError>
+        ensures { IfOk result (λ copy. copy ≡ self.now) }
     {
-        Items { items }
-    }
-
-    /// The lines as a `Vec`. It takes no memory.
-    pub fn into_vec(self) -> Vec<Item>
-        ensures { result.items ≡ self }
-    {
-        let Items { items } = self;
-        items
-    }
-
-    /// The lines.
-    pub fn as_slice(&self) -> &[Item]
-        ensures { result.now ≡ self.now }
-    {
-        self.items.as_slice()
+        let stmt = match &self.stmt {
+            Some(stmt) => Some(stmt.copied(alloc)?),
+            None => None,
+        };
+        Ok(Item {
+            line: self.line,
+            text: List::from_slice(alloc, self.text.as_slice())?,
+            stmt,
+        })
     }
 }
 
@@ -79,23 +80,39 @@ pub struct Source {
 #[derive(Clone, Copy, Debug, PartialEq, Eq, Error)]
 pub enum SourceFault {
     /// A character without an EBCDIC code in columns 1 to 72.
-    #[error("line {0}: BadCharacter")]
+    #[error("line {0}: {name}", name = self.name())]
     BadCharacter(usize),
     /// What begins in column 1 is no name: 1 to 8 of A to Z, `@ # $` and 0 to 9, the first no digit.
-    #[error("line {0}: BadName")]
+    #[error("line {0}: {name}", name = self.name())]
     BadName(usize),
     /// A line that continues a statement isn't blank in columns 1 to 15.
-    #[error("line {0}: BadContinuation")]
+    #[error("line {0}: {name}", name = self.name())]
     BadContinuation(usize),
     /// More than 80 columns, or a line past the 10,000th.
-    #[error("line {0}: TooLong")]
+    #[error("line {0}: {name}", name = self.name())]
     TooLong(usize),
     /// No END; the line is the one after the last.
-    #[error("line {0}: NoEnd")]
+    #[error("line {0}: {name}", name = self.name())]
     NoEnd(usize),
     /// A growth was refused.
-    #[error("out of memory")]
+    #[error("{name}", name = self.name())]
     Memory,
+}
+
+impl SourceFault {
+    /// The fault's name, as `BadCharacter`.
+    pub fn name(self) -> &'static str
+        ensures { result.now ≡ fault_name self }
+    {
+        match self {
+            SourceFault::BadCharacter(_) => "BadCharacter",
+            SourceFault::BadName(_) => "BadName",
+            SourceFault::BadContinuation(_) => "BadContinuation",
+            SourceFault::TooLong(_) => "TooLong",
+            SourceFault::NoEnd(_) => "NoEnd",
+            SourceFault::Memory => "Memory",
+        }
+    }
 }
 
 impl From<AllocError> for SourceFault {

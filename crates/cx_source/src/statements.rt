@@ -2,20 +2,12 @@
 
 ghost use Rattle.std.specs.Prelude.{◌≡◌, ◌++◌, IfOk, false};
 ghost use Rattle.cx_source.specs.Lines.{is_marked};
-ghost use Rattle.cx_source.specs.Statements.{
-  is_continued,
-  is_last,
-  items_from,
-  operand_in,
-  statement_at,
-  statement_of,
-  written_on,
-};
+ghost use Rattle.cx_source.specs.Statements.{is_continued, is_last, items_from, operand_in, statement_at, statement_of, written_on};
 
-use crate::cuts::{Mark, first_mark};
 use crate::lines::{columns, entries_of, is_comment, is_end, is_marked, skip_blanks, trimmed};
-use crate::source::{Item, Stmt};
-use crate::text::Text;
+use crate::marks::{Mark, first_mark};
+use crate::source::{Item, Stmt, Text};
+use cx_tables::List;
 use std::alloc::{AllocError, Global};
 use std::collections::VecDeque;
 
@@ -75,13 +67,6 @@ fn operand_in<'a>(operation: &[u8], written: &'a [u8]) -> &'a [u8]
     operand
 }
 
-/// A text of its own.
-pub(crate) fn copied(alloc: Global, text: &[u8]) -> Result<Text, AllocError>
-    ensures { IfOk result (λ copy. copy ≡ text.now) }
-{
-    Ok(Text::from_vec(Vec::from_slice(alloc, text)?))
-}
-
 /// The statement that begins on a line, with the lines behind it.
 #[tactic(auto, unfolding(crate::specs::Statements::statement_of))]
 fn statement_of(alloc: Global, first: &[u8], more: &VecDeque<Text>) -> Result<Stmt, AllocError>
@@ -90,9 +75,9 @@ fn statement_of(alloc: Global, first: &[u8], more: &VecDeque<Text>) -> Result<St
     let entries = entries_of(first);
     let written = written(alloc, entries.behind, first, more)?;
     Ok(Stmt {
-        name: copied(alloc, entries.name)?,
-        operation: copied(alloc, entries.operation)?,
-        operand: copied(alloc, operand_in(entries.operation, written.as_slice()))?,
+        name: List::from_slice(alloc, entries.name)?,
+        operation: List::from_slice(alloc, entries.operation)?,
+        operand: List::from_slice(alloc, operand_in(entries.operation, written.as_slice()))?,
     })
 }
 

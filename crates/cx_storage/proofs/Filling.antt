@@ -1,10 +1,11 @@
 -- The steps of the loop that fills a buffer from a span.
-use Rattle.std.specs.Prelude.{◌≡◌, ℕ, ◌+◌, ◌-◌, ◌%◌, ◌^◌, ◌<◌, ◌≤◌, true, List, [], ◌∷◌, length, slice_set, Option, Some, None, is_some}
+use Rattle.cx_storage.specs.Address.{along}
+use Rattle.std.specs.Prelude.{◌≡◌, ℕ, ◌+◌, ◌-◌, ◌<◌, ◌≤◌, true, List, [], ◌∷◌, length, slice_set, Option, Some, None, is_some}
 use Rattle.std.proofs.Common.{refl, ap, take, ◌++◌, unwrap_or, append_assoc}
 use Rattle.std.proofs.lemmas.List.{take_more_set, take_all, append-nil}
 use Rattle.std.specs.Option.{option_map, option_and_then}
 use Rattle.cx_storage.specs.Storage.{Storage, byte_at, span}
-use Rattle.cx_storage.specs.Bytes.{span_more}
+use Rattle.cx_storage.specs.Facts.Spans.{span_more}
 
 -- the bytes done, with the rest of them behind
 unfoldable pub joined : List ℕ → Option (List ℕ) → Option (List ℕ)
@@ -17,10 +18,10 @@ joined_nil (Some bs) = refl
 
 -- one byte more stands in a buffer that is filled from the span
 pub joined_more : (s : Storage) (at k m : ℕ) (buffer : List ℕ) → k < length buffer → is_some (byte_at s at) ≡ true → 0 < m
-    → joined (take (k + 1) (slice_set buffer k (unwrap_or (byte_at s at) 0))) (span s ((at + 1) % 2 ^ 24) (m - 1)) ≡ joined (take k buffer) (span s at m)
+    → joined (take (k + 1) (slice_set buffer k (unwrap_or (byte_at s at) 0))) (span s (along at 1) (m - 1)) ≡ joined (take k buffer) (span s at m)
 unfolding joined
 joined_more s at k m buffer h e more =
-    rw (span_more s at m more, take_more_set buffer k (unwrap_or (byte_at s at) 0) h) (at_byte (byte_at s at) (span s ((at + 1) % 2 ^ 24) (m - 1)) (take k buffer) e)
+    rw (span_more s at m more, take_more_set buffer k (unwrap_or (byte_at s at) 0) h) (at_byte (byte_at s at) (span s (along at 1) (m - 1)) (take k buffer) e)
   where
     at_byte : (o : Option ℕ) (rest : Option (List ℕ)) (front : List ℕ) → is_some o ≡ true
         → option_map (λ bs. (front ++ unwrap_or o 0 ∷ []) ++ bs) rest ≡ option_map (λ bs. front ++ bs) (option_and_then (λ b. option_map (λ bs. b ∷ bs) rest) o)

@@ -11,9 +11,9 @@ use Rattle.std.specs.Option.{option_map}
 use Rattle.std.proofs.lemmas.Bool.{cases_Bool, le-leb, lt-leb, lt-ltb, le-ltb, false≢true, leb-true, leb-false, cases_lt, and_parts, and_right, or_cases}
 use Rattle.cx_storage.specs.Storage.{Held, Storage, end_of, covers, byte_at, span, put_byte, with_byte, area_at, put_held, with_area, zeros, in_one_area, IsWhole, IsSound}
 use Rattle.cx_storage.specs.Place.{Misses, CanPlace, IsLeastPlace}
-use Rattle.cx_storage.specs.Sound.{All-weaker, IsSound-tail, IsSound-head, IsSound-apart, covers_cases, covers_from}
+use Rattle.cx_storage.specs.Facts.Sound.{All-weaker, IsSound-tail, IsSound-head, IsSound-apart, covers_cases, covers_from}
 use Rattle.std.specs.Int.{next_multiple_of}
-use Rattle.cx_storage.specs.Flat.{walk, spot}
+use Rattle.cx_storage.specs.Parts.Flat.{walk, spot}
 
 -- a search for the area that covers an address
 pub byte_skip : (s : Storage) (i a : ℕ) (h : Held) → i < length s → h ≡ get_or s i h → covers h.area a ≡ false → byte_at (drop (i + 1) s) a ≡ byte_at (drop i s) a

@@ -4,6 +4,7 @@
 use Rattle.std.specs.Prelude.{◌≡◌, ℕ, zero, suc, ◌+◌, ◌-◌, ◌%◌, ◌^◌, ◌<◌, ◌≤◌, Bool, ◌&&◌, not, List, [], ◌∷◌, map, length, replicate, slice_get, slice_set, Option, Some, None, is_some, nat_le, nat_lt, ◌==◌, if◌then◌else◌, ⊤, IsTrue}
 use Rattle.std.specs.Option.{option_map, option_and_then}
 use Rattle.std.specs.List.{AllByRecursion, filter, list_any}
+use Rattle.cx_storage.specs.Address.{along}
 use Rattle.cx_storage.specs.declared.areas.Area.{Area}
 use Rattle.cx_storage.specs.declared.areas.Owner.{Owner}
 
@@ -28,14 +29,6 @@ covers area x = nat_le area.start x && nat_lt x (end_of area)
 unfoldable pub byte_at : Storage → ℕ → Option ℕ
 byte_at [] x = None
 byte_at (h ∷ hs) x = if covers h.area x then slice_get h.bytes (x - h.area.start) else byte_at hs x
-
--- k bytes after a; after the address 2^24 - 1 comes 0
-abbrev pub along : ℕ → ℕ → ℕ
-along a k = (a + k) % 2 ^ 24
-
--- how many bytes after a the address x comes
-abbrev pub distance : ℕ → ℕ → ℕ
-distance a x = (x + (2 ^ 24 - a)) % 2 ^ 24
 
 -- the n bytes from a on, where each of them is present
 unfoldable pub span : Storage → ℕ → ℕ → Option (List ℕ)
@@ -73,9 +66,13 @@ holder (h ∷ hs) x = if covers h.area x then Some h.area else holder hs x
 unfoldable pub areas_of : Storage → List Area
 areas_of s = map (λ h. h.area) s
 
+-- the area of a place
+abbrev pub area_from : ℕ → ℕ → Owner → Area
+area_from a len owner = record { start = a; len = len; owner = owner }
+
 -- a fresh area: its bytes are zero
 abbrev pub zeros : ℕ → ℕ → Owner → Held
-zeros a len owner = record { area = record { start = a; len = len; owner = owner }; bytes = replicate len 0 }
+zeros a len owner = record { area = area_from a len owner; bytes = replicate len 0 }
 
 -- storage with one more area, in its order
 unfoldable pub put_held : Held → Storage → Storage

@@ -1,17 +1,14 @@
--- Words and halfwords in storage (POP, "Information Formats" and "Integral Boundaries": the byte at the
--- lowest address is the highest; here at any address, and going on at address 0 after the last).
-use Rattle.std.specs.Prelude.{ℕ, ◌+◌, ◌*◌, ◌^◌, List, [], ◌∷◌, length, Option}
+-- Words and halfwords in storage (Principles of Operation, GA22-7000, "Information Formats" and
+-- "Integral Boundaries"): the byte at the lowest address is the highest. Here they stand at any address,
+-- and go on at address 0 after the last.
+use Rattle.std.specs.Prelude.{ℕ, Option}
 use Rattle.std.specs.Option.{option_map}
+use Rattle.byteorder.specs.Endian.{big_number}
 use Rattle.cx_storage.specs.Storage.{Storage, span}
 
--- the number of the bytes in base 256, the first byte the highest
-abbrev pub number_of : List ℕ → ℕ
-number_of [] = 0
-number_of (b ∷ bs) = b * 256 ^ length bs + number_of bs
-
--- the word in the 4 bytes from a on, and the halfword in the 2 bytes, where they are present
+-- the number in the 4 bytes from a on, and in the 2 bytes, where they are present
 unfoldable pub word_at : Storage → ℕ → Option ℕ
-word_at s a = option_map number_of (span s a 4)
+word_at s a = option_map (big_number 4) (span s a 4)
 
 unfoldable pub halfword_at : Storage → ℕ → Option ℕ
-halfword_at s a = option_map number_of (span s a 2)
+halfword_at s a = option_map (big_number 2) (span s a 2)

@@ -1,4 +1,4 @@
-// Areas and who owns them (this product's own: the manual's storage has none).
+//! Areas and who owns them (this product's own: the manual's storage has none).
 
 /// What an area is for.
 #[derive(Clone, Copy, Debug, PartialEq, Eq)]

@@ -1,16 +1,17 @@
-// `FlatStore`: a list of areas, each with a list of its bytes.
+//! `FlatStore`: a list of areas, each with a list of its bytes.
+
 ghost use Rattle.std.specs.Prelude.{◌≡◌, ℕ, ◌+◌, ◌-◌, ◌^◌, ◌<◌, ◌≤◌, [], length, vec_len, slice_get, slice_range, MatchOption, IfSome, OnSome, IsSome, IfOk, OnOk, OnErr, is_some};
 ghost use Rattle.cx_storage.specs.Storage.{byte_at, area_at, span, with_byte, put_held, with_area, with_areas_kept, starts_elsewhere, is_of_other_slot, IsTogether, IsSound};
 ghost use Rattle.cx_storage.specs.Place.{IsLeastPlace};
-ghost use Rattle.cx_storage.specs.Sound.{IsSound-prop};
-ghost use Rattle.cx_storage.specs.Flat.{walk, spot};
+ghost use Rattle.cx_storage.specs.Facts.Sound.{IsSound-prop};
+ghost use Rattle.cx_storage.specs.Parts.Flat.{walk, spot};
 
 use crate::areas::{Area, Owner};
 use crate::stores::Store;
 use std::alloc::{AllocError, Global};
 use std::marker::Model;
 
-// An area with its bytes, seen as such.
+/// An area with its bytes, seen as such.
 #[derive(Drop)]
 struct Block {
     area: Area,
@@ -28,21 +29,21 @@ impl Model for Block {
 impl Block {
     ghost use Rattle.cx_storage.specs.Storage.{covers, put_byte};
 
-    // A copy of the area.
+    /// A copy of the area.
     fn area(&self) -> Area
         ensures { result ≡ self.now.area }
     {
         self.area
     }
 
-    // Whether the area has the address.
+    /// Whether the area has the address.
     fn covers(&self, a: u32) -> bool
         ensures { result ≡ covers self.now.area a }
     {
         self.area.start <= a && a - self.area.start < self.area.len
     }
 
-    // The byte at an address from the area's start on.
+    /// The byte at an address from the area's start on.
     fn byte(&self, a: u32) -> Option<u8>
         requires { self.now.area.start ≤ a }
         ensures { result ≡ slice_get self.now.bytes (a - self.now.area.start) }
@@ -50,7 +51,7 @@ impl Block {
         self.bytes.get((a - self.area.start) as usize).copied()
     }
 
-    // The bytes from an address that the area has on, where it has all of them.
+    /// The bytes from an address that the area has on, where it has all of them.
     fn part(&self, a: u32, n: usize) -> Option<&[u8]>
         requires low { self.now.area.start ≤ a }
         requires within { a - self.now.area.start ≤ length self.now.bytes }
@@ -65,7 +66,7 @@ impl Block {
         }
     }
 
-    // Writes a byte where the area has the address.
+    /// Writes a byte where the area has the address.
     fn put(&mut self, a: u32, value: u8)
         ensures { self.new ≡ put_byte a value self.old }
     {
@@ -78,7 +79,7 @@ impl Block {
     }
 }
 
-// The byte at an address, where an area has it.
+/// The byte at an address, where an area has it.
 #[tactic(auto, using(crate::proofs::Walks::byte_skip, crate::proofs::Walks::byte_found, crate::proofs::Walks::byte_end))]
 fn byte_in(blocks: &Vec<Block>, a: u32) -> Option<u8>
     ensures { result ≡ byte_at blocks.now.items a }
@@ -91,7 +92,7 @@ fn byte_in(blocks: &Vec<Block>, a: u32) -> Option<u8>
     None
 }
 
-// The bytes of a span, where one area has all of them.
+/// The bytes of a span, where one area has all of them.
 fn slice_in(blocks: &Vec<Block>, a: u32, n: usize) -> Option<&[u8]>
     requires sound { IsSound blocks.now.items }
     requires size { n ≤ 65536 }
@@ -107,7 +108,7 @@ fn slice_in(blocks: &Vec<Block>, a: u32, n: usize) -> Option<&[u8]>
     None
 }
 
-// The area that starts at an address.
+/// The area that starts at an address.
 #[tactic(auto, using(crate::proofs::Walks::area_skip, crate::proofs::Walks::area_found, crate::proofs::Walks::area_end))]
 fn area_in(blocks: &Vec<Block>, start: u32) -> Option<Area>
     ensures { result ≡ area_at blocks.now.items start }
@@ -121,7 +122,7 @@ fn area_in(blocks: &Vec<Block>, start: u32) -> Option<Area>
     None
 }
 
-// Writes a byte where an area has the address.
+/// Writes a byte where an area has the address.
 #[tactic(auto, using(crate::proofs::Walks::byte_skip, crate::proofs::Walks::byte_end))]
 fn set_in(blocks: &mut Vec<Block>, a: u32, value: u8) -> bool
     requires { IsSound blocks.old.items }
@@ -139,7 +140,7 @@ fn set_in(blocks: &mut Vec<Block>, a: u32, value: u8) -> bool
     false
 }
 
-// The walk over the areas for `len` bytes, from `start` on.
+/// The walk over the areas for `len` bytes, from `start` on.
 #[tactic(auto, using(crate::proofs::Walks::walk_more, crate::proofs::Walks::walk_stop, crate::proofs::Walks::walk_end))]
 fn walk_from(blocks: &Vec<Block>, start: u64, len: u64) -> u64
     requires small { len < 2 ^ 32 }
@@ -158,7 +159,7 @@ fn walk_from(blocks: &Vec<Block>, start: u64, len: u64) -> u64
     at
 }
 
-// The least place in a range.
+/// The least place in a range.
 #[tactic(auto, using(crate::proofs::Walks::place_found, crate::proofs::Walks::place_none))]
 fn place_in(blocks: &Vec<Block>, first: u32, last: u32, len: u32) -> Option<u32>
     requires sound { IsSound blocks.now.items }
@@ -174,7 +175,7 @@ fn place_in(blocks: &Vec<Block>, first: u32, last: u32, len: u32) -> Option<u32>
     }
 }
 
-// How many areas stand before one that starts at `start`.
+/// How many areas stand before one that starts at `start`.
 #[tactic(auto, using(crate::proofs::Walks::spot_more, crate::proofs::Walks::spot_stop, crate::proofs::Walks::spot_end))]
 fn spot_of(blocks: &Vec<Block>, start: u32) -> usize
     ensures value { result ≡ spot start blocks.now.items }
@@ -188,7 +189,7 @@ fn spot_of(blocks: &Vec<Block>, start: u32) -> usize
     blocks.len()
 }
 
-// Puts an area with its bytes in its place by its start.
+/// Puts an area with its bytes in its place by its start.
 fn insert_block(blocks: &mut Vec<Block>, block: Block) -> Result<(), AllocError>
     ensures ok { OnOk result (blocks.new.items ≡ put_held block blocks.old.items) }
     ensures err { OnErr result (blocks.new.items ≡ blocks.old.items) }
@@ -198,7 +199,7 @@ fn insert_block(blocks: &mut Vec<Block>, block: Block) -> Result<(), AllocError>
     Ok(())
 }
 
-// Makes an area of zero bytes at the least place in a range.
+/// Makes an area of zero bytes at the least place in a range.
 fn get_in(
     blocks: &mut Vec<Block>,
     alloc: Global,
@@ -225,7 +226,7 @@ fn get_in(
     Ok(Some(start))
 }
 
-// Drops the area that starts at an address.
+/// Drops the area that starts at an address.
 fn drop_at(blocks: &mut Vec<Block>, start: u32)
     requires { IsSound blocks.old.items }
     ensures after { blocks.new.items ≡ with_areas_kept (starts_elsewhere start) blocks.old.items }
@@ -234,7 +235,7 @@ fn drop_at(blocks: &mut Vec<Block>, start: u32)
     blocks.retain(|block| block.area().start != start);
 }
 
-// Drops the areas of a slot.
+/// Drops the areas of a slot.
 fn drop_slot(blocks: &mut Vec<Block>, slot: u8)
     requires { IsSound blocks.old.items }
     ensures after { blocks.new.items ≡ with_areas_kept (is_of_other_slot slot) blocks.old.items }
@@ -253,7 +254,7 @@ pub struct FlatStore {
 
 impl FlatStore {
     /// An empty store. It takes no memory; `get_area` takes what it needs from `alloc`.
-    #[tactic(auto, using(crate::specs::Sound::sound_nil))]
+    #[tactic(auto, using(crate::specs::Facts::Sound::sound_nil))]
     pub fn new(alloc: Global) -> Self
         ensures { ⟦<FlatStore as Store>⟧.storage result ≡ [] }
     {
@@ -309,6 +310,3 @@ impl Store for FlatStore {
         drop_slot(&mut self.blocks, slot);
     }
 }
-
-#[cfg(test)]
-mod tests;

@@ -1,5 +1,11 @@
-// The laws of storage, on functions that do nothing: each promises a statement of `specs/Laws.antt`.
-ghost use Rattle.cx_storage.specs.Laws.{AreasApart, PresentInAreas, SameStorage, SpanIsBytes, ByteAfterSet, ByteAfterWrite, NothingWritten, SpanAfterWrite, SpanAside, WriteKeepsAreas, OthersStay, FreshArea, AreasFreed, PlaceIsFree, PlaceDecides, SoundKept, WordAfterWrite};
+//! The laws of storage, on functions that do nothing: each promises a statement of `specs/Laws.antt`.
+
+ghost use Rattle.cx_storage.specs.Laws.Areas.{AreasApart, PresentInAreas, SameStorage, FreshArea, AreasFreed};
+ghost use Rattle.cx_storage.specs.Laws.Spans.{SpanIsBytes};
+ghost use Rattle.cx_storage.specs.Laws.Writes.{ByteAfterSet, ByteAfterWrite, NothingWritten, SpanAfterWrite, SpanAside, WriteKeepsAreas, OthersStay};
+ghost use Rattle.cx_storage.specs.Laws.Places.{PlaceIsFree, PlaceDecides};
+ghost use Rattle.cx_storage.specs.Laws.Sound.{SoundKept};
+ghost use Rattle.cx_storage.specs.Laws.Words.{WordAfterWrite};
 ghost use Rattle.cx_storage.specs.Storage.{IsSound};
 
 use crate::stores::Store;

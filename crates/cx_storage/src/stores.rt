@@ -1,18 +1,11 @@
-// The trait `Store`: what each call does, over the storage that a store is seen as.
+//! The trait `Store`: what each call does, over the storage that a store is seen as.
+
 ghost use Rattle.std.specs.Prelude.{◌≡◌, ℕ, ◌+◌, ◌^◌, ◌<◌, ◌≤◌, ◌%◌, IsTrue, length, is_some, unwrap_or, IfSome, IsSome, OnSome, IfOk, OnErr, false};
 ghost use Rattle.cx_storage.specs.Storage.{span};
 
+use crate::address::next_address;
 use crate::areas::{Area, Owner};
 use std::alloc::AllocError;
-
-/// The address after `a` (below 2^24); after X'FFFFFF' comes 0 (Principles of Operation, "Storage
-/// Addressing").
-pub fn next_address(a: u32) -> u32
-    requires { a < 2 ^ 24 }
-    ensures { result ≡ (a + 1) % 2 ^ 24 }
-{
-    (a + 1) % 0x100_0000
-}
 
 /// Storage as System/370 has it (Principles of Operation, GA22-7000, "Storage Addressing"): bytes at
 /// addresses below 2^24, where a span of bytes goes on at address 0 after X'FFFFFF'. That storage is a
@@ -46,24 +39,37 @@ pub trait Store {
         ensures no_wrap { OnSome result (a + n ≤ 2 ^ 24) }
         ensures together { IsTogether (storage self.now) a n → IsSome result };
 
+    /// Whether each of the `n` bytes from `a` (below 2^24) on is in an area; they go on at address 0
+    /// after X'FFFFFF'.
+    #[tactic(auto, using(crate::specs::Facts::Spans::span_gone, crate::specs::Facts::Spans::span_present))]
+    fn has_span(&self, a: u32, n: usize) -> bool
+        requires { a < 2 ^ 24 }
+        ensures { result ≡ is_some (span (storage self.now) a n) }
+    {
+        let mut at = a;
+        'tested: for _k in 0..n {
+            if self.byte(at).is_none() {
+                return false;
+            }
+            at = next_address(at);
+        }
+        true
+    }
+
     /// Fills the buffer (at most 65,536 bytes) with the bytes from `a` (below 2^24) on, which go on at
     /// address 0 after X'FFFFFF'. False, and the buffer stays as it was, exactly where one of them is
     /// in no area.
-    #[tactic(auto, using(crate::specs::Bytes::span_gone, crate::specs::Bytes::span_present, crate::specs::Bytes::unwrap_absent, crate::proofs::Filling::joined_all))]
+    #[tactic(auto, using(crate::specs::Facts::Spans::span_gone, crate::specs::Facts::Spans::span_present, crate::proofs::WriteLemmas::unwrap_absent, crate::proofs::Filling::joined_all))]
     fn read(&self, a: u32, buffer: &mut [u8]) -> bool
         requires address { a < 2 ^ 24 }
         requires size { length buffer.old ≤ 65536 }
         ensures present { result ≡ is_some (span (storage self.now) a (length buffer.old)) }
         ensures after { buffer.new ≡ unwrap_or (span (storage self.now) a (length buffer.old)) buffer.old }
     {
-        let mut at = a;
-        'tested: for _k in 0..buffer.len() {
-            if self.byte(at).is_none() {
-                return false;
-            }
-            at = next_address(at);
+        if !self.has_span(a, buffer.len()) {
+            return false;
         }
-        at = a;
+        let mut at = a;
         'filled: for value in buffer.iter_mut() {
             // Each of the bytes is there by now.
             *value = self.byte(at).unwrap_or(0);
@@ -74,21 +80,17 @@ pub trait Store {
 
     /// Writes the bytes (at most 65,536) from `a` (below 2^24) on; they go on at address 0 after
     /// X'FFFFFF'. False, and no change, exactly where one of the addresses is in no area.
-    #[tactic(auto, using(crate::specs::Bytes::span_gone, crate::specs::Bytes::span_present, crate::specs::Bytes::with_bytes_more, crate::specs::Bytes::with_bytes_all, crate::specs::Bytes::written_none, crate::specs::Bytes::written_whole))]
+    #[tactic(auto, using(crate::specs::Facts::Spans::span_gone, crate::specs::Facts::Spans::span_present, crate::proofs::WriteLemmas::with_bytes_more, crate::proofs::WriteLemmas::with_bytes_all, crate::specs::Facts::Writes::written_none, crate::specs::Facts::Writes::written_whole))]
     fn write(&mut self, a: u32, bytes: &[u8]) -> bool
         requires address { a < 2 ^ 24 }
         requires size { length bytes.now ≤ 65536 }
         ensures present { result ≡ is_some (span (storage self.old) a (length bytes.now)) }
         ensures after { storage self.new ≡ written (storage self.old) a bytes.now }
     {
-        let mut at = a;
-        'tested: for _value in bytes {
-            if self.byte(at).is_none() {
-                return false;
-            }
-            at = next_address(at);
+        if !self.has_span(a, bytes.len()) {
+            return false;
         }
-        at = a;
+        let mut at = a;
         'written: for value in bytes {
             self.set(at, *value);
             at = next_address(at);
@@ -137,21 +139,4 @@ pub trait Store {
         ensures { storage self.new ≡ with_areas_kept (is_of_other_slot slot) (storage self.old) };
 
     ghost sound: { (s : Self) → IsSound (storage s) };
-}
-
-/// Whether each of the `n` bytes from `a` (below 2^24) on is in an area; they go on at address 0 after
-/// X'FFFFFF'. It takes no memory.
-#[tactic(auto, using(crate::specs::Bytes::span_gone, crate::specs::Bytes::span_present))]
-pub fn has_span<S: Store>(store: &S, a: u32, n: usize) -> bool
-    requires { a < 2 ^ 24 }
-    ensures { result ≡ is_some (span (S.storage store.now) a n) }
-{
-    let mut at = a;
-    'tested: for _k in 0..n {
-        if store.byte(at).is_none() {
-            return false;
-        }
-        at = next_address(at);
-    }
-    true
 }

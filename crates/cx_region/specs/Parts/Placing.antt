@@ -9,7 +9,7 @@ use Rattle.cx_region.specs.declared.attach.StartFault.TheVariants.{Memory, NoSto
 use Rattle.cx_region.specs.declared.asking.Places.{Places}
 use Rattle.cx_region.specs.declared.asking.Start.{Start}
 use Rattle.cx_region.specs.Attach.{HasNoPlaces, IsTaskPlace, system_owner}
-use Rattle.cx_region.specs.Eib.{eib_len}
+use Rattle.cx_command.specs.Eib.{eib_len}
 
 -- no place for so many bytes; or there is one, and a growth was refused
 abbrev pub IsPlaceFault : Storage → ℕ → StartFault → Type 0

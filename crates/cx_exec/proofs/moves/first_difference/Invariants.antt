@@ -1,5 +1,5 @@
 use Rattle.std.proofs.Common.{◌≡◌, ℕ, ◌<◌}
-use Rattle.cx_storage.specs.Storage.{along}
+use Rattle.cx_storage.specs.Address.{along}
 use Rattle.cx_exec.specs.Sequence.{content}
 use Rattle.cx_exec.proofs.moves.first_difference.Given as goal
 

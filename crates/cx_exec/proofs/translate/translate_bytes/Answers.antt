@@ -1,5 +1,6 @@
 use Rattle.std.proofs.Common.{◌≡◌}
-use Rattle.cx_storage.specs.Storage.{along, with_byte}
+use Rattle.cx_storage.specs.Address.{along}
+use Rattle.cx_storage.specs.Storage.{with_byte}
 use Rattle.cx_exec.specs.Sequence.{content}
 use Rattle.cx_exec.proofs.SequenceLemmas.{stores_none}
 use Rattle.cx_exec.proofs.TranslateLemmas.{translate_more}

@@ -1,5 +1,8 @@
-use Rattle.cx_load.proofs.FitLemmas.{lowest_of_answered, answered_of_lowest}
+use Rattle.cx_load.specs.Facts.Faults.{lowest_decides, fit_no_lowest}
 use Rattle.cx_load.proofs.laws.the_lowest_fault.Goals as goal
 
-pub returns : goal.returns
-returns c image fault = (lowest_of_answered image fault, answered_of_lowest image fault)
+pub returns-clause-decides : goal.returns-clause-decides
+returns-clause-decides c = lowest_decides
+
+pub returns-clause-none : goal.returns-clause-none
+returns-clause-none c = fit_no_lowest

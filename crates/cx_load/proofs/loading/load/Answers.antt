@@ -1,5 +1,5 @@
 use Rattle.std.proofs.Common.{◌≡◌, ◌∙◌, ap, length, Some, sym}
-use Rattle.cx_storage.specs.Areas.{place_decides}
+use Rattle.cx_storage.specs.Facts.Places.{place_decides}
 use Rattle.cx_storage.specs.Storage.{with_area, written}
 use Rattle.cx_load.specs.Load.{IsProgramPlace, program_owner, text_at}
 use Rattle.cx_load.proofs.RelocateLemmas.{length-relocated}

@@ -3,7 +3,7 @@ use Rattle.std.proofs.Common.{◌≡◌, ◌∙◌, ◌+◌, ◌<◌, ℕ, List,
 use Rattle.std.proofs.lemmas.List.{take_more, length-take-le}
 use Rattle.cx_program.specs.declared.level.Level.{Level}
 use Rattle.cx_program.specs.Levels.{IsNearestExit, has_exit}
-use Rattle.cx_program.specs.LevelLaws.{nearest_exit_none, nearest_exit_on, nearest_exit_off}
+use Rattle.cx_program.proofs.LevelLemmas.{nearest_exit_none, nearest_exit_on, nearest_exit_off}
 use Rattle.cx_program.proofs.stack.last_exit.Goals as goal
 use Rattle.cx_program.proofs.stack.last_exit.Goals.{then-is_some, else-is_some}
 

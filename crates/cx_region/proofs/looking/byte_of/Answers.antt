@@ -1,5 +1,5 @@
 use Rattle.std.proofs.Common.{sym}
-use Rattle.cx_storage.specs.Sound.{byte_beyond}
+use Rattle.cx_storage.specs.Facts.Sound.{byte_beyond}
 use Rattle.cx_region.proofs.looking.byte_of.Goals as goal
 
 pub returns-then-address-ge16777216 : goal.returns-then-address-ge16777216

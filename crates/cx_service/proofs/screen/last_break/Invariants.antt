@@ -1,4 +1,4 @@
-use Rattle.cx_service.specs.LineSteps.{IsLastBreakBelow}
+use Rattle.cx_service.specs.Parts.LineSteps.{IsLastBreakBelow}
 use Rattle.cx_service.proofs.screen.last_break.Given as goal
 
 abbrev pub invariant-loop-k : goal.invariant-loop-k

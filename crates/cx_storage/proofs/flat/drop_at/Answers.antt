@@ -1,7 +1,7 @@
 use Rattle.std.proofs.Common.{rules}
 use Rattle.std.proofs.lemmas.Fn.{filter_same}
 use Rattle.cx_storage.specs.Storage.{Held, with_areas_kept, starts_elsewhere}
-use Rattle.cx_storage.specs.Sound.{sound_with_areas_kept}
+use Rattle.cx_storage.specs.Facts.Sound.{sound_with_areas_kept}
 use Rattle.cx_storage.proofs.flat.drop_at.Goals as goal
 
 pub returns-clause-after : goal.returns-clause-after

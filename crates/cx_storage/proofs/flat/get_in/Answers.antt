@@ -1,5 +1,5 @@
 use Rattle.std.proofs.Common.{◌≡◌, sym, ◌∙◌, Some, replicate, refl, rules}
-use Rattle.cx_storage.specs.Sound.{sound_with_area}
+use Rattle.cx_storage.specs.Facts.Sound.{sound_with_area}
 use Rattle.cx_storage.proofs.Walks.{place_is_some, with_area_none, with_area_some}
 use Rattle.cx_storage.proofs.flat.get_in.Goals as goal
 use Rattle.cx_storage.proofs.flat.get_in.Goals.{In_ok-bytes}

@@ -1,6 +1,6 @@
 use Rattle.std.proofs.Common.{◌≡◌, sym, ap, ◌∙◌}
 use Rattle.std.specs.List.{insert}
-use Rattle.cx_storage.specs.Flat.{spot}
+use Rattle.cx_storage.specs.Parts.Flat.{spot}
 use Rattle.cx_storage.proofs.Walks.{put_held_spot}
 use Rattle.cx_storage.proofs.flat.insert_block.Goals as goal
 

@@ -1,8 +1,8 @@
 use Rattle.std.proofs.Common.{◌≡◌, ◌<◌, true, None, length, sym, ◌∙◌, arith}
 use Rattle.std.proofs.lemmas.List.{get_or_default}
 use Rattle.cx_storage.specs.Storage.{byte_at, covers}
-use Rattle.cx_storage.specs.Bytes.{with_byte_absent}
-use Rattle.cx_storage.specs.Sound.{sound_with_byte}
+use Rattle.cx_storage.proofs.WriteLemmas.{with_byte_absent}
+use Rattle.cx_storage.specs.Facts.Sound.{sound_with_byte}
 use Rattle.cx_storage.proofs.Walks.{present_found, set_found, byte_end}
 use Rattle.cx_storage.proofs.flat.set_in.Goals as goal
 

@@ -1,7 +1,7 @@
 use Rattle.std.proofs.Common.{◌≡◌, ◌<◌, ◌≤◌, ℕ, true, Some, length, get_or, sym, ap, ◌∙◌, arith, inl, inr}
 use Rattle.std.proofs.lemmas.Bool.{some_since, false≢true}
 use Rattle.cx_storage.specs.Storage.{Held, Storage, covers, end_of, IsTogether, IsWhole, IsSound}
-use Rattle.cx_storage.specs.Sound.{covers_cases}
+use Rattle.cx_storage.specs.Facts.Sound.{covers_cases}
 use Rattle.cx_storage.proofs.Walks.{full_found, span_found, together_skip, together_found, together_end, part_gives}
 use Rattle.cx_storage.proofs.flat.slice_in.Goals as goal
 use Rattle.cx_storage.proofs.flat.slice_in.Goals.{Then-covers}

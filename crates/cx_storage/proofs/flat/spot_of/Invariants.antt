@@ -1,5 +1,5 @@
 use Rattle.std.proofs.Common.{◌≡◌, ◌+◌, drop}
-use Rattle.cx_storage.specs.Flat.{spot}
+use Rattle.cx_storage.specs.Parts.Flat.{spot}
 use Rattle.cx_storage.proofs.flat.spot_of.Given as goal
 
 -- all areas passed so far stand before

@@ -1,5 +1,5 @@
 use Rattle.std.proofs.Common.{◌≡◌, ◌≤◌, ◌^◌, drop}
-use Rattle.cx_storage.specs.Flat.{walk}
+use Rattle.cx_storage.specs.Parts.Flat.{walk}
 use Rattle.cx_storage.proofs.flat.walk_from.Given as goal
 
 -- the walk goes on from here over the areas that are left

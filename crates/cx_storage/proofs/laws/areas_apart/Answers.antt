@@ -1,5 +1,5 @@
 use Rattle.std.proofs.Common.{arith}
-use Rattle.cx_storage.specs.Sound.{areas_apart, area_whole}
+use Rattle.cx_storage.proofs.AreaLemmas.{areas_apart, area_whole}
 use Rattle.cx_storage.proofs.laws.areas_apart.Goals as goal
 
 pub returns : goal.returns

@@ -1,4 +1,5 @@
-use Rattle.cx_storage.specs.Areas.{byte_after_free, area_after_free, holder_after_free}
+use Rattle.cx_storage.proofs.AreaLemmas.{byte_after_free, holder_after_free}
+use Rattle.cx_storage.specs.Facts.Areas.{area_after_free}
 use Rattle.cx_storage.proofs.laws.areas_freed.Goals as goal
 
 pub returns : goal.returns

@@ -1,6 +1,6 @@
 use Rattle.std.proofs.Common.{inl, inr}
 use Rattle.std.proofs.lemmas.Bool.{cases_eq, eq-eqb, ne_eqb}
-use Rattle.cx_storage.specs.Bytes.{byte_after_set, byte_after_set_elsewhere}
+use Rattle.cx_storage.specs.Facts.Writes.{byte_after_set, byte_after_set_elsewhere}
 use Rattle.cx_storage.proofs.laws.byte_after_set.Goals as goal
 
 pub returns : goal.returns

@@ -1,5 +1,5 @@
-use Rattle.cx_storage.specs.Bytes.{written_none}
-use Rattle.cx_storage.specs.Writes.{byte_after_write}
+use Rattle.cx_storage.specs.Facts.Writes.{written_none}
+use Rattle.cx_storage.specs.Facts.Writes.{byte_after_write}
 use Rattle.cx_storage.proofs.laws.byte_after_write.Goals as goal
 
 pub returns : goal.returns

@@ -1,4 +1,5 @@
-use Rattle.cx_storage.specs.Areas.{byte_after_get, area_after_get, holder_after_get}
+use Rattle.cx_storage.specs.Facts.Areas.{byte_after_get, area_after_get}
+use Rattle.cx_storage.proofs.AreaLemmas.{holder_after_get}
 use Rattle.cx_storage.proofs.laws.fresh_area.Goals as goal
 
 pub returns : goal.returns

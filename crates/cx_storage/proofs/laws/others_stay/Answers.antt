@@ -1,4 +1,4 @@
-use Rattle.cx_storage.specs.Writes.{others_after_write}
+use Rattle.cx_storage.proofs.WriteLemmas.{others_after_write}
 use Rattle.cx_storage.proofs.laws.others_stay.Goals as goal
 
 pub returns : goal.returns

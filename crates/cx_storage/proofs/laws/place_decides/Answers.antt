@@ -1,4 +1,5 @@
-use Rattle.cx_storage.specs.Areas.{place_of_areas, place_decides}
+use Rattle.cx_storage.proofs.PlaceLemmas.{place_of_areas}
+use Rattle.cx_storage.specs.Facts.Places.{place_decides}
 use Rattle.cx_storage.proofs.laws.place_decides.Goals as goal
 
 pub returns : goal.returns

@@ -1,4 +1,4 @@
-use Rattle.cx_storage.specs.Areas.{misses_absent, absent_misses}
+use Rattle.cx_storage.proofs.PlaceLemmas.{misses_absent, absent_misses}
 use Rattle.cx_storage.specs.Place.{CanPlace}
 use Rattle.cx_storage.proofs.laws.place_is_free.Goals as goal
 

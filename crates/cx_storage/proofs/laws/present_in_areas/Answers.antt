@@ -1,5 +1,6 @@
-use Rattle.cx_storage.specs.Sound.{byte_small, byte_beyond}
-use Rattle.cx_storage.specs.Areas.{present_in_areas, present_held}
+use Rattle.cx_storage.specs.Facts.Sound.{byte_small, byte_beyond}
+use Rattle.cx_storage.specs.Facts.Areas.{present_in_areas}
+use Rattle.cx_storage.proofs.AreaLemmas.{present_held}
 use Rattle.cx_storage.proofs.laws.present_in_areas.Goals as goal
 
 pub returns : goal.returns

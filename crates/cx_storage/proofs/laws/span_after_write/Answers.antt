@@ -1,4 +1,5 @@
-use Rattle.cx_storage.specs.Writes.{span_after_write, span_after_write_aside}
+use Rattle.cx_storage.specs.Facts.Writes.{span_after_write}
+use Rattle.cx_storage.proofs.WriteLemmas.{span_after_write_aside}
 use Rattle.cx_storage.proofs.laws.span_after_write.Goals as goal
 
 pub returns : goal.returns

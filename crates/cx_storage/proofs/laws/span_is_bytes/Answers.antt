@@ -1,4 +1,4 @@
-use Rattle.cx_storage.specs.Writes.{span_length, span_at, span_from}
+use Rattle.cx_storage.specs.Facts.Spans.{span_length, span_at, span_from}
 use Rattle.cx_storage.proofs.laws.span_is_bytes.Goals as goal
 
 pub returns : goal.returns

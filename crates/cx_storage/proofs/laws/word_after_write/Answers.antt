@@ -1,4 +1,4 @@
-use Rattle.cx_storage.specs.Words.{word_after_write, halfword_after_write, word_small, halfword_small, word_number, halfword_number}
+use Rattle.cx_storage.proofs.WordLemmas.{word_after_write, halfword_after_write, word_small, halfword_small, word_number, halfword_number}
 use Rattle.cx_storage.proofs.laws.word_after_write.Goals as goal
 
 pub returns : goal.returns

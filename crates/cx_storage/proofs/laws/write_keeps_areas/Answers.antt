@@ -1,4 +1,5 @@
-use Rattle.cx_storage.specs.Writes.{areas_after_write, holder_after_write, present_after_write, span_present_after_write}
+use Rattle.cx_storage.specs.Facts.Writes.{areas_after_write, present_after_write, span_present_after_write}
+use Rattle.cx_storage.proofs.WriteLemmas.{holder_after_write}
 use Rattle.cx_storage.proofs.laws.write_keeps_areas.Goals as goal
 
 pub returns : goal.returns

@@ -1,7 +1,7 @@
 use Rattle.std.proofs.Common.{◌≡◌, ◌≤◌, Some, sym, subst, arith}
 use Rattle.std.specs.List.{IsDistinct}
 use Rattle.std.specs.Map.{keys_of}
-use Rattle.cx_service.specs.Names.{is_name}
+use Rattle.cx_ebcdic.specs.Names.{is_name}
 use Rattle.cx_service.specs.Queues.{queue_of, size_of, data_of, most_data}
 use Rattle.cx_service.proofs.QueueSound.{size_within, deleted_keeps}
 use Rattle.cx_service.proofs.queues.Queues.delete.Goals as goal

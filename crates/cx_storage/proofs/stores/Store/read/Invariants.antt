@@ -3,11 +3,6 @@ use Rattle.cx_storage.specs.Storage.{span}
 use Rattle.cx_storage.proofs.Filling.{joined}
 use Rattle.cx_storage.proofs.stores.Store.read.Given as goal
 
--- the bytes tested so far are there
-abbrev pub invariant-tested : goal.invariant-tested
-invariant-tested g l =
-    (l.at < 2 ^ 24) × (is_some (span (g.Self.Store.storage l.self) l.at (length l.buffer - l._k)) ≡ is_some (span (g.Self.Store.storage l.self) l.a (length l.buffer)))
-
 -- the bytes filled so far are the first of the span
 abbrev pub invariant-filled : goal.invariant-filled
 invariant-filled g l =

@@ -2,11 +2,6 @@ use Rattle.std.proofs.Common.{◌≡◌, ◌^◌, ◌<◌, length, drop, is_some
 use Rattle.cx_storage.specs.Storage.{span, with_bytes}
 use Rattle.cx_storage.proofs.stores.Store.write.Given as goal
 
--- the addresses tested so far have bytes
-abbrev pub invariant-tested : goal.invariant-tested
-invariant-tested g l =
-    (l.at < 2 ^ 24) × (is_some (span (g.Self.Store.storage l.self) l.at (length l.bytes - l._value-index)) ≡ is_some (span (g.Self.Store.storage l.self) l.a (length l.bytes)))
-
 -- what is written so far, and then the rest, is the whole
 abbrev pub invariant-written : goal.invariant-written
 invariant-written g l =

@@ -1,0 +1,18 @@
+//! What holds of every argument list.
+ghost use Rattle.cx_call.specs.Laws.Calls.{ArgumentsHavePlaces, CallIsRead, RespHasItsPlace};
+
+/// A call is read exactly where the list in storage has all that a call's list has.
+pub fn call_is_read()
+    ensures { CallIsRead }
+{
+    cx_command::laws::commands_are_found();
+}
+
+/// Each present option that has an argument, and RESP, has the address in its own word of the list.
+pub fn arguments_have_places()
+    ensures options { ArgumentsHavePlaces }
+    ensures resp { RespHasItsPlace }
+{
+    cx_command::laws::options_have_names_of_their_own();
+    cx_command::laws::options_are_themselves();
+}

@@ -1,0 +1,2 @@
+-- Lemmas about images that the crates above cite.
+pub mod Faults

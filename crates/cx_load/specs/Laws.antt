@@ -1,0 +1,2 @@
+-- Words that the laws of the module `laws` use.
+pub mod Words

@@ -1,0 +1,10 @@
+-- The bytes of the words that loading raises.
+use Rattle.std.specs.Prelude.{ℕ, ◌+◌, Bool, ◌&&◌, nat_le, nat_lt, IsTrue}
+
+-- whether a byte is one of the four of the word at an offset
+abbrev pub is_of_word : ℕ → ℕ → Bool
+is_of_word k r = nat_le r k && nat_lt k (r + 4)
+
+-- no byte is of both words
+abbrev pub SharesNoByte : ℕ → ℕ → Type 0
+SharesNoByte r q = (k : ℕ) → IsTrue (is_of_word k r) → IsTrue (is_of_word k q) → ⊥

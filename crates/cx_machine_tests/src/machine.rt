@@ -1,0 +1,127 @@
+//! A processor and its storage, for tests of instructions: the calls without what their contracts ensure.
+ghost use Rattle.std.specs.Prelude.{◌<◌, ◌^◌, ◌-◌, ◌≤◌, length};
+
+use cx_exec::{Cpu, Halt, Step, advance, step};
+use cx_storage::{FlatStore, Kind, Owner, Store};
+use std::alloc::{AllocError, Global};
+
+/// Where the program stands; register 15 holds the address.
+pub const PROGRAM: u32 = 0x01_0000;
+
+/// Where an operand stands; register 5 holds the address.
+pub const DATA: u32 = 0x01_0100;
+
+/// Where a table stands; register 6 holds the address.
+pub const TABLE: u32 = 0x01_0200;
+
+/// The areas' owner.
+const OWNER: Owner = Owner {
+    slot: 0,
+    kind: Kind::Fixed,
+};
+
+/// A processor, and an area of 16,384 bytes that begins with a program.
+#[derive(Drop)]
+pub struct Machine {
+    pub cpu: Cpu,
+    pub store: FlatStore,
+}
+
+impl Machine {
+    /// The machine whose area begins with the program, and whose next instruction is its first.
+    pub fn new(alloc: Global, program: &[u8]) -> Result<Machine, AllocError>
+        requires { length program.now ≤ 65536 }
+    {
+        let mut store = FlatStore::new(alloc);
+        store.get_area(PROGRAM, PROGRAM + 0x3FFF, 0x4000, OWNER)?;
+        store.write(PROGRAM, program);
+        Ok(Machine {
+            cpu: cpu_at(PROGRAM),
+            store,
+        })
+    }
+
+    /// The same with an operand.
+    pub fn with_operand(
+        alloc: Global,
+        program: &[u8],
+        operand: &[u8],
+    ) -> Result<Machine, AllocError>
+        requires program { length program.now ≤ 65536 }
+        requires operand { length operand.now ≤ 65536 }
+    {
+        let mut machine = Machine::new(alloc, program)?;
+        machine.write(DATA, operand);
+        Ok(machine)
+    }
+
+    /// Makes an area of 16 bytes from an address on.
+    pub fn get(&mut self, first: u32) -> Result<(), AllocError>
+        requires { first ≤ 2 ^ 24 - 16 }
+    {
+        self.store.get_area(first, first + 15, 16, OWNER)?;
+        Ok(())
+    }
+
+    /// Writes bytes from an address on; nothing where one of the addresses is absent.
+    pub fn write(&mut self, a: u32, bytes: &[u8])
+        requires address { a < 2 ^ 24 }
+        requires size { length bytes.now ≤ 65536 }
+    {
+        self.store.write(a, bytes);
+    }
+
+    /// Begins again at the program, with all registers as at first.
+    pub fn begin(&mut self) {
+        self.cpu = cpu_at(PROGRAM);
+    }
+
+    /// Performs one instruction.
+    pub fn step(&mut self) -> Step {
+        step(&mut self.cpu, &mut self.store)
+    }
+
+    /// Performs one instruction, and says whether it was done.
+    pub fn is_done(&mut self) -> bool {
+        self.step() == Step::Done
+    }
+
+    /// Performs so many instructions at most.
+    pub fn advance(&mut self, limit: u32) -> Halt {
+        advance(&mut self.cpu, &mut self.store, limit)
+    }
+
+    /// Sets a register.
+    pub fn set(&mut self, register: usize, value: u32) {
+        if let Some(word) = self.cpu.regs.get_mut(register) {
+            *word = value;
+        }
+    }
+
+    /// Whether a register holds a word.
+    pub fn has(&self, register: usize, value: u32) -> bool {
+        self.cpu.regs.get(register) == Some(&value)
+    }
+
+    /// Whether storage has the bytes from an address on.
+    pub fn holds(&self, a: u32, bytes: &[u8]) -> bool
+        requires { a < 2 ^ 24 }
+    {
+        let mut buffer = [0; 16];
+        if bytes.len() > 16 {
+            return false;
+        }
+        let found = &mut buffer[..bytes.len()];
+        self.store.read(a, found) && *found == *bytes
+    }
+}
+
+fn cpu_at(next: u32) -> Cpu
+    requires { next < 2 ^ 24 }
+{
+    let mut regs = [0; 16];
+    regs[5] = DATA;
+    regs[6] = TABLE;
+    regs[15] = PROGRAM;
+    Cpu { regs, cc: 0, next }
+}

@@ -1,5 +1,0 @@
-use Rattle.cx_region.proofs.CallLemmas.{command_found}
-use Rattle.cx_region.proofs.call.command_with.Goals as goal
-
-pub returns : goal.returns
-returns c = command_found c.args.function c.from_function.result c.from_function.ensures

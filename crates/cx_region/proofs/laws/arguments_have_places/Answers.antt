@@ -1,8 +1,0 @@
-use Rattle.cx_region.proofs.CallLawLemmas.{arguments_have_places, resp_has_its_place}
-use Rattle.cx_region.proofs.laws.arguments_have_places.Goals as goal
-
-pub returns-clause-options : goal.returns-clause-options
-returns-clause-options c = λ s list call k option. arguments_have_places s list call k option (c.options_have_bits_of_their_own.ensures.apart call.command)
-
-pub returns-clause-resp : goal.returns-clause-resp
-returns-clause-resp c = resp_has_its_place

@@ -1,5 +1,0 @@
-use Rattle.cx_region.proofs.CallLawLemmas.{call_is_read}
-use Rattle.cx_region.proofs.laws.call_is_read.Goals as goal
-
-pub returns : goal.returns
-returns c = call_is_read

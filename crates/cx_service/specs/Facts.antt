@@ -1,0 +1,2 @@
+-- Lemmas that declarations cite.
+pub mod NameBytes

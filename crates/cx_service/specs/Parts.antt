@@ -1,0 +1,3 @@
+-- Words for private functions and for how values are kept; no public contract cites them.
+pub mod LineSteps
+pub mod NameBytes

@@ -1,0 +1,407 @@
+//! Sources by worked rows and by each rule of lines; cutting; pieces.
+use cx_source::{
+    Item, Items, Mark, Source, SourceFault, SourceReader, Stmt, Text, begins_with_letter, cut,
+    first_mark, is_continued, is_letter, is_name, is_name_character, outside, read_source,
+};
+use std::alloc::{AllocError, Global};
+use std::test::Fail;
+
+/// A source of seven lines without a name but on the first.
+const PROGRAM: &[u8] =
+    b"P        CSECT\n         USING P,15\n         MVC   8(2,13),=C'AB'\n         L     1,=F'1'\n         LH    2,=H'2'\n         A     1,=F'1'\n         END\n";
+
+/// Its statements: name, operation, operand.
+const STATEMENTS: [(&[u8], &[u8], &[u8]); 7] = [
+    (b"P", b"CSECT", b""),
+    (b"", b"USING", b"P,15"),
+    (b"", b"MVC", b"8(2,13),=C'AB'"),
+    (b"", b"L", b"1,=F'1'"),
+    (b"", b"LH", b"2,=H'2'"),
+    (b"", b"A", b"1,=F'1'"),
+    (b"", b"END", b""),
+];
+
+fn is_stmt(stmt: &Stmt, expected: (&[u8], &[u8], &[u8])) -> bool {
+    stmt.name.as_slice() == expected.0
+        && stmt.operation.as_slice() == expected.1
+        && stmt.operand.as_slice() == expected.2
+}
+
+/// Whether a source has these lines, and a statement on each.
+fn is_program(source: &Source) -> bool {
+    let items = source.items.as_slice();
+    for (i, item) in items.iter().enumerate() {
+        let (Some(stmt), Some(expected)) = (&item.stmt, STATEMENTS.get(i)) else {
+            return false;
+        };
+        if item.line != i + 1 || !is_stmt(stmt, *expected) {
+            return false;
+        }
+    }
+    items.len() == STATEMENTS.len()
+}
+
+fn read_in_pieces(alloc: Global, bytes: &[u8], size: usize) -> Result<Source, SourceFault> {
+    let mut reader = SourceReader::new(alloc);
+    let mut rest = bytes;
+    for _ in 0..bytes.len() {
+        let (piece, behind) = rest.split_at(rest.len().min(size));
+        reader.feed(piece)?;
+        rest = behind;
+    }
+    reader.finish()
+}
+
+/// The first statement of a source.
+fn first_stmt(source: &Source) -> Option<&Stmt> {
+    for item in source.items.as_slice() {
+        if let Some(stmt) = &item.stmt {
+            return Some(stmt);
+        }
+    }
+    None
+}
+
+#[test]
+fn pieces_of_any_size_give_one_source(rt: HostRuntime) -> Result<(), Fail> {
+    assert!(rt; is_program(&read_source(rt.alloc(), PROGRAM)?));
+    for size in [1, 2, 3, 7, 1000] {
+        let source = read_in_pieces(rt.alloc(), PROGRAM, size)?;
+        assert!(rt; is_program(&source), "{size}");
+    }
+    Ok(())
+}
+
+/// A comment of so many lines of 80 columns, and then an END.
+fn long_source(alloc: Global, lines: usize, rest: &[u8]) -> Result<Vec<u8>, AllocError> {
+    let mut source = Vec::new(alloc);
+    for _ in 0..lines {
+        source.extend_from_slice(&[b'*'; 80])?;
+        source.push(b'\n')?;
+    }
+    source.extend_from_slice(rest)?;
+    Ok(source)
+}
+
+/// The size of a piece, and the number of lines that it gives.
+fn fed(alloc: Global, piece: &[u8]) -> Result<(usize, usize), SourceFault> {
+    let mut reader = SourceReader::new(alloc);
+    reader.feed(piece)?;
+    let source = reader.finish()?;
+    Ok((piece.len(), source.items.as_slice().len()))
+}
+
+#[test]
+fn a_piece_of_65537_bytes_is_fed(rt: HostRuntime) -> Result<(), Fail> {
+    let piece = long_source(rt.alloc(), 809, b" END    ")?;
+    assert!(rt; fed(rt.alloc(), piece.as_slice())? == (65_537, 810));
+    let source = long_source(rt.alloc(), 9_999, b" END")?;
+    assert!(rt; fed(rt.alloc(), source.as_slice())? == (809_923, 10_000));
+    Ok(())
+}
+
+/// Why bytes are no source.
+fn fault_of(alloc: Global, bytes: &[u8]) -> Option<SourceFault> {
+    read_source(alloc, bytes).err()
+}
+
+#[test]
+fn a_source_without_its_end_is_refused_behind_its_last_line(rt: HostRuntime) {
+    let mut line = 1usize;
+    for (i, c) in PROGRAM.iter().enumerate() {
+        let (front, behind) = PROGRAM.split_at(i);
+        if behind.len() < 2 {
+            break;
+        }
+        let unfinished = usize::from(front.last().is_some_and(|last| *last != b'\n'));
+        let number = unfinished.saturating_add(line);
+        let fault = SourceFault::NoEnd(number);
+        assert!(rt; fault_of(rt.alloc(), front) == Some(fault), "{i}");
+        if *c == b'\n' {
+            line = number;
+        }
+    }
+}
+
+#[test]
+fn each_fault_has_its_line(rt: HostRuntime) {
+    for (source, fault) in [
+        ("*{\n END", SourceFault::BadCharacter(1)),
+        (" DS F\r\r\n END", SourceFault::BadCharacter(1)),
+        (" DS F\n END\r", SourceFault::BadCharacter(2)),
+        ("1A DS F\n END", SourceFault::BadName(1)),
+        ("*\nABCDEFGHI DS F\n END", SourceFault::BadName(2)),
+        ("a DS F\n END", SourceFault::BadName(1)),
+        ("", SourceFault::NoEnd(1)),
+        ("* END\n", SourceFault::NoEnd(2)),
+    ] {
+        assert!(rt;
+            fault_of(rt.alloc(), source.as_bytes()) == Some(fault),
+            "{source}"
+        );
+    }
+}
+
+/// A line of more than 80 columns; a character without a code, and bytes in columns 1 to 15, on a line that continues.
+fn long_lines(alloc: Global) -> Result<[String; 3], AllocError> {
+    Ok([
+        format!(in alloc; "*{:<80}\n END", "{")?,
+        format!(in alloc; " DS F\n{:<71}X\n    {:<11}{{\n END", " DC C'A'", "B")?,
+        format!(in alloc; "{:<71}X\n{:14}B\n END", " DC C'A'", "")?,
+    ])
+}
+
+#[test]
+fn faults_of_columns_have_their_lines(rt: HostRuntime) -> Result<(), Fail> {
+    let [long, bad, margin] = long_lines(rt.alloc())?;
+    for (source, fault) in [
+        (long.as_str(), SourceFault::TooLong(1)),
+        (bad.as_str(), SourceFault::BadCharacter(3)),
+        (margin.as_str(), SourceFault::BadContinuation(2)),
+    ] {
+        assert!(rt;
+            fault_of(rt.alloc(), source.as_bytes()) == Some(fault),
+            "{source}"
+        );
+    }
+    Ok(())
+}
+
+/// So many empty lines.
+fn empty_lines(alloc: Global, count: usize) -> Result<Vec<u8>, AllocError> {
+    vec![in alloc; b'\n'; count]
+}
+
+#[test]
+fn a_source_has_at_most_ten_thousand_lines(rt: HostRuntime) -> Result<(), Fail> {
+    let without_end = Some(SourceFault::NoEnd(10_001));
+    let lines = empty_lines(rt.alloc(), 10_000)?;
+    assert!(rt; fault_of(rt.alloc(), lines.as_slice()) == without_end);
+    let too_long = Some(SourceFault::TooLong(10_001));
+    let lines = empty_lines(rt.alloc(), 10_001)?;
+    assert!(rt; fault_of(rt.alloc(), lines.as_slice()) == too_long);
+    Ok(())
+}
+
+/// Whether the first statement of a source has this name, operation and operand.
+fn begins_with(
+    alloc: Global,
+    source: &str,
+    expected: (&str, &str, &str),
+) -> Result<bool, SourceFault> {
+    let (name, operation, operand) = expected;
+    let found = read_source(alloc, source.as_bytes())?;
+    Ok(match first_stmt(&found) {
+        Some(stmt) => is_stmt(
+            stmt,
+            (name.as_bytes(), operation.as_bytes(), operand.as_bytes()),
+        ),
+        None => false,
+    })
+}
+
+#[test]
+fn each_rule_of_lines_holds(rt: HostRuntime) -> Result<(), Fail> {
+    for (source, expected) in [
+        ("* DS F\n\n  \n DS F\r\n END\r\n", ("", "DS", "F")),
+        (
+            "A1  MVC X,=C'A''B C' IT'S ONE\n END",
+            ("A1", "MVC", "X,=C'A''B C'"),
+        ),
+        ("@ LA 1,L'X+L'$ 'A\n END", ("@", "LA", "1,L'X+L'$")),
+        ("#9 DC CL'X Y'\n END\n1BAD {\n", ("#9", "DC", "CL'X Y'")),
+        (" EXEC CICS  A  \n END", ("", "EXEC", "CICS  A")),
+        ("ONLYNAME\n END", ("ONLYNAME", "", "")),
+    ] {
+        assert!(rt; begins_with(rt.alloc(), source, expected)?, "{source}");
+    }
+    Ok(())
+}
+
+/// Statements that go on, and the operand of each.
+fn joined(alloc: Global) -> Result<[(String, String); 3], AllocError> {
+    let rest = format!(in alloc; "A DC {:<66}X12345678\n{:15}CD' REST\n END", "C'AB", "")?;
+    let spaced = format!(in alloc; "C'AB{:62}CD'", "")?;
+    let filled = format!(in alloc;
+        "A DC C'{:A<64}XY\n{:15}{:B<56}X\n{:15}C' D\n END",
+        "", "", "", ""
+    )?;
+    let whole = format!(in alloc; "C'{:A<64}{:B<56}C'", "", "")?;
+    let exec = format!(in alloc; "A EXEC {:<64}X\n{:15}'A B'\n END", "CICS  ABEND", "")?;
+    let sent = format!(in alloc; "CICS  ABEND{:53}'A B'", "")?;
+    Ok([(rest, spaced), (filled, whole), (exec, sent)])
+}
+
+#[test]
+fn operands_go_on(rt: HostRuntime) -> Result<(), Fail> {
+    let [first, second, third] = joined(rt.alloc())?;
+    let expected = ("A", "DC", first.1.as_str());
+    assert!(rt; begins_with(rt.alloc(), first.0.as_str(), expected)?);
+    let expected = ("A", "DC", second.1.as_str());
+    assert!(rt; begins_with(rt.alloc(), second.0.as_str(), expected)?);
+    let expected = ("A", "EXEC", third.1.as_str());
+    assert!(rt; begins_with(rt.alloc(), third.0.as_str(), expected)?);
+    Ok(())
+}
+
+/// An END that is marked as continued; a blank line and a blank statement that continue.
+fn marked(alloc: Global) -> Result<[String; 3], AllocError> {
+    Ok([
+        format!(in alloc; "{:<71}X\n{{", " END")?,
+        format!(in alloc; "{:<71}X\n\n END", " DC C'A'")?,
+        format!(in alloc; "{:71}X\n{:15} MVC A\n END", "", "")?,
+    ])
+}
+
+#[test]
+fn blank_lines_continue(rt: HostRuntime) -> Result<(), Fail> {
+    let [end, blank, none] = marked(rt.alloc())?;
+    for (source, expected) in [
+        (end.as_str(), ("", "END", "")),
+        (blank.as_str(), ("", "DC", "C'A'")),
+        (none.as_str(), ("", "", "MVC")),
+    ] {
+        assert!(rt; begins_with(rt.alloc(), source, expected)?, "{source}");
+    }
+    Ok(())
+}
+
+/// A line's number, the length of its text, and whether a statement begins on it.
+fn kept(source: &Source, place: usize) -> Option<(usize, usize, bool)> {
+    let item = source.items.as_slice().get(place)?;
+    Some((item.line, item.text.as_slice().len(), item.stmt.is_some()))
+}
+
+/// A comment, a statement on two lines, and END.
+fn source_of_four_lines(alloc: Global) -> Result<Source, SourceFault> {
+    let text = format!(in alloc;
+        "* A  \n{:<71}X12345678\n{:15}'B'\n END\n{{",
+        " DC C'A'", ""
+    )?;
+    read_source(alloc, text.as_bytes())
+}
+
+#[test]
+fn lines_keep_their_texts(rt: HostRuntime) -> Result<(), Fail> {
+    let source = source_of_four_lines(rt.alloc())?;
+    assert!(rt; kept(&source, 0) == Some((1, 3, false)));
+    assert!(rt; kept(&source, 1) == Some((2, 72, true)));
+    assert!(rt; kept(&source, 2) == Some((3, 18, false)));
+    assert!(rt; kept(&source, 3) == Some((4, 4, true)));
+    assert!(rt; kept(&source, 4).is_none());
+    Ok(())
+}
+
+fn feed(reader: &mut SourceReader, piece: &[u8]) -> Option<SourceFault> {
+    reader.feed(piece).err()
+}
+
+fn finish(reader: SourceReader) -> Option<SourceFault> {
+    reader.finish().err()
+}
+
+#[test]
+fn a_fault_stays(rt: HostRuntime) {
+    let mut reader = SourceReader::new(rt.alloc());
+    let fault = Some(SourceFault::BadName(2));
+    assert!(rt; feed(&mut reader, b" DS F\n1A DS F").is_none());
+    assert!(rt; feed(&mut reader, b"\n END\n") == fault);
+    assert!(rt; feed(&mut reader, b" END\n") == fault);
+    assert!(rt; finish(reader) == fault);
+}
+
+#[test]
+fn the_last_line_is_judged_at_the_end(rt: HostRuntime) {
+    let mut reader = SourceReader::new(rt.alloc());
+    assert!(rt; feed(&mut reader, b"1A").is_none());
+    assert!(rt; finish(reader) == Some(SourceFault::BadName(1)));
+    let mut reader = SourceReader::new(rt.alloc());
+    assert!(rt; feed(&mut reader, b" END\n1A").is_none());
+    assert!(rt; feed(&mut reader, b"\n{\n").is_none());
+    assert!(rt; finish(reader).is_none());
+}
+
+/// Whether the parts of an operand are these, each followed by a bar.
+fn is_cut(alloc: Global, text: &[u8], mark: Mark, expected: &[u8]) -> Result<bool, AllocError> {
+    let mut joined = Vec::new(alloc);
+    for part in cut(alloc, text, mark)? {
+        joined.extend_from_slice(part)?;
+        joined.push(b'|')?;
+    }
+    Ok(joined.as_slice() == expected)
+}
+
+#[test]
+fn operands_are_cut_outside_apostrophes(rt: HostRuntime) -> Result<(), Fail> {
+    let operand = b"1,D(2,B),C','".as_slice();
+    for (text, mark, expected) in [
+        (operand, Mark::TopComma, b"1|D(2,B)|C','|".as_slice()),
+        (operand, Mark::Comma, b"1|D(2|B)|C','|".as_slice()),
+        (
+            b"D(X,B)'('".as_slice(),
+            Mark::Parenthesis,
+            b"D|X,B|'('|".as_slice(),
+        ),
+        (b"A  'B C'".as_slice(), Mark::Blank, b"A||'B C'|".as_slice()),
+        (b"".as_slice(), Mark::Comma, b"|".as_slice()),
+    ] {
+        assert!(rt; is_cut(rt.alloc(), text, mark, expected)?);
+    }
+    Ok(())
+}
+
+/// Whether these are the characters outside apostrophes.
+fn lie_outside(alloc: Global, text: &[u8], expected: &[bool]) -> Result<bool, AllocError> {
+    Ok(outside(alloc, text)?.as_slice() == expected)
+}
+
+#[test]
+fn marks_are_found_outside_apostrophes(rt: HostRuntime) -> Result<(), Fail> {
+    let expected = [true, false, false, false, true, true, true, true, false];
+    assert!(rt; lie_outside(rt.alloc(), b"A'B',L'C'", &expected)?);
+    assert!(rt; first_mark(b"C'A B',X REST", Mark::Blank) == 8);
+    assert!(rt; first_mark(b"AB", Mark::Comma) == 2);
+    Ok(())
+}
+
+#[test]
+fn names_begin_with_a_letter(rt: HostRuntime) {
+    assert!(rt; is_letter(b'$') && !is_letter(b'7') && !is_letter(b'a'));
+    assert!(rt; is_name_character(b'7') && !is_name_character(b'.'));
+    assert!(rt; begins_with_letter(b"@.") && !begins_with_letter(b""));
+    assert!(rt; is_name(b"#2345678") && !is_name(b"#23456789"));
+}
+
+/// Whether a comment, or a line, with a mark in column 72 goes on.
+fn goes_on(continues: bool, first: u8) -> bool {
+    let mut line = [b' '; 72];
+    line[0] = first;
+    line[71] = b'X';
+    is_continued(continues, &line)
+}
+
+#[test]
+fn comments_are_not_continued(rt: HostRuntime) {
+    assert!(rt; goes_on(false, b'A'));
+    assert!(rt; !goes_on(false, b'*'));
+    assert!(rt; goes_on(true, b'*'));
+    assert!(rt; !is_continued(true, b"A"));
+}
+
+/// Whether a text and a list of lines give back what they were made of.
+fn give_back(alloc: Global) -> Result<bool, AllocError> {
+    let text = Text::from_vec([b'A', b'B'].to_vec(alloc)?);
+    let item = Item {
+        line: 1,
+        text: Text::from_vec(Vec::new(alloc)),
+        stmt: None,
+    };
+    let items = Items::from_vec(vec![in alloc; item]?);
+    Ok(items.into_vec().len() == 1 && text.into_vec().as_slice() == [b'A', b'B'].as_slice())
+}
+
+#[test]
+fn lists_give_back_what_they_hold(rt: HostRuntime) -> Result<(), Fail> {
+    assert!(rt; give_back(rt.alloc())?);
+    Ok(())
+}

@@ -1,0 +1,69 @@
+-- Which characters of an operand lie outside apostrophes, and cutting an operand there (GC33-4010, "Expressions" and "Terms").
+use Rattle.std.specs.Prelude.{ℕ, ◌+◌, ◌-◌, Bool, false, ◌&&◌, ◌||◌, not, ◌==◌, if◌then◌else◌, List, [], ◌∷◌, ◌++◌}
+use Rattle.cx_source.specs.Lines.{begins_with_letter, is_name_character}
+use Rattle.cx_source.specs.declared.marks.Scan.{Scan}
+use Rattle.cx_source.specs.declared.marks.Mark.{Mark}
+use Rattle.cx_source.specs.declared.marks.Mark.TheVariants.{Comma, TopComma, Blank, Parenthesis}
+
+-- L' before a letter, where L begins a term: no name's character stands before it. `before` and `last` are the two characters before the apostrophe.
+unfoldable pub is_length_attribute : ℕ → ℕ → List ℕ → Bool
+is_length_attribute before last behind =
+    last == 76 && not (is_name_character before) && begins_with_letter behind
+
+-- Before an operand's first character: outside apostrophes and parentheses, as behind a blank.
+abbrev pub at_start : Scan
+at_start = record { within = false; depth = 0; before = 32; last = 32 }
+
+-- An apostrophe ends the text that it stands in, and outside of one it opens one, unless it is that of a length attribute. (So of two in a text the second opens it again.)
+unfoldable pub within_behind : Scan → ℕ → List ℕ → Bool
+within_behind scan c behind =
+    if c == 39 then not scan.within && not (is_length_attribute scan.before scan.last behind) else scan.within
+
+-- The character c, with what stands behind it, lies outside apostrophes: neither in a text nor one of its apostrophes.
+abbrev pub lies_outside : Scan → ℕ → List ℕ → Bool
+lies_outside scan c behind = not scan.within && not (within_behind scan c behind)
+
+-- how many parentheses outside apostrophes are open behind the character
+unfoldable pub depth_behind : Scan → ℕ → List ℕ → ℕ
+depth_behind scan c behind =
+    if lies_outside scan c behind && c == 40 then scan.depth + 1
+    else (if lies_outside scan c behind && c == 41 then scan.depth - 1 else scan.depth)
+
+-- behind the character
+abbrev pub passed : Scan → ℕ → List ℕ → Scan
+passed scan c behind =
+    record { within = within_behind scan c behind; depth = depth_behind scan c behind; before = scan.last; last = c }
+
+-- for each character whether it lies outside apostrophes
+abbrev pub outside_from : Scan → List ℕ → List Bool
+outside_from scan [] = []
+outside_from scan (c ∷ behind) = lies_outside scan c behind ∷ outside_from (passed scan c behind) behind
+
+abbrev pub outside : List ℕ → List Bool
+outside text = outside_from at_start text
+
+-- where a text is cut: at commas, at commas in no parentheses, at blanks, at parentheses
+abbrev pub is_mark : Mark → ℕ → ℕ → Bool
+is_mark Comma depth c = c == 44
+is_mark TopComma depth c = c == 44 && depth == 0
+is_mark Blank depth c = c == 32
+is_mark Parenthesis depth c = c == 40 || c == 41
+
+-- the place of the first mark outside apostrophes, or the length
+abbrev pub first_from : Mark → Scan → List ℕ → ℕ
+first_from mark scan [] = 0
+first_from mark scan (c ∷ behind) =
+    if lies_outside scan c behind && is_mark mark scan.depth c then 0 else 1 + first_from mark (passed scan c behind) behind
+
+abbrev pub first_mark : Mark → List ℕ → ℕ
+first_mark mark text = first_from mark at_start text
+
+-- the parts between the marks outside apostrophes; `part` is what stands of the first already
+abbrev pub parts_from : Mark → Scan → List ℕ → List ℕ → List (List ℕ)
+parts_from mark scan part [] = part ∷ []
+parts_from mark scan part (c ∷ behind) =
+    if lies_outside scan c behind && is_mark mark scan.depth c then part ∷ parts_from mark (passed scan c behind) [] behind
+    else parts_from mark (passed scan c behind) (part ++ c ∷ []) behind
+
+abbrev pub parts : Mark → List ℕ → List (List ℕ)
+parts mark text = parts_from mark at_start [] text

@@ -1,0 +1,164 @@
+//! Which characters of an operand lie outside apostrophes, and cutting an operand there.
+
+ghost use Rattle.std.specs.Prelude.{◌≡◌, ◌≤◌, ◌<◌, ◌+◌, ◌^◌, IfOk, length, map};
+ghost use Rattle.cx_source.specs.Marks.{at_start, first_mark, is_length_attribute, is_mark, lies_outside, outside, parts, passed, within_behind};
+
+use crate::lines::{BLANK, begins_with_letter, is_name_character};
+use std::alloc::{AllocError, Global};
+
+/// An apostrophe.
+const APOSTROPHE: u8 = b'\'';
+
+/// The state of a walk along an operand.
+#[derive(Clone, Copy, Debug)]
+pub struct Scan {
+    /// Whether the next character stands in a text.
+    pub within: bool,
+    /// How many parentheses are open.
+    pub depth: usize,
+    /// The character before the last.
+    pub before: u8,
+    /// The last character passed.
+    pub last: u8,
+}
+
+/// Where an operand may be cut. Only characters outside apostrophes count.
+#[derive(Clone, Copy, Debug, PartialEq, Eq)]
+pub enum Mark {
+    /// At each comma.
+    Comma,
+    /// At each comma that stands in no parentheses.
+    TopComma,
+    /// At each blank.
+    Blank,
+    /// At each parenthesis.
+    Parenthesis,
+}
+
+impl Mark {
+    /// Whether a character behind so many open parentheses is such a mark.
+    fn is_at(self, depth: usize, c: u8) -> bool
+        ensures { result ≡ is_mark self depth c }
+    {
+        match self {
+            Mark::Comma => c == b',',
+            Mark::TopComma => c == b',' && depth == 0,
+            Mark::Blank => c == BLANK,
+            Mark::Parenthesis => c == b'(' || c == b')',
+        }
+    }
+}
+
+/// Whether an apostrophe is that of a length attribute, so that it opens no text: it stands between
+/// an L that begins a term and a letter.
+#[tactic(auto, unfolding(crate::specs::Marks::is_length_attribute))]
+fn is_length_attribute(before: u8, last: u8, behind: &[u8]) -> bool
+    ensures { result ≡ is_length_attribute before last behind.now }
+{
+    last == b'L' && !is_name_character(before) && begins_with_letter(behind)
+}
+
+impl Scan {
+    /// Before an operand's first character.
+    fn at_start() -> Scan
+        ensures { result ≡ at_start }
+    {
+        Scan {
+            within: false,
+            depth: 0,
+            before: BLANK,
+            last: BLANK,
+        }
+    }
+
+    /// Whether what stands behind the next character stands in a text.
+    #[tactic(auto, unfolding(crate::specs::Marks::within_behind))]
+    fn within_behind(&self, c: u8, behind: &[u8]) -> bool
+        ensures { result ≡ within_behind self.now c behind.now }
+    {
+        if c == APOSTROPHE {
+            !self.within && !is_length_attribute(self.before, self.last, behind)
+        } else {
+            self.within
+        }
+    }
+
+    /// Passes over the next character, with what stands behind it: whether it lies outside apostrophes.
+    #[tactic(auto, unfolding(crate::specs::Marks::depth_behind))]
+    fn pass(&mut self, c: u8, behind: &[u8]) -> bool
+        requires { self.old.depth + 1 < 2 ^ 64 }
+        ensures outside { result ≡ lies_outside self.old c behind.now }
+        ensures passed { self.new ≡ passed self.old c behind.now }
+        ensures depth { self.new.depth ≤ self.old.depth + 1 }
+    {
+        let within = self.within_behind(c, behind);
+        let outside = !self.within && !within;
+        let depth = match c {
+            b'(' if outside => self.depth + 1,
+            b')' if outside => self.depth.saturating_sub(1),
+            _ => self.depth,
+        };
+        *self = Scan {
+            within,
+            depth,
+            before: self.last,
+            last: c,
+        };
+        outside
+    }
+}
+
+/// For each character of an operand whether it lies outside apostrophes: neither in a text nor one of
+/// the apostrophes round a text. The apostrophe of `L'` before a letter (`@ # $` are letters), where L
+/// begins a term, lies outside.
+///
+/// Memory comes only where a growth was refused.
+pub fn outside(alloc: Global, text: &[u8]) -> Result<Vec<bool>, AllocError>
+    ensures { IfOk result (λ found. found.items ≡ outside text.now) }
+{
+    let mut found = Vec::new(alloc);
+    let mut scan = Scan::at_start();
+    for (i, c) in text.iter().enumerate() {
+        let (_, behind) = text.split_at(i + 1);
+        found.push(scan.pass(*c, behind))?;
+    }
+    Ok(found)
+}
+
+/// The place of the first mark outside apostrophes, from 0; the length where there is none.
+/// It takes no memory.
+pub fn first_mark(text: &[u8], mark: Mark) -> usize
+    ensures place { result ≡ first_mark mark text.now }
+    ensures bound { result ≤ length text.now }
+{
+    let mut scan = Scan::at_start();
+    for (i, c) in text.iter().enumerate() {
+        let at_mark = mark.is_at(scan.depth, *c);
+        let (_, behind) = text.split_at(i + 1);
+        if scan.pass(*c, behind) && at_mark {
+            return i;
+        }
+    }
+    text.len()
+}
+
+/// The parts between the marks outside apostrophes, one more than there are marks; some may be empty.
+///
+/// Memory comes only where a growth was refused.
+pub fn cut(alloc: Global, text: &[u8], mark: Mark) -> Result<Vec<&[u8]>, AllocError>
+    ensures { IfOk result (λ found. map (λ part. part.now) found.items ≡ parts mark text.now) }
+{
+    let mut found = Vec::new(alloc);
+    let mut scan = Scan::at_start();
+    let mut start = 0;
+    for (i, c) in text.iter().enumerate() {
+        let at_mark = mark.is_at(scan.depth, *c);
+        let (_, behind) = text.split_at(i + 1);
+        if scan.pass(*c, behind) && at_mark {
+            found.push(&text[start..i])?;
+            start = i + 1;
+        }
+    }
+    found.push(&text[start..])?;
+    Ok(found)
+}

@@ -1,6 +1,0 @@
-use Rattle.std.proofs.Common.{sym, ◌∙◌, arith, ◌-◌}
-use Rattle.cx_storage.specs.Bytes.{span_zero}
-use Rattle.cx_storage.proofs.stores.has_span.Goals as goal
-
-pub returns : goal.returns
-returns g c = sym (sym c.tested.invariant.1 ∙ span_zero (g.S.Store.storage c.args.store.now) c.tested.at (c.args.n - c.tested._k) (omega arith))

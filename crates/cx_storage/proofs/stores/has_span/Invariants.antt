@@ -1,8 +1,0 @@
-use Rattle.std.proofs.Common.{◌≡◌, ◌^◌, ◌<◌, is_some, ◌-◌}
-use Rattle.cx_storage.specs.Storage.{span}
-use Rattle.cx_storage.proofs.stores.has_span.Given as goal
-
--- the bytes tested so far are there
-abbrev pub invariant-tested : goal.invariant-tested
-invariant-tested g l =
-    (l.at < 2 ^ 24) × (is_some (span (g.S.Store.storage l.store) l.at (l.n - l._k)) ≡ is_some (span (g.S.Store.storage l.store) l.a l.n))

@@ -1,0 +1,7 @@
+-- Lemmas about storage that the crates above cite.
+pub mod Sound
+pub mod Spans
+pub mod Writes
+pub mod Areas
+pub mod Places
+pub mod Words

@@ -1,0 +1,41 @@
+-- The laws of areas: where bytes are, and what areas put in and freed leave.
+use Rattle.std.proofs.Common.{get_or}
+use Rattle.std.specs.List.{list_any}
+use Rattle.std.specs.Option.{option_map_or, option_and_then}
+use Rattle.std.specs.Prelude.{◌≡◌, ℕ, ◌<◌, ◌≤◌, Bool, false, length, Option, Some, None, is_some, ◌==◌, if◌then◌else◌, ◌^◌}
+use Rattle.cx_storage.specs.Place.{CanPlace}
+use Rattle.cx_storage.specs.Storage.{Held, Storage, end_of, covers, byte_at, area_at, holder, areas_of, with_area, with_areas_kept, IsWhole, IsSound, area_from}
+use Rattle.cx_storage.specs.declared.areas.Area.{Area}
+use Rattle.cx_storage.specs.declared.areas.Owner.{Owner}
+
+-- an area that is there where it is kept
+abbrev pub kept_only : (Area → Bool) → Option Area → Option Area
+kept_only keeps o = option_and_then (λ area. if keeps area then Some area else None) o
+
+-- areas don't meet, and each is whole: at least one byte, below 2^24, as many bytes as it is long
+abbrev pub AreasApart : Type 0
+AreasApart = (s : Storage) (i j : ℕ) (d : Held) → IsSound s → i < j → j < length s
+    → IsWhole (get_or s i d) × IsWhole (get_or s j d) × (end_of (get_or s i d).area ≤ (get_or s j d).area.start)
+
+-- a byte is present exactly where an area has its address, is below 256, and none is from 2^24 on
+abbrev pub PresentInAreas : Type 0
+PresentInAreas = (s : Storage) (x : ℕ) → IsSound s
+    → (is_some (byte_at s x) ≡ list_any (λ area. covers area x) (areas_of s)) × (is_some (byte_at s x) ≡ is_some (holder s x)) × ((v : ℕ) → byte_at s x ≡ Some v → v < 256) × (2 ^ 24 ≤ x → byte_at s x ≡ None)
+
+-- two sound storages with equal areas and equal bytes are one
+abbrev pub SameStorage : Type 0
+SameStorage = (s t : Storage) → IsSound s → IsSound t → areas_of s ≡ areas_of t → ((x : ℕ) → byte_at s x ≡ byte_at t x) → s ≡ t
+
+-- what an area put in at a place leaves: its bytes are zero, and all others are as before
+abbrev pub FreshArea : Type 0
+FreshArea = (s : Storage) (first last len a : ℕ) (owner : Owner) (x : ℕ) → IsSound s → 0 < len → CanPlace s first last len a
+    → (byte_at (with_area s (Some a) len owner) x ≡ (if covers (area_from a len owner) x then Some 0 else byte_at s x))
+    × (area_at (with_area s (Some a) len owner) x ≡ (if a == x then Some (area_from a len owner) else area_at s x))
+    × (holder (with_area s (Some a) len owner) x ≡ (if covers (area_from a len owner) x then Some (area_from a len owner) else holder s x))
+
+-- what areas freed leave: the bytes of those kept, and no others
+abbrev pub AreasFreed : Type 0
+AreasFreed = (s : Storage) (keeps : Area → Bool) (x : ℕ) → IsSound s
+    → (byte_at (with_areas_kept keeps s) x ≡ (if option_map_or keeps (holder s x) false then byte_at s x else None))
+    × (area_at (with_areas_kept keeps s) x ≡ kept_only keeps (area_at s x))
+    × (holder (with_areas_kept keeps s) x ≡ kept_only keeps (holder s x))
