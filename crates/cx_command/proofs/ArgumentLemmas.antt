@@ -1,5 +1,5 @@
 -- An argument is found by the name of its option.
-use Rattle.std.proofs.Common.{◌≡◌, ℕ, zero, suc, ◌↔◌, Bool, not, true, false, List, [], ◌∷◌, slice_get, Some, IsTrue, refl, sym, ◌∙◌, ap, inl, inr, arith, rules}
+use Rattle.std.proofs.Common.{◌≡◌, ℕ, zero, suc, ◌↔◌, Bool, not, true, false, List, [], ◌∷◌, slice_get, Some, refl, sym, ◌∙◌, ap, inl, inr, arith, rules}
 use Rattle.std.specs.List.{filter, list_all, position_or_len}
 use Rattle.std.proofs.lemmas.Bool.{cases_Bool, lt-ltb, and_parts, and_from}
 use Rattle.std.proofs.lemmas.Option.{slice_get_within}
