@@ -1,8 +1,8 @@
 -- A call is read exactly where its list has what `IsCallAt` says.
-use Rattle.std.proofs.Common.{◌≡◌, ℕ, zero, suc, ◌+◌, ◌-◌, ◌*◌, ◌/◌, ◌%◌, ◌^◌, ◌<◌, ◌≤◌, ◌↔◌, ◌≢◌, Bool, nat_lt, not, true, false, ◌==◌, List, [], ◌∷◌, length, map, drop, slice_get, slice_index, Option, Some, None, Result, Ok, Err, is_some, IsSomeAnd, IsTrue, MatchBool, refl, sym, ap, ◌∙◌, arith, inl, inr, add-one}
+use Rattle.std.proofs.Common.{◌≡◌, ℕ, zero, suc, ◌+◌, ◌-◌, ◌*◌, ◌/◌, ◌%◌, ◌^◌, ◌<◌, ◌≤◌, ◌↔◌, ◌≢◌, Bool, nat_lt, true, false, ◌==◌, List, [], ◌∷◌, length, map, drop, slice_get, slice_index, Option, Some, None, Result, Ok, Err, is_some, IsSomeAnd, IsTrue, MatchBool, refl, sym, ap, ◌∙◌, arith, inl, inr, add-one}
 use Rattle.std.specs.Option.{option_map, option_and_then, ok_or, unwrap_or}
-use Rattle.std.specs.List.{AllByRecursion, filter, list_all, position_or_len}
-use Rattle.std.proofs.lemmas.Bool.{cases_Bool, eqb-true, eq-eqb, ltb-true, ltb-false, lt-ltb, and_parts, and_from}
+use Rattle.std.specs.List.{AllByRecursion, position_or_len}
+use Rattle.std.proofs.lemmas.Bool.{cases_Bool, eqb-true, eq-eqb, ltb-true, ltb-false}
 use Rattle.std.proofs.lemmas.Bool.Decides.{eqb_tells}
 use Rattle.std.proofs.lemmas.List.{ext_get_or, length-map}
 use Rattle.std.proofs.lemmas.List.Sums.{fails_before_first, passes_at_first, position_or_len_is}
@@ -11,10 +11,7 @@ use Rattle.cx_command.specs.declared.commands.Command.{Command}
 use Rattle.cx_command.specs.declared.legal.ListedCondition.{ListedCondition}
 use Rattle.cx_command.specs.Commands.{row_of}
 use Rattle.cx_command.specs.declared.options.CommandOption.{CommandOption}
-use Rattle.cx_command.specs.Laws.Rows.{have_own_names}
-use Rattle.cx_command.specs.declared.options.OptionName.{OptionName}
-use Rattle.cx_command.specs.Options.{is_option}
-use Rattle.cx_command.specs.Arguments.{argument_index, arguments_in, is_argument}
+use Rattle.cx_command.specs.Arguments.{argument_index, arguments_in}
 use Rattle.cx_command.specs.Commands.{command_with}
 use Rattle.cx_storage.specs.Address.{address_in}
 use Rattle.cx_command.specs.Legal.{is_legal, is_legal_list, lists_conditions}
@@ -348,63 +345,17 @@ call_is_read are_found s list call ok h = (forward are_found s list call ok h, b
 
 -- ---- the addresses of options and of RESP
 
-all_at : {A : Type 0} (test : A → Bool) (xs : List A) (k : ℕ) (x : A) → list_all test xs ≡ true → slice_get xs k ≡ Some x → test x ≡ true
-all_at test [] k x all e = cc
-all_at test (y ∷ ys) zero x all e = let same : y ≡ x = cc in ap test (sym same) ∙ (and_parts _ _ all).0
-all_at test (y ∷ ys) (suc k) x all e = all_at test ys k x (and_parts _ _ all).1 e
+-- each argument of a list is found by the name of its option
+abbrev AreFoundByName : Type 0
+AreFoundByName = (command : Command) (first k : ℕ) (option : CommandOption)
+    → slice_get (arguments_in (row_of command).options first) k ≡ Some option → argument_index command first option.name ≡ Some k
 
-all_filter : {A : Type 0} (test keeps : A → Bool) (xs : List A) → list_all test xs ≡ true → list_all test (filter keeps xs) ≡ true
-all_filter test keeps [] all = refl
-all_filter test keeps (x ∷ xs) all =
-    let parts = and_parts _ _ all in
-    let rest = all_filter test keeps xs parts.1 in
-    elim (cases_Bool (keeps x)) [ inl t ↦ rw t (and_from _ _ parts.0 rest) | inr f ↦ rw f rest ]
-
-apart_filter : (keeps : CommandOption → Bool) (options : List CommandOption) → have_own_names options ≡ true → have_own_names (filter keeps options) ≡ true
-apart_filter keeps [] apart = refl
-apart_filter keeps (option ∷ rest) apart =
-    let parts = and_parts _ _ apart in
-    let more = apart_filter keeps rest parts.1 in
-    elim (cases_Bool (keeps option)) [
-      | inl t ↦ rw t (and_from _ _ (all_filter (λ other. not (is_option other.name option.name)) keeps rest parts.0) more)
-      | inr f ↦ rw f more
-    ]
-
-not_true : (b : Bool) → not b ≡ true → b ≡ false
-not_true false e = refl
-not_true true e = cc
-
--- two options are the same exactly where they are one
-abbrev AreThemselves : Type 0
-AreThemselves = (one other : OptionName) → (is_option one other ≡ true) ↔ (one ≡ other)
-
-unequal : (b : Bool) → (b ≡ true → ⊥) → b ≡ false
-unequal true never = absurd (never refl)
-unequal false never = refl
-
-by_its_name : AreThemselves → (options : List CommandOption) (k : ℕ) (option : CommandOption) → have_own_names options ≡ true
-    → slice_get options k ≡ Some option → position_or_len (λ other. is_option other.name option.name) options ≡ k
-by_its_name themselves [] k option apart e = cc
-by_its_name themselves (first ∷ rest) zero option apart e =
-    let same : first ≡ option = cc in
-    rw ((themselves first.name option.name).1 (ap (λ o. o.name) same)) refl
-by_its_name themselves (first ∷ rest) (suc k) option apart e =
-    let parts = and_parts _ _ apart in
-    let differs : is_option option.name first.name ≡ false = not_true _ (all_at (λ other. not (is_option other.name first.name)) rest k option parts.0 e) in
-    let other : is_option first.name option.name ≡ false = unequal (is_option first.name option.name) (λ held.
-    let back : is_option option.name first.name ≡ true = (themselves option.name first.name).1 (sym ((themselves first.name option.name).0 held)) in cc) in
-    let more = by_its_name themselves rest k option parts.1 e in
-    rw (other, more) (omega arith)
-
-pub arguments_have_places : AreThemselves → (s : Storage) (list : ℕ) (call : Call) (k : ℕ) (option : CommandOption)
-    → IsTrue (have_own_names (row_of call.command).options) → IsCallAt s list call
+pub arguments_have_places : AreFoundByName → (s : Storage) (list : ℕ) (call : Call) (k : ℕ) (option : CommandOption) → IsCallAt s list call
     → slice_get (arguments_of call) k ≡ Some option → (k < length call.places) × (place_of call option.name ≡ slice_get call.places k)
-unfolding place_of argument_index arguments_in
-arguments_have_places themselves s list call k option apart is e =
+unfolding place_of
+arguments_have_places are_found s list call k option is e =
     let within = slice_get_within (arguments_of call) k option e in
-    let at : position_or_len (λ other. is_option other.name option.name) (arguments_of call) ≡ k =
-    by_its_name themselves (arguments_of call) k option (apart_filter (is_argument call.first) (row_of call.command).options apart) e in
-    (omega (arith, is.count), rw (at, lt-ltb _ _ within) refl)
+    (omega (arith, is.count), rw (are_found call.command call.first k option e) refl)
 
 pub resp_has_its_place : (s : Storage) (list : ℕ) (call : Call) → IsCallAt s list call → is_some (resp_place call) ≡ has_resp call.second
 unfolding resp_place

@@ -13,6 +13,5 @@ pub fn arguments_have_places()
     ensures options { ArgumentsHavePlaces }
     ensures resp { RespHasItsPlace }
 {
-    cx_command::laws::options_have_names_of_their_own();
-    cx_command::laws::options_are_themselves();
+    cx_command::laws::arguments_are_found_by_name();
 }

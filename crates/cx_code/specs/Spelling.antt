@@ -1,4 +1,5 @@
--- Instructions and their spelling as bytes (POP, "Instruction formats").
+-- Instructions and their spelling as bytes (Principles of Operation, GA22-7000, "Instruction
+-- Formats").
 use Rattle.std.specs.Prelude.{◌≡◌, ℕ, ◌+◌, ◌*◌, ◌/◌, ◌^◌, ◌<◌, List, [], ◌∷◌, true, sum_by, slice_index, if◌then◌else◌}
 use Rattle.std.specs.List.{AllByRecursion}
 use Rattle.byteorder.specs.Endian.{big_bytes}

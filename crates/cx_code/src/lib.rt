@@ -15,4 +15,3 @@ pub use instruction::{Fields, Inst};
 pub use spelling::{CodeBytes, decode, encode};
 pub use table::{Format, Op, instruction_length};
 pub use text::line_text;
-

@@ -1,5 +1,5 @@
 -- The abend codes that the region makes, beside those of the conditions (this project's own).
-use Rattle.std.specs.Prelude.{ℕ, Option, List, codes, map}
+use Rattle.std.specs.Prelude.{ℕ, Option, List, [], codes, map, unwrap_or}
 use Rattle.cx_ebcdic.specs.Lookup.{each_some}
 use Rattle.cx_ebcdic.specs.Characters.{code_of}
 use Rattle.cx_command.specs.declared.abends.Abend.{Abend}
@@ -19,3 +19,7 @@ abend_name Unnamed = codes "????"
 -- the code as it stands in storage
 unfoldable pub abend_bytes : Abend → Option (List ℕ)
 abend_bytes abend = each_some (map code_of (abend_name abend))
+
+-- the same, since each of its characters has a code
+abbrev pub abend_code : Abend → List ℕ
+abend_code abend = unwrap_or (abend_bytes abend) []

@@ -1,6 +1,6 @@
 //! The abend codes that the region makes.
 ghost use Rattle.std.specs.Prelude.{◌≡◌, Some};
-ghost use Rattle.cx_command.specs.Abends.{abend_bytes, abend_name};
+ghost use Rattle.cx_command.specs.Abends.{abend_bytes, abend_code, abend_name};
 
 use cx_ebcdic::Name4;
 
@@ -47,7 +47,8 @@ impl Abend {
     /// The code as it stands in storage.
     #[tactic(auto, unfolding(crate::specs::Abends::abend_bytes, cx_ebcdic::specs::Characters::code_of, cx_ebcdic::specs::Characters::table))]
     pub fn code(self) -> Name4
-        ensures { abend_bytes self ≡ Some result }
+        ensures value { result ≡ abend_code self }
+        ensures spelled { abend_bytes self ≡ Some result }
     {
         Name4::from_bytes(match self {
             Abend::Asra => [0xC1, 0xE2, 0xD9, 0xC1],

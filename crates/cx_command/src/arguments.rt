@@ -33,8 +33,8 @@ impl Command {
     #[tactic(auto, using(crate::proofs::RowLemmas::few), unfolding(crate::specs::Arguments::arguments_in))]
     pub fn argument_count(self, first: u8) -> usize
         ensures value { result ≡ length (arguments_in (row_of self).options first) }
-        ensures most { result ≤ length (row_of self).options }
-        ensures few { result ≤ 8 }
+        ensures most { result ≤ 8 }
+        ensures within { result ≤ length (row_of self).options }
     {
         self.options()
             .iter()

@@ -3,7 +3,7 @@ use Rattle.std.proofs.Common.{◌≡◌, ℕ, zero, suc, ◌+◌, ◌<◌, ◌�
 use Rattle.std.specs.Prelude.{nat_le, nat_lt, slice_index}
 use Rattle.std.specs.List.{list_all}
 use Rattle.std.proofs.lemmas.Bool.{and_from, cases_Bool, le-leb, leb-true, leb-false, le-ltb, lt-leb, lt-ltb, ltb-true, false≢true}
-use Rattle.cx_load.specs.Check.{are_inside, are_apart, is_apart, all_apart}
+use Rattle.cx_load.specs.Fault.{are_inside, are_apart, is_apart, all_apart}
 use Rattle.cx_load.specs.Laws.Words.{is_of_word, SharesNoByte}
 
 pub both : (a b : Bool) → (a && b) ≡ true → (a ≡ true) × (b ≡ true)

@@ -13,9 +13,9 @@ use Rattle.cx_storage.specs.Facts.Spans.{span_from}
 use Rattle.cx_storage.specs.Facts.Writes.{span_after_write}
 use Rattle.cx_storage.specs.Place.{IsLeastPlace, CanPlace}
 use Rattle.cx_code.specs.declared.image.Image.{Image}
-use Rattle.cx_load.specs.declared.loading.Loaded.{Loaded}
-use Rattle.cx_load.specs.Check.{IsFit}
-use Rattle.cx_load.specs.Load.{IsLoaded, IsProgramPlace, program_owner, text_at}
+use Rattle.cx_load.specs.declared.program.Loaded.{Loaded}
+use Rattle.cx_load.specs.Fault.{IsFit}
+use Rattle.cx_load.specs.Program.{IsLoaded, IsProgramPlace, program_owner, text_at}
 use Rattle.cx_load.proofs.RelocateLemmas.{length-relocated}
 
 -- a program ends with its range

@@ -8,9 +8,9 @@ use Rattle.std.proofs.lemmas.Bool.{and_cases, leb-false, ltb-false}
 use borrow.Rule.Slice.PartMut.{put_mid}
 use Rattle.byteorder.specs.Endian.{big_bytes, big_from}
 use Rattle.byteorder.specs.Numbers.{big_from-cons, big_number-reads_back}
-use Rattle.cx_load.specs.Check.{are_inside, are_apart, is_apart, all_apart}
+use Rattle.cx_load.specs.Fault.{are_inside, are_apart, is_apart, all_apart}
 use Rattle.cx_load.specs.Laws.Words.{is_of_word}
-use Rattle.cx_load.specs.Relocate.{word_in, raised, relocated}
+use Rattle.cx_load.specs.Relocation.{word_in, raised, relocated}
 use Rattle.cx_load.proofs.ApartLemmas.{both, neither, inside_parts, not_of_other, apart_at, apart_swap}
 
 -- four bytes written in the middle of others

@@ -1,7 +1,7 @@
 -- The definitions, in reading order.
-pub mod Check
-pub mod Relocate
-pub mod Load
+pub mod Fault
+pub mod Relocation
+pub mod Program
 pub use Rattle.cx_storage.specs.Address
 pub use Rattle.cx_storage.specs.Storage
 pub use Rattle.cx_storage.specs.Place

@@ -4,12 +4,12 @@ ghost use Rattle.std.specs.Prelude.{◌≡◌, ◌+◌, ◌%◌, ◌^◌, ◌<�
 ghost use Rattle.std.specs.List.{list_any};
 ghost use Rattle.cx_code.specs.declared.image.Image.{Image};
 ghost use Rattle.cx_storage.specs.Storage.{Storage};
-ghost use Rattle.cx_load.specs.declared.checking.ImageFault.{ImageFault};
-ghost use Rattle.cx_load.specs.declared.loading.Loaded.{Loaded};
-ghost use Rattle.cx_load.specs.Check.{IsFit, IsLowestFault, all_apart, applies, are_inside};
+ghost use Rattle.cx_load.specs.declared.fault.ImageFault.{ImageFault};
+ghost use Rattle.cx_load.specs.declared.program.Loaded.{Loaded};
+ghost use Rattle.cx_load.specs.Fault.{IsFit, IsLowestFault, all_apart, applies, are_inside};
 ghost use Rattle.cx_load.specs.Laws.Words.{SharesNoByte, is_of_word};
-ghost use Rattle.cx_load.specs.Load.{IsLoaded};
-ghost use Rattle.cx_load.specs.Relocate.{relocated, word_in};
+ghost use Rattle.cx_load.specs.Program.{IsLoaded};
+ghost use Rattle.cx_load.specs.Relocation.{relocated, word_in};
 
 /// An image has one lowest fault at most, and none exactly where it is fit.
 pub fn the_lowest_fault()

@@ -1,11 +1,11 @@
 //! Checking and loading images.
 #![tactic(auto)]
 
-mod checking;
+mod fault;
 pub mod laws;
-mod loading;
+mod program;
 
-pub use checking::{CheckedImage, ImageFault, check};
-pub use loading::{
+pub use fault::{CheckedImage, ImageFault, check};
+pub use program::{
     FIRST_OF_PROGRAMS, LAST_OF_PROGRAMS, LoadFault, Loaded, has_room, load, program_place,
 };

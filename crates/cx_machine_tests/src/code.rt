@@ -1,6 +1,6 @@
 //! The table of instructions, their bytes and their lines, by rows worked by hand.
 use cx_code::{
-    Bytes, Fields, Format, Image, Inst, Offsets, Op, Span, SpanKind, decode, disassemble, encode,
+    Bytes, Fields, Format, Inst, Offsets, Op, Span, SpanKind, decode, disassemble, encode,
     instruction_length, line_text,
 };
 use std::alloc::{AllocError, Global};
@@ -72,20 +72,19 @@ fn lines_of_spans(rt: HostRuntime) -> Result<(), Fail> {
     Ok(())
 }
 
-/// The offsets of the lines of two spans.
-fn offsets(alloc: Global, spans: [Span; 2]) -> Result<Option<(u32, u32)>, AllocError> {
-    let text = [0x58, 0x10, 0xf0, 0x18, 0xc1, 0xc2];
-    let lines = disassemble(alloc, &text, &spans)?;
-    Ok(match lines.as_slice() {
-        [first, second] => Some((first.at, second.at)),
-        _ => None,
-    })
+/// The offset of the second of two spans' lines; None unless they are two.
+fn second_offset(alloc: Global, spans: [Span; 2]) -> Result<Option<u32>, AllocError> {
+    let lines = disassemble(alloc, &[0x1a, 0x12, 0xc1, 0xc2], &spans)?;
+    if lines.len() != 2 {
+        return Ok(None);
+    }
+    Ok(lines.last().map(|line| line.at))
 }
 
 #[test]
 fn each_span_has_a_line(rt: HostRuntime) -> Result<(), Fail> {
-    let both = [span(0, 4, SpanKind::Code), span(4, 2, SpanKind::Data)];
-    assert!(rt; offsets(rt.alloc(), both)? == Some((0, 4)));
+    let both = [span(0, 2, SpanKind::Code), span(2, 2, SpanKind::Data)];
+    assert!(rt; second_offset(rt.alloc(), both)? == Some(2));
     Ok(())
 }
 
@@ -102,6 +101,22 @@ fn the_longest_text_has_a_line(rt: HostRuntime) -> Result<(), Fail> {
     Ok(())
 }
 
+/// The number of lines of a text of so many zero bytes, a line a byte.
+fn line_count(alloc: Global, size: u32) -> Result<usize, AllocError> {
+    let text = vec![in alloc; 0; size as usize]?;
+    let mut spans = Vec::new(alloc);
+    for k in 0..size {
+        spans.push(span(k, 1, SpanKind::Data))?;
+    }
+    Ok(disassemble(alloc, text.as_slice(), spans.as_slice())?.len())
+}
+
+#[test]
+fn each_byte_of_the_longest_text_may_have_a_line(rt: HostRuntime) -> Result<(), Fail> {
+    assert!(rt; line_count(rt.alloc(), 65_536)? == 65_536);
+    Ok(())
+}
+
 /// SLL 1,4(0).
 const SHIFT: Fields = Fields::Rs {
     r1: 1,
@@ -114,25 +129,32 @@ fn rs(r1: u8, r3: u8, d2: u16) -> Fields {
     Fields::Rs { r1, r3, b2: 0, d2 }
 }
 
-/// Whether bytes begin with an instruction of these fields and this length.
-fn is_decoded(bytes: &[u8], op: Op, fields: Fields, length: usize) -> bool {
-    decode(bytes).is_some_and(|(inst, read)| {
-        inst.op() == op && inst.fields() == fields && read == length
-    })
+/// The row, the fields and the length of the instruction that bytes begin with.
+fn decoded(bytes: &[u8]) -> Option<(Op, Fields, usize)> {
+    let (inst, length) = decode(bytes)?;
+    Some((inst.op(), inst.fields(), length))
+}
+
+/// Whether an instruction has these bytes.
+fn spells(inst: &Inst, bytes: &[u8]) -> bool {
+    encode(inst).as_slice() == bytes
 }
 
 /// Whether the fields make an instruction with these bytes.
 fn is_encoded(op: Op, fields: Fields, bytes: &[u8]) -> bool {
-    Inst::new(op, fields).is_some_and(|inst| encode(&inst).as_slice() == bytes)
+    match Inst::new(op, fields) {
+        Some(inst) => spells(&inst, bytes),
+        None => false,
+    }
 }
 
 #[test]
 fn instructions_and_their_bytes(rt: HostRuntime) {
     let bytes = [0x89, 0x11, 0x00, 0x04, 0xff];
-    assert!(rt; is_decoded(&bytes, Op::Sll, SHIFT, 4));
+    assert!(rt; decoded(&bytes) == Some((Op::Sll, SHIFT, 4)));
     assert!(rt; is_encoded(Op::Sll, SHIFT, &[0x89, 0x10, 0x00, 0x04]));
-    assert!(rt; decode(&[0x00, 0x00]).is_none());
-    assert!(rt; decode(&[0x89, 0x11, 0x00]).is_none());
+    assert!(rt; decoded(&[0x00, 0x00]).is_none());
+    assert!(rt; decoded(&[0x89, 0x11, 0x00]).is_none());
     assert!(rt; SHIFT.format() == Format::Rs);
 }
 
@@ -164,25 +186,21 @@ fn rows_of_the_table(rt: HostRuntime) {
     }
 }
 
-/// Whether an image gives back the text and the offsets that it was made of.
-fn gives_back(alloc: Global, text: &[u8], relocs: &[u32]) -> Result<bool, AllocError> {
-    let image = Image {
-        text: Bytes::from_vec(text.to_vec(alloc)?),
-        entry: 0,
-        relocs: Offsets::from_vec(relocs.to_vec(alloc)?),
-        stg_len: 80,
-    };
-    let are_seen = image.text.as_slice() == text && image.relocs.as_slice() == relocs;
-    let Image {
-        text: bytes,
-        relocs: offsets,
-        ..
-    } = image;
-    Ok(are_seen && bytes.into_vec().as_slice() == text && offsets.into_vec().as_slice() == relocs)
+fn gives_text_back(alloc: Global, text: &[u8]) -> Result<bool, AllocError> {
+    let bytes = Bytes::from_vec(text.to_vec(alloc)?);
+    let is_seen = bytes.as_slice() == text;
+    Ok(is_seen && bytes.into_vec().as_slice() == text)
+}
+
+fn gives_offsets_back(alloc: Global, relocs: &[u32]) -> Result<bool, AllocError> {
+    let offsets = Offsets::from_vec(relocs.to_vec(alloc)?);
+    let are_seen = offsets.as_slice() == relocs;
+    Ok(are_seen && offsets.into_vec().as_slice() == relocs)
 }
 
 #[test]
-fn lists_of_an_image(rt: HostRuntime) -> Result<(), Fail> {
-    assert!(rt; gives_back(rt.alloc(), &[5, 239], &[70_000])?);
+fn lists_of_an_image_give_back_what_they_hold(rt: HostRuntime) -> Result<(), Fail> {
+    assert!(rt; gives_text_back(rt.alloc(), &[5, 239])?);
+    assert!(rt; gives_offsets_back(rt.alloc(), &[70_000])?);
     Ok(())
 }

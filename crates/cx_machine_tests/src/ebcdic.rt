@@ -1,6 +1,7 @@
 //! Characters, names and keys against the reference card GX20-1850 and GA27-2739.
 use cx_ebcdic::{Aid, Name4, Name8, TextFault, display, encode_line, to_ebcdic};
 use std::alloc::Global;
+use std::test::Fail;
 
 /// Whether a character has this code, and the code shows it.
 fn has_code(character: char, code: u8) -> bool {
@@ -40,6 +41,21 @@ fn lines_are_encoded(rt: HostRuntime) {
     assert!(rt; is_encoded(alloc, "ABCDE", &[0xC1, 0xC2, 0xC3, 0xC4, 0xC5]));
     assert!(rt; is_encoded(alloc, "", &[]));
     assert!(rt; fault_of(alloc, "AÄ{") == Some(TextFault::BadCharacter(1)));
+}
+
+/// The number of codes of a text of so many letters.
+fn codes(alloc: Global, size: usize) -> Result<usize, Fail> {
+    let mut text = String::new(alloc);
+    for _ in 0..size {
+        text.push('A')?;
+    }
+    Ok(encode_line(alloc, text.as_str())?.len())
+}
+
+#[test]
+fn a_long_line_is_encoded(rt: HostRuntime) -> Result<(), Fail> {
+    assert!(rt; codes(rt.alloc(), 65_536)? == 65_536);
+    Ok(())
 }
 
 /// The bytes of a name of four characters.

@@ -10,8 +10,8 @@ use Rattle.cx_code.specs.declared.image.Image.{Image}
 use Rattle.cx_storage.specs.declared.areas.Owner.{Owner}
 use Rattle.cx_storage.specs.Storage.{Storage}
 use Rattle.cx_storage.specs.Facts.Places.{place_decides}
-use Rattle.cx_load.specs.declared.loading.Loaded.{Loaded}
-use Rattle.cx_load.specs.Load.{IsLoaded, IsProgramPlace, first_of_programs, last_of_programs}
+use Rattle.cx_load.specs.declared.program.Loaded.{Loaded}
+use Rattle.cx_load.specs.Program.{IsLoaded, IsProgramPlace, first_of_programs, last_of_programs}
 use Rattle.cx_program.specs.Levels.{all_levels}
 use Rattle.cx_program.specs.Facts.NearestExit.{nearest_exit_one}
 use Rattle.cx_exec.specs.declared.machine.Halt.{Halt}

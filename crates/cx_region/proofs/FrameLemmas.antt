@@ -8,7 +8,9 @@ use Rattle.cx_call.specs.declared.call.CallFault.{CallFault}
 use Rattle.cx_region.specs.declared.judging.Judgement.{Judgement}
 use Rattle.cx_region.specs.declared.judging.Judgement.TheVariants.{GoesOn, LevelEnds, TaskEnds, Unwritten}
 use Rattle.cx_region.specs.declared.pass.Pass.{Pass}
-use Rattle.cx_region.specs.Abend.{Abends, AbendsAt, aica, asra, exit_taken, xarg, xfun}
+use Rattle.cx_region.specs.Abend.{Abends, AbendsAt, exit_taken}
+use Rattle.cx_command.specs.Abends.{abend_code}
+use Rattle.cx_command.specs.declared.abends.Abend.TheVariants as abend
 use Rattle.cx_call.specs.Call.{Call, call_of}
 use Rattle.cx_region.specs.Performing.{Called, Carries, Commanded, can_respond, fault_code, is_written, judged, list_of, returned}
 use Rattle.cx_region.specs.Reach.{Reach}
@@ -42,12 +44,12 @@ runs_frame before after pass runs = by_halt runs.how runs.ends
 
     by_halt : (h : Halt) → Halted h (after_machine before runs.machine) pass after → Frame before after
     by_halt halt.AtEntry ends = framed before _ after ends.1 (record { programs = refl; queues = refl; resources = refl; terminal = refl })
-    by_halt (halt.Interrupt cause place) abends = abends_frame asra before (after_machine before runs.machine) after pass mid abends
-    by_halt halt.Limit abends = abends_frame aica before (after_machine before runs.machine) after pass mid abends
+    by_halt (halt.Interrupt cause place) abends = abends_frame (abend_code abend.Asra) before (after_machine before runs.machine) after pass mid abends
+    by_halt halt.Limit abends = abends_frame (abend_code abend.Aica) before (after_machine before runs.machine) after pass mid abends
 
 carries_frame : (judgement : Judgement) (call : Call) (before after : Reach) (pass : Pass) → Carries judgement call before pass after → Frame before after
 unfolding returned
-carries_frame Unwritten call before after pass abends = abends_frame xfun before before after pass (same before) abends
+carries_frame Unwritten call before after pass abends = abends_frame (abend_code abend.Xfun) before before after pass (same before) abends
 carries_frame (GoesOn condition) call before after pass ends = framed before _ after ends.1 (record { programs = refl; queues = refl; resources = refl; terminal = refl })
 carries_frame TaskEnds call before after pass ends = framed before _ after ends.1 (record { programs = refl; queues = refl; resources = refl; terminal = refl })
 carries_frame LevelEnds call before after pass ends = by_callers before.task.levels.callers ends.1
@@ -60,8 +62,8 @@ commanded_frame : (before after : Reach) (pass : Pass) → Commanded before pass
 unfolding Commanded Called
 commanded_frame before after pass commanded = by_call (call_of before.storage (list_of before.task)) commanded
   where
-    by_word : (judgement : Judgement) (call : Call) (b : Bool) → MatchBool b (Abends xarg before pass after) (Carries judgement call before pass after) → Frame before after
-    by_word judgement call true abends = abends_frame xarg before before after pass (same before) abends
+    by_word : (judgement : Judgement) (call : Call) (b : Bool) → MatchBool b (Abends (abend_code abend.Xarg) before pass after) (Carries judgement call before pass after) → Frame before after
+    by_word judgement call true abends = abends_frame (abend_code abend.Xarg) before before after pass (same before) abends
     by_word judgement call false carries = carries_frame judgement call before after pass carries
 
     by_call : (r : Result Call CallFault) → MatchResult r (λ call. Called (judged call before.task.levels) call before pass after) (λ fault. Abends (fault_code fault) before pass after) → Frame before after

@@ -14,4 +14,3 @@ pub mod KeepsLemmas
 pub mod DecideLemmas
 pub mod RunLawLemmas
 pub mod RunLemmas
-pub mod CodeLemmas

@@ -14,7 +14,7 @@ use Rattle.cx_storage.specs.Address.{along}
 use Rattle.cx_storage.specs.Place.{CanPlace, IsLeastPlace}
 use Rattle.cx_storage.specs.Storage.{area_from}
 use Rattle.cx_storage.specs.Facts.Sound.{sound_with_area}
-use Rattle.cx_load.specs.declared.loading.Loaded.{Loaded}
+use Rattle.cx_load.specs.declared.program.Loaded.{Loaded}
 use Rattle.cx_region.specs.declared.asking.Asked.TheVariants.{Answer, Attach, Give}
 use Rattle.cx_region.specs.declared.replies.KeyReply.TheVariants as key
 use Rattle.cx_region.specs.declared.asking.Places.{Places}

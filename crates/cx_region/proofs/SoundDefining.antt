@@ -10,14 +10,14 @@ use Rattle.indexmap.specs.IndexMap.{insert_entry}
 use Rattle.cx_storage.specs.Storage.{Storage}
 use Rattle.cx_service.specs.Queues.{Queues, AreSoundQueues}
 use Rattle.cx_service.specs.Resources.{Resources, AreSoundResources}
-use Rattle.cx_load.specs.declared.loading.Loaded.{Loaded}
+use Rattle.cx_load.specs.declared.program.Loaded.{Loaded}
 use Rattle.cx_storage.specs.Storage.{IsSound as IsSoundStorage, area_at}
 use Rattle.cx_storage.specs.declared.areas.Area.{Area}
 use Rattle.cx_storage.specs.Storage.{with_area}
 use Rattle.cx_storage.specs.Place.{CanPlace, IsLeastPlace}
 use Rattle.cx_code.specs.declared.image.Image.{Image}
-use Rattle.cx_load.specs.Check.{IsFit}
-use Rattle.cx_load.specs.Load.{IsLoaded, program_owner, text_at}
+use Rattle.cx_load.specs.Fault.{IsFit}
+use Rattle.cx_load.specs.Program.{IsLoaded, program_owner, text_at}
 use Rattle.cx_program.specs.declared.level.Level.{Level}
 use Rattle.cx_region.specs.State.{TaskState, TerminalState, RegionState}
 use Rattle.cx_region.specs.Names.{is_name4, is_name8}

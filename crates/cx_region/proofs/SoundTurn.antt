@@ -31,7 +31,9 @@ use Rattle.cx_call.specs.declared.call.CallFault.{CallFault}
 use Rattle.cx_region.specs.declared.judging.Judgement.{Judgement}
 use Rattle.cx_region.specs.declared.judging.Judgement.TheVariants.{GoesOn, LevelEnds, TaskEnds, Unwritten}
 use Rattle.cx_region.specs.declared.pass.Pass.{Pass}
-use Rattle.cx_region.specs.Abend.{Abends, AbendsAt, Unwound, aica, asra, below, exit_storage, exit_task, unwound, without_stg, xarg, xfun}
+use Rattle.cx_region.specs.Abend.{Abends, AbendsAt, Unwound, below, exit_storage, exit_task, unwound, without_stg}
+use Rattle.cx_command.specs.Abends.{abend_code}
+use Rattle.cx_command.specs.declared.abends.Abend.TheVariants as abend
 use Rattle.cx_call.specs.Call.{Call, call_of, resp_place}
 use Rattle.cx_region.specs.Performing.{Called, Carries, Commanded, can_respond, fault_code, is_written, judged, last_report, list_of, performed, responded, returned, with_report}
 use Rattle.cx_region.specs.Reach.{Reach}
@@ -263,8 +265,8 @@ runs_kept P slot before after pass ok each own runs = by_halt runs.how runs.ends
         let stopped : IsSoundTask before.storage slot (at_command mid).task =
         record { eib = own.eib; current = record { stg = own.current.stg; pushes = own.current.pushes }; callers = own.callers; few = own.few; apart = own.apart } in
         subst (λ (r : Reach). Kept P slot before.storage r.storage r.task) (sym ends.1) (kept_same P slot before.storage mid.storage (at_command mid).task areas each stopped)
-    by_halt (halt.Interrupt cause place) abends = abends_kept P slot before.storage asra mid after pass ok areas each moved abends
-    by_halt halt.Limit abends = abends_kept P slot before.storage aica mid after pass ok areas each moved abends
+    by_halt (halt.Interrupt cause place) abends = abends_kept P slot before.storage (abend_code abend.Asra) mid after pass ok areas each moved abends
+    by_halt halt.Limit abends = abends_kept P slot before.storage (abend_code abend.Aica) mid after pass ok areas each moved abends
 
 -- ---- a command
 report_areas : (s : Storage) (eib : ℕ) (reporting : Command) (call : Call) (condition : Condition) (calen : Option ℕ) → areas_of (with_report s eib reporting call condition calen) ≡ areas_of s
@@ -285,7 +287,7 @@ report_areas s eib reporting call condition calen = by_resp (resp_place call)
 carries_kept : (P : Area → Type 0) (slot : ℕ) (judgement : Judgement) (call : Call) (before after : Reach) (pass : Pass) → IsSoundStorage before.storage
     → AllByRecursion (λ h. P h.area) before.storage → IsSoundTask before.storage slot before.task → Carries judgement call before pass after → Kept P slot before.storage after.storage after.task
 unfolding returned
-carries_kept P slot Unwritten call before after pass ok each own abends = abends_kept P slot before.storage xfun before after pass ok refl each own abends
+carries_kept P slot Unwritten call before after pass ok each own abends = abends_kept P slot before.storage (abend_code abend.Xfun) before after pass ok refl each own abends
 carries_kept P slot (GoesOn condition) call before after pass ok each own ends =
     let gone : IsSoundTask before.storage slot (performed before call condition).task = record { eib = own.eib; current = own.current; callers = own.callers; few = own.few; apart = own.apart } in
     subst (λ (r : Reach). Kept P slot before.storage r.storage r.task) (sym ends.1)
@@ -327,8 +329,8 @@ commanded_kept : (P : Area → Type 0) (slot : ℕ) (before after : Reach) (pass
 unfolding Commanded Called
 commanded_kept P slot before after pass ok each own commanded = by_call (call_of before.storage (list_of before.task)) commanded
   where
-    by_word : (judgement : Judgement) (call : Call) (b : Bool) → MatchBool b (Abends xarg before pass after) (Carries judgement call before pass after) → Kept P slot before.storage after.storage after.task
-    by_word judgement call true abends = abends_kept P slot before.storage xarg before after pass ok refl each own abends
+    by_word : (judgement : Judgement) (call : Call) (b : Bool) → MatchBool b (Abends (abend_code abend.Xarg) before pass after) (Carries judgement call before pass after) → Kept P slot before.storage after.storage after.task
+    by_word judgement call true abends = abends_kept P slot before.storage (abend_code abend.Xarg) before after pass ok refl each own abends
     by_word judgement call false carries = carries_kept P slot judgement call before after pass ok each own carries
 
     by_call : (r : Result Call CallFault) → MatchResult r (λ call. Called (judged call before.task.levels) call before pass after) (λ fault. Abends (fault_code fault) before pass after) → Kept P slot before.storage after.storage after.task

@@ -8,7 +8,7 @@ use Rattle.std.proofs.lemmas.Option.{same_Some}
 use Rattle.std.proofs.lemmas.Map.{length-set_value}
 use Rattle.cx_storage.specs.Storage.{Storage, area_at, is_of_other_slot, with_areas_kept, IsSound as IsSoundStorage}
 use Rattle.cx_program.specs.declared.level.Level.{Level}
-use Rattle.cx_load.specs.declared.loading.Loaded.{Loaded}
+use Rattle.cx_load.specs.declared.program.Loaded.{Loaded}
 use Rattle.cx_service.specs.Queues.{Queues}
 use Rattle.cx_service.specs.Resources.{AreSoundResources, Resources, without_owner}
 use Rattle.cx_region.specs.declared.pass.Pass.{Pass}

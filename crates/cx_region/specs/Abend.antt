@@ -14,20 +14,6 @@ use Rattle.cx_call.specs.Eib.{with_calen}
 use Rattle.cx_region.specs.State.{TaskState}
 use Rattle.cx_region.specs.Reach.{Reach}
 
--- the codes of the abends that the region itself makes, as they stand in storage: ASRA for an interruption, AICA for a
--- task that runs on, XARG and XFUN for an argument list
-abbrev pub asra : List ℕ
-asra = 0xC1 ∷ 0xE2 ∷ 0xD9 ∷ 0xC1 ∷ []
-
-abbrev pub aica : List ℕ
-aica = 0xC1 ∷ 0xC9 ∷ 0xC3 ∷ 0xC1 ∷ []
-
-abbrev pub xarg : List ℕ
-xarg = 0xE7 ∷ 0xC1 ∷ 0xD9 ∷ 0xC7 ∷ []
-
-abbrev pub xfun : List ℕ
-xfun = 0xE7 ∷ 0xC6 ∷ 0xE4 ∷ 0xD5 ∷ []
-
 -- the area of a level's DFHEISTG is freed
 abbrev pub without_stg : Level → Storage → Storage
 without_stg level storage = with_areas_kept (starts_elsewhere (address level.stg)) storage

@@ -12,7 +12,7 @@ use Rattle.cx_storage.specs.declared.areas.Kind.TheVariants.{System}
 use Rattle.cx_storage.specs.Storage.{Storage, with_area, written}
 use Rattle.cx_storage.specs.Address.{along}
 use Rattle.cx_storage.specs.Place.{IsLeastPlace}
-use Rattle.cx_load.specs.declared.loading.Loaded.{Loaded}
+use Rattle.cx_load.specs.declared.program.Loaded.{Loaded}
 use Rattle.cx_program.specs.declared.level.Level.{Level}
 use Rattle.cx_program.specs.Levels.{highest}
 use Rattle.cx_program.specs.Handles.{no_handles}

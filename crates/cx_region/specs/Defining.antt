@@ -5,8 +5,8 @@ use Rattle.cx_code.specs.declared.image.Image.{Image}
 use Rattle.cx_storage.specs.declared.areas.Owner.{Owner}
 use Rattle.cx_storage.specs.declared.areas.Kind.TheVariants.{Fixed}
 use Rattle.cx_storage.specs.Storage.{Storage, zeros}
-use Rattle.cx_load.specs.declared.loading.Loaded.{Loaded}
-use Rattle.cx_load.specs.Load.{IsLoaded, IsProgramPlace}
+use Rattle.cx_load.specs.declared.program.Loaded.{Loaded}
+use Rattle.cx_load.specs.Program.{IsLoaded, IsProgramPlace}
 use Rattle.cx_region.specs.declared.replies.DefineFault.{DefineFault}
 use Rattle.cx_region.specs.declared.replies.DefineFault.TheVariants.{Duplicate, Full, NoProgram, NoRoom}
 use Rattle.cx_region.specs.State.{RegionState}

@@ -18,5 +18,6 @@ pub use Rattle.cx_call.specs.Eib
 pub use Rattle.cx_command.specs.Commands
 pub use Rattle.cx_command.specs.Conditions
 pub use Rattle.cx_command.specs.Legal
+pub use Rattle.cx_storage.specs.Address
 pub use Rattle.cx_storage.specs.Storage
 pub use Rattle.cx_storage.specs.Word

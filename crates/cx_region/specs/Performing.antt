@@ -22,7 +22,9 @@ use Rattle.cx_region.specs.declared.judging.Judgement.TheVariants.{Unwritten, Go
 use Rattle.cx_region.specs.declared.pass.Pass.{Pass}
 use Rattle.cx_region.specs.declared.pass.Pass.TheVariants.{Stays, Ends}
 use Rattle.cx_region.specs.declared.replies.TurnReply.TheVariants as turn
-use Rattle.cx_region.specs.Abend.{Abends, without_stg, xarg, xfun}
+use Rattle.cx_region.specs.Abend.{Abends, without_stg}
+use Rattle.cx_command.specs.Abends.{abend_code}
+use Rattle.cx_command.specs.declared.abends.Abend.TheVariants as abend
 use Rattle.cx_call.specs.Call.{Call, call_of, resp_place}
 use Rattle.cx_call.specs.Eib.{reported}
 use Rattle.cx_region.specs.State.{TaskState}
@@ -97,7 +99,7 @@ last_report reach call = record reach { storage = with_report reach.storage reac
 
 -- what a judgement leads to
 abbrev pub Carries : Judgement → Call → Reach → Pass → Reach → Type 0
-Carries Unwritten call before pass after = Abends xfun before pass after
+Carries Unwritten call before pass after = Abends (abend_code abend.Xfun) before pass after
 Carries (GoesOn condition) call before pass after =
     (pass ≡ Stays (turn.Performed condition)) × (after ≡ performed before call condition)
 Carries LevelEnds call before pass after = (pass ≡ Stays turn.Returned) × (after ≡ returned before call before.task.levels.callers)
@@ -111,12 +113,12 @@ is_written _ = true
 unfoldable pub Called : Judgement → Call → Reach → Pass → Reach → Type 0
 Called judgement call before pass after =
     MatchBool (is_written judgement && not (can_respond before.storage call))
-    (Abends xarg before pass after)
+    (Abends (abend_code abend.Xarg) before pass after)
     (Carries judgement call before pass after)
 
 abbrev pub fault_code : CallFault → List ℕ
-fault_code Xarg = xarg
-fault_code Xfun = xfun
+fault_code Xarg = abend_code abend.Xarg
+fault_code Xfun = abend_code abend.Xfun
 
 -- the address of the argument list: bits 8 to 31 of R1
 abbrev pub list_of : TaskState → ℕ

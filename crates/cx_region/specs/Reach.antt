@@ -1,6 +1,6 @@
 -- What a half-turn of one terminal's task can reach, and how a half-turn ends.
 use Rattle.std.specs.Prelude.{ℕ, List, Some, None}
-use Rattle.cx_load.specs.declared.loading.Loaded.{Loaded}
+use Rattle.cx_load.specs.declared.program.Loaded.{Loaded}
 use Rattle.cx_storage.specs.Storage.{Storage, is_of_other_slot, with_areas_kept}
 use Rattle.cx_service.specs.Queues.{Queues}
 use Rattle.cx_service.specs.Resources.{Resources, without_owner}

@@ -12,7 +12,9 @@ use Rattle.cx_region.specs.declared.pass.Pass.{Pass}
 use Rattle.cx_region.specs.declared.pass.Pass.TheVariants.{Stays}
 use Rattle.cx_region.specs.declared.replies.TurnReply.{TurnReply}
 use Rattle.cx_region.specs.declared.replies.TurnReply.TheVariants as turn
-use Rattle.cx_region.specs.Abend.{Abends, aica, asra}
+use Rattle.cx_region.specs.Abend.{Abends}
+use Rattle.cx_command.specs.Abends.{abend_code}
+use Rattle.cx_command.specs.declared.abends.Abend.TheVariants as abend
 use Rattle.cx_call.specs.Call.{Call, call_of}
 use Rattle.cx_region.specs.Performing.{Commanded, list_of, may_grow}
 use Rattle.cx_region.specs.State.{RegionState, TerminalState, TaskState}
@@ -48,8 +50,8 @@ at_command reach = record reach { task = at_command_task reach.task }
 -- by how the instructions ended
 abbrev pub Halted : Halt → Reach → Pass → Reach → Type 0
 Halted halt.AtEntry before pass after = (pass ≡ Stays turn.AtCommand) × (after ≡ at_command before)
-Halted (halt.Interrupt cause place) before pass after = Abends asra before pass after
-Halted halt.Limit before pass after = Abends (aica) before pass after
+Halted (halt.Interrupt cause place) before pass after = Abends (abend_code abend.Asra) before pass after
+Halted halt.Limit before pass after = Abends (abend_code abend.Aica) before pass after
 
 -- instructions run
 pub record RunsOn (before : Reach) (pass : Pass) (after : Reach) : Type 0 where

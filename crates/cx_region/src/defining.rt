@@ -5,11 +5,11 @@ ghost use Rattle.std.specs.Result.{result_err};
 ghost use Rattle.std.specs.Map.{keys_of};
 ghost use Rattle.indexmap.specs.IndexMap.{insert_entry};
 ghost use Rattle.cx_storage.specs.Storage.{IsSound as IsSoundStorage};
-ghost use Rattle.cx_load.specs.Load.{IsLoaded, IsProgramPlace};
+ghost use Rattle.cx_load.specs.Program.{IsLoaded, IsProgramPlace};
 ghost use Rattle.cx_region.specs.Names.{is_name4, is_name8};
 ghost use Rattle.cx_region.specs.Defining.{DefinesProgram, fresh_region, fresh_storage, program_fault, terminal_fault, transaction_fault, with_clock, with_new_terminal, with_transaction};
 ghost use Rattle.cx_region.specs.Parts.Loading.{MatchLoadRefusal};
-ghost use Rattle.cx_load.specs.Check.{IsFit};
+ghost use Rattle.cx_load.specs.Fault.{IsFit};
 ghost use Rattle.cx_region.specs.Sound.{IsSound, IsSoundProgram};
 ghost use Rattle.cx_region.specs.Tables.{fresh_terminal};
 

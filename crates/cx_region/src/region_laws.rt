@@ -1,5 +1,5 @@
 //! What holds of every event, and of every run of events.
-ghost use Rattle.cx_region.specs.Laws.Regions.{CodesAreSpelled, ProgramsDecide, TransactionsDecide, TerminalsDecide, TurnsDecide, EachIsAnswered, EventsDecide, KeysDecide, KeysKeepToTheirTerminal, RefusedProgramsLeaveTheRegion, RefusedTerminalsLeaveTheRegion, RefusedTransactionsLeaveTheRegion, RunsDecide, RunsJoin, RunsPart, StillKeysLeaveTheRegion, StillTurnsLeaveTheRegion, TurnsKeepToTheirTask};
+ghost use Rattle.cx_region.specs.Laws.Regions.{ProgramsDecide, TransactionsDecide, TerminalsDecide, TurnsDecide, EachIsAnswered, EventsDecide, KeysDecide, KeysKeepToTheirTerminal, RefusedProgramsLeaveTheRegion, RefusedTerminalsLeaveTheRegion, RefusedTransactionsLeaveTheRegion, RunsDecide, RunsJoin, RunsPart, StillKeysLeaveTheRegion, StillTurnsLeaveTheRegion, TurnsKeepToTheirTask};
 
 /// A region and an event decide the reply and the region after it.
 pub fn events_decide()
@@ -68,10 +68,4 @@ pub fn runs_join()
     ensures join { RunsJoin }
     ensures part { RunsPart }
     ensures answered { EachIsAnswered }
-{}
-
-/// The codes of the region's own abends are their names' characters: ASRA, AICA, XARG, XFUN.
-#[tactic(auto, using(crate::proofs::CodeLemmas::codes_are_spelled))]
-pub fn abend_codes_are_spelled()
-    ensures { CodesAreSpelled }
 {}

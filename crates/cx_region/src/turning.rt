@@ -15,7 +15,7 @@ use crate::replies::TurnReply;
 use crate::state::Task;
 use cx_call::eib::{Report, put_report};
 use cx_call::{Call, CallFault, read_call};
-use cx_command::{Command, Condition};
+use cx_command::{Abend, Command, Condition};
 use cx_ebcdic::Name4;
 use cx_exec::{Cpu, Halt, advance};
 use cx_program::{ConditionCode, LevelStack};
@@ -23,15 +23,6 @@ use cx_storage::Store;
 
 /// The most instructions of a half-turn.
 const MOST_STEPS: u32 = 65_536;
-
-/// The abend codes ASRA, AICA, XARG and XFUN.
-const ASRA: [u8; 4] = [0xC1, 0xE2, 0xD9, 0xC1];
-
-const AICA: [u8; 4] = [0xC1, 0xC9, 0xC3, 0xC1];
-
-const XARG: [u8; 4] = [0xE7, 0xC1, 0xD9, 0xC7];
-
-const XFUN: [u8; 4] = [0xE7, 0xC6, 0xE4, 0xD5];
 
 /// A command is due, and the current level keeps registers and code.
 fn stop_at_command(task: &mut Task)
@@ -55,8 +46,8 @@ fn run_on<S: Store>(store: &mut S, task: &mut Task) -> Pass
             stop_at_command(task);
             Pass::Stays(TurnReply::AtCommand)
         }
-        Halt::Interrupt(_cause, _place) => abend(store, task, Name4::from_bytes(ASRA)),
-        Halt::Limit => abend(store, task, Name4::from_bytes(AICA)),
+        Halt::Interrupt(_cause, _place) => abend(store, task, Abend::Asra.code()),
+        Halt::Limit => abend(store, task, Abend::Aica.code()),
     }
 }
 
@@ -136,8 +127,8 @@ fn fault_code(fault: CallFault) -> Name4
     ensures { result ≡ fault_code fault }
 {
     match fault {
-        CallFault::Xarg => Name4::from_bytes(XARG),
-        CallFault::Xfun => Name4::from_bytes(XFUN),
+        CallFault::Xarg => Abend::Xarg.code(),
+        CallFault::Xfun => Abend::Xfun.code(),
     }
 }
 
@@ -202,7 +193,7 @@ fn carry<S: Store>(store: &mut S, task: &mut Task, call: &Call, judgement: Judge
         (with_parts reach (S.storage store.new) task.new) }
 {
     match judgement {
-        Judgement::Unwritten => abend(store, task, Name4::from_bytes(XFUN)),
+        Judgement::Unwritten => abend(store, task, Abend::Xfun.code()),
         Judgement::GoesOn(condition) => perform_on(store, task, call, condition),
         Judgement::LevelEnds => return_to_caller(store, task, call),
         Judgement::TaskEnds => end_task(store, task, call),
@@ -224,7 +215,7 @@ fn carry_out<S: Store>(store: &mut S, task: &mut Task, call: &Call, judgement: J
 {
     let lacks_word = is_written(judgement) && !can_respond(store, call);
     if lacks_word {
-        return abend(store, task, Name4::from_bytes(XARG));
+        return abend(store, task, Abend::Xarg.code());
     }
     carry(store, task, call, judgement)
 }

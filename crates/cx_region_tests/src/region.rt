@@ -1,7 +1,4 @@
 //! Regions by rows worked by hand, and each call once.
-ghost use Rattle.std.specs.Prelude.{IfOk};
-ghost use Rattle.cx_region.specs.Events.{IsAllowed};
-
 use crate::acts::{
     Act, FIRST, bytes, checked, is_blank, program, reply, task, terminal, transaction,
 };
@@ -88,29 +85,19 @@ const XARG: [u8; 4] = [0xE7, 0xC1, 0xD9, 0xC7];
 
 const XFUN: [u8; 4] = [0xE7, 0xC6, 0xE4, 0xD5];
 
-/// The key that attaches the first task.
-fn first_key(alloc: Global) -> Result<Event, Fail>
-    ensures { IfOk result IsAllowed }
-{
-    let bytes = Vec::from_slice(alloc, &[0xD9, 0xC5, 0xE3, 0xF1])?;
-    Ok(Event::Key(terminal(FIRST), Aid::Enter, bytes))
-}
-
 /// The replies to a program's definitions, a clock, a key and two turns, as one run.
 fn whole_run(alloc: Global) -> Result<Vec<Reply>, Fail> {
-    let image = checked(alloc, &ONE_COMMAND, 80)?;
-    let key = first_key(alloc)?;
+    let bytes = Vec::from_slice(alloc, &[0xD9, 0xC5, 0xE3, 0xF1])?;
+    let mut events = Vec::new(alloc);
+    events.push(Event::Program(program(FIRST), checked(alloc, &ONE_COMMAND, 80)?))?;
+    events.push(Event::Terminal(terminal(FIRST)))?;
+    events.push(Event::Transaction(transaction(FIRST), program(FIRST)))?;
+    events.push(Event::Clock(123_456, 98_365))?;
+    events.push(Event::Key(terminal(FIRST), Aid::Enter, bytes))?;
+    events.push(Event::Turn(terminal(FIRST)))?;
+    events.push(Event::Turn(terminal(FIRST)))?;
     let mut region = Region::new(alloc, FlatStore::new(alloc))?;
-    let events = [
-        Event::Program(program(FIRST), image),
-        Event::Terminal(terminal(FIRST)),
-        Event::Transaction(transaction(FIRST), program(FIRST)),
-        Event::Clock(123_456, 98_365),
-        key,
-        Event::Turn(terminal(FIRST)),
-        Event::Turn(terminal(FIRST)),
-    ];
-    Ok(region.run(&events)?)
+    Ok(region.run(events.as_slice())?)
 }
 
 #[test]

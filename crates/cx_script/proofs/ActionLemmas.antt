@@ -2,7 +2,7 @@
 use Rattle.std.proofs.Common.{◌≡◌, ℕ, List, codes, Option, None, Some, sym, ap, ◌∙◌}
 use Rattle.cx_code.specs.declared.image.Image.{Image}
 use Rattle.cx_load.specs.Parts.Cascade.{fault_of}
-use Rattle.cx_load.specs.declared.checking.ImageFault.{ImageFault}
+use Rattle.cx_load.specs.declared.fault.ImageFault.{ImageFault}
 use Rattle.cx_region.specs.State.{RegionState}
 use Rattle.cx_region.specs.Laws.Regions.{ProgramsDecide, TransactionsDecide, TerminalsDecide, KeysDecide, TurnsDecide}
 use Rattle.cx_region.specs.Attach.{input_from}

@@ -2,8 +2,8 @@
 use Rattle.std.proofs.Common.{◌≡◌, ◌≢◌, ℕ, List, None, Some, Option, Result, Ok, Err, MatchOption, IsOkUnless, IsErrOf, OnOk, OnErr, codes, refl, sym, ap, subst}
 use Rattle.cx_code.specs.declared.image.Image.{Image}
 use Rattle.cx_load.specs.Parts.Cascade.{fault_of}
-use Rattle.cx_load.specs.declared.checking.ImageFault.{ImageFault}
-use Rattle.cx_load.specs.declared.loading.Loaded.{Loaded}
+use Rattle.cx_load.specs.declared.fault.ImageFault.{ImageFault}
+use Rattle.cx_load.specs.declared.program.Loaded.{Loaded}
 use Rattle.cx_region.specs.State.{RegionState}
 use Rattle.cx_region.specs.Defining.{DefinesProgram, DefinesTransaction, DefinesTerminal, transaction_fault, terminal_fault, with_transaction, with_new_terminal, with_clock}
 use Rattle.cx_region.specs.Attach.{Keyed, input_from}

@@ -4,9 +4,9 @@ use Rattle.std.specs.Option.{option_to_list}
 use Rattle.std.specs.List.{flat_map, take_while, suffix_len}
 use Rattle.cx_ebcdic.specs.Characters.{shown_as}
 use Rattle.cx_command.specs.Conditions.{entry_of}
-use Rattle.cx_load.specs.declared.checking.ImageFault.{ImageFault}
-use Rattle.cx_load.specs.declared.checking.ImageFault.TheVariants as image
-use Rattle.cx_load.specs.declared.loading.Loaded.{Loaded}
+use Rattle.cx_load.specs.declared.fault.ImageFault.{ImageFault}
+use Rattle.cx_load.specs.declared.fault.ImageFault.TheVariants as image
+use Rattle.cx_load.specs.declared.program.Loaded.{Loaded}
 use Rattle.cx_region.specs.declared.replies.DefineFault.{DefineFault}
 use Rattle.cx_region.specs.declared.replies.DefineFault.TheVariants as define
 use Rattle.cx_region.specs.declared.replies.KeyReply.{KeyReply}

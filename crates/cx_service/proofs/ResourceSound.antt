@@ -1,6 +1,6 @@
 -- What always holds of the resources is kept.
 use Rattle.std.proofs.Common.{◌≡◌, ℕ, ◌+◌, ◌-◌, ◌<◌, ◌≤◌, false, Option, Some, None, [], ◌∷◌, length, refl, ◌∙◌, ap, ⊎_elim, arith}
-use Rattle.std.specs.Prelude.{not, ◌==◌}
+use Rattle.std.specs.Prelude.{not, ◌==◌, if◌then◌else◌, nat_le}
 use Rattle.std.specs.List.{AllByRecursion, IsDistinct, filter}
 use Rattle.std.specs.Map.{set_value, keys_of, remove_entry}
 use Rattle.std.proofs.lemmas.Bool.{cases_Bool, cond-true, cond-false, leb-false, eqb-false, eq-eqb, ne_eqb}
@@ -10,6 +10,7 @@ use Rattle.indexmap.specs.IndexMap.{insert_entry}
 use Rattle.cx_service.specs.Resources.{Resources, is_resource, most_resources, most_count, hold_of, hold_fault, enq_fault, count_at, enqueued, with_count_down, dequeued, without_owner, IsSoundHold, AreSoundResources}
 use Rattle.cx_service.specs.declared.resources.ResourceName.{ResourceName}
 use Rattle.cx_service.specs.declared.resources.Hold.{Hold}
+use Rattle.cx_service.specs.declared.faults.ServiceFault.TheVariants.{Enqbusy, Invreq}
 use Rattle.cx_service.proofs.QueueSound.{no_fault}
 use Rattle.cx_tables.specs.Facts.Tables.{insert_entry_present, insert_entry_absent, found_meets, each-set_value, each-remove_entry, each-insert_entry, length-remove_entry, distinct-set_value, distinct-remove_entry, distinct-filter, each-filter, length-filter}
 
@@ -28,8 +29,8 @@ enqueued_keeps resources slot name sound none apart = by_hold (hold_of resources
         let one : IsSoundHold new = record { some = omega arith; few = omega arith } in
         record { distinct = distinct; few = omega arith; each = each-insert_entry IsSoundHold is_resource resources name new one sound.each }
     by_hold (Some hold) is free distinct =
-        let owned = no_fault _ _ _ free in
-        let room : hold.count < 65535 = leb-false _ _ (no_fault _ _ _ owned.1).0 in
+        let owned = no_fault (not (hold.owner == slot)) Enqbusy (if nat_le most_count hold.count then Some Invreq else None) free in
+        let room : hold.count < 65535 = leb-false most_count hold.count (no_fault (nat_le most_count hold.count) Invreq None owned.1).0 in
         let new : Hold = record { owner = slot; count = count_at (hold_of resources name) + 1 } in
         let now : count_at (hold_of resources name) ≡ hold.count = ap count_at is in
         let same : length (insert_entry is_resource resources name new) ≡ length resources =
@@ -46,8 +47,8 @@ count_below resources slot name none = by_hold (hold_of resources name) none
     by_hold : (o : Option Hold) → hold_fault resources slot o ≡ None → count_at o < 65535
     by_hold None free = omega arith
     by_hold (Some hold) free =
-        let owned = no_fault _ _ _ free in
-        leb-false _ _ (no_fault _ _ _ owned.1).0
+        let owned = no_fault (not (hold.owner == slot)) Enqbusy (if nat_le most_count hold.count then Some Invreq else None) free in
+        leb-false most_count hold.count (no_fault (nat_le most_count hold.count) Invreq None owned.1).0
 
 -- ---- DEQ
 freed_keeps : (resources : Resources) (name : ResourceName) → AreSoundResources resources → AreSoundResources (remove_entry (is_resource name) resources)

@@ -142,28 +142,29 @@ fn each_fault_has_its_line(rt: HostRuntime) {
     }
 }
 
-/// A line of more than 80 columns; a character without a code, and bytes in columns 1 to 15, on a line that continues.
-fn long_lines(alloc: Global) -> Result<[String; 3], AllocError> {
-    Ok([
-        format!(in alloc; "*{:<80}\n END", "{")?,
-        format!(in alloc; " DS F\n{:<71}X\n    {:<11}{{\n END", " DC C'A'", "B")?,
-        format!(in alloc; "{:<71}X\n{:14}B\n END", " DC C'A'", "")?,
-    ])
+/// A line of more than 80 columns.
+fn long_line(alloc: Global) -> Result<Option<SourceFault>, AllocError> {
+    let source = format!(in alloc; "*{:<80}\n END", "{")?;
+    Ok(fault_of(alloc, source.as_bytes()))
+}
+
+/// A character without a code, and bytes in columns 1 to 15, on a line that continues a statement.
+fn bad_character(alloc: Global) -> Result<Option<SourceFault>, AllocError> {
+    let source = format!(in alloc; " DS F\n{:<71}X\n    {:<11}{{\n END", " DC C'A'", "B")?;
+    Ok(fault_of(alloc, source.as_bytes()))
+}
+
+/// A byte in columns 1 to 15 of a line that continues a statement.
+fn bad_continuation(alloc: Global) -> Result<Option<SourceFault>, AllocError> {
+    let source = format!(in alloc; "{:<71}X\n{:14}B\n END", " DC C'A'", "")?;
+    Ok(fault_of(alloc, source.as_bytes()))
 }
 
 #[test]
 fn faults_of_columns_have_their_lines(rt: HostRuntime) -> Result<(), Fail> {
-    let [long, bad, margin] = long_lines(rt.alloc())?;
-    for (source, fault) in [
-        (long.as_str(), SourceFault::TooLong(1)),
-        (bad.as_str(), SourceFault::BadCharacter(3)),
-        (margin.as_str(), SourceFault::BadContinuation(2)),
-    ] {
-        assert!(rt;
-            fault_of(rt.alloc(), source.as_bytes()) == Some(fault),
-            "{source}"
-        );
-    }
+    assert!(rt; long_line(rt.alloc())? == Some(SourceFault::TooLong(1)));
+    assert!(rt; bad_character(rt.alloc())? == Some(SourceFault::BadCharacter(3)));
+    assert!(rt; bad_continuation(rt.alloc())? == Some(SourceFault::BadContinuation(2)));
     Ok(())
 }
 
@@ -218,51 +219,61 @@ fn each_rule_of_lines_holds(rt: HostRuntime) -> Result<(), Fail> {
     Ok(())
 }
 
-/// Statements that go on, and the operand of each.
-fn joined(alloc: Global) -> Result<[(String, String); 3], AllocError> {
-    let rest = format!(in alloc; "A DC {:<66}X12345678\n{:15}CD' REST\n END", "C'AB", "")?;
-    let spaced = format!(in alloc; "C'AB{:62}CD'", "")?;
-    let filled = format!(in alloc;
+/// Whether an operand of an unfinished text goes on in column 16, and columns 73 to 80 don't count.
+fn text_goes_on(alloc: Global) -> Result<bool, SourceFault> {
+    let source = format!(in alloc; "A DC {:<66}X12345678\n{:15}CD' REST\n END", "C'AB", "")?;
+    let operand = format!(in alloc; "C'AB{:62}CD'", "")?;
+    begins_with(alloc, source.as_str(), ("A", "DC", operand.as_str()))
+}
+
+/// Whether an operand goes on over two lines.
+fn line_goes_on_twice(alloc: Global) -> Result<bool, SourceFault> {
+    let source = format!(in alloc;
         "A DC C'{:A<64}XY\n{:15}{:B<56}X\n{:15}C' D\n END",
         "", "", "", ""
     )?;
-    let whole = format!(in alloc; "C'{:A<64}{:B<56}C'", "", "")?;
-    let exec = format!(in alloc; "A EXEC {:<64}X\n{:15}'A B'\n END", "CICS  ABEND", "")?;
-    let sent = format!(in alloc; "CICS  ABEND{:53}'A B'", "")?;
-    Ok([(rest, spaced), (filled, whole), (exec, sent)])
+    let operand = format!(in alloc; "C'{:A<64}{:B<56}C'", "", "")?;
+    begins_with(alloc, source.as_str(), ("A", "DC", operand.as_str()))
+}
+
+/// Whether a command's blanks are kept.
+fn command_goes_on(alloc: Global) -> Result<bool, SourceFault> {
+    let source = format!(in alloc; "{:<71}X\n{:15}'A B'\n END", " EXEC CICS  ABEND", "")?;
+    let operand = format!(in alloc; "CICS  ABEND{:54}'A B'", "")?;
+    begins_with(alloc, source.as_str(), ("", "EXEC", operand.as_str()))
 }
 
 #[test]
 fn operands_go_on(rt: HostRuntime) -> Result<(), Fail> {
-    let [first, second, third] = joined(rt.alloc())?;
-    let expected = ("A", "DC", first.1.as_str());
-    assert!(rt; begins_with(rt.alloc(), first.0.as_str(), expected)?);
-    let expected = ("A", "DC", second.1.as_str());
-    assert!(rt; begins_with(rt.alloc(), second.0.as_str(), expected)?);
-    let expected = ("A", "EXEC", third.1.as_str());
-    assert!(rt; begins_with(rt.alloc(), third.0.as_str(), expected)?);
+    assert!(rt; text_goes_on(rt.alloc())?);
+    assert!(rt; line_goes_on_twice(rt.alloc())?);
+    assert!(rt; command_goes_on(rt.alloc())?);
     Ok(())
 }
 
-/// An END that is marked as continued; a blank line and a blank statement that continue.
-fn marked(alloc: Global) -> Result<[String; 3], AllocError> {
-    Ok([
-        format!(in alloc; "{:<71}X\n{{", " END")?,
-        format!(in alloc; "{:<71}X\n\n END", " DC C'A'")?,
-        format!(in alloc; "{:71}X\n{:15} MVC A\n END", "", "")?,
-    ])
+/// Whether the source ends at an END that is marked as continued.
+fn ends_at_a_mark(alloc: Global) -> Result<bool, SourceFault> {
+    let source = format!(in alloc; "{:<71}X\n{{", " END")?;
+    begins_with(alloc, source.as_str(), ("", "END", ""))
+}
+
+/// Whether an empty line continues a statement.
+fn empty_line_continues(alloc: Global) -> Result<bool, SourceFault> {
+    let source = format!(in alloc; "{:<71}X\n\n END", " DC C'A'")?;
+    begins_with(alloc, source.as_str(), ("", "DC", "C'A'"))
+}
+
+/// Whether a blank statement goes on with an operand.
+fn blank_goes_on(alloc: Global) -> Result<bool, SourceFault> {
+    let source = format!(in alloc; "{:71}X\n{:15} MVC A\n END", "", "")?;
+    begins_with(alloc, source.as_str(), ("", "", "MVC"))
 }
 
 #[test]
 fn blank_lines_continue(rt: HostRuntime) -> Result<(), Fail> {
-    let [end, blank, none] = marked(rt.alloc())?;
-    for (source, expected) in [
-        (end.as_str(), ("", "END", "")),
-        (blank.as_str(), ("", "DC", "C'A'")),
-        (none.as_str(), ("", "", "MVC")),
-    ] {
-        assert!(rt; begins_with(rt.alloc(), source, expected)?, "{source}");
-    }
+    assert!(rt; ends_at_a_mark(rt.alloc())?);
+    assert!(rt; empty_line_continues(rt.alloc())?);
+    assert!(rt; blank_goes_on(rt.alloc())?);
     Ok(())
 }
 
@@ -361,6 +372,19 @@ fn marks_are_found_outside_apostrophes(rt: HostRuntime) -> Result<(), Fail> {
     assert!(rt; lie_outside(rt.alloc(), b"A'B',L'C'", &expected)?);
     assert!(rt; first_mark(b"C'A B',X REST", Mark::Blank) == 8);
     assert!(rt; first_mark(b"AB", Mark::Comma) == 2);
+    Ok(())
+}
+
+/// The numbers of flags and of parts of an operand of so many commas.
+fn cut_count(alloc: Global, size: usize) -> Result<(usize, usize), AllocError> {
+    let text = vec![in alloc; b','; size]?;
+    let flags = outside(alloc, text.as_slice())?.len();
+    Ok((flags, cut(alloc, text.as_slice(), Mark::Comma)?.len()))
+}
+
+#[test]
+fn a_long_operand_is_cut(rt: HostRuntime) -> Result<(), Fail> {
+    assert!(rt; cut_count(rt.alloc(), 560_000)? == (560_000, 560_001));
     Ok(())
 }
 

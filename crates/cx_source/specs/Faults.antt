@@ -36,6 +36,7 @@ has_bad_character line = list_any (λ c. is_none (code_of c)) (columns 1 72 line
 abbrev pub has_bad_continuation : Bool → List ℕ → Bool
 has_bad_continuation continues line = continues && list_any is_written (columns 1 15 line)
 
+-- a line that begins a statement has something else than a name in column 1
 abbrev pub has_bad_name : Bool → List ℕ → Bool
 has_bad_name continues line = not continues && not (is_well_named (text_of line))
 
@@ -54,10 +55,12 @@ first_fault continues number (line ∷ more) =
     option_or (fault_of continues number line)
     (if is_last continues (text_of line) then None else first_fault (is_continued continues (text_of line)) (number + 1) more)
 
+-- the source, or its fault
 abbrev pub judged : Option SourceFault → Source → Result Source SourceFault
 judged None source = Ok source
 judged (Some fault) source = Err fault
 
+-- the source whose lines, up to END's, have these texts
 abbrev pub source_from : List (List ℕ) → Source
 source_from texts = record { items = items_from false 1 texts }
 

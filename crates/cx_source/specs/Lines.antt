@@ -3,9 +3,11 @@ use Rattle.std.specs.Prelude.{ℕ, ◌-◌, Bool, true, false, ◌&&◌, ◌||�
 use Rattle.std.specs.List.{list_all, list_any, suffix_len, position_or_len}
 use Rattle.std.specs.Str.{bytes_eq}
 
+-- a blank
 abbrev pub is_blank : ℕ → Bool
 is_blank c = c == 32
 
+-- any other character
 abbrev pub is_written : ℕ → Bool
 is_written c = not (is_blank c)
 
@@ -42,6 +44,7 @@ is_letter c = (nat_le 65 c && nat_le c 90) || (c == 64) || (c == 35) || (c == 36
 unfoldable pub is_name_character : ℕ → Bool
 is_name_character c = is_letter c || (nat_le 48 c && nat_le c 57)
 
+-- It begins with a letter; an empty text doesn't.
 abbrev pub begins_with_letter : List ℕ → Bool
 begins_with_letter [] = false
 begins_with_letter (c ∷ cs) = is_letter c

@@ -6,8 +6,8 @@ use Rattle.std.proofs.lemmas.Option.{slice_get-get_or, none-some}
 use Rattle.std.specs.List.{AllByRecursion}
 use Rattle.std.specs.Option.{option_map_or}
 use Rattle.std.specs.Prelude.{◌≡◌, ℕ, zero, suc, ◌+◌, ◌-◌, ◌<◌, ◌≤◌, Bool, true, false, List, ◌∷◌, length, Option, Some, None, is_some, ◌^◌, slice_index, []}
-use Rattle.cx_storage.specs.Facts.Sound.{covers_cases, IsSound-head, IsSound-tail, put_byte_area, sound_with_byte}
-use Rattle.cx_storage.specs.Facts.Writes.{written_whole, written_none, byte_after_bytes}
+use Rattle.cx_storage.specs.Facts.Sound.{covers_cases, IsSound-head, IsSound-tail, sound_with_byte}
+use Rattle.cx_storage.specs.Facts.Writes.{written_whole, written_none, byte_after_bytes, holder_after_set}
 use Rattle.cx_storage.specs.Storage.{Storage, byte_at, holder, IsSound, span, with_byte, with_bytes, written}
 use Rattle.cx_storage.specs.Address.{along, distance}
 use Rattle.cx_storage.specs.declared.areas.Area.{Area}
@@ -84,11 +84,6 @@ span_after_write_aside s a bytes b n la lb fits apart =
     span_agree (written s a bytes) s b n lb (λ k h. byte_after_write_aside s a bytes (along b k) la (omega arith) fits (apart k h))
 
 -- who holds an address after a write, and what stays of the others
-pub holder_after_set : (s : Storage) (a v x : ℕ) → holder (with_byte s a v) x ≡ holder s x
-unfolding holder with_byte
-holder_after_set [] a v x = refl
-holder_after_set (h ∷ hs) a v x = rw (put_byte_area a v h, holder_after_set hs a v x) refl
-
 pub holder_after_bytes : (s : Storage) (a : ℕ) (bytes : List ℕ) (x : ℕ) → holder (with_bytes s a bytes) x ≡ holder s x
 unfolding with_bytes
 holder_after_bytes s a [] x = refl

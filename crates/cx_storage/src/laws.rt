@@ -1,8 +1,8 @@
 //! The laws of storage, on functions that do nothing: each promises a statement of `specs/Laws.antt`.
 
-ghost use Rattle.cx_storage.specs.Laws.Areas.{AreasApart, PresentInAreas, SameStorage, FreshArea, AreasFreed};
-ghost use Rattle.cx_storage.specs.Laws.Spans.{SpanIsBytes};
-ghost use Rattle.cx_storage.specs.Laws.Writes.{ByteAfterSet, ByteAfterWrite, NothingWritten, SpanAfterWrite, SpanAside, WriteKeepsAreas, OthersStay};
+ghost use Rattle.cx_storage.specs.Laws.Areas.{AreasApart, PresentInAreas, SameStorage, FreshArea, AreasFreed, AreaIsPresent};
+ghost use Rattle.cx_storage.specs.Laws.Spans.{SpanIsBytes, TogetherIsPresent, AreaIsTogether};
+ghost use Rattle.cx_storage.specs.Laws.Writes.{ByteAfterSet, ByteAfterWrite, NothingWritten, SpanAfterWrite, SpanAside, WriteKeepsAreas, SetKeepsAreas, OthersStay};
 ghost use Rattle.cx_storage.specs.Laws.Places.{PlaceIsFree, PlaceDecides};
 ghost use Rattle.cx_storage.specs.Laws.Sound.{SoundKept};
 ghost use Rattle.cx_storage.specs.Laws.Words.{WordAfterWrite};
@@ -35,6 +35,17 @@ pub fn span_is_bytes()
     ensures { SpanIsBytes }
 {}
 
+/// An area that starts at an address is whole, and each span inside it is present.
+pub fn area_is_present()
+    ensures { AreaIsPresent }
+{}
+
+/// Bytes that stand together are present, and bytes of one area and one block stand together.
+pub fn together_is_present()
+    ensures present { TogetherIsPresent }
+    ensures area { AreaIsTogether }
+{}
+
 /// What one byte written leaves.
 pub fn byte_after_set()
     ensures { ByteAfterSet }
@@ -52,9 +63,14 @@ pub fn span_after_write()
     ensures aside { SpanAside }
 {}
 
-/// A write changes no area.
+/// A write changes no area and no presence.
 pub fn write_keeps_areas()
     ensures { WriteKeepsAreas }
+{}
+
+/// Nor does one byte written.
+pub fn set_keeps_areas()
+    ensures { SetKeepsAreas }
 {}
 
 /// A write into some areas leaves the bytes of all others.

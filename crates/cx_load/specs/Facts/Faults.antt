@@ -3,9 +3,9 @@ use Rattle.std.proofs.Common.{◌≡◌, ℕ, ◌<◌, ◌≤◌, Bool, true, fa
 use Rattle.std.specs.Prelude.{not, nat_le, ◌&&◌}
 use Rattle.std.proofs.lemmas.Bool.{and_from, le-leb, leb-true, lt-ltb, ltb-true, not-true, not-false}
 use Rattle.cx_code.specs.declared.image.Image.{Image}
-use Rattle.cx_load.specs.declared.checking.ImageFault.{ImageFault}
-use Rattle.cx_load.specs.declared.checking.ImageFault.TheVariants.{BadLength, EntryOutside, RelocOutside, Overlap, StgLength}
-use Rattle.cx_load.specs.Check.{has_length, has_entry, are_inside, all_apart, has_stg_length, applies, fault_number, IsFit, IsLowestFault}
+use Rattle.cx_load.specs.declared.fault.ImageFault.{ImageFault}
+use Rattle.cx_load.specs.declared.fault.ImageFault.TheVariants.{BadLength, EntryOutside, RelocOutside, Overlap, StgLength}
+use Rattle.cx_load.specs.Fault.{has_length, has_entry, are_inside, all_apart, has_stg_length, applies, fault_number, IsFit, IsLowestFault}
 use Rattle.cx_load.specs.Parts.Cascade.{fault_of}
 
 both : (a b : Bool) → (a && b) ≡ true → (a ≡ true) × (b ≡ true)

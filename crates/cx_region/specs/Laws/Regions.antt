@@ -1,8 +1,8 @@
 -- What follows from the definitions of events and runs.
-use Rattle.std.specs.Prelude.{◌≡◌, ◌≢◌, ℕ, Bool, true, false, List, ◌++◌, length, take, drop, Result, Err, Some, codes}
+use Rattle.std.specs.Prelude.{◌≡◌, ◌≢◌, ℕ, Bool, true, false, List, ◌++◌, length, take, drop, Result, Err}
 use Rattle.std.specs.Map.{keys_of}
 use Rattle.cx_code.specs.declared.image.Image.{Image}
-use Rattle.cx_load.specs.declared.loading.Loaded.{Loaded}
+use Rattle.cx_load.specs.declared.program.Loaded.{Loaded}
 use Rattle.cx_region.specs.declared.replies.DefineFault.{DefineFault}
 use Rattle.cx_region.specs.declared.replies.Event.{Event}
 use Rattle.cx_region.specs.declared.replies.KeyReply.{KeyReply}
@@ -10,8 +10,6 @@ use Rattle.cx_region.specs.declared.replies.KeyReply.TheVariants as key
 use Rattle.cx_region.specs.declared.replies.Reply.{Reply}
 use Rattle.cx_region.specs.declared.replies.TurnReply.{TurnReply}
 use Rattle.cx_region.specs.declared.replies.TurnReply.TheVariants as turn
-use Rattle.cx_ebcdic.specs.Names.{name_of}
-use Rattle.cx_region.specs.Abend.{aica, asra, xarg, xfun}
 use Rattle.cx_region.specs.State.{RegionState, Input}
 use Rattle.cx_region.specs.Names.{is_name4}
 use Rattle.cx_region.specs.Tables.{terminal_of}
@@ -134,10 +132,3 @@ RunsPart = (old new : RegionState) (events more : List Event) (replies : List Re
 -- each event has its reply
 abbrev pub EachIsAnswered : Type 0
 EachIsAnswered = (old new : RegionState) (events : List Event) (replies : List Reply) → Run old events replies new → length replies ≡ length events
-
--- the codes of the region's own abends are their names' characters
-pub record CodesAreSpelled : Type 0 where
-  pub of_interruption : name_of 4 (codes "ASRA") ≡ Some asra
-  pub of_limit : name_of 4 (codes "AICA") ≡ Some aica
-  pub of_list : name_of 4 (codes "XARG") ≡ Some xarg
-  pub of_function : name_of 4 (codes "XFUN") ≡ Some xfun

@@ -1,7 +1,7 @@
 -- A half-turn by the parts that it reaches, as the functions below a turn see it.
 use Rattle.std.specs.Prelude.{◌≡◌, ℕ, List}
 use Rattle.cx_storage.specs.Storage.{Storage}
-use Rattle.cx_load.specs.declared.loading.Loaded.{Loaded}
+use Rattle.cx_load.specs.declared.program.Loaded.{Loaded}
 use Rattle.cx_service.specs.Queues.{Queues}
 use Rattle.cx_service.specs.Resources.{Resources}
 use Rattle.cx_region.specs.declared.pass.Pass.{Pass}

@@ -1,9 +1,9 @@
 -- What a refused load of a program is answered.
-use Rattle.cx_load.specs.declared.loading.LoadFault.{LoadFault}
-use Rattle.cx_load.specs.declared.loading.LoadFault.TheVariants as load
+use Rattle.cx_load.specs.declared.program.LoadFault.{LoadFault}
+use Rattle.cx_load.specs.declared.program.LoadFault.TheVariants as load
 use Rattle.std.specs.Prelude.{ℕ, None}
 use Rattle.cx_storage.specs.Storage.{Storage}
-use Rattle.cx_load.specs.Load.{IsProgramPlace}
+use Rattle.cx_load.specs.Program.{IsProgramPlace}
 use Rattle.cx_region.specs.declared.replies.DefineFault.{DefineFault}
 use Rattle.cx_region.specs.declared.replies.DefineFault.TheVariants.{Memory, NoRoom}
 

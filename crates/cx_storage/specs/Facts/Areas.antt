@@ -1,13 +1,14 @@
 -- What areas put in and freed leave, and what decides storage.
+use Rattle.cx_storage.specs.Facts.Spans.{span_inside}
 use Rattle.std.proofs.Common.{refl, sym, ap, ◌∙◌, inl, inr, arith, subst}
-use Rattle.std.proofs.lemmas.Bool.{cases_Bool, cases_eq, eq-eqb, ne_eqb}
+use Rattle.std.proofs.lemmas.Bool.{cases_Bool, cases_eq, eq-eqb, ne_eqb, or_cases, leb-true, and_parts, and_from, le-leb, or_left, or_right}
 use Rattle.std.proofs.lemmas.List.{same_lists}
 use Rattle.std.proofs.lemmas.Option.{slice_get-get_or, same_Some}
 use Rattle.std.specs.List.{AllByRecursion, filter, list_any}
-use Rattle.std.specs.Prelude.{◌≡◌, ℕ, zero, suc, ◌+◌, ◌-◌, ◌<◌, ◌≤◌, Bool, true, false, cond, List, ◌∷◌, length, replicate, slice_get, Some, None, is_some, nat_lt, ◌==◌, []}
+use Rattle.std.specs.Prelude.{◌≡◌, ℕ, zero, suc, ◌+◌, ◌-◌, ◌<◌, ◌≤◌, Bool, true, false, cond, List, ◌∷◌, length, replicate, slice_get, Some, None, is_some, nat_lt, ◌==◌, [], ◌&&◌, nat_le, ◌%◌, ◌^◌}
 use Rattle.cx_storage.specs.Facts.Sound.{covers_cases, covers_from, IsSound-head, IsSound-tail, IsSound-apart, All-filter}
-use Rattle.cx_storage.specs.Storage.{area_from}
-use Rattle.cx_storage.specs.Laws.Areas.{kept_only}
+use Rattle.cx_storage.specs.Storage.{area_from, in_one_area, IsTogether, span}
+use Rattle.cx_storage.specs.Laws.Areas.{kept_only, IsPresentArea}
 use Rattle.cx_storage.specs.Place.{Misses, CanPlace}
 use Rattle.cx_storage.specs.Storage.{Held, Storage, end_of, covers, byte_at, area_at, areas_of, zeros, put_held, with_area, with_areas_kept, IsWhole, IsSound}
 use Rattle.cx_storage.specs.declared.areas.Area.{Area}
@@ -163,3 +164,76 @@ same_storage (h ∷ hs) (g ∷ gs) ok also areas bytes =
           rw (c.0, out) at (bytes x)
     ]) in
     ap (λ k. k ∷ hs) (held_same h g first contents) ∙ ap (λ ks. g ∷ ks) rest
+
+-- a span inside one area ends below 2^24 and is there
+one_area_ends : (s : Storage) (a n : ℕ) → IsSound s → in_one_area s a n ≡ true → a + n ≤ 2 ^ 24
+unfolding in_one_area
+one_area_ends [] a n ok one = cc
+one_area_ends (h ∷ hs) a n ok one = elim (or_cases (nat_le h.area.start a && nat_le (a + n) (end_of h.area)) (in_one_area hs a n) one) [
+  | inl here ↦
+      let fits : a + n ≤ end_of h.area = leb-true _ _ (and_parts (nat_le h.area.start a) _ here).1 in
+      omega (arith, (IsSound-head h hs ok).below)
+  | inr behind ↦ one_area_ends hs a n (IsSound-tail h hs ok) behind
+]
+
+one_area_covers : (s : Storage) (a n x : ℕ) → in_one_area s a n ≡ true → a ≤ x → x < a + n → list_any (λ area. covers area x) (areas_of s) ≡ true
+unfolding in_one_area areas_of
+one_area_covers [] a n x one low high = cc
+one_area_covers (h ∷ hs) a n x one low high = elim (or_cases (nat_le h.area.start a && nat_le (a + n) (end_of h.area)) (in_one_area hs a n) one) [
+  | inl here ↦
+      let both = and_parts (nat_le h.area.start a) (nat_le (a + n) (end_of h.area)) here in
+      let from : h.area.start ≤ a = leb-true _ _ both.0 in
+      let to : a + n ≤ end_of h.area = leb-true _ _ both.1 in
+      or_left (covers h.area x) (list_any (λ area. covers area x) (areas_of hs)) (covers_from h.area x (omega arith) (omega arith))
+  | inr behind ↦ or_right (covers h.area x) (list_any (λ area. covers area x) (areas_of hs)) (one_area_covers hs a n x behind low high)
+]
+
+pub one_area_span : (s : Storage) (a n : ℕ) → IsSound s → in_one_area s a n ≡ true → is_some (span s a n) ≡ true
+one_area_span s a n ok one =
+    span_inside s a n (one_area_ends s a n ok one) (λ x low high. present_in_areas s x ok ∙ one_area_covers s a n x one low high)
+
+pub together_present : (s : Storage) (a n : ℕ) → IsSound s → IsTogether s a n → (0 < n) × (a + n ≤ 2 ^ 24) × (is_some (span s a n) ≡ true)
+unfolding IsTogether
+together_present s a n ok together = (together.0, one_area_ends s a n ok together.1, one_area_span s a n ok together.1)
+
+-- a span inside an area that starts at an address is inside one area
+pub area_in_one : (s : Storage) (start : ℕ) (area : Area) (a n : ℕ) → area_at s start ≡ Some area → start ≤ a → a + n ≤ end_of area → in_one_area s a n ≡ true
+unfolding area_at in_one_area
+area_in_one [] start area a n e low high = cc
+area_in_one (h ∷ hs) start area a n e low high = elim (cases_eq h.area.start start) [
+  | inl c ↦
+      let found = rw (eq-eqb h.area.start start c) at e in
+      let same : h.area ≡ area = cc in
+      let fits : a + n ≤ end_of h.area = rw same high in
+      or_left (nat_le h.area.start a && nat_le (a + n) (end_of h.area)) (in_one_area hs a n)
+      (and_from _ _ (le-leb h.area.start a (omega arith)) (le-leb (a + n) (end_of h.area) fits))
+  | inr c ↦
+      let behind = rw (ne_eqb h.area.start start c) at e in
+      or_right (nat_le h.area.start a && nat_le (a + n) (end_of h.area)) (in_one_area hs a n) (area_in_one hs start area a n behind low high)
+]
+
+pub area_is_together : (s : Storage) (start : ℕ) (area : Area) (a n : ℕ)
+    → area_at s start ≡ Some area → start ≤ a → a + n ≤ end_of area → 0 < n → a % 4096 + n ≤ 4096 → IsTogether s a n
+unfolding IsTogether
+area_is_together s start area a n e low high some block = (some, area_in_one s start area a n e low high, block)
+
+-- an area that starts at an address is whole, and each span inside it is there
+pub area_bounds : (s : Storage) (start : ℕ) (area : Area) → IsSound s → area_at s start ≡ Some area → (area.start ≡ start) × (0 < area.len) × (end_of area ≤ 2 ^ 24)
+unfolding area_at
+area_bounds [] start area ok e = cc
+area_bounds (h ∷ hs) start area ok e = elim (cases_eq h.area.start start) [
+  | inl c ↦
+      let found = rw (eq-eqb h.area.start start c) at e in
+      let same : h.area ≡ area = cc in
+      let whole = IsSound-head h hs ok in
+      rw (← same) (c, whole.nonempty, whole.below)
+  | inr c ↦ area_bounds hs start area (IsSound-tail h hs ok) (rw (ne_eqb h.area.start start c) at e)
+]
+
+pub area_span : (s : Storage) (start : ℕ) (area : Area) (a n : ℕ) → IsSound s → area_at s start ≡ Some area → start ≤ a → a + n ≤ end_of area → is_some (span s a n) ≡ true
+area_span s start area a n ok e low high = one_area_span s a n ok (area_in_one s start area a n e low high)
+
+pub area_is_present : (s : Storage) (start : ℕ) (area : Area) → IsSound s → area_at s start ≡ Some area → IsPresentArea s start area
+area_is_present s start area ok e =
+    let bounds = area_bounds s start area ok e in
+    record { here = bounds.0; nonempty = bounds.1; below = bounds.2; spans = λ a n. area_span s start area a n ok e }

@@ -2,7 +2,7 @@
 use Rattle.std.proofs.Common.{refl, sym, ap, ◌∙◌, inl, inr, arith, sub-one, []}
 use Rattle.std.proofs.lemmas.Bool.{cases_Bool, false≢true}
 use Rattle.std.specs.Option.{option_and_then, option_map}
-use Rattle.std.specs.Prelude.{◌≡◌, ℕ, zero, suc, ◌-◌, ◌<◌, true, false, List, ◌∷◌, length, Option, Some, None, is_some, ◌^◌, slice_index, []}
+use Rattle.std.specs.Prelude.{◌≡◌, ℕ, zero, suc, ◌-◌, ◌<◌, true, false, List, ◌∷◌, length, Option, Some, None, is_some, ◌^◌, slice_index, [], ◌≤◌, ◌+◌}
 use Rattle.cx_storage.specs.Storage.{Storage, byte_at, span}
 use Rattle.cx_storage.specs.Address.{along}
 
@@ -87,3 +87,30 @@ span_has s a (suc n) (suc k) la e h =
     let rest : is_some (span s (along a 1) n) ≡ true = rw less at (sym (span_present s a (suc n) here (omega arith)) ∙ e) in
     let next : along a (suc k) ≡ along (along a 1) k = omega arith in
     rw next (span_has s (along a 1) n k (omega arith) rest (omega arith))
+
+-- storages with the same bytes present have the same spans present
+pub span_present_agree : (s t : Storage) (b n : ℕ) → ((x : ℕ) → is_some (byte_at s x) ≡ is_some (byte_at t x)) → is_some (span s b n) ≡ is_some (span t b n)
+unfolding span
+span_present_agree s t b zero same = refl
+span_present_agree s t b (suc n) same = go (byte_at s b) (byte_at t b) (span s (along b 1) n) (span t (along b 1) n) (same b) (span_present_agree s t (along b 1) n same)
+  where
+    go : (o p : Option ℕ) (q r : Option (List ℕ)) → is_some o ≡ is_some p → is_some q ≡ is_some r
+        → is_some (option_and_then (λ b. option_map (λ bs. b ∷ bs) q) o) ≡ is_some (option_and_then (λ b. option_map (λ bs. b ∷ bs) r) p)
+    go None None q r e f = refl
+    go None (Some y) q r e f = cc
+    go (Some x) None q r e f = cc
+    go (Some x) (Some y) None None e f = refl
+    go (Some x) (Some y) None (Some r) e f = cc
+    go (Some x) (Some y) (Some q) None e f = cc
+    go (Some x) (Some y) (Some q) (Some r) e f = refl
+
+-- a span that doesn't go on at address 0 is there where each of its addresses has a byte
+pub span_inside : (s : Storage) (a n : ℕ) → a + n ≤ 2 ^ 24 → ((x : ℕ) → a ≤ x → x < a + n → is_some (byte_at s x) ≡ true) → is_some (span s a n) ≡ true
+unfolding span
+span_inside s a zero fits each = refl
+span_inside s a (suc zero) fits each = span_present s a 1 (each a (omega arith) (omega arith)) (omega arith)
+span_inside s a (suc (suc n)) fits each =
+    let next : along a 1 ≡ a + 1 = omega arith in
+    let less : suc (suc n) - 1 ≡ suc n = omega arith in
+    let rest = span_inside s (a + 1) (suc n) (omega arith) (λ x low high. each x (omega arith) (omega arith)) in
+    span_present s a (suc (suc n)) (each a (omega arith) (omega arith)) (omega arith) ∙ rw (less, next) rest

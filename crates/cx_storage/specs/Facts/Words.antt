@@ -1,5 +1,5 @@
 -- Words and halfwords from the buffer that a read filled.
-use Rattle.std.proofs.Common.{refl, ap}
+use Rattle.std.proofs.Common.{refl}
 use Rattle.std.specs.Option.{option_map, unwrap_or}
 use Rattle.std.specs.Prelude.{◌≡◌, ℕ, true, false, List, Option, Some, None, is_some}
 use Rattle.byteorder.specs.Endian.{big_number}

@@ -1,11 +1,11 @@
 -- What a byte and bytes written leave.
 use Rattle.std.proofs.Common.{refl, ap, ◌∙◌, inl, inr, arith}
 use Rattle.std.proofs.lemmas.Bool.{cases_Bool, cases_eq, cases_lt, lt-ltb, le-ltb}
-use Rattle.std.specs.Option.{option_and_then, option_map}
+use Rattle.std.specs.Option.{option_map}
 use Rattle.std.specs.Prelude.{◌≡◌, ℕ, zero, suc, ◌-◌, ◌<◌, ◌≤◌, true, false, cond, List, ◌∷◌, length, slice_get, Option, Some, None, is_some, nat_lt, ◌≢◌, ◌^◌, slice_set, slice_index, []}
 use Rattle.cx_storage.specs.Facts.Sound.{covers_cases, put_byte_area}
-use Rattle.cx_storage.specs.Facts.Spans.{span_has, span_from}
-use Rattle.cx_storage.specs.Storage.{Storage, covers, byte_at, areas_of, span, with_byte, with_bytes, written}
+use Rattle.cx_storage.specs.Facts.Spans.{span_has, span_from, span_present_agree}
+use Rattle.cx_storage.specs.Storage.{Storage, covers, byte_at, areas_of, span, with_byte, with_bytes, written, holder}
 use Rattle.cx_storage.specs.Address.{along, distance}
 
 slice_get-slice_set_same : (bs : List ℕ) (k v : ℕ) → slice_get (slice_set bs k v) k ≡ option_map (λ (_ : ℕ). v) (slice_get bs k)
@@ -139,19 +139,15 @@ span_after_write s a bytes la fits e =
     let back : distance a (along a k) ≡ k = omega arith in
     at ∙ rw (back, lt-ltb k (length bytes) h) refl)
 
--- presence of a span after a write
+-- presence of a span after a byte and after bytes were written
+pub span_present_after_set : (s : Storage) (a v b n : ℕ) → is_some (span (with_byte s a v) b n) ≡ is_some (span s b n)
+span_present_after_set s a v b n = span_present_agree (with_byte s a v) s b n (present_after_set s a v)
+
 pub span_present_after_write : (s : Storage) (a : ℕ) (bytes : List ℕ) (b n : ℕ) → is_some (span (written s a bytes) b n) ≡ is_some (span s b n)
-unfolding span
-span_present_after_write s a bytes b zero = refl
-span_present_after_write s a bytes b (suc n) =
-    go (byte_at (written s a bytes) b) (byte_at s b) (span (written s a bytes) (along b 1) n) (span s (along b 1) n) (present_after_write s a bytes b) (span_present_after_write s a bytes (along b 1) n)
-  where
-    go : (o p : Option ℕ) (q r : Option (List ℕ)) → is_some o ≡ is_some p → is_some q ≡ is_some r
-        → is_some (option_and_then (λ b. option_map (λ bs. b ∷ bs) q) o) ≡ is_some (option_and_then (λ b. option_map (λ bs. b ∷ bs) r) p)
-    go None None q r e f = refl
-    go None (Some y) q r e f = cc
-    go (Some x) None q r e f = cc
-    go (Some x) (Some y) None None e f = refl
-    go (Some x) (Some y) None (Some r) e f = cc
-    go (Some x) (Some y) (Some q) None e f = cc
-    go (Some x) (Some y) (Some q) (Some r) e f = refl
+span_present_after_write s a bytes b n = span_present_agree (written s a bytes) s b n (present_after_write s a bytes)
+
+-- who holds an address after a byte was written
+pub holder_after_set : (s : Storage) (a v x : ℕ) → holder (with_byte s a v) x ≡ holder s x
+unfolding holder with_byte
+holder_after_set [] a v x = refl
+holder_after_set (h ∷ hs) a v x = rw (put_byte_area a v h, holder_after_set hs a v x) refl

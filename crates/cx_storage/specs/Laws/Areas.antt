@@ -1,10 +1,10 @@
 -- The laws of areas: where bytes are, and what areas put in and freed leave.
-use Rattle.std.proofs.Common.{get_or}
+use Rattle.std.proofs.Common.{get_or, true}
 use Rattle.std.specs.List.{list_any}
 use Rattle.std.specs.Option.{option_map_or, option_and_then}
-use Rattle.std.specs.Prelude.{◌≡◌, ℕ, ◌<◌, ◌≤◌, Bool, false, length, Option, Some, None, is_some, ◌==◌, if◌then◌else◌, ◌^◌}
+use Rattle.std.specs.Prelude.{◌≡◌, ℕ, ◌<◌, ◌≤◌, Bool, false, length, Option, Some, None, is_some, ◌==◌, if◌then◌else◌, ◌^◌, ◌+◌}
 use Rattle.cx_storage.specs.Place.{CanPlace}
-use Rattle.cx_storage.specs.Storage.{Held, Storage, end_of, covers, byte_at, area_at, holder, areas_of, with_area, with_areas_kept, IsWhole, IsSound, area_from}
+use Rattle.cx_storage.specs.Storage.{Held, Storage, end_of, covers, byte_at, area_at, holder, areas_of, with_area, with_areas_kept, IsWhole, IsSound, area_from, span}
 use Rattle.cx_storage.specs.declared.areas.Area.{Area}
 use Rattle.cx_storage.specs.declared.areas.Owner.{Owner}
 
@@ -39,3 +39,13 @@ AreasFreed = (s : Storage) (keeps : Area → Bool) (x : ℕ) → IsSound s
     → (byte_at (with_areas_kept keeps s) x ≡ (if option_map_or keeps (holder s x) false then byte_at s x else None))
     × (area_at (with_areas_kept keeps s) x ≡ kept_only keeps (area_at s x))
     × (holder (with_areas_kept keeps s) x ≡ kept_only keeps (holder s x))
+
+-- an area that starts at an address is whole: it has a byte, is below 2^24, and each span inside it is there
+pub record IsPresentArea (s : Storage) (start : ℕ) (area : Area) : Type 0 where
+  pub here : area.start ≡ start
+  pub nonempty : 0 < area.len
+  pub below : end_of area ≤ 2 ^ 24
+  pub spans : (a n : ℕ) → start ≤ a → a + n ≤ end_of area → is_some (span s a n) ≡ true
+
+abbrev pub AreaIsPresent : Type 0
+AreaIsPresent = (s : Storage) (start : ℕ) (area : Area) → IsSound s → area_at s start ≡ Some area → IsPresentArea s start area

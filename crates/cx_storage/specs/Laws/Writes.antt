@@ -32,6 +32,12 @@ WriteKeepsAreas = (s : Storage) (a : ℕ) (bytes : List ℕ)
     → (areas_of (written s a bytes) ≡ areas_of s) × ((x : ℕ) → holder (written s a bytes) x ≡ holder s x)
     × ((x : ℕ) → is_some (byte_at (written s a bytes) x) ≡ is_some (byte_at s x)) × ((b n : ℕ) → is_some (span (written s a bytes) b n) ≡ is_some (span s b n))
 
+-- nor does one byte written change an area or a presence
+abbrev pub SetKeepsAreas : Type 0
+SetKeepsAreas = (s : Storage) (a v : ℕ)
+    → (areas_of (with_byte s a v) ≡ areas_of s) × ((x : ℕ) → holder (with_byte s a v) x ≡ holder s x)
+    × ((x : ℕ) → is_some (byte_at (with_byte s a v) x) ≡ is_some (byte_at s x)) × ((b n : ℕ) → is_some (span (with_byte s a v) b n) ≡ is_some (span s b n))
+
 -- a write into areas that the test names leaves each byte of the other areas
 abbrev pub OthersStay : Type 0
 OthersStay = (s : Storage) (a : ℕ) (bytes : List ℕ) (mine : Area → Bool) (x : ℕ) → a < 2 ^ 24 → x < 2 ^ 24 → length bytes ≤ 2 ^ 24

@@ -6,8 +6,8 @@ returns-in-AtEntry g c = λ reach. runs_to_entry reach _ _ _ _ _ _ _ _ c.task.vi
 
 pub returns-in-Interrupt : goal.returns-in-Interrupt
 returns-in-Interrupt g c = λ reach.
-    runs_on reach _ _ _ _ _ _ _ c.task.view_is c.in-Interrupt.ensures (rw (← c.from_bytes.ensures) (c.abend.ensures reach))
+    runs_on reach _ _ _ _ _ _ _ c.task.view_is c.in-Interrupt.ensures (rw (← c.code.ensures.value) (c.abend.ensures reach))
 
 pub returns-in-Limit : goal.returns-in-Limit
 returns-in-Limit g c = λ reach.
-    runs_on reach _ _ _ _ _ _ _ c.task.view_is c.in-Limit.ensures (rw (← c.from_bytes-in-Limit.ensures) (c.abend-in-Limit.ensures reach))
+    runs_on reach _ _ _ _ _ _ _ c.task.view_is c.in-Limit.ensures (rw (← c.code-in-Limit.ensures.value) (c.abend-in-Limit.ensures reach))

@@ -1,7 +1,6 @@
 use Rattle.std.proofs.Common.{◌≡◌, ◌-◌, ◌+◌, is_some, true, sym, refl, ◌∙◌, arith, length, length-set, unwrap_or}
 use Rattle.cx_storage.specs.Storage.{byte_at, span}
 use Rattle.cx_storage.specs.Facts.Spans.{span_present, span_first}
-use Rattle.cx_storage.proofs.WriteLemmas.{span_zero}
 use Rattle.cx_storage.proofs.Filling.{joined_nil, joined_more}
 use Rattle.cx_storage.proofs.stores.Store.read.Goals as goal
 

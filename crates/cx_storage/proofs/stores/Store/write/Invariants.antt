@@ -1,5 +1,5 @@
-use Rattle.std.proofs.Common.{◌≡◌, ◌^◌, ◌<◌, length, drop, is_some, ◌-◌}
-use Rattle.cx_storage.specs.Storage.{span, with_bytes}
+use Rattle.std.proofs.Common.{◌≡◌, ◌^◌, ◌<◌, drop}
+use Rattle.cx_storage.specs.Storage.{with_bytes}
 use Rattle.cx_storage.proofs.stores.Store.write.Given as goal
 
 -- what is written so far, and then the rest, is the whole

@@ -1,0 +1,152 @@
+//! Checking an image.
+
+ghost use Rattle.std.specs.Prelude.{◌≡◌, MatchOption, MatchResult};
+ghost use Rattle.cx_load.specs.Fault.{IsFit, IsLowestFault, all_apart, are_apart, are_inside, fault_name, is_apart};
+ghost use Rattle.cx_load.specs.Parts.Cascade.{fault_of};
+
+use cx_code::Image;
+use std::fmt::{Display, Formatter, Write};
+use std::marker::Model;
+use thiserror::Error;
+
+/// Why an image can't be loaded. Where several apply, the first of this order is answered.
+#[derive(Clone, Copy, Debug, PartialEq, Eq, Error)]
+pub enum ImageFault {
+    /// The text is empty, or longer than 65,536 bytes.
+    BadLength,
+    /// The entry is no offset of the text.
+    EntryOutside,
+    /// A relocated word goes past the text.
+    RelocOutside,
+    /// Two relocated words share a byte.
+    Overlap,
+    /// The working storage is shorter than 80 bytes, or longer than 65,520.
+    StgLength,
+}
+
+impl ImageFault {
+    /// The fault's name.
+    pub fn name(self) -> &'static str
+        ensures { result.now ≡ fault_name self }
+    {
+        match self {
+            ImageFault::BadLength => "BadLength",
+            ImageFault::EntryOutside => "EntryOutside",
+            ImageFault::RelocOutside => "RelocOutside",
+            ImageFault::Overlap => "Overlap",
+            ImageFault::StgLength => "StgLength",
+        }
+    }
+}
+
+impl Display for ImageFault {
+    fn fmt<W: Write>(&self, f: &mut Formatter<W>) -> Result<(), std::fmt::Error> {
+        f.write_str(self.name())
+    }
+}
+
+/// An image without a fault. `check` alone makes one.
+#[derive(Debug, Drop)]
+pub struct CheckedImage {
+    image: Image,
+}
+
+impl Model for CheckedImage {
+    ghost use Rattle.cx_code.specs.declared.image.Image.{Image};
+    ghost use Rattle.cx_load.specs.Fault.{IsFit};
+
+    ghost Value = { Image };
+
+    ghost view = { λ checked. checked.image };
+
+    ghost invariant = { λ checked. IsFit checked.image };
+}
+
+impl CheckedImage {
+    /// The image, which has no fault.
+    pub fn image(&self) -> &Image
+        ensures value { result.now ≡ self.now }
+        ensures fit { IsFit self.now }
+    {
+        &self.image
+    }
+}
+
+/// Checks an image. It is Ok exactly where no fault applies; otherwise the image is given back with
+/// the lowest fault that does. It takes no memory.
+pub fn check(image: Image) -> Result<CheckedImage, (Image, ImageFault)>
+    ensures { MatchResult result
+        (λ checked. (checked ≡ image) × IsFit image)
+        (λ refused. (refused.0 ≡ image) × IsLowestFault image refused.1) }
+{
+    match fault_of(&image) {
+        Some(fault) => Err((image, fault)),
+        None => Ok(CheckedImage { image }),
+    }
+}
+
+/// The lowest fault of an image.
+#[tactic(auto, using(crate::specs::Facts::Faults::fit_without_fault, crate::specs::Facts::Faults::lowest_of_answered))]
+fn fault_of(image: &Image) -> Option<ImageFault>
+    ensures { MatchOption result (IsFit image.now) (IsLowestFault image.now) }
+{
+    first_fault(image)
+}
+
+/// The fault of the first test that fails.
+#[tactic(auto, unfolding(crate::specs::Parts::Cascade::fault_of, crate::specs::Fault::has_length, crate::specs::Fault::has_entry, crate::specs::Fault::has_stg_length))]
+fn first_fault(image: &Image) -> Option<ImageFault>
+    ensures { result ≡ fault_of image.now }
+{
+    let size = image.text.as_slice().len();
+    let relocs = image.relocs.as_slice();
+    if size < 1 || size > 65536 {
+        Some(ImageFault::BadLength)
+    } else if image.entry as usize >= size {
+        Some(ImageFault::EntryOutside)
+    } else if !are_inside(size, relocs) {
+        Some(ImageFault::RelocOutside)
+    } else if !all_apart(relocs) {
+        Some(ImageFault::Overlap)
+    } else if image.stg_len < 80 || image.stg_len > 65520 {
+        Some(ImageFault::StgLength)
+    } else {
+        None
+    }
+}
+
+/// Whether each relocated word stands in a text of so many bytes.
+#[tactic(auto, unfolding(crate::specs::Fault::are_inside))]
+fn are_inside(size: usize, relocs: &[u32]) -> bool
+    ensures { result ≡ are_inside size relocs.now }
+{
+    relocs.iter().all(|r| *r as usize + 4 <= size)
+}
+
+/// Whether two words share no byte.
+#[tactic(auto, unfolding(crate::specs::Fault::are_apart))]
+fn are_apart(r: u32, q: u32) -> bool
+    ensures { result ≡ are_apart r q }
+{
+    u64::from(r) + 4 <= u64::from(q) || u64::from(q) + 4 <= u64::from(r)
+}
+
+/// Whether a word shares no byte with any of these.
+#[tactic(auto, unfolding(crate::specs::Fault::is_apart))]
+fn is_apart(r: u32, relocs: &[u32]) -> bool
+    ensures { result ≡ is_apart r relocs.now }
+{
+    relocs.iter().all(|q| are_apart(r, *q))
+}
+
+/// Whether no two of the words share a byte.
+fn all_apart(relocs: &[u32]) -> bool
+    ensures { result ≡ all_apart relocs.now }
+{
+    for (i, r) in relocs.iter().enumerate() {
+        if !is_apart(*r, &relocs[i + 1..]) {
+            return false;
+        }
+    }
+    true
+}
