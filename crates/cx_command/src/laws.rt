@@ -1,7 +1,8 @@
 //! What holds of every row of the table of commands, of its look-ups, and of the layouts.
 ghost use Rattle.std.specs.Prelude.{◌≡◌, ◌↔◌, ℕ, List, Some, IsTrue, true, map, slice_get, sum_by};
 ghost use Rattle.std.specs.List.{Contains};
-ghost use Rattle.cx_command.specs.Arguments.{argument_index, arguments_in};
+ghost use Rattle.cx_command.specs.Arguments.{argument_index, arguments_in, has_option, option_of};
+ghost use Rattle.cx_command.specs.Legal.{has_bit};
 ghost use Rattle.cx_command.specs.Commands.{command_called, command_with, row_of};
 ghost use Rattle.cx_command.specs.Options.{is_option};
 ghost use Rattle.cx_command.specs.Eib.{eib_field, eib_fields, eib_len, eib_pieces};
@@ -38,6 +39,14 @@ pub fn bytes_have_a_length()
 /// Two options are the same exactly where they are one option.
 pub fn options_are_themselves()
     ensures { (one other : OptionName) → (is_option one other ≡ true) ↔ (one ≡ other) }
+{}
+
+/// An option of a command is found by its name, and option byte 1 has it exactly where it has its bit.
+pub fn options_are_asked_by_name()
+    ensures row { (command : Command) (k : ℕ) (option : CommandOption)
+        → slice_get (row_of command).options k ≡ Some option → option_of command option.name ≡ Some option }
+    ensures bit { (command : Command) (k first : ℕ) (option : CommandOption)
+        → slice_get (row_of command).options k ≡ Some option → has_option command first option.name ≡ has_bit first option.bit }
 {}
 
 /// Each argument of an argument list is found by the name of its option.

@@ -136,9 +136,9 @@ fn with_name(options: &[OptionName], name: &[u8]) -> Option<OptionName>
 /// Application Programmer's Reference Manual, SC33-0077, "Exceptional conditions". The bits are this project's own.
 #[derive(Clone, Copy, Debug, PartialEq, Eq)]
 pub enum CommonOption {
-    /// The program goes on after the command, whatever condition it meets.
+    /// What HANDLE and IGNORE CONDITION asked for isn't looked at.
     Nohandle,
-    /// And the condition's number is written into a fullword.
+    /// The same, and the condition's number is written into a fullword.
     Resp,
 }
 
