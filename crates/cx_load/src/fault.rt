@@ -1,6 +1,6 @@
 //! Checking an image.
 
-ghost use Rattle.std.specs.Prelude.{◌≡◌, MatchOption, MatchResult};
+ghost use Rattle.std.specs.Prelude.{◌≡◌, MatchOption, MatchResult, Some};
 ghost use Rattle.cx_load.specs.Fault.{IsFit, IsLowestFault, all_apart, are_apart, are_inside, fault_name, is_apart};
 ghost use Rattle.cx_load.specs.Parts.Cascade.{fault_of};
 
@@ -40,6 +40,8 @@ impl ImageFault {
 }
 
 impl Display for ImageFault {
+    ghost output = { λ fault. Some (fault_name fault) };
+
     fn fmt<W: Write>(&self, f: &mut Formatter<W>) -> Result<(), std::fmt::Error> {
         f.write_str(self.name())
     }
