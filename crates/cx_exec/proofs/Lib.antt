@@ -1,3 +1,4 @@
+pub mod Storing
 pub mod RunLemmas
 pub mod RegisterLemmas
 pub mod DivideLemmas

@@ -9,7 +9,8 @@ use Rattle.cx_storage.specs.Writes.{span_has}
 use Rattle.cx_exec.specs.declared.rows.Ahead.{Ahead}
 use Rattle.cx_exec.specs.Machine.{Machine}
 use Rattle.cx_exec.specs.Sequence.{leftward, behind, Value, StoresInOrder}
-use Rattle.cx_exec.specs.Zoned.{source_seen, source, swapped, packed, packed_byte, unpacked, unpacked_half, source_of, fetched_at, fetched, have_both, PackEffect, UnpkEffect}
+use Rattle.cx_exec.specs.Zoned.{source_seen, swapped, packed, unpacked, unpacked_half, source_of, fetched_at, have_both, PackEffect, UnpkEffect}
+use Rattle.cx_exec.specs.Parts.Zoned.{source, packed_byte, fetched}
 use Rattle.cx_exec.proofs.SequenceLemmas.{leftward_order, numbers_apart, Settled, seen_settled, seen_now, some_content, content_small, present_now, stores_more, stores_decide}
 use Rattle.cx_exec.proofs.MoveLemmas.{machines_alike}
 use Rattle.cx_exec.proofs.Deciding.{Decides, stops_decides, bool_decides}

@@ -17,10 +17,8 @@ pub mod Lengths
 pub mod Decimal
 pub mod Masks
 pub mod Rows
-pub mod Decide
-pub mod Laws
-pub mod StringLaws
-pub mod Storing
 pub mod Step
 pub mod Advance
-pub mod Keeps
+pub mod Laws
+pub mod Facts
+pub mod Parts

@@ -6,7 +6,7 @@ use Rattle.cx_storage.specs.Storage.{Storage, along, span}
 use Rattle.cx_exec.specs.declared.rows.Ahead.{Ahead}
 use Rattle.cx_exec.specs.Machine.{Machine}
 use Rattle.cx_exec.specs.Frame.{Outcome, Goes}
-use Rattle.cx_exec.specs.Sequence.{Value, leftward, behind, seen, content, StoresInOrder}
+use Rattle.cx_exec.specs.Sequence.{Value, leftward, behind, seen, StoresInOrder}
 use Rattle.cx_exec.specs.Moves.{WhenPresent}
 
 -- the i-th byte of the source, of n2 bytes, as it is once k bytes are stored; a missing one is zero
@@ -59,16 +59,3 @@ unfoldable pub UnpkEffect : ℕ → ℕ → ℕ → ℕ → Ahead → Machine �
 UnpkEffect n1 n2 a1 a2 ahead m outcome after =
     WhenPresent (have_both m.storage n1 a1 n2 a2) m outcome after
     (StoresLeftward n1 (along a1 (n1 - 1)) (unpacked (along a1 (n1 - 1)) n2 (along a2 (n2 - 1))) ahead m outcome after)
-
--- The same values by what storage holds once k bytes are stored: the i-th byte of the source, what PACK makes, and the
--- source byte of UNPK, where the one fetched last is held.
-abbrev pub source : Storage → ℕ → ℕ → ℕ → ℕ
-source s n2 e2 i = if nat_lt i n2 then content s (behind e2 i) else 0
-
-unfoldable pub packed_byte : Storage → ℕ → ℕ → ℕ → ℕ
-packed_byte s n2 e2 k =
-    if k == 0 then swapped (source s n2 e2 0) else source s n2 e2 (2 * k) % 16 * 16 + source s n2 e2 (2 * k - 1) % 16
-
-unfoldable pub fetched : Storage → ℕ → ℕ → ℕ → ℕ → ℕ
-fetched s n2 e2 k held =
-    if k == 0 then source s n2 e2 0 else (if k % 2 == 0 then held else source s n2 e2 (source_of k))

@@ -4,12 +4,10 @@
 ghost use Rattle.std.specs.Prelude.{ℕ};
 ghost use Rattle.cx_exec.specs.Step.{Steps};
 ghost use Rattle.cx_exec.specs.Advance.{Advances};
-ghost use Rattle.cx_exec.specs.declared.machine.Halt.{Halt};
-ghost use Rattle.cx_exec.specs.Decide.{StepsDecide, RunsDecide};
-ghost use Rattle.cx_exec.specs.Keeps.{SameAreas};
-ghost use Rattle.cx_exec.specs.Laws.{ResultIsExact, ProductIsExact, DivisionIsOne, HalvedIsFloor, ShiftedIsExact, StoredWords, LoadedWords};
-ghost use Rattle.cx_exec.specs.Machine.{Machine};
-ghost use Rattle.cx_exec.specs.StringLaws.{DecimalReadsBack, ApartIsCopied, AllIsTaken};
+ghost use Rattle.cx_exec.specs.Laws.Decide.{StepsDecide, RunsDecide};
+ghost use Rattle.cx_exec.specs.Laws.Areas.{RunsKeepAreas};
+ghost use Rattle.cx_exec.specs.Laws.Numbers.{ResultIsExact, ProductIsExact, DivisionIsOne, HalvedIsFloor, ShiftedIsExact, StoredWords, LoadedWords};
+ghost use Rattle.cx_exec.specs.Laws.Strings.{DecimalReadsBack, ApartIsCopied, AllIsTaken};
 
 /// The step's answer and the machine after it are determined by the machine before.
 pub fn steps_decide()
@@ -23,7 +21,7 @@ pub fn runs_decide()
 
 /// No instruction makes, frees or moves an area: after a run the areas of storage are those before.
 pub fn runs_keep_areas()
-    ensures { (limit : ℕ) (m : Machine) (end : Halt) (after : Machine) → Advances limit m end after → SameAreas m after }
+    ensures { RunsKeepAreas }
 {}
 
 /// A result that a word holds is read from its word again.

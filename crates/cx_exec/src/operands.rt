@@ -63,7 +63,7 @@ pub(crate) fn even(r: u8) -> Result<u8, Interruption>
 }
 
 /// Stores bytes, at most 65,536, from an address on: all of them, or none and interruption 5.
-#[tactic(auto, using(crate::specs::Storing::not_written), unfolding(crate::specs::Operands::Stores))]
+#[tactic(auto, using(crate::proofs::Storing::not_written), unfolding(crate::specs::Operands::Stores))]
 pub(crate) fn put_bytes<S: Store>(
     cpu: &mut Cpu,
     store: &mut S,

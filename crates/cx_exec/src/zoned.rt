@@ -4,7 +4,8 @@ ghost use Rattle.std.specs.Prelude.{◌≡◌, ◌+◌, ◌-◌, ◌<◌, ◌≤
 ghost use Rattle.cx_storage.specs.Storage.{along};
 ghost use Rattle.cx_exec.specs.State.{machine};
 ghost use Rattle.cx_exec.specs.Sequence.{leftward, behind, StoresInOrder};
-ghost use Rattle.cx_exec.specs.Zoned.{source, swapped, packed, packed_byte, unpacked, unpacked_half, fetched, have_both, PackEffect, UnpkEffect};
+ghost use Rattle.cx_exec.specs.Parts.Zoned.{source, packed_byte, fetched};
+ghost use Rattle.cx_exec.specs.Zoned.{swapped, packed, unpacked, unpacked_half, have_both, PackEffect, UnpkEffect};
 
 use crate::machine::{Cpu, Interruption};
 use crate::moves::{along, content};
@@ -43,7 +44,7 @@ fn swapped(byte: u8) -> u8
 }
 
 /// The `k`-th byte (`k` is at most 16) from the right that PACK makes.
-#[tactic(auto, unfolding(crate::specs::Zoned::packed_byte))]
+#[tactic(auto, unfolding(crate::specs::Parts::Zoned::packed_byte))]
 fn packed_byte<S: Store>(store: &S, n: u32, e: u32, k: u32) -> u8
     requires last { e < 2 ^ 24 }
     requires place { k ≤ 16 }
@@ -79,7 +80,7 @@ fn pack_bytes<S: Store>(store: &mut S, n1: u32, n2: u32, a1: u32, a2: u32)
 
 /// The source byte that UNPK makes its `k`-th byte (`k` is at most 16) from the right of: `held`, the one
 /// fetched last, for the left half, else the next one.
-#[tactic(auto, unfolding(crate::specs::Zoned::fetched))]
+#[tactic(auto, unfolding(crate::specs::Parts::Zoned::fetched))]
 fn fetched<S: Store>(store: &S, n: u32, e: u32, k: u32, held: u8) -> u8
     requires last { e < 2 ^ 24 }
     requires place { k ≤ 16 }

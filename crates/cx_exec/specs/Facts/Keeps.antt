@@ -30,13 +30,10 @@ use Rattle.cx_exec.specs.Masks.{IcmEffect, StcmEffect}
 use Rattle.cx_exec.specs.Rows.{RrEffect, RxEffect, RsEffect, SiEffect, EffectOf, Effect}
 use Rattle.cx_exec.specs.Step.{Executes, ExecutesWith, Performs, Runs, Steps, is_execute, target_at, ahead_of}
 use Rattle.cx_exec.specs.Advance.{Passes, Advances}
-
--- the areas after are those before
-abbrev pub SameAreas : Machine → Machine → Type 0
-SameAreas m after = areas_of after.storage ≡ areas_of m.storage
+use Rattle.cx_exec.specs.Laws.Areas.{SameAreas}
 
 -- an effect leaves the areas, however it ends
-abbrev pub Keeps : Machine → (Outcome → Machine → Type 0) → Type 0
+abbrev Keeps : Machine → (Outcome → Machine → Type 0) → Type 0
 Keeps m P = (outcome : Outcome) (after : Machine) → P outcome after → SameAreas m after
 
 goes_keeps : (m left : Machine) → SameAreas m left → Keeps m (λ o a. Goes o a left)
@@ -244,7 +241,7 @@ runs_keeps m =
     (λ bytes. result_keeps (read_as bytes) m (λ i. Performs i (ahead_of m.next (length bytes)) m) (λ i. performs_keeps i _ m))
 
 -- a step leaves the areas
-pub steps_keep_areas : (m : Machine) (step : Step) (after : Machine) → Steps m step after → SameAreas m after
+steps_keep_areas : (m : Machine) (step : Step) (after : Machine) → Steps m step after → SameAreas m after
 unfolding Steps
 steps_keep_areas m AtEntry after h = ap (λ (x : Machine). areas_of x.storage) h.1
 steps_keep_areas m Done after h = runs_keeps m _ after h.1
