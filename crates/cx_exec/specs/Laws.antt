@@ -3,3 +3,4 @@ pub mod Decide
 pub mod Areas
 pub mod Numbers
 pub mod Strings
+pub mod Runs

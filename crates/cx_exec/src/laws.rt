@@ -6,6 +6,7 @@ ghost use Rattle.cx_exec.specs.Step.{Steps};
 ghost use Rattle.cx_exec.specs.Advance.{Advances};
 ghost use Rattle.cx_exec.specs.Laws.Decide.{StepsDecide, RunsDecide};
 ghost use Rattle.cx_exec.specs.Laws.Areas.{RunsKeepAreas};
+ghost use Rattle.cx_exec.specs.Laws.Runs.{RunsJoin, StepsJoin};
 ghost use Rattle.cx_exec.specs.Laws.Numbers.{ResultIsExact, ProductIsExact, DivisionIsOne, HalvedIsFloor, ShiftedIsExact, StoredWords, LoadedWords};
 ghost use Rattle.cx_exec.specs.Laws.Strings.{DecimalReadsBack, ApartIsCopied, AllIsTaken};
 
@@ -22,6 +23,13 @@ pub fn runs_decide()
 /// No instruction makes, frees or moves an area: after a run the areas of storage are those before.
 pub fn runs_keep_areas()
     ensures { RunsKeepAreas }
+{}
+
+/// Steps that are done, and then a run, are one run, whose limit is the number of those steps and the run's limit.
+#[tactic(auto, using(crate::proofs::RunLemmas::runs_join, crate::proofs::RunLemmas::steps_join))]
+pub fn runs_join()
+    ensures runs { RunsJoin }
+    ensures steps { StepsJoin }
 {}
 
 /// A result that a word holds is read from its word again.
