@@ -13,3 +13,4 @@ pub mod MaskLemmas
 pub mod DecideLemmas
 pub mod LawLemmas
 pub mod StringLaws
+pub mod FetchLemmas

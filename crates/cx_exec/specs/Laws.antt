@@ -4,3 +4,4 @@ pub mod Areas
 pub mod Numbers
 pub mod Strings
 pub mod Runs
+pub mod Fetch

@@ -6,6 +6,7 @@ ghost use Rattle.cx_exec.specs.Step.{Steps};
 ghost use Rattle.cx_exec.specs.Advance.{Advances};
 ghost use Rattle.cx_exec.specs.Laws.Decide.{StepsDecide, RunsDecide};
 ghost use Rattle.cx_exec.specs.Laws.Areas.{RunsKeepAreas};
+ghost use Rattle.cx_exec.specs.Laws.Fetch.{SpelledIsFetched};
 ghost use Rattle.cx_exec.specs.Laws.Runs.{RunsJoin, StepsJoin};
 ghost use Rattle.cx_exec.specs.Laws.Numbers.{ResultIsExact, ProductIsExact, DivisionIsOne, HalvedIsFloor, ShiftedIsExact, StoredWords, LoadedWords};
 ghost use Rattle.cx_exec.specs.Laws.Strings.{DecimalReadsBack, ApartIsCopied, AllIsTaken};
@@ -31,6 +32,17 @@ pub fn runs_join()
     ensures runs { RunsJoin }
     ensures steps { StepsJoin }
 {}
+
+/// An instruction that is spelled at an even address, all of its bytes present, is fetched, and read as itself.
+pub fn spelled_is_fetched()
+    ensures { SpelledIsFetched }
+{
+    cx_code::laws::first_bits();
+    cx_code::laws::spelled_reads();
+    cx_code::laws::length_read();
+    cx_code::laws::read_before_rest();
+    cx_code::laws::read_by_first_byte();
+}
 
 /// A result that a word holds is read from its word again.
 #[tactic(auto, using(crate::proofs::LawLemmas::result_is_exact))]
