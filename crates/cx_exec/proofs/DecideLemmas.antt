@@ -1,5 +1,5 @@
 -- Each relation of the machine decides its outcome.
-use Rattle.std.proofs.Common.{◌≡◌, ◌≢◌, ℕ, zero, suc, ◌+◌, ◌*◌, ◌^◌, ◌<◌, ◌≤◌, Result, Ok, Err, List, length, ℤ, slice_set, refl, sym, ◌∙◌, ap, subst, arith, MatchResult}
+use Rattle.std.proofs.Common.{◌≡◌, ◌≢◌, ℕ, zero, suc, ◌+◌, ◌*◌, ◌^◌, ◌<◌, ◌≤◌, Result, Ok, Err, List, ℤ, slice_set, refl, sym, ◌∙◌, ap, subst, arith}
 use Rattle.cx_code.specs.declared.table.Op.{Op}
 use Rattle.cx_code.specs.declared.table.Op.TheVariants as op
 use Rattle.cx_code.specs.declared.instruction.Fields.{Fields}
@@ -14,17 +14,16 @@ use Rattle.cx_exec.specs.declared.machine.Halt.{Halt}
 use Rattle.cx_exec.specs.declared.machine.Halt.TheVariants as halt
 use Rattle.cx_exec.specs.declared.rows.Ahead.{Ahead}
 use Rattle.cx_exec.specs.Machine.{Machine, reg, effective}
-use Rattle.cx_exec.specs.Fetch.{code_at, read_as}
-use Rattle.cx_exec.specs.Frame.{Goes, Stops}
+use Rattle.cx_exec.specs.Frame.{Goes}
 use Rattle.cx_exec.specs.Numbers.{word_of}
 use Rattle.cx_exec.proofs.DivideLemmas.{division_once}
 use Rattle.cx_exec.specs.Operands.{byte_operand, halfword_operand, word_operand, even_register, IfFound}
 use Rattle.cx_exec.specs.Divide.{Divided}
 use Rattle.cx_exec.specs.Registers.{register_count, loaded_registers, LoadsRegisters}
 use Rattle.cx_exec.specs.Rows.{multiplied, RrEffect, RxEffect, RsEffect, SiEffect, EffectOf, Effect}
-use Rattle.cx_exec.specs.Step.{Executes, ExecutesWith, Performs, Runs, Steps, is_execute, target_at, ahead_of, entry}
+use Rattle.cx_exec.specs.Step.{performed, Runs, Steps, entry}
 use Rattle.cx_exec.specs.Advance.{Passes, Advances}
-use Rattle.cx_exec.proofs.Deciding.{Decides, goes_decides, stops_decides, present_decides, result_decides, bool_decides, stores_decides}
+use Rattle.cx_exec.proofs.Deciding.{Decides, goes_decides, stops_decides, present_decides, result_decides, stores_decides}
 use Rattle.cx_exec.proofs.DecimalLemmas.{cvb_decides, cvd_decides}
 use Rattle.cx_exec.proofs.MaskLemmas.{icm_decides, stcm_decides}
 use Rattle.cx_exec.proofs.LengthLemmas.{ss_decides, ss2_decides}
@@ -143,26 +142,9 @@ effect_decides : (i : Instruction) (ahead : Ahead) (m : Machine) → Decides (Ef
 unfolding Effect
 effect_decides i ahead m = effect_of_decides i.op i.fields ahead m
 
-executes_decides : (r1 a next : ℕ) (m : Machine) → Decides (Executes r1 a next m)
-unfolding Executes
-executes_decides r1 a next m =
-    result_decides (target_at m r1 a) m (λ i. Effect i (record { length = 2; next = next }) m) (λ i. effect_decides i _ m)
-
-executes_with_decides : (fields : Fields) (i : Instruction) (ahead : Ahead) (m : Machine) → Decides (ExecutesWith fields i ahead m)
-executes_with_decides (Rx r1 x2 b2 d2) i ahead m = executes_decides r1 (effective m.regs x2 b2 d2) ahead.next m
-executes_with_decides _ i ahead m = effect_decides i ahead m
-
-performs_decides : (i : Instruction) (ahead : Ahead) (m : Machine) → Decides (Performs i ahead m)
-unfolding Performs
-performs_decides i ahead m =
-    bool_decides (is_execute i.op) _ _ (executes_with_decides i.fields i ahead m) (effect_decides i ahead m)
-
 runs_decides : (m : Machine) → Decides (Runs m)
 unfolding Runs
-runs_decides m =
-    result_decides (code_at m.storage m.next) m
-    (λ bytes o a. MatchResult (read_as bytes) (λ i. Performs i (ahead_of m.next (length bytes)) m o a) (λ cause. Stops cause m o a))
-    (λ bytes. result_decides (read_as bytes) m (λ i. Performs i (ahead_of m.next (length bytes)) m) (λ i. performs_decides i _ m))
+runs_decides m = result_decides (performed m) m (λ d. Effect d.inst d.ahead m) (λ d. effect_decides d.inst d.ahead m)
 
 pub steps_decide : (m : Machine) (s t : Step) (a b : Machine) → Steps m s a → Steps m t b → (s ≡ t) × (a ≡ b)
 unfolding Steps

@@ -14,3 +14,5 @@ pub mod DecideLemmas
 pub mod LawLemmas
 pub mod StringLaws
 pub mod FetchLemmas
+pub mod Interrupting
+pub mod InterruptLemmas

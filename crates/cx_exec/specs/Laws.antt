@@ -5,3 +5,5 @@ pub mod Numbers
 pub mod Strings
 pub mod Runs
 pub mod Fetch
+pub mod Rows
+pub mod Interruptions

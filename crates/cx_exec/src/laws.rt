@@ -7,6 +7,8 @@ ghost use Rattle.cx_exec.specs.Advance.{Advances};
 ghost use Rattle.cx_exec.specs.Laws.Decide.{StepsDecide, RunsDecide};
 ghost use Rattle.cx_exec.specs.Laws.Areas.{RunsKeepAreas};
 ghost use Rattle.cx_exec.specs.Laws.Fetch.{SpelledIsFetched};
+ghost use Rattle.cx_exec.specs.Laws.Rows.{EveryRowIsThere};
+ghost use Rattle.cx_exec.specs.Laws.Interruptions.{InterruptionsLeave, InterruptionsKeep};
 ghost use Rattle.cx_exec.specs.Laws.Runs.{RunsJoin, StepsJoin};
 ghost use Rattle.cx_exec.specs.Laws.Numbers.{ResultIsExact, ProductIsExact, DivisionIsOne, HalvedIsFloor, ShiftedIsExact, StoredWords, LoadedWords};
 ghost use Rattle.cx_exec.specs.Laws.Strings.{DecimalReadsBack, ApartIsCopied, AllIsTaken};
@@ -31,6 +33,20 @@ pub fn runs_keep_areas()
 pub fn runs_join()
     ensures runs { RunsJoin }
     ensures steps { StepsJoin }
+{}
+
+/// Every well-formed instruction but EX has a row: its effect is never the interruption operation.
+#[tactic(auto, using(crate::proofs::InterruptLemmas::every_row_is_there))]
+pub fn every_row_is_there()
+    ensures { EveryRowIsThere }
+{}
+
+/// An interruption leaves registers, code, next address and storage as before, but for the register R1 of a CVB that
+/// is interrupted by 9.
+#[tactic(auto, using(crate::proofs::InterruptLemmas::interruptions_leave, crate::proofs::InterruptLemmas::interruptions_keep))]
+pub fn interruptions_leave()
+    ensures left { InterruptionsLeave }
+    ensures kept { InterruptionsKeep }
 {}
 
 /// An instruction that is spelled at an even address, all of its bytes present, is fetched, and read as itself.

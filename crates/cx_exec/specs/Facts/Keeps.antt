@@ -15,7 +15,6 @@ use Rattle.cx_exec.specs.declared.machine.Halt.{Halt}
 use Rattle.cx_exec.specs.declared.machine.Halt.TheVariants as halt
 use Rattle.cx_exec.specs.declared.rows.Ahead.{Ahead}
 use Rattle.cx_exec.specs.Machine.{Machine, reg, effective}
-use Rattle.cx_exec.specs.Fetch.{code_at, read_as}
 use Rattle.cx_exec.specs.Frame.{Outcome, Goes, Stops, IfPresent}
 use Rattle.cx_exec.specs.Operands.{byte_operand, halfword_operand, word_operand, even_register, IfFound, Stores}
 use Rattle.cx_exec.specs.Divide.{Divided}
@@ -28,7 +27,7 @@ use Rattle.cx_exec.specs.Lengths.{SsEffect, Ss2Effect}
 use Rattle.cx_exec.specs.Decimal.{Converts, CvbEffect, CvdEffect}
 use Rattle.cx_exec.specs.Masks.{IcmEffect, StcmEffect}
 use Rattle.cx_exec.specs.Rows.{RrEffect, RxEffect, RsEffect, SiEffect, EffectOf, Effect}
-use Rattle.cx_exec.specs.Step.{Executes, ExecutesWith, Performs, Runs, Steps, is_execute, target_at, ahead_of}
+use Rattle.cx_exec.specs.Step.{performed, Runs, Steps}
 use Rattle.cx_exec.specs.Advance.{Passes, Advances}
 use Rattle.cx_exec.specs.Laws.Areas.{SameAreas}
 
@@ -219,26 +218,9 @@ effect_keeps : (i : Instruction) (ahead : Ahead) (m : Machine) → Keeps m (Effe
 unfolding Effect
 effect_keeps i ahead m = effect_of_keeps i.op i.fields ahead m
 
-executes_keeps : (r1 a next : ℕ) (m : Machine) → Keeps m (Executes r1 a next m)
-unfolding Executes
-executes_keeps r1 a next m =
-    result_keeps (target_at m r1 a) m (λ i. Effect i (record { length = 2; next = next }) m) (λ i. effect_keeps i _ m)
-
-executes_with_keeps : (fields : Fields) (i : Instruction) (ahead : Ahead) (m : Machine) → Keeps m (ExecutesWith fields i ahead m)
-executes_with_keeps (Rx r1 x2 b2 d2) i ahead m = executes_keeps r1 (effective m.regs x2 b2 d2) ahead.next m
-executes_with_keeps _ i ahead m = effect_keeps i ahead m
-
-performs_keeps : (i : Instruction) (ahead : Ahead) (m : Machine) → Keeps m (Performs i ahead m)
-unfolding Performs
-performs_keeps i ahead m =
-    bool_keeps (is_execute i.op) m _ _ (executes_with_keeps i.fields i ahead m) (effect_keeps i ahead m)
-
 runs_keeps : (m : Machine) → Keeps m (Runs m)
 unfolding Runs
-runs_keeps m =
-    result_keeps (code_at m.storage m.next) m
-    (λ bytes o a. MatchResult (read_as bytes) (λ i. Performs i (ahead_of m.next (length bytes)) m o a) (λ cause. Stops cause m o a))
-    (λ bytes. result_keeps (read_as bytes) m (λ i. Performs i (ahead_of m.next (length bytes)) m) (λ i. performs_keeps i _ m))
+runs_keeps m = result_keeps (performed m) m (λ d. Effect d.inst d.ahead m) (λ d. effect_keeps d.inst d.ahead m)
 
 -- a step leaves the areas
 steps_keep_areas : (m : Machine) (step : Step) (after : Machine) → Steps m step after → SameAreas m after
