@@ -70,4 +70,4 @@ decimal_bytes z =
 
 -- CVD: the register as a signed number
 unfoldable pub CvdEffect : ℕ → ℕ → Ahead → Machine → Outcome → Machine → Type 0
-CvdEffect r1 a ahead m outcome after = Stores a (decimal_bytes (signed (reg m r1))) ahead m outcome after
+CvdEffect r1 a ahead m outcome after = Stores a (decimal_bytes (signed (reg m r1))) m.cc ahead m outcome after

@@ -6,8 +6,8 @@ use Rattle.cx_exec.specs.declared.machine.Interruption.TheVariants as interrupti
 use Rattle.cx_exec.specs.declared.rows.Ahead.{Ahead}
 use Rattle.cx_exec.specs.Machine.{Machine}
 use Rattle.cx_exec.specs.Frame.{Outcome, Stops}
-use Rattle.cx_exec.specs.Moves.{MvcEffect, XcEffect, ClcEffect}
-use Rattle.cx_exec.specs.Translate.{TrEffect, TrtEffect}
+use Rattle.cx_exec.specs.Strings.{MvcEffect, XcEffect, ClcEffect}
+use Rattle.cx_exec.specs.Translation.{TrEffect, TrtEffect}
 use Rattle.cx_exec.specs.Zoned.{PackEffect, UnpkEffect}
 
 -- one length for both operands

@@ -10,8 +10,8 @@ pub mod Shifts
 pub mod Registers
 pub mod Operands
 pub mod Sequence
-pub mod Moves
-pub mod Translate
+pub mod Strings
+pub mod Translation
 pub mod Zoned
 pub mod Lengths
 pub mod Decimal
@@ -21,4 +21,3 @@ pub mod Step
 pub mod Advance
 pub mod Laws
 pub mod Facts
-pub mod Parts

@@ -29,8 +29,8 @@ even_register r = if r % 2 == 0 then Ok r else Err interruption.Specification
 abbrev pub IfFound : Result ℕ Interruption → Machine → Outcome → Machine → (ℕ → Type 0) → Type 0
 IfFound operand m outcome after effect = MatchResult operand effect (λ cause. Stops cause m outcome after)
 
--- bytes are stored, all of them or, where one of their places is absent, none
-unfoldable pub Stores : ℕ → List ℕ → Ahead → Machine → Outcome → Machine → Type 0
-Stores a bytes ahead m outcome after =
+-- bytes are stored, all of them or, where one of their places is absent, none, and a condition code is left
+unfoldable pub Stores : ℕ → List ℕ → ℕ → Ahead → Machine → Outcome → Machine → Type 0
+Stores a bytes cc ahead m outcome after =
     IfPresent (span m.storage a (length bytes)) m outcome after
-    (λ _. Goes outcome after (record m { storage = written m.storage a bytes; next = ahead.next }))
+    (λ _. Goes outcome after (record m { storage = written m.storage a bytes; cc = cc; next = ahead.next }))

@@ -1,8 +1,8 @@
 -- What instructions leave that go on at the next address: each definition says all that changes.
-use Rattle.std.specs.Prelude.{ℕ, ◌+◌, ◌*◌, ◌/◌, ◌%◌, ◌^◌, ◌-◌, ℤ, List, ◌==◌, slice_index, slice_set, if◌then◌else◌}
+use Rattle.std.specs.Prelude.{ℕ, ◌+◌, ◌*◌, ◌/◌, ◌%◌, ◌^◌, ◌-◌, ℤ, pos, List, ◌==◌, slice_index, slice_set, if◌then◌else◌}
 use Rattle.cx_exec.specs.declared.rows.Ahead.{Ahead}
 use Rattle.cx_exec.specs.Machine.{Machine, reg}
-use Rattle.cx_exec.specs.Numbers.{word_of, sum_code}
+use Rattle.cx_exec.specs.Numbers.{signed, word_of, sum_code, order_code}
 
 -- a register is changed, and the condition code stays
 abbrev pub loaded : ℕ → ℕ → Ahead → Machine → Machine
@@ -11,6 +11,13 @@ loaded r word ahead m = record m { regs = slice_set m.regs r word; next = ahead.
 -- a condition code is set, and no register is changed
 abbrev pub coded : ℕ → Ahead → Machine → Machine
 coded cc ahead m = record m { cc = cc; next = ahead.next }
+
+-- two words compared, as signed numbers and as numbers without a sign
+abbrev pub compared : ℕ → ℕ → Ahead → Machine → Machine
+compared first second ahead m = coded (order_code (signed first) (signed second)) ahead m
+
+abbrev pub compared_logically : ℕ → ℕ → Ahead → Machine → Machine
+compared_logically first second ahead m = coded (order_code (pos first) (pos second)) ahead m
 
 -- a register is changed, and a condition code is set
 abbrev pub loaded_coded : ℕ → ℕ → ℕ → Ahead → Machine → Machine

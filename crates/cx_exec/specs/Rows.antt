@@ -1,8 +1,7 @@
 -- The effect of each instruction (POP, "General Instructions", the instructions' own descriptions).
 -- A row of another format is interruption 1, operation; no instruction that is read is one. EX stands apart.
-use Rattle.std.specs.Prelude.{ℕ, ◌+◌, ◌*◌, ◌%◌, ◌^◌, [], ◌∷◌, List, ℤ, pos, neg_ℤ, ◌+ℤ◌, ◌-ℤ◌, ◌*ℤ◌, Bool, ◌==◌, not, bit_and, bit_or, bit_xor, slice_set, slice_index, if◌then◌else◌}
+use Rattle.std.specs.Prelude.{ℕ, ◌+◌, ◌*◌, ◌%◌, ◌^◌, [], ◌∷◌, List, ℤ, neg_ℤ, ◌+ℤ◌, ◌-ℤ◌, ◌*ℤ◌, Bool, ◌==◌, not, bit_and, bit_or, bit_xor, slice_set, slice_index, if◌then◌else◌}
 use Rattle.byteorder.specs.Endian.{big_bytes}
-use Rattle.cx_storage.specs.Storage.{with_byte}
 use Rattle.cx_code.specs.declared.table.Op.{Op}
 use Rattle.cx_code.specs.declared.table.Op.TheVariants as op
 use Rattle.cx_code.specs.declared.instruction.Fields.{Fields}
@@ -11,10 +10,10 @@ use Rattle.cx_code.specs.Spelling.{Instruction}
 use Rattle.cx_exec.specs.declared.machine.Interruption.TheVariants as interruption
 use Rattle.cx_exec.specs.declared.rows.Ahead.{Ahead}
 use Rattle.cx_exec.specs.Machine.{Machine, reg, address, effective}
-use Rattle.cx_exec.specs.Numbers.{signed, signed_double, double_of, word_of, sign_code, sum_code, order_code, logical_code, test_code, inserted}
+use Rattle.cx_exec.specs.Numbers.{signed, signed_double, double_of, word_of, sign_code, sum_code, logical_code, test_code, inserted}
 use Rattle.cx_exec.specs.Frame.{Outcome, Goes, Stops}
 use Rattle.cx_exec.specs.Operands.{byte_operand, halfword_operand, word_operand, even_register, IfFound, Stores}
-use Rattle.cx_exec.specs.Results.{loaded, coded, loaded_coded, summed, pair, pair_coded, counted}
+use Rattle.cx_exec.specs.Results.{loaded, coded, loaded_coded, summed, pair, pair_coded, counted, compared, compared_logically}
 use Rattle.cx_exec.specs.Divide.{Divided}
 use Rattle.cx_exec.specs.Shifts.{amount, shifted_right, shifted_left, halved, doubled, shifted_arithmetic}
 use Rattle.cx_exec.specs.Registers.{register_count, register_bytes, LoadsRegisters}
@@ -46,13 +45,6 @@ branch_address regs r ahead = if r == 0 then ahead.next else address (slice_inde
 abbrev pub branched : ℕ → ℕ → Ahead → Machine → Machine
 branched mask to ahead m = record m { next = if selects mask m.cc then to else ahead.next }
 
--- two words compared, as signed numbers and as numbers without a sign
-abbrev pub compared : ℕ → ℕ → Ahead → Machine → Machine
-compared first second ahead m = coded (order_code (signed first) (signed second)) ahead m
-
-abbrev pub compared_logically : ℕ → ℕ → Ahead → Machine → Machine
-compared_logically first second ahead m = coded (order_code (pos first) (pos second)) ahead m
-
 -- a word added to a register, and subtracted
 abbrev pub added : ℕ → ℕ → Ahead → Machine → Machine
 added r word ahead m = summed r (signed (reg m r) +ℤ signed word) ahead m
@@ -65,9 +57,8 @@ abbrev pub multiplied : ℕ → ℕ → Ahead → Machine → Machine
 multiplied r word ahead m = pair_coded r (double_of (signed (reg m (r + 1)) *ℤ signed word)) m.cc ahead m
 
 -- one byte is stored, with the code of a logical result
-abbrev pub stored_logical : ℕ → ℕ → Ahead → Machine → Machine
-stored_logical a byte ahead m =
-    record m { storage = with_byte m.storage a byte; cc = logical_code byte; next = ahead.next }
+abbrev pub StoresLogical : ℕ → ℕ → Ahead → Machine → Outcome → Machine → Type 0
+StoresLogical a byte ahead m outcome after = Stores a (byte ∷ []) (logical_code byte) ahead m outcome after
 
 -- registers alone
 unfoldable pub RrEffect : Op → ℕ → ℕ → Ahead → Machine → Outcome → Machine → Type 0
@@ -91,9 +82,9 @@ RrEffect _ r1 r2 ahead m outcome after = Stops interruption.Operation m outcome 
 
 -- a register, or a mask, and the second operand's address
 unfoldable pub RxEffect : Op → ℕ → ℕ → Ahead → Machine → Outcome → Machine → Type 0
-RxEffect op.Sth r1 a ahead m outcome after = Stores a (big_bytes 2 (reg m r1 % 2 ^ 16)) ahead m outcome after
+RxEffect op.Sth r1 a ahead m outcome after = Stores a (big_bytes 2 (reg m r1 % 2 ^ 16)) m.cc ahead m outcome after
 RxEffect op.La r1 a ahead m outcome after = Goes outcome after (loaded r1 a ahead m)
-RxEffect op.Stc r1 a ahead m outcome after = Stores a (reg m r1 % 2 ^ 8 ∷ []) ahead m outcome after
+RxEffect op.Stc r1 a ahead m outcome after = Stores a (reg m r1 % 2 ^ 8 ∷ []) m.cc ahead m outcome after
 RxEffect op.Ic r1 a ahead m outcome after =
     IfFound (byte_operand m.storage a) m outcome after
     (λ byte. Goes outcome after (loaded r1 (inserted (reg m r1) byte) ahead m))
@@ -108,7 +99,7 @@ RxEffect op.Ah r1 a ahead m outcome after =
     IfFound (halfword_operand m.storage a) m outcome after (λ word. Goes outcome after (added r1 word ahead m))
 RxEffect op.Sh r1 a ahead m outcome after =
     IfFound (halfword_operand m.storage a) m outcome after (λ word. Goes outcome after (subtracted r1 word ahead m))
-RxEffect op.St r1 a ahead m outcome after = Stores a (big_bytes 4 (reg m r1)) ahead m outcome after
+RxEffect op.St r1 a ahead m outcome after = Stores a (big_bytes 4 (reg m r1)) m.cc ahead m outcome after
 RxEffect op.Cl r1 a ahead m outcome after =
     IfFound (word_operand m.storage a) m outcome after (λ word. Goes outcome after (compared_logically (reg m r1) word ahead m))
 RxEffect op.L r1 a ahead m outcome after =
@@ -149,7 +140,7 @@ RsEffect op.Srda r1 r3 a ahead m outcome after =
     Goes outcome after
     (pair_coded r (double_of (halved_pair m r (amount a))) (sign_code (halved_pair m r (amount a))) ahead m))
 RsEffect op.Stm r1 r3 a ahead m outcome after =
-    Stores a (register_bytes m.regs r1 (register_count r1 r3)) ahead m outcome after
+    Stores a (register_bytes m.regs r1 (register_count r1 r3)) m.cc ahead m outcome after
 RsEffect op.Lm r1 r3 a ahead m outcome after = LoadsRegisters r1 r3 a ahead m outcome after
 RsEffect op.Stcm r1 mask a ahead m outcome after = StcmEffect r1 mask a ahead m outcome after
 RsEffect op.Icm r1 mask a ahead m outcome after = IcmEffect r1 mask a ahead m outcome after
@@ -159,15 +150,15 @@ RsEffect _ r1 r3 a ahead m outcome after = Stops interruption.Operation m outcom
 unfoldable pub SiEffect : Op → ℕ → ℕ → Ahead → Machine → Outcome → Machine → Type 0
 SiEffect op.Tm mask a ahead m outcome after =
     IfFound (byte_operand m.storage a) m outcome after (λ byte. Goes outcome after (coded (test_code mask byte) ahead m))
-SiEffect op.Mvi i2 a ahead m outcome after = Stores a (i2 ∷ []) ahead m outcome after
+SiEffect op.Mvi i2 a ahead m outcome after = Stores a (i2 ∷ []) m.cc ahead m outcome after
 SiEffect op.Ni i2 a ahead m outcome after =
     IfFound (byte_operand m.storage a) m outcome after
-    (λ byte. Goes outcome after (stored_logical a (bit_and byte i2) ahead m))
+    (λ byte. StoresLogical a (bit_and byte i2) ahead m outcome after)
 SiEffect op.Cli i2 a ahead m outcome after =
     IfFound (byte_operand m.storage a) m outcome after (λ byte. Goes outcome after (compared_logically byte i2 ahead m))
 SiEffect op.Oi i2 a ahead m outcome after =
     IfFound (byte_operand m.storage a) m outcome after
-    (λ byte. Goes outcome after (stored_logical a (bit_or byte i2) ahead m))
+    (λ byte. StoresLogical a (bit_or byte i2) ahead m outcome after)
 SiEffect _ i2 a ahead m outcome after = Stops interruption.Operation m outcome after
 
 -- every row but EX, with its operand's address formed before anything changes

@@ -144,5 +144,6 @@ pub(crate) fn cvd<S: Store>(
     ensures { CvdEffect r1 a ahead (machine cpu.old (S.storage store.old)) result (machine cpu.new (S.storage store.new)) }
 {
     let bytes = decimal_bytes(cpu.regs[r1 as usize]);
-    put_bytes(cpu, store, a, &bytes, ahead)
+    let cc = cpu.cc;
+    put_bytes(cpu, store, a, &bytes, cc, ahead)
 }

@@ -11,7 +11,7 @@ ghost use Rattle.cx_exec.specs.Laws.Rows.{EveryRowIsThere};
 ghost use Rattle.cx_exec.specs.Laws.Interruptions.{InterruptionsLeave, InterruptionsKeep};
 ghost use Rattle.cx_exec.specs.Laws.Runs.{RunsJoin, StepsJoin};
 ghost use Rattle.cx_exec.specs.Laws.Numbers.{ResultIsExact, ProductIsExact, DivisionIsOne, HalvedIsFloor, ShiftedIsExact, StoredWords, LoadedWords};
-ghost use Rattle.cx_exec.specs.Laws.Strings.{DecimalReadsBack, ApartIsCopied, AllIsTaken};
+ghost use Rattle.cx_exec.specs.Laws.Strings.{DecimalReadsBack, EachIsStored, ApartIsCopied, AllIsTaken};
 
 /// The step's answer and the machine after it are determined by the machine before.
 pub fn steps_decide()
@@ -110,8 +110,15 @@ pub fn apart_is_copied()
     ensures { ApartIsCopied }
 {}
 
+/// MVC, XC, TR, PACK and UNPK: as many bytes are stored as are asked for, and each is what the rule makes of those
+/// before it.
+#[tactic(auto, using(crate::proofs::SequenceLemmas::each_is_stored))]
+pub fn each_is_stored()
+    ensures { EachIsStored }
+{}
+
 /// STCM: a mask of four ones takes the whole word.
-#[tactic(auto, unfolding(crate::specs::Masks::taken))]
+#[tactic(auto, unfolding(crate::specs::Masks::chosen))]
 pub fn all_is_taken()
     ensures { AllIsTaken }
 {}

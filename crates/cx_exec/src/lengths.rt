@@ -5,9 +5,9 @@ ghost use Rattle.cx_exec.specs.State.{machine};
 ghost use Rattle.cx_exec.specs.Lengths.{SsEffect, Ss2Effect};
 
 use crate::machine::{Cpu, Interruption};
-use crate::moves::{clc, mvc, xc};
 use crate::rows::Ahead;
-use crate::translate::{tr, trt};
+use crate::strings::{clc, mvc, xc};
+use crate::translation::{tr, trt};
 use crate::zoned::{pack, unpk};
 use cx_code::Op;
 use cx_storage::Store;

@@ -9,7 +9,6 @@ pub mod laws;
 mod lengths;
 mod machine;
 mod masks;
-mod moves;
 mod numbers;
 mod operands;
 mod pairs;
@@ -17,13 +16,15 @@ mod registers;
 mod results;
 mod rows;
 mod runs;
+mod sequence;
 mod shifts;
 mod stepping;
+mod strings;
 #[cfg(test)]
 mod string_tests;
 #[cfg(test)]
 mod tests;
-mod translate;
+mod translation;
 mod zoned;
 
 pub use machine::{Cpu, ENTRY, Halt, Interruption, Step};

@@ -3,13 +3,11 @@
 ghost use Rattle.std.specs.Prelude.{◌≡◌, ◌<◌, ◌≤◌, ◌^◌, ◌%◌, length, IfOk, Ok};
 ghost use Rattle.cx_exec.specs.State.{machine};
 ghost use Rattle.cx_exec.specs.Operands.{byte_operand, halfword_operand, word_operand, even_register, Stores};
-ghost use Rattle.cx_storage.specs.Storage.{with_byte};
 ghost use Rattle.byteorder.specs.Endian.{big_bytes};
-ghost use Rattle.cx_exec.specs.Numbers.{logical_code};
+ghost use Rattle.cx_exec.specs.Rows.{StoresLogical};
 
 use crate::machine::{Cpu, Interruption};
 use crate::numbers::{extended, logical_code};
-use crate::results::set_code;
 use crate::rows::Ahead;
 use byteorder::{BigEndian, ByteOrder};
 use cx_storage::Store;
@@ -62,28 +60,32 @@ pub(crate) fn even(r: u8) -> Result<u8, Interruption>
     }
 }
 
-/// Stores bytes, at most 65,536, from an address on: all of them, or none and interruption 5.
+/// Stores bytes, at most 65,536, from an address on, and sets the condition code: all of them, or nothing and
+/// interruption 5.
 #[tactic(auto, using(crate::proofs::Storing::not_written), unfolding(crate::specs::Operands::Stores))]
 pub(crate) fn put_bytes<S: Store>(
     cpu: &mut Cpu,
     store: &mut S,
     a: u32,
     bytes: &[u8],
+    cc: u8,
     ahead: Ahead,
 ) -> Result<(), Interruption>
     requires operand { a < 2 ^ 24 }
     requires size { length bytes.now ≤ 65536 }
+    requires code { cc ≤ 3 }
     requires address { ahead.next < 2 ^ 24 }
-    ensures { Stores a bytes.now ahead (machine cpu.old (S.storage store.old)) result (machine cpu.new (S.storage store.new)) }
+    ensures { Stores a bytes.now cc ahead (machine cpu.old (S.storage store.old)) result (machine cpu.new (S.storage store.new)) }
 {
     if !store.write(a, bytes) {
         return Err(Interruption::Addressing);
     }
+    cpu.cc = cc;
     cpu.next = ahead.next;
     Ok(())
 }
 
-/// Stores one byte where a byte is present, and sets the code of a logical result.
+/// Stores one byte, with the code of a logical result.
 pub(crate) fn put_logical<S: Store>(
     cpu: &mut Cpu,
     store: &mut S,
@@ -93,14 +95,10 @@ pub(crate) fn put_logical<S: Store>(
 ) -> Result<(), Interruption>
     requires operand { a < 2 ^ 24 }
     requires address { ahead.next < 2 ^ 24 }
-    ensures done { result ≡ Ok tt }
-    ensures storage { S.storage store.new ≡ with_byte (S.storage store.old) a byte }
-    ensures regs { cpu.new.regs ≡ cpu.old.regs }
-    ensures code { cpu.new.cc ≡ logical_code byte }
-    ensures next { cpu.new.next ≡ ahead.next }
+    ensures { StoresLogical a byte ahead (machine cpu.old (S.storage store.old)) result (machine cpu.new (S.storage store.new)) }
 {
-    store.set(a, byte);
-    set_code(cpu, logical_code(u32::from(byte)), ahead)
+    let cc = logical_code(u32::from(byte));
+    put_bytes(cpu, store, a, &[byte], cc, ahead)
 }
 
 /// The bytes of a word.

@@ -73,12 +73,13 @@ pub(crate) fn store_multiple<S: Store>(
     requires last { last < 16 }
     requires operand { a < 2 ^ 24 }
     requires address { ahead.next < 2 ^ 24 }
-    ensures { Stores a (register_bytes cpu.old.regs first (register_count first last)) ahead (machine cpu.old (S.storage store.old)) result (machine cpu.new (S.storage store.new)) }
+    ensures { Stores a (register_bytes cpu.old.regs first (register_count first last)) cpu.old.cc ahead (machine cpu.old (S.storage store.old)) result (machine cpu.new (S.storage store.new)) }
 {
     let count = place_after(first, last) as usize + 1;
     let mut bytes = [0; 64];
     write_registers(&cpu.regs, first, count, &mut bytes);
-    put_bytes(cpu, store, a, &bytes[..4 * count], ahead)
+    let cc = cpu.cc;
+    put_bytes(cpu, store, a, &bytes[..4 * count], cc, ahead)
 }
 
 /// Loads the registers from the first through the last one: all of them, or none and interruption 5.

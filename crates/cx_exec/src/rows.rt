@@ -104,10 +104,11 @@ fn rx_effect<S: Store>(
     ensures { RxEffect op r1 a ahead (machine cpu.old (S.storage store.old)) result (machine cpu.new (S.storage store.new)) }
 {
     let first = cpu.regs[r1 as usize];
+    let cc = cpu.cc;
     match op {
-        Op::Sth => put_bytes(cpu, store, a, &half_bytes(first), ahead),
+        Op::Sth => put_bytes(cpu, store, a, &half_bytes(first), cc, ahead),
         Op::La => load(cpu, r1, a, ahead),
-        Op::Stc => put_bytes(cpu, store, a, &[(first % 0x100) as u8], ahead),
+        Op::Stc => put_bytes(cpu, store, a, &[(first % 0x100) as u8], cc, ahead),
         Op::Ic => load(cpu, r1, inserted(first, byte_at(store, a)?), ahead),
         Op::Bal => link(cpu, r1, a, ahead),
         Op::Bct => count(cpu, r1, a, ahead),
@@ -116,7 +117,7 @@ fn rx_effect<S: Store>(
         Op::Ch => set_code(cpu, signed_order(first, halfword_at(store, a)?), ahead),
         Op::Ah => put_sum(cpu, r1, sum(first, halfword_at(store, a)?), ahead),
         Op::Sh => put_sum(cpu, r1, difference(first, halfword_at(store, a)?), ahead),
-        Op::St => put_bytes(cpu, store, a, &word_bytes(first), ahead),
+        Op::St => put_bytes(cpu, store, a, &word_bytes(first), cc, ahead),
         Op::Cl => set_code(cpu, logical_order(first, word_at(store, a)?), ahead),
         Op::L => load(cpu, r1, word_at(store, a)?, ahead),
         Op::C => set_code(cpu, signed_order(first, word_at(store, a)?), ahead),
@@ -178,9 +179,10 @@ fn si_effect<S: Store>(
     requires address { ahead.next < 2 ^ 24 }
     ensures { SiEffect op i2 a ahead (machine cpu.old (S.storage store.old)) result (machine cpu.new (S.storage store.new)) }
 {
+    let cc = cpu.cc;
     match op {
         Op::Tm => set_code(cpu, test_code(i2, byte_at(store, a)?), ahead),
-        Op::Mvi => put_bytes(cpu, store, a, &[i2], ahead),
+        Op::Mvi => put_bytes(cpu, store, a, &[i2], cc, ahead),
         Op::Ni => put_logical(cpu, store, a, byte_at(store, a)? & i2, ahead),
         Op::Cli => set_code(cpu, byte_order(byte_at(store, a)?, i2), ahead),
         Op::Oi => put_logical(cpu, store, a, byte_at(store, a)? | i2, ahead),
