@@ -7,7 +7,7 @@ use Rattle.cx_exec.specs.declared.machine.Halt.{Halt}
 use Rattle.cx_exec.specs.declared.machine.Halt.TheVariants as halt
 use Rattle.cx_exec.specs.declared.stepping.Due.{Due}
 use Rattle.cx_exec.specs.Machine.{Machine}
-use Rattle.cx_exec.specs.Frame.{Outcome, Stops}
+use Rattle.cx_exec.specs.Outcome.{Outcome, Suppressed}
 use Rattle.cx_exec.specs.Rows.{Effect}
 use Rattle.cx_exec.specs.Step.{performed, Runs, Steps, entry}
 use Rattle.cx_exec.specs.Advance.{Passes, Advances}
@@ -15,14 +15,14 @@ use Rattle.cx_exec.specs.Facts.Rows.{effect}
 use Rattle.cx_exec.proofs.DivideLemmas.{division_once}
 
 abbrev Ends : Machine → Result Due Interruption → Outcome → Machine → Type 0
-Ends m r outcome after = MatchResult r (λ d. Effect d.inst d.ahead m outcome after) (λ cause. Stops cause m outcome after)
+Ends m r outcome after = MatchResult r (λ d. Effect d.inst d.updated m outcome after) (λ cause. Suppressed cause m outcome after)
 
 runs_decides : (m : Machine) (o p : Outcome) (a b : Machine) → Runs m o a → Runs m p b → (o ≡ p) × (a ≡ b)
 unfolding Runs
 runs_decides m o p a b h k = go (performed m) h k
   where
     go : (r : Result Due Interruption) → Ends m r o a → Ends m r p b → (o ≡ p) × (a ≡ b)
-    go (Ok d) h k = (effect d.inst d.ahead m).decides division_once o p a b h k
+    go (Ok d) h k = (effect d.inst d.updated m).decides division_once o p a b h k
     go (Err cause) h k = (h.0 ∙ sym k.0, h.1 ∙ sym k.1)
 
 pub steps_decide : (m : Machine) (s t : Step) (a b : Machine) → Steps m s a → Steps m t b → (s ≡ t) × (a ≡ b)

@@ -4,28 +4,28 @@ use Rattle.cx_code.specs.Spelling.{Instruction, IsWellFormed}
 use Rattle.cx_exec.specs.declared.machine.Interruption.{Interruption}
 use Rattle.cx_exec.specs.declared.machine.Interruption.TheVariants as interruption
 use Rattle.cx_exec.specs.declared.machine.Step.TheVariants.{Interrupt}
-use Rattle.cx_exec.specs.declared.rows.Ahead.{Ahead}
+use Rattle.cx_exec.specs.declared.machine.Updated.{Updated}
 use Rattle.cx_exec.specs.declared.stepping.Due.{Due}
 use Rattle.cx_exec.specs.Machine.{Machine}
-use Rattle.cx_exec.specs.Frame.{Stops}
+use Rattle.cx_exec.specs.Outcome.{Suppressed}
 use Rattle.cx_exec.specs.Rows.{Effect}
 use Rattle.cx_exec.specs.Step.{is_execute, performed, Runs, Steps}
 use Rattle.cx_exec.specs.Laws.Interruptions.{IsConversion}
 use Rattle.cx_exec.specs.Facts.Rows.{IsConvertedBy, effect}
 
-pub every_row_is_there : (i : Instruction) (ahead : Ahead) (m after : Machine) → IsWellFormed i → is_execute i.op ≡ false
-    → Effect i ahead m (Err interruption.Operation) after → ⊥
+pub every_row_is_there : (i : Instruction) (updated : Updated) (m after : Machine) → IsWellFormed i → is_execute i.op ≡ false
+    → Effect i updated m (Err interruption.Operation) after → ⊥
 unfolding IsWellFormed
-every_row_is_there i ahead m after formed other h = (effect i ahead m).known after h formed.0 other
+every_row_is_there i updated m after formed other h = (effect i updated m).known after h formed.0 other
 
 pub interruptions_leave : (m : Machine) (cause : Interruption) (after : Machine) → Steps m (Interrupt cause) after → (after ≡ m) ⊎ IsConversion m cause after
 unfolding Steps Runs
 interruptions_leave m cause after h = go (performed m) refl h.1
   where
-    go : (r : Result Due Interruption) → performed m ≡ r → MatchResult r (λ d. Effect d.inst d.ahead m (Err cause) after) (λ c. Stops c m (Err cause) after)
+    go : (r : Result Due Interruption) → performed m ≡ r → MatchResult r (λ d. Effect d.inst d.updated m (Err cause) after) (λ c. Suppressed c m (Err cause) after)
         → (after ≡ m) ⊎ IsConversion m cause after
     go (Err c) e h = inl h.1
-    go (Ok d) e h = by_cases ((effect d.inst d.ahead m).left cause after h)
+    go (Ok d) e h = by_cases ((effect d.inst d.updated m).left cause after h)
       where
         by_cases : (after ≡ m) ⊎ IsConvertedBy d.inst m cause after → (after ≡ m) ⊎ IsConversion m cause after
         by_cases (inl k) = inl k

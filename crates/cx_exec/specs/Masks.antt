@@ -5,10 +5,10 @@ use Rattle.std.specs.Prelude.{ℕ, ◌-◌, ◌*◌, ◌/◌, ◌%◌, ◌^◌, 
 use Rattle.std.specs.List.{filter, range_with_len}
 use Rattle.cx_storage.specs.Storage.{span}
 use Rattle.cx_storage.specs.Word.{number_of}
-use Rattle.cx_exec.specs.declared.rows.Ahead.{Ahead}
+use Rattle.cx_exec.specs.declared.machine.Updated.{Updated}
 use Rattle.cx_exec.specs.Machine.{Machine, reg}
-use Rattle.cx_exec.specs.Frame.{Outcome, Goes, IfPresent}
-use Rattle.cx_exec.specs.Operands.{Stores}
+use Rattle.cx_exec.specs.Outcome.{Outcome, Completes}
+use Rattle.cx_exec.specs.Operands.{IfPresent, Stores}
 use Rattle.cx_exec.specs.Results.{loaded_coded}
 
 -- the k-th byte of a word, the leftmost first
@@ -23,8 +23,8 @@ unfoldable pub chosen : ℕ → ℕ → List ℕ
 chosen mask n = filter (takes mask) (range_with_len 0 n)
 
 -- STCM: the bytes at the places chosen
-unfoldable pub StcmEffect : ℕ → ℕ → ℕ → Ahead → Machine → Outcome → Machine → Type 0
-StcmEffect r1 mask a ahead m outcome after = Stores a (map (byte_of (reg m r1)) (chosen mask 4)) m.cc ahead m outcome after
+unfoldable pub StcmEffect : ℕ → ℕ → ℕ → Updated → Machine → Outcome → Machine → Type 0
+StcmEffect r1 mask a updated m outcome after = Stores a (map (byte_of (reg m r1)) (chosen mask 4)) m.cc updated m outcome after
 
 -- ICM: the byte at a place that is the i-th one chosen is the i-th of the bytes; the others stay
 abbrev pub inserted_byte : ℕ → ℕ → List ℕ → ℕ → ℕ
@@ -36,7 +36,7 @@ word_inserted mask word bytes = number_of (map (inserted_byte mask word bytes) (
 unfoldable pub insert_code : List ℕ → ℕ
 insert_code bytes = if number_of bytes == 0 then 0 else (if nat_le 128 (slice_index bytes 0) then 1 else 2)
 
-unfoldable pub IcmEffect : ℕ → ℕ → ℕ → Ahead → Machine → Outcome → Machine → Type 0
-IcmEffect r1 mask a ahead m outcome after =
+unfoldable pub IcmEffect : ℕ → ℕ → ℕ → Updated → Machine → Outcome → Machine → Type 0
+IcmEffect r1 mask a updated m outcome after =
     IfPresent (span m.storage a (length (chosen mask 4))) m outcome after
-    (λ bytes. Goes outcome after (loaded_coded r1 (word_inserted mask (reg m r1) bytes) (insert_code bytes) ahead m))
+    (λ bytes. Completes outcome after (loaded_coded r1 (word_inserted mask (reg m r1) bytes) (insert_code bytes) updated m))

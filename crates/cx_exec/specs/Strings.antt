@@ -1,15 +1,14 @@
--- Strings of n bytes (POP, "Move", "Compare Logical", "Exclusive Or"), from left to right; a1 and a2 are the operands'
--- addresses. D2 MVC, D5 CLC, D7 XC [SS]: a byte of an operand absent 5. MVC leaves the code; CLC: 0 equal, 1 first low,
--- 2 first high; XC: 0 zero, 1 not zero.
+-- D2 MVC  Move, D7 XC  Exclusive Or [SS] (POP): strings of n bytes, at a1 and a2, from left to right. A byte of an operand
+-- absent 5. MVC leaves the code; XC: 0 zero, 1 not zero.
 use Rattle.std.specs.Prelude.{ℕ, List, bit_xor}
 use Rattle.cx_storage.specs.Storage.{Storage, along, distance, span}
 use Rattle.cx_storage.specs.Word.{number_of}
-use Rattle.cx_exec.specs.declared.rows.Ahead.{Ahead}
+use Rattle.cx_exec.specs.declared.machine.Updated.{Updated}
 use Rattle.cx_exec.specs.Machine.{Machine}
-use Rattle.cx_exec.specs.Frame.{Outcome, Goes, IfPresent}
-use Rattle.cx_exec.specs.Numbers.{logical_code}
+use Rattle.cx_exec.specs.Outcome.{Outcome}
+use Rattle.cx_exec.specs.Operands.{IfPresent}
+use Rattle.cx_exec.specs.Logic.{logical_code}
 use Rattle.cx_exec.specs.Operands.{Stores}
-use Rattle.cx_exec.specs.Results.{compared_logically}
 use Rattle.cx_exec.specs.Sequence.{content, seen, stored_by}
 
 -- the byte of the second operand
@@ -20,22 +19,14 @@ moved s a1 a2 stored k = seen s stored (distance a1 (along a2 k)) (along a2 k)
 unfoldable pub xored : Storage → ℕ → ℕ → List ℕ → ℕ → ℕ
 xored s a1 a2 stored k = bit_xor (content s (along a1 k)) (seen s stored (distance a1 (along a2 k)) (along a2 k))
 
-unfoldable pub MvcEffect : ℕ → ℕ → ℕ → Ahead → Machine → Outcome → Machine → Type 0
-MvcEffect n a1 a2 ahead m outcome after =
+unfoldable pub MvcEffect : ℕ → ℕ → ℕ → Updated → Machine → Outcome → Machine → Type 0
+MvcEffect n a1 a2 updated m outcome after =
     IfPresent (span m.storage a2 n) m outcome after
-    (λ _. Stores a1 (stored_by (moved m.storage a1 a2) n) m.cc ahead m outcome after)
+    (λ _. Stores a1 (stored_by (moved m.storage a1 a2) n) m.cc updated m outcome after)
 
-unfoldable pub XcEffect : ℕ → ℕ → ℕ → Ahead → Machine → Outcome → Machine → Type 0
-XcEffect n a1 a2 ahead m outcome after =
+unfoldable pub XcEffect : ℕ → ℕ → ℕ → Updated → Machine → Outcome → Machine → Type 0
+XcEffect n a1 a2 updated m outcome after =
     IfPresent (span m.storage a2 n) m outcome after
     (λ _.
     let new = stored_by (xored m.storage a1 a2) n in
-    Stores a1 new (logical_code (number_of new)) ahead m outcome after)
-
--- the strings as numbers without a sign
-unfoldable pub ClcEffect : ℕ → ℕ → ℕ → Ahead → Machine → Outcome → Machine → Type 0
-ClcEffect n a1 a2 ahead m outcome after =
-    IfPresent (span m.storage a1 n) m outcome after
-    (λ first.
-    IfPresent (span m.storage a2 n) m outcome after
-    (λ second. Goes outcome after (compared_logically (number_of first) (number_of second) ahead m)))
+    Stores a1 new (logical_code (number_of new)) updated m outcome after)

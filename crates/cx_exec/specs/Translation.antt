@@ -5,10 +5,11 @@ use Rattle.std.specs.Prelude.{◌≡◌, ℕ, ◌+◌, ◌*◌, ◌/◌, ◌^◌
 use Rattle.std.specs.List.{range_with_len}
 use Rattle.cx_storage.specs.Storage.{Storage, byte_at, along, distance, span, written}
 use Rattle.cx_exec.specs.declared.machine.Interruption.TheVariants as interruption
-use Rattle.cx_exec.specs.declared.rows.Ahead.{Ahead}
+use Rattle.cx_exec.specs.declared.machine.Updated.{Updated}
 use Rattle.cx_exec.specs.Machine.{Machine, reg}
-use Rattle.cx_exec.specs.Frame.{Outcome, Goes, IfPresent}
-use Rattle.cx_exec.specs.Numbers.{inserted}
+use Rattle.cx_exec.specs.Outcome.{Outcome, Completes}
+use Rattle.cx_exec.specs.Operands.{IfPresent}
+use Rattle.cx_exec.specs.Loads.{inserted}
 use Rattle.cx_exec.specs.Results.{coded}
 use Rattle.cx_exec.specs.Sequence.{content, seen, stored_by}
 
@@ -26,11 +27,11 @@ translated s a1 a2 stored k =
     let x = along a2 (content s (along a1 k)) in
     seen s stored (distance a1 x) x
 
-unfoldable pub TrEffect : ℕ → ℕ → ℕ → Ahead → Machine → Outcome → Machine → Type 0
-TrEffect n a1 a2 ahead m (Ok _) after =
+unfoldable pub TrEffect : ℕ → ℕ → ℕ → Updated → Machine → Outcome → Machine → Type 0
+TrEffect n a1 a2 updated m (Ok _) after =
     HasTable m.storage n a1 a2
-    × (after ≡ record m { storage = written m.storage a1 (stored_by (translated m.storage a1 a2) n); next = ahead.next })
-TrEffect n a1 a2 ahead m (Err cause) after =
+    × (after ≡ record m { storage = written m.storage a1 (stored_by (translated m.storage a1 a2) n); next = updated.address })
+TrEffect n a1 a2 updated m (Err cause) after =
     (HasTable m.storage n a1 a2 → ⊥) × (cause ≡ interruption.Addressing) × (after ≡ m)
 
 -- TRT: the first place whose byte of the table isn't there with the value zero
@@ -45,18 +46,18 @@ abbrev pub with_address : ℕ → ℕ → ℕ
 with_address word a = word / 2 ^ 24 * 2 ^ 24 + a
 
 -- the argument's address in register 1, the table's byte in register 2
-unfoldable pub found_at : ℕ → ℕ → ℕ → ℕ → Ahead → Machine → Machine
-found_at n a1 k byte ahead m = record m {
+unfoldable pub found_at : ℕ → ℕ → ℕ → ℕ → Updated → Machine → Machine
+found_at n a1 k byte updated m = record m {
   regs = slice_set (slice_set m.regs 1 (with_address (reg m 1) (along a1 k))) 2 (inserted (reg m 2) byte);
   cc = if k + 1 == n then 2 else 1;
-  next = ahead.next;
+  next = updated.address;
 }
 
-unfoldable pub Finds : ℕ → ℕ → ℕ → Ahead → Machine → Outcome → Machine → Option ℕ → Type 0
-Finds n a1 a2 ahead m outcome after None = Goes outcome after (coded 0 ahead m)
-Finds n a1 a2 ahead m outcome after (Some k) =
-    IfPresent (table_byte m.storage a1 a2 k) m outcome after (λ byte. Goes outcome after (found_at n a1 k byte ahead m))
+unfoldable pub Finds : ℕ → ℕ → ℕ → Updated → Machine → Outcome → Machine → Option ℕ → Type 0
+Finds n a1 a2 updated m outcome after None = Completes outcome after (coded 0 updated m)
+Finds n a1 a2 updated m outcome after (Some k) =
+    IfPresent (table_byte m.storage a1 a2 k) m outcome after (λ byte. Completes outcome after (found_at n a1 k byte updated m))
 
-unfoldable pub TrtEffect : ℕ → ℕ → ℕ → Ahead → Machine → Outcome → Machine → Type 0
-TrtEffect n a1 a2 ahead m outcome after =
-    IfPresent (span m.storage a1 n) m outcome after (λ _. Finds n a1 a2 ahead m outcome after (first_found m.storage n a1 a2))
+unfoldable pub TrtEffect : ℕ → ℕ → ℕ → Updated → Machine → Outcome → Machine → Type 0
+TrtEffect n a1 a2 updated m outcome after =
+    IfPresent (span m.storage a1 n) m outcome after (λ _. Finds n a1 a2 updated m outcome after (first_found m.storage n a1 a2))

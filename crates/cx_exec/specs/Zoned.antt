@@ -3,10 +3,10 @@
 -- That each source byte is fetched just before the bytes made of it are stored is this project's own.
 use Rattle.std.specs.Prelude.{ℕ, ◌+◌, ◌-◌, ◌*◌, ◌/◌, ◌%◌, ◌^◌, List, take, reverse, ◌==◌, nat_lt, if◌then◌else◌}
 use Rattle.cx_storage.specs.Storage.{Storage, along, distance, span}
-use Rattle.cx_exec.specs.declared.rows.Ahead.{Ahead}
+use Rattle.cx_exec.specs.declared.machine.Updated.{Updated}
 use Rattle.cx_exec.specs.Machine.{Machine}
-use Rattle.cx_exec.specs.Frame.{Outcome, IfPresent}
-use Rattle.cx_exec.specs.Operands.{Stores}
+use Rattle.cx_exec.specs.Outcome.{Outcome}
+use Rattle.cx_exec.specs.Operands.{IfPresent, Stores}
 use Rattle.cx_exec.specs.Sequence.{seen, stored_by}
 
 -- k bytes before an address; before the address 0 comes 2^24 - 1
@@ -38,12 +38,12 @@ unpacked_half k byte = if k == 0 then swapped byte else (if k % 2 == 0 then 0xF0
 unfoldable pub unpacked : Storage → ℕ → ℕ → ℕ → List ℕ → ℕ → ℕ
 unpacked s e1 n2 e2 stored k = unpacked_half k (source s e1 n2 e2 (take (fetched_at k) stored) ((k + 1) / 2))
 
-unfoldable pub PackEffect : ℕ → ℕ → ℕ → ℕ → Ahead → Machine → Outcome → Machine → Type 0
-PackEffect n1 n2 a1 a2 ahead m outcome after =
+unfoldable pub PackEffect : ℕ → ℕ → ℕ → ℕ → Updated → Machine → Outcome → Machine → Type 0
+PackEffect n1 n2 a1 a2 updated m outcome after =
     IfPresent (span m.storage a2 n2) m outcome after
-    (λ _. Stores a1 (reverse (stored_by (packed m.storage (along a1 (n1 - 1)) n2 (along a2 (n2 - 1))) n1)) m.cc ahead m outcome after)
+    (λ _. Stores a1 (reverse (stored_by (packed m.storage (along a1 (n1 - 1)) n2 (along a2 (n2 - 1))) n1)) m.cc updated m outcome after)
 
-unfoldable pub UnpkEffect : ℕ → ℕ → ℕ → ℕ → Ahead → Machine → Outcome → Machine → Type 0
-UnpkEffect n1 n2 a1 a2 ahead m outcome after =
+unfoldable pub UnpkEffect : ℕ → ℕ → ℕ → ℕ → Updated → Machine → Outcome → Machine → Type 0
+UnpkEffect n1 n2 a1 a2 updated m outcome after =
     IfPresent (span m.storage a2 n2) m outcome after
-    (λ _. Stores a1 (reverse (stored_by (unpacked m.storage (along a1 (n1 - 1)) n2 (along a2 (n2 - 1))) n1)) m.cc ahead m outcome after)
+    (λ _. Stores a1 (reverse (stored_by (unpacked m.storage (along a1 (n1 - 1)) n2 (along a2 (n2 - 1))) n1)) m.cc updated m outcome after)

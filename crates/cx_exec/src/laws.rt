@@ -10,7 +10,7 @@ ghost use Rattle.cx_exec.specs.Laws.Fetch.{SpelledIsFetched};
 ghost use Rattle.cx_exec.specs.Laws.Rows.{EveryRowIsThere};
 ghost use Rattle.cx_exec.specs.Laws.Interruptions.{InterruptionsLeave, InterruptionsKeep};
 ghost use Rattle.cx_exec.specs.Laws.Runs.{RunsJoin, StepsJoin};
-ghost use Rattle.cx_exec.specs.Laws.Numbers.{ResultIsExact, ProductIsExact, DivisionIsOne, HalvedIsFloor, ShiftedIsExact, StoredWords, LoadedWords};
+ghost use Rattle.cx_exec.specs.Laws.Numbers.{ResultIsExact, ProductIsExact, DivisionIsOne, ShiftedIsFloor, ShiftedIsExact, StoredWords, LoadedWords};
 ghost use Rattle.cx_exec.specs.Laws.Strings.{DecimalReadsBack, EachIsStored, ApartIsCopied, AllIsTaken};
 
 /// The step's answer and the machine after it are determined by the machine before.
@@ -78,8 +78,8 @@ pub fn division_is_one()
 {}
 
 /// A number shifted right by n bits is the greatest whole number not above it divided by 2^n.
-pub fn halved_is_floor()
-    ensures { HalvedIsFloor }
+pub fn shifted_is_floor()
+    ensures { ShiftedIsFloor }
 {}
 
 /// A word shifted left holds its exact number, where a word holds that.

@@ -1,14 +1,13 @@
 //! ICM and STCM: the bytes of a register that a mask takes.
 
 ghost use Rattle.std.specs.Prelude.{◌≡◌, ◌<◌, ◌≤◌, ◌^◌, length, map, take};
-ghost use Rattle.cx_exec.specs.State.{machine};
+ghost use Rattle.cx_exec.specs.Machine.{machine};
 ghost use Rattle.cx_exec.specs.Masks.{byte_of, takes, chosen, inserted_byte, word_inserted, insert_code, IcmEffect, StcmEffect};
 
-use crate::machine::{Cpu, Interruption};
+use crate::machine::{Cpu, Interruption, Updated};
 use crate::operands::put_bytes;
 use crate::results::load_coded;
-use crate::rows::Ahead;
-use crate::strings::is_zero;
+use crate::logic::is_zero;
 use cx_storage::Store;
 
 /// The `k`-th byte (`k` is below 4) of a word, the leftmost first.
@@ -67,17 +66,17 @@ pub(crate) fn stcm<S: Store>(
     r1: u8,
     mask: u8,
     a: u32,
-    ahead: Ahead,
+    updated: Updated,
 ) -> Result<(), Interruption>
     requires first { r1 < 16 }
     requires operand { a < 2 ^ 24 }
-    requires address { ahead.next < 2 ^ 24 }
-    ensures { StcmEffect r1 mask a ahead (machine cpu.old (S.storage store.old)) result (machine cpu.new (S.storage store.new)) }
+    requires address { updated.address < 2 ^ 24 }
+    ensures { StcmEffect r1 mask a updated (machine cpu.old (S.storage store.old)) result (machine cpu.new (S.storage store.new)) }
 {
     let mut buffer = [0; 4];
     let count = take_bytes(mask, cpu.regs[r1 as usize], &mut buffer);
     let cc = cpu.cc;
-    put_bytes(cpu, store, a, &buffer[..count], cc, ahead)
+    put_bytes(cpu, store, a, &buffer[..count], cc, updated)
 }
 
 /// The `k`-th byte (`k` is below 4) that ICM leaves in a register; there are as many bytes as places chosen.
@@ -129,12 +128,12 @@ pub(crate) fn icm<S: Store>(
     r1: u8,
     mask: u8,
     a: u32,
-    ahead: Ahead,
+    updated: Updated,
 ) -> Result<(), Interruption>
     requires first { r1 < 16 }
     requires operand { a < 2 ^ 24 }
-    requires address { ahead.next < 2 ^ 24 }
-    ensures { IcmEffect r1 mask a ahead (machine cpu.old (S.storage store.now)) result (machine cpu.new (S.storage store.now)) }
+    requires address { updated.address < 2 ^ 24 }
+    ensures { IcmEffect r1 mask a updated (machine cpu.old (S.storage store.now)) result (machine cpu.new (S.storage store.now)) }
 {
     let mut buffer = [0; 4];
     let bytes = &mut buffer[..number_chosen(mask, 4) as usize];
@@ -142,5 +141,5 @@ pub(crate) fn icm<S: Store>(
         return Err(Interruption::Addressing);
     }
     let word = word_inserted(mask, cpu.regs[r1 as usize], bytes);
-    load_coded(cpu, r1, word, insert_code(bytes), ahead)
+    load_coded(cpu, r1, word, insert_code(bytes), updated)
 }

@@ -1,12 +1,12 @@
 //! One step.
 
 ghost use Rattle.std.specs.Prelude.{◌≡◌, ◌<◌, ◌≤◌, ◌^◌, IfOk};
-ghost use Rattle.cx_exec.specs.State.{machine};
+ghost use Rattle.cx_exec.specs.Machine.{machine};
 ghost use Rattle.cx_exec.specs.Step.{target_at, performed, Runs, Steps};
 
 use crate::fetch::code_at;
-use crate::machine::{Cpu, ENTRY, Interruption, Step};
-use crate::rows::{Ahead, effect, effective};
+use crate::machine::{Cpu, ENTRY, Interruption, Step, Updated};
+use crate::rows::{effect, effective};
 use cx_code::{Fields, Inst, Op};
 use cx_storage::Store;
 
@@ -14,7 +14,7 @@ use cx_storage::Store;
 #[derive(Drop)]
 pub struct Due {
     pub inst: Inst,
-    pub ahead: Ahead,
+    pub updated: Updated,
 }
 
 /// The target at `a` (below 2^24) of an EX, from its changed copy. `r1` is below 16.
@@ -39,24 +39,21 @@ fn target_at<S: Store>(cpu: &Cpu, store: &S, r1: u8, a: u32) -> Result<Inst, Int
 #[tactic(auto, unfolding(crate::specs::Step::performed))]
 fn performed<S: Store>(cpu: &Cpu, store: &S) -> Result<Due, Interruption>
     ensures value { result ≡ performed (machine cpu.now (S.storage store.now)) }
-    ensures length { IfOk result (λ due. due.ahead.length ≤ 3) }
-    ensures address { IfOk result (λ due. due.ahead.next < 2 ^ 24) }
+    ensures length { IfOk result (λ due. due.updated.length_code ≤ 3) }
+    ensures address { IfOk result (λ due. due.updated.address < 2 ^ 24) }
 {
     let code = code_at(store, cpu.next)?;
     let inst = code.read()?;
-    let ahead = Ahead {
-        length: (code.len() / 2) as u8,
-        next: (cpu.next + code.len() as u32) % 0x100_0000,
-    };
+    let updated = Updated { length_code: (code.len() / 2) as u8, address: (cpu.next + code.len() as u32) % 0x100_0000 };
     if inst.op() == Op::Ex {
         if let Fields::Rx { r1, x2, b2, d2 } = inst.fields() {
             let a = effective(&cpu.regs, x2, b2, d2);
             let target = target_at(cpu, store, r1, a)?;
-            let next = ahead.next;
-            return Ok(Due { inst: target, ahead: Ahead { length: 2, next } });
+            let next = updated.address;
+            return Ok(Due { inst: target, updated: Updated { length_code: 2, address: next } });
         }
     }
-    Ok(Due { inst, ahead })
+    Ok(Due { inst, updated })
 }
 
 /// Performs the instruction at the next address.
@@ -65,7 +62,7 @@ fn run<S: Store>(cpu: &mut Cpu, store: &mut S) -> Result<(), Interruption>
     ensures { Runs (machine cpu.old (S.storage store.old)) result (machine cpu.new (S.storage store.new)) }
 {
     let due = performed(cpu, store)?;
-    effect(cpu, store, &due.inst, due.ahead)
+    effect(cpu, store, &due.inst, due.updated)
 }
 
 /// Performs the instruction at the next address, unless that is the entry.

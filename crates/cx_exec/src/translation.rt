@@ -2,14 +2,13 @@
 
 ghost use Rattle.std.specs.Prelude.{◌≡◌, ◌<◌, ◌≤◌, ◌^◌, take, IfSome, MatchBool};
 ghost use Rattle.cx_storage.specs.Storage.{Storage};
-ghost use Rattle.cx_exec.specs.State.{machine};
+ghost use Rattle.cx_exec.specs.Machine.{machine};
 ghost use Rattle.cx_exec.specs.Sequence.{stored_by};
 ghost use Rattle.cx_exec.specs.Translation.{table_byte, HasTable, translated, first_found, TrEffect, with_address, found_at, TrtEffect};
 
-use crate::machine::{Cpu, Interruption};
+use crate::machine::{Cpu, Interruption, Updated};
 use crate::sequence::{along, content, distance, seen};
-use crate::numbers::inserted;
-use crate::rows::Ahead;
+use crate::loads::inserted;
 use cx_storage::{Store, has_span};
 
 /// The table's byte for the `k`-th argument byte (`k` is at most 256), where both are present.
@@ -63,13 +62,13 @@ pub(crate) fn tr<S: Store>(
     n: u32,
     a1: u32,
     a2: u32,
-    ahead: Ahead,
+    updated: Updated,
 ) -> Result<(), Interruption>
     requires first { a1 < 2 ^ 24 }
     requires second { a2 < 2 ^ 24 }
     requires count { n ≤ 256 }
-    requires address { ahead.next < 2 ^ 24 }
-    ensures { TrEffect n a1 a2 ahead (machine cpu.old (S.storage store.old)) result (machine cpu.new (S.storage store.new)) }
+    requires address { updated.address < 2 ^ 24 }
+    ensures { TrEffect n a1 a2 updated (machine cpu.old (S.storage store.old)) result (machine cpu.new (S.storage store.new)) }
 {
     if !has_table(store, n, a1, a2) {
         return Err(Interruption::Addressing);
@@ -77,7 +76,7 @@ pub(crate) fn tr<S: Store>(
     let mut new = [0; 256];
     translate_bytes(store, n, a1, a2, &mut new);
     store.write(a1, &new[..n as usize]);
-    cpu.next = ahead.next;
+    cpu.next = updated.address;
     Ok(())
 }
 
@@ -108,17 +107,17 @@ fn with_address(word: u32, a: u32) -> u32
 
 /// What a search leaves that found a byte for the argument byte at place `k` of `n`.
 #[tactic(auto, unfolding(crate::specs::Translation::found_at))]
-fn set_found(cpu: &mut Cpu, n: u32, a1: u32, k: u32, byte: u8, ahead: Ahead)
+fn set_found(cpu: &mut Cpu, n: u32, a1: u32, k: u32, byte: u8, updated: Updated)
     requires first { a1 < 2 ^ 24 }
     requires place { k < n }
     requires count { n ≤ 256 }
-    requires address { ahead.next < 2 ^ 24 }
-    ensures { (storage : Storage) → machine cpu.new storage ≡ found_at n a1 k byte ahead (machine cpu.old storage) }
+    requires address { updated.address < 2 ^ 24 }
+    ensures { (storage : Storage) → machine cpu.new storage ≡ found_at n a1 k byte updated (machine cpu.old storage) }
 {
     cpu.regs[1] = with_address(cpu.regs[1], along(a1, k));
     cpu.regs[2] = inserted(cpu.regs[2], byte);
     cpu.cc = if k + 1 == n { 2 } else { 1 };
-    cpu.next = ahead.next;
+    cpu.next = updated.address;
 }
 
 /// TRT. The argument, of `n` bytes, begins at `a1`, the table at `a2`.
@@ -129,25 +128,25 @@ pub(crate) fn trt<S: Store>(
     n: u32,
     a1: u32,
     a2: u32,
-    ahead: Ahead,
+    updated: Updated,
 ) -> Result<(), Interruption>
     requires first { a1 < 2 ^ 24 }
     requires second { a2 < 2 ^ 24 }
     requires count { n ≤ 256 }
-    requires address { ahead.next < 2 ^ 24 }
-    ensures { TrtEffect n a1 a2 ahead (machine cpu.old (S.storage store.now)) result (machine cpu.new (S.storage store.now)) }
+    requires address { updated.address < 2 ^ 24 }
+    ensures { TrtEffect n a1 a2 updated (machine cpu.old (S.storage store.now)) result (machine cpu.new (S.storage store.now)) }
 {
     if !has_span(store, a1, n as usize) {
         return Err(Interruption::Addressing);
     }
     let Some(k) = first_found(store, n, a1, a2) else {
         cpu.cc = 0;
-        cpu.next = ahead.next;
+        cpu.next = updated.address;
         return Ok(());
     };
     let Some(byte) = table_byte(store, a1, a2, k) else {
         return Err(Interruption::Addressing);
     };
-    set_found(cpu, n, a1, k, byte, ahead);
+    set_found(cpu, n, a1, k, byte, updated);
     Ok(())
 }

@@ -1,13 +1,12 @@
 //! PACK and UNPK: two operands with lengths of their own, from right to left.
 
 ghost use Rattle.std.specs.Prelude.{◌≡◌, ◌<◌, ◌≤◌, ◌^◌, length, take};
-ghost use Rattle.cx_exec.specs.State.{machine};
+ghost use Rattle.cx_exec.specs.Machine.{machine};
 ghost use Rattle.cx_exec.specs.Sequence.{stored_by};
 ghost use Rattle.cx_exec.specs.Zoned.{behind, source, swapped, packed, unpacked, unpacked_half, PackEffect, UnpkEffect};
 
-use crate::machine::{Cpu, Interruption};
+use crate::machine::{Cpu, Interruption, Updated};
 use crate::operands::put_bytes;
-use crate::rows::Ahead;
 use crate::sequence::{along, distance, seen};
 use cx_storage::{Store, has_span};
 
@@ -125,7 +124,7 @@ pub(crate) fn pack<S: Store>(
     n2: u32,
     a1: u32,
     a2: u32,
-    ahead: Ahead,
+    updated: Updated,
 ) -> Result<(), Interruption>
     requires first { a1 < 2 ^ 24 }
     requires second { a2 < 2 ^ 24 }
@@ -133,8 +132,8 @@ pub(crate) fn pack<S: Store>(
     requires count2 { n2 ≤ 16 }
     requires some1 { 0 < n1 }
     requires some2 { 0 < n2 }
-    requires address { ahead.next < 2 ^ 24 }
-    ensures { PackEffect n1 n2 a1 a2 ahead (machine cpu.old (S.storage store.old)) result (machine cpu.new (S.storage store.new)) }
+    requires address { updated.address < 2 ^ 24 }
+    ensures { PackEffect n1 n2 a1 a2 updated (machine cpu.old (S.storage store.old)) result (machine cpu.new (S.storage store.new)) }
 {
     if !has_span(store, a2, n2 as usize) {
         return Err(Interruption::Addressing);
@@ -144,7 +143,7 @@ pub(crate) fn pack<S: Store>(
     let bytes = &mut new[..n1 as usize];
     bytes.reverse();
     let cc = cpu.cc;
-    put_bytes(cpu, store, a1, bytes, cc, ahead)
+    put_bytes(cpu, store, a1, bytes, cc, updated)
 }
 
 /// UNPK. The operands, of `n1` and `n2` bytes, begin at `a1` and `a2`.
@@ -156,7 +155,7 @@ pub(crate) fn unpk<S: Store>(
     n2: u32,
     a1: u32,
     a2: u32,
-    ahead: Ahead,
+    updated: Updated,
 ) -> Result<(), Interruption>
     requires first { a1 < 2 ^ 24 }
     requires second { a2 < 2 ^ 24 }
@@ -164,8 +163,8 @@ pub(crate) fn unpk<S: Store>(
     requires count2 { n2 ≤ 16 }
     requires some1 { 0 < n1 }
     requires some2 { 0 < n2 }
-    requires address { ahead.next < 2 ^ 24 }
-    ensures { UnpkEffect n1 n2 a1 a2 ahead (machine cpu.old (S.storage store.old)) result (machine cpu.new (S.storage store.new)) }
+    requires address { updated.address < 2 ^ 24 }
+    ensures { UnpkEffect n1 n2 a1 a2 updated (machine cpu.old (S.storage store.old)) result (machine cpu.new (S.storage store.new)) }
 {
     if !has_span(store, a2, n2 as usize) {
         return Err(Interruption::Addressing);
@@ -175,5 +174,5 @@ pub(crate) fn unpk<S: Store>(
     let bytes = &mut new[..n1 as usize];
     bytes.reverse();
     let cc = cpu.cc;
-    put_bytes(cpu, store, a1, bytes, cc, ahead)
+    put_bytes(cpu, store, a1, bytes, cc, updated)
 }

@@ -1,10 +1,11 @@
 -- What holds of every effect: it decides its outcome, keeps the areas of storage, and is interrupted as it should be.
-use Rattle.std.proofs.Common.{◌≡◌, ◌⊎◌, Bool, true, false, Option, Some, None, Result, Ok, Err, refl, sym, ◌∙◌, ap, subst, inl, inr, MatchBool, MatchOption, MatchResult}
+use Rattle.std.proofs.Common.{ℕ, ◌%◌, ◌==◌, ◌≡◌, ◌⊎◌, Bool, true, false, Option, Some, None, Err, refl, sym, ◌∙◌, ap, subst, inl, inr, MatchBool, MatchOption}
 use Rattle.cx_storage.specs.Storage.{areas_of}
 use Rattle.cx_exec.specs.declared.machine.Interruption.{Interruption}
 use Rattle.cx_exec.specs.declared.machine.Interruption.TheVariants as interruption
 use Rattle.cx_exec.specs.Machine.{Machine}
-use Rattle.cx_exec.specs.Frame.{Outcome, Goes, Stops, IfPresent}
+use Rattle.cx_exec.specs.Outcome.{Outcome, Completes, Suppressed}
+use Rattle.cx_exec.specs.Operands.{IfPresent, IfEven}
 use Rattle.cx_exec.specs.Laws.Areas.{SameAreas}
 use Rattle.cx_exec.specs.Laws.Numbers.{DivisionIsOne}
 
@@ -15,7 +16,7 @@ pub record IsEffect (unknown : Type 0) (aside : Interruption → Machine → Typ
   pub left : (cause : Interruption) (a : Machine) → P (Err cause) a → (a ≡ m) ⊎ aside cause a
   pub known : (a : Machine) → P (Err interruption.Operation) a → unknown
 
-pub goes : {unknown : Type 0} {aside : Interruption → Machine → Type 0} (m written : Machine) → SameAreas m written → IsEffect unknown aside m (λ o a. Goes o a written)
+pub goes : {unknown : Type 0} {aside : Interruption → Machine → Type 0} (m written : Machine) → SameAreas m written → IsEffect unknown aside m (λ o a. Completes o a written)
 goes m written same = record {
   decides = λ one o p a b h k. (h.0 ∙ sym k.0, h.1 ∙ sym k.1);
   keeps = λ o a h. ap (λ (x : Machine). areas_of x.storage) h.1 ∙ same;
@@ -33,12 +34,12 @@ changed cause m written same other is = record {
   known = λ a h. let e = h.0 in let alike : cause ≡ interruption.Operation = cc in other alike;
 }
 
-pub stops : {unknown : Type 0} {aside : Interruption → Machine → Type 0} (cause : Interruption) (m : Machine) → (cause ≡ interruption.Operation → unknown) → IsEffect unknown aside m (λ o a. Stops cause m o a)
+pub stops : {unknown : Type 0} {aside : Interruption → Machine → Type 0} (cause : Interruption) (m : Machine) → (cause ≡ interruption.Operation → unknown) → IsEffect unknown aside m (λ o a. Suppressed cause m o a)
 stops cause m other = changed cause m m refl other (λ c a e f. inl f)
 
 pub when_option : {unknown : Type 0} {aside : Interruption → Machine → Type 0} {A : Type 0} (operand : Option A) (cause : Interruption) (m : Machine) (P : A → Outcome → Machine → Type 0)
     → (cause ≡ interruption.Operation → unknown) → ((x : A) → IsEffect unknown aside m (P x))
-    → IsEffect unknown aside m (λ o a. MatchOption operand (Stops cause m o a) (λ x. P x o a))
+    → IsEffect unknown aside m (λ o a. MatchOption operand (Suppressed cause m o a) (λ x. P x o a))
 when_option None cause m P other each = stops cause m other
 when_option (Some x) cause m P other each = each x
 
@@ -46,16 +47,14 @@ pub when_present : {unknown : Type 0} {aside : Interruption → Machine → Type
     → ((x : A) → IsEffect unknown aside m (P x)) → IsEffect unknown aside m (λ o a. IfPresent operand m o a (λ x. P x o a))
 when_present operand m P each = when_option operand interruption.Addressing m P (λ e. cc) each
 
-pub when_result : {unknown : Type 0} {aside : Interruption → Machine → Type 0} {A : Type 0} (found : Result A Interruption) (m : Machine) (P : A → Outcome → Machine → Type 0)
-    → (found ≡ Err interruption.Operation → unknown) → ((x : A) → IsEffect unknown aside m (P x))
-    → IsEffect unknown aside m (λ o a. MatchResult found (λ x. P x o a) (λ cause. Stops cause m o a))
-when_result (Ok x) m P other each = each x
-when_result (Err cause) m P other each = stops cause m (λ e. other (let whole : Err cause ≡ Err interruption.Operation = cc in whole))
-
 pub when_bool : {unknown : Type 0} {aside : Interruption → Machine → Type 0} (test : Bool) (m : Machine) (P Q : Outcome → Machine → Type 0)
     → IsEffect unknown aside m P → IsEffect unknown aside m Q → IsEffect unknown aside m (λ o a. MatchBool test (P o a) (Q o a))
 when_bool true m P Q first second = first
 when_bool false m P Q first second = second
+
+pub when_even : {unknown : Type 0} {aside : Interruption → Machine → Type 0} (r : ℕ) (m : Machine) (P : Outcome → Machine → Type 0)
+    → IsEffect unknown aside m P → IsEffect unknown aside m (λ o a. IfEven r m o a (P o a))
+when_even r m P inner = when_bool (r % 2 == 0) m P (λ o a. Suppressed interruption.Specification m o a) inner (stops interruption.Specification m (λ e. cc))
 
 -- what is found by a relation that decides it
 pub for_one : {unknown : Type 0} {aside : Interruption → Machine → Type 0} {A : Type 0} (m : Machine) (P : A → Type 0) (R : A → Outcome → Machine → Type 0) → ((x y : A) → P x → P y → x ≡ y)

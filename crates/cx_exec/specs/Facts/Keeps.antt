@@ -8,7 +8,7 @@ use Rattle.cx_exec.specs.declared.machine.Halt.{Halt}
 use Rattle.cx_exec.specs.declared.machine.Halt.TheVariants as halt
 use Rattle.cx_exec.specs.declared.stepping.Due.{Due}
 use Rattle.cx_exec.specs.Machine.{Machine}
-use Rattle.cx_exec.specs.Frame.{Outcome, Stops}
+use Rattle.cx_exec.specs.Outcome.{Outcome, Suppressed}
 use Rattle.cx_exec.specs.Rows.{Effect}
 use Rattle.cx_exec.specs.Step.{performed, Runs, Steps}
 use Rattle.cx_exec.specs.Advance.{Passes, Advances}
@@ -19,8 +19,8 @@ runs_keeps : (m : Machine) (outcome : Outcome) (after : Machine) → Runs m outc
 unfolding Runs
 runs_keeps m outcome after h = go (performed m) h
   where
-    go : (r : Result Due Interruption) → MatchResult r (λ d. Effect d.inst d.ahead m outcome after) (λ cause. Stops cause m outcome after) → SameAreas m after
-    go (Ok d) h = (effect d.inst d.ahead m).keeps outcome after h
+    go : (r : Result Due Interruption) → MatchResult r (λ d. Effect d.inst d.updated m outcome after) (λ cause. Suppressed cause m outcome after) → SameAreas m after
+    go (Ok d) h = (effect d.inst d.updated m).keeps outcome after h
     go (Err cause) h = ap (λ (x : Machine). areas_of x.storage) h.1
 
 -- a step leaves the areas

@@ -3,8 +3,8 @@ use Rattle.std.specs.Prelude.{◌≡◌, ℕ, ◌+◌, ◌*◌, ◌%◌, ◌^◌
 use Rattle.byteorder.specs.Endian.{big_bytes, big_from}
 use Rattle.cx_exec.specs.Numbers.{signed, word_of, signed_double, double_of, fits_word}
 use Rattle.cx_exec.specs.Results.{pair, with_pair}
-use Rattle.cx_exec.specs.Divide.{IsDivision}
-use Rattle.cx_exec.specs.Shifts.{halved, doubled, shifted_arithmetic}
+use Rattle.cx_exec.specs.Division.{IsDivision}
+use Rattle.cx_exec.specs.Shifts.{floor_shifted, times_power, shifted_arithmetic}
 use Rattle.cx_exec.specs.Registers.{register_count, loaded_registers, register_bytes}
 
 -- a result that a word holds is read from its word again
@@ -21,12 +21,12 @@ abbrev pub DivisionIsOne : Type 0
 DivisionIsOne = (dividend divisor q r p s : ℤ) → IsDivision dividend divisor q r → IsDivision dividend divisor p s → (q ≡ p) × (r ≡ s)
 
 -- a number shifted right is the greatest whole number not above x / 2^n
-abbrev pub HalvedIsFloor : Type 0
-HalvedIsFloor = (x : ℤ) (n : ℕ) → ((halved x n *ℤ pos (2 ^ n)) ≤ℤ x) × ((k : ℤ) → (k *ℤ pos (2 ^ n)) ≤ℤ x → k ≤ℤ halved x n)
+abbrev pub ShiftedIsFloor : Type 0
+ShiftedIsFloor = (x : ℤ) (n : ℕ) → ((floor_shifted x n *ℤ pos (2 ^ n)) ≤ℤ x) × ((k : ℤ) → (k *ℤ pos (2 ^ n)) ≤ℤ x → k ≤ℤ floor_shifted x n)
 
 -- a word shifted left holds its exact number, where a word holds that
 abbrev pub ShiftedIsExact : Type 0
-ShiftedIsExact = (word n : ℕ) → word < 2 ^ 32 → fits_word (doubled word n) ≡ true → signed (shifted_arithmetic word n) ≡ doubled word n
+ShiftedIsExact = (word n : ℕ) → word < 2 ^ 32 → fits_word (times_power word n) ≡ true → signed (shifted_arithmetic word n) ≡ times_power word n
 
 -- the word at place k after a store is that of the register k places after the first one, 0 following 15
 abbrev pub StoredWords : Type 0

@@ -3,7 +3,7 @@ use Rattle.std.specs.Int.{w64}
 use Rattle.std.proofs.lemmas.Int.{to_z-of_z}
 use Rattle.cx_exec.specs.Numbers.{signed_double, word_of}
 use Rattle.cx_exec.proofs.DivideLemmas.{divided_written}
-use Rattle.cx_exec.proofs.pairs.divide.Goals as goal
+use Rattle.cx_exec.proofs.division.divide.Goals as goal
 
 pub returns : goal.returns
 returns c storage =

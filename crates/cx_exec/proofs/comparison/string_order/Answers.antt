@@ -1,6 +1,6 @@
 use Rattle.std.proofs.Common.{arith, ◌∙◌}
 use Rattle.cx_exec.proofs.NumberLemmas.{first_differs, all_alike}
-use Rattle.cx_exec.proofs.strings.string_order.Goals as goal
+use Rattle.cx_exec.proofs.comparison.string_order.Goals as goal
 
 pub returns-then-first-k-clause-value : goal.returns-then-first-k-clause-value
 returns-then-first-k-clause-value c =

@@ -1,5 +1,5 @@
 use Rattle.std.proofs.Common.{◌≡◌, ℕ, ◌<◌, slice_index}
-use Rattle.cx_exec.proofs.strings.string_order.Given as goal
+use Rattle.cx_exec.proofs.comparison.string_order.Given as goal
 
 -- the strings are alike so far
 abbrev pub invariant-loop-k : goal.invariant-loop-k
