@@ -1,5 +1,5 @@
--- The effect of each instruction: to each operation code its room (POP, "General Instructions"). An operation code in
--- another format than its own is interruption 1, operation; no well-formed instruction is one, but EX, which stands apart.
+-- The effect of each instruction: to each operation code its room (POP, "General Instructions"). The last
+-- arm of each format is not reached: no other row has the format, but EX, which stands apart.
 use Rattle.std.specs.Prelude.{ℕ, ◌+◌, ◌%◌, ◌^◌, [], ◌∷◌, Some}
 use Rattle.byteorder.specs.Endian.{big_bytes}
 use Rattle.cx_storage.specs.Word.{word_at}

@@ -23,7 +23,8 @@ entry = 0x800
 abbrev pub updated_by : ℕ → ℕ → Updated
 updated_by place bytes = record { length_code = bytes / 2; address = address (place + bytes) }
 
--- the copy of a target that EX changes: the second byte is joined by OR with bits 24 to 31 of R1, unless R1 is 0
+-- the copy of a target that EX changes: the second byte is joined by OR with bits 24 to 31 of R1, unless R1 is 0; no
+-- instruction has fewer than two bytes
 abbrev pub joined_second : ℕ → List ℕ → List ℕ
 joined_second low [] = []
 joined_second low (code ∷ []) = code ∷ []
@@ -53,7 +54,7 @@ target_at m r1 a =
 abbrev pub due : Instruction → Updated → Due
 due i updated = record { inst = i; updated = updated }
 
--- in place of EX its target is performed, with a length of 2 and the address after the EX; EX has no other format
+-- in place of EX its target is performed, with a length of 2 and the address after the EX; the last arm is not reached, since EX has no other format
 abbrev pub in_place : Machine → Fields → Instruction → Updated → Result Due Interruption
 in_place m (Rx r1 x2 b2 d2) i updated =
     then_result (target_at m r1 (effective m.regs x2 b2 d2)) (λ target. Ok (due target (record { length_code = 2; address = updated.address })))

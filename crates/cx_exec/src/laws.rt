@@ -1,5 +1,6 @@
-//! Laws of execution: a step and a run are decided by the machine before them, and leave the areas of storage;
-//! and what the definitions of numbers, pairs, shifts and several registers come to.
+//! Laws of execution: a step and a run are decided by the machine before them, and leave the areas of storage; every
+//! instruction has a row; what an interruption leaves; runs join; what is fetched; and what the definitions of numbers,
+//! shifts, registers, strings and decimal numbers come to.
 
 ghost use Rattle.std.specs.Prelude.{ℕ};
 ghost use Rattle.cx_exec.specs.Step.{Steps};

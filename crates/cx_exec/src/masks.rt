@@ -4,10 +4,10 @@ ghost use Rattle.std.specs.Prelude.{◌≡◌, ◌<◌, ◌≤◌, ◌^◌, leng
 ghost use Rattle.cx_exec.specs.Machine.{machine};
 ghost use Rattle.cx_exec.specs.Masks.{byte_of, takes, chosen, inserted_byte, word_inserted, insert_code, IcmEffect, StcmEffect};
 
+use crate::logic::is_zero;
 use crate::machine::{Cpu, Interruption, Updated};
 use crate::operands::put_bytes;
 use crate::results::load_coded;
-use crate::logic::is_zero;
 use cx_storage::Store;
 
 /// The `k`-th byte (`k` is below 4) of a word, the leftmost first.

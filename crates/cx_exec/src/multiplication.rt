@@ -16,7 +16,12 @@ fn product(first: u32, second: u32) -> i64
 }
 
 /// Multiplies the pair's second register by a word, into the pair.
-pub(crate) fn multiply(cpu: &mut Cpu, r: u8, word: u32, updated: Updated) -> Result<(), Interruption>
+pub(crate) fn multiply(
+    cpu: &mut Cpu,
+    r: u8,
+    word: u32,
+    updated: Updated,
+) -> Result<(), Interruption>
     requires register { r < 15 }
     requires address { updated.address < 2 ^ 24 }
     ensures done { result ≡ Ok tt }

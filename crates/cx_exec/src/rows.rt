@@ -70,13 +70,20 @@ fn rr_effect(cpu: &mut Cpu, op: Op, r1: u8, r2: u8, updated: Updated) -> Result<
         Op::Ltr => load_coded(cpu, r1, second, sign_code(second), updated),
         Op::Lcr => put_sum(cpu, r1, complement(second), updated),
         Op::Clr => set_code(cpu, logical_order(first, second), updated),
-        Op::Xr => load_coded(cpu, r1, first ^ second, logical_code(first ^ second), updated),
+        Op::Xr => load_coded(
+            cpu,
+            r1,
+            first ^ second,
+            logical_code(first ^ second),
+            updated,
+        ),
         Op::Lr => load(cpu, r1, second, updated),
         Op::Cr => set_code(cpu, signed_order(first, second), updated),
         Op::Ar => put_sum(cpu, r1, sum(first, second), updated),
         Op::Sr => put_sum(cpu, r1, difference(first, second), updated),
         Op::Mr => multiply(cpu, even(r1)?, second, updated),
         Op::Dr => divide(cpu, even(r1)?, second, updated),
+        // Not reached: no other row has this format.
         _ => Err(Interruption::Operation),
     }
 }
@@ -121,6 +128,7 @@ fn rx_effect<S: Store>(
         Op::D => divide(cpu, even(r1)?, word_at(store, a)?, updated),
         Op::Cvd => cvd(cpu, store, r1, a, updated),
         Op::Cvb => cvb(cpu, store, r1, a, updated),
+        // Not reached: no other row but EX has this format, and EX is performed by its target.
         _ => Err(Interruption::Operation),
     }
 }
@@ -155,6 +163,7 @@ fn rs_effect<S: Store>(
         Op::Lm => load_multiple(cpu, store, r1, r3, a, updated),
         Op::Stcm => stcm(cpu, store, r1, r3, a, updated),
         Op::Icm => icm(cpu, store, r1, r3, a, updated),
+        // Not reached: no other row has this format.
         _ => Err(Interruption::Operation),
     }
 }
@@ -180,6 +189,7 @@ fn si_effect<S: Store>(
         Op::Ni => put_logical(cpu, store, a, byte_at(store, a)? & i2, updated),
         Op::Cli => set_code(cpu, byte_order(byte_at(store, a)?, i2), updated),
         Op::Oi => put_logical(cpu, store, a, byte_at(store, a)? | i2, updated),
+        // Not reached: no other row has this format.
         _ => Err(Interruption::Operation),
     }
 }
@@ -207,6 +217,7 @@ fn ss_effect<S: Store>(
         Op::Xc => xc(cpu, store, n, a1, a2, updated),
         Op::Tr => tr(cpu, store, n, a1, a2, updated),
         Op::Trt => trt(cpu, store, n, a1, a2, updated),
+        // Not reached: no other row has this format.
         _ => Err(Interruption::Operation),
     }
 }
@@ -235,6 +246,7 @@ fn ss2_effect<S: Store>(
     match op {
         Op::Pack => pack(cpu, store, n1, n2, a1, a2, updated),
         Op::Unpk => unpk(cpu, store, n1, n2, a1, a2, updated),
+        // Not reached: no other row has this format.
         _ => Err(Interruption::Operation),
     }
 }

@@ -44,13 +44,22 @@ fn performed<S: Store>(cpu: &Cpu, store: &S) -> Result<Due, Interruption>
 {
     let code = code_at(store, cpu.next)?;
     let inst = code.read()?;
-    let updated = Updated { length_code: (code.len() / 2) as u8, address: (cpu.next + code.len() as u32) % 0x100_0000 };
+    let updated = Updated {
+        length_code: (code.len() / 2) as u8,
+        address: (cpu.next + code.len() as u32) % 0x100_0000,
+    };
     if inst.op() == Op::Ex {
         if let Fields::Rx { r1, x2, b2, d2 } = inst.fields() {
             let a = effective(&cpu.regs, x2, b2, d2);
             let target = target_at(cpu, store, r1, a)?;
             let next = updated.address;
-            return Ok(Due { inst: target, updated: Updated { length_code: 2, address: next } });
+            return Ok(Due {
+                inst: target,
+                updated: Updated {
+                    length_code: 2,
+                    address: next,
+                },
+            });
         }
     }
     Ok(Due { inst, updated })

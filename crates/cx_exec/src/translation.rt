@@ -6,9 +6,9 @@ ghost use Rattle.cx_exec.specs.Machine.{machine};
 ghost use Rattle.cx_exec.specs.Sequence.{stored_by};
 ghost use Rattle.cx_exec.specs.Translation.{table_byte, HasTable, translated, first_found, TrEffect, with_address, found_at, TrtEffect};
 
+use crate::loads::inserted;
 use crate::machine::{Cpu, Interruption, Updated};
 use crate::sequence::{along, content, distance, seen};
-use crate::loads::inserted;
 use cx_storage::{Store, has_span};
 
 /// The table's byte for the `k`-th argument byte (`k` is at most 256), where both are present.

@@ -97,7 +97,14 @@ fn unpacked<S: Store>(store: &S, e1: u32, n2: u32, e2: u32, stored: &[u8], k: u3
     ensures { result ≡ unpacked (S.storage store.now) e1 n2 e2 stored.now k }
 {
     let fetched_at = if k % 2 == 0 { k.saturating_sub(1) } else { k };
-    let byte = source(store, e1, n2, e2, &stored[..fetched_at as usize], (k + 1) / 2);
+    let byte = source(
+        store,
+        e1,
+        n2,
+        e2,
+        &stored[..fetched_at as usize],
+        (k + 1) / 2,
+    );
     unpacked_half(k, byte)
 }
 
@@ -139,7 +146,14 @@ pub(crate) fn pack<S: Store>(
         return Err(Interruption::Addressing);
     }
     let mut new = [0; 16];
-    pack_bytes(store, n1, along(a1, n1 - 1), n2, along(a2, n2 - 1), &mut new);
+    pack_bytes(
+        store,
+        n1,
+        along(a1, n1 - 1),
+        n2,
+        along(a2, n2 - 1),
+        &mut new,
+    );
     let bytes = &mut new[..n1 as usize];
     bytes.reverse();
     let cc = cpu.cc;
@@ -170,7 +184,14 @@ pub(crate) fn unpk<S: Store>(
         return Err(Interruption::Addressing);
     }
     let mut new = [0; 16];
-    unpack_bytes(store, n1, along(a1, n1 - 1), n2, along(a2, n2 - 1), &mut new);
+    unpack_bytes(
+        store,
+        n1,
+        along(a1, n1 - 1),
+        n2,
+        along(a2, n2 - 1),
+        &mut new,
+    );
     let bytes = &mut new[..n1 as usize];
     bytes.reverse();
     let cc = cpu.cc;

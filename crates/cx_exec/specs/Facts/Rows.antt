@@ -222,4 +222,3 @@ pub effect : (i : Instruction) (updated : Updated) (m : Machine)
     → IsEffect (format_with i.fields ≡ format_of i.op → is_execute i.op ≡ false → ⊥) (IsConvertedBy i m) m (Effect i updated m)
 unfolding Effect
 effect i updated m = effect_of i.op i.fields updated m
-
