@@ -10,7 +10,7 @@ use Rattle.std.proofs.lemmas.List.FromFn.{get_or-map-range_with_len}
 use Rattle.byteorder.specs.Endian.{big_bytes, big_from}
 use Rattle.cx_exec.specs.Numbers.{signed, word_of, signed_double, double_of, fits_word}
 use Rattle.cx_exec.specs.Results.{pair, with_pair}
-use Rattle.cx_exec.specs.Shifts.{halved, doubled, shifted_arithmetic}
+use Rattle.cx_exec.specs.Shifts.{floor_shifted, times_power, shifted_arithmetic}
 use Rattle.cx_exec.specs.Registers.{place_after, register_count, loaded_register, loaded_registers, register_bytes}
 
 fits : (x : ℤ) → fits_word x ≡ true → FitsSigned w32 x
@@ -63,8 +63,8 @@ floor_greatest (pos a) (negsuc b) m h e = omega (arith, ints)
 floor_greatest (negsuc a) (pos b) m h e = absurd (omega (arith, ints))
 floor_greatest (negsuc a) (negsuc b) m h e = let high : a / m < suc b = div_below a m (suc b) h (omega (arith, ints)) in omega (arith, ints)
 
-pub halved_is_floor : (x : ℤ) (n : ℕ) → ((halved x n *ℤ pos (2 ^ n)) ≤ℤ x) × ((k : ℤ) → (k *ℤ pos (2 ^ n)) ≤ℤ x → k ≤ℤ halved x n)
-halved_is_floor x n = (floor_not_above x (2 ^ n) (pow_pos n), λ k e. floor_greatest x k (2 ^ n) (pow_pos n) e)
+pub shifted_is_floor : (x : ℤ) (n : ℕ) → ((floor_shifted x n *ℤ pos (2 ^ n)) ≤ℤ x) × ((k : ℤ) → (k *ℤ pos (2 ^ n)) ≤ℤ x → k ≤ℤ floor_shifted x n)
+shifted_is_floor x n = (floor_not_above x (2 ^ n) (pow_pos n), λ k e. floor_greatest x k (2 ^ n) (pow_pos n) e)
 
 -- a word shifted left, where its exact number fits
 kept_positive : (word a : ℕ) → word < 2 ^ 31 → a < 2 ^ 31 → signed ((word / 2 ^ 31) * 2 ^ 31 + a % 2 ^ 31) ≡ pos a
@@ -97,9 +97,9 @@ word_negative word h e = let back = of_z-to_z w32 word h in omega (arith, ints)
 word_positive : (word : ℕ) → word < 2 ^ 32 → pos 0 ≤ℤ signed word → word < 2 ^ 31
 word_positive word h e = let back = of_z-to_z w32 word h in omega (arith, ints)
 
-pub shifted_is_exact : (word n : ℕ) → word < 2 ^ 32 → fits_word (doubled word n) ≡ true → signed (shifted_arithmetic word n) ≡ doubled word n
+pub shifted_is_exact : (word n : ℕ) → word < 2 ^ 32 → fits_word (times_power word n) ≡ true → signed (shifted_arithmetic word n) ≡ times_power word n
 shifted_is_exact word n h e =
-    kept word (doubled word n) h (fits (doubled word n) e)
+    kept word (times_power word n) h (fits (times_power word n) e)
     (λ low. word_negative word h (times_negative (signed word) (2 ^ n) (pow_pos n) low))
     (λ high. word_positive word h (times_positive (signed word) (2 ^ n) (pow_pos n) high))
 

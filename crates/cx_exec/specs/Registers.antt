@@ -1,11 +1,12 @@
--- Several registers at once (POP, "Load Multiple", "Store Multiple"): from the first through the last one,
--- register 0 following register 15.
+-- 98 LM, 90 STM [RS]  Load Multiple, Store Multiple (POP): from R1 through R3, register 0 following register 15. A byte of
+-- the operand absent 5; the code stays.
 use Rattle.std.specs.Prelude.{ℕ, zero, suc, ◌+◌, ◌-◌, ◌*◌, ◌%◌, List, [], ◌++◌, map, slice_index, nat_le, if◌then◌else◌}
 use Rattle.std.specs.List.{range_with_len}
 use Rattle.cx_storage.specs.Storage.{span}
-use Rattle.cx_exec.specs.declared.rows.Ahead.{Ahead}
+use Rattle.cx_exec.specs.declared.machine.Updated.{Updated}
 use Rattle.cx_exec.specs.Machine.{Machine}
-use Rattle.cx_exec.specs.Frame.{Outcome, Goes, IfPresent}
+use Rattle.cx_exec.specs.Outcome.{Outcome, Completes}
+use Rattle.cx_exec.specs.Operands.{IfPresent, Stores}
 use Rattle.byteorder.specs.Endian.{big_bytes, big_from}
 
 -- how many registers after the first one another comes
@@ -30,8 +31,12 @@ unfoldable pub register_bytes : List ℕ → ℕ → ℕ → List ℕ
 register_bytes regs first zero = []
 register_bytes regs first (suc n) = register_bytes regs first n ++ big_bytes 4 (slice_index regs ((first + n) % 16))
 
+abbrev pub StoresRegisters : ℕ → ℕ → ℕ → Updated → Machine → Outcome → Machine → Type 0
+StoresRegisters first last a updated m outcome after =
+    Stores a (register_bytes m.regs first (register_count first last)) m.cc updated m outcome after
+
 -- the words are loaded where each of their bytes is present
-unfoldable pub LoadsRegisters : ℕ → ℕ → ℕ → Ahead → Machine → Outcome → Machine → Type 0
-LoadsRegisters first last a ahead m outcome after =
+unfoldable pub LoadsRegisters : ℕ → ℕ → ℕ → Updated → Machine → Outcome → Machine → Type 0
+LoadsRegisters first last a updated m outcome after =
     IfPresent (span m.storage a (4 * register_count first last)) m outcome after
-    (λ bytes. Goes outcome after (record m { regs = loaded_registers m.regs first last bytes; next = ahead.next }))
+    (λ bytes. Completes outcome after (record m { regs = loaded_registers m.regs first last bytes; next = updated.address }))

@@ -2,13 +2,12 @@
 
 ghost use Rattle.std.specs.Prelude.{◌≡◌, ◌<◌, ◌≤◌, ◌^◌, ◌+◌, ◌*◌, length, take};
 ghost use Rattle.byteorder.specs.Endian.{big_from};
-ghost use Rattle.cx_exec.specs.State.{machine};
+ghost use Rattle.cx_exec.specs.Machine.{machine};
 ghost use Rattle.cx_exec.specs.Operands.{Stores};
 ghost use Rattle.cx_exec.specs.Registers.{place_after, register_count, loaded_registers, register_bytes, LoadsRegisters};
 
-use crate::machine::{Cpu, Interruption};
+use crate::machine::{Cpu, Interruption, Updated};
 use crate::operands::put_bytes;
-use crate::rows::Ahead;
 use byteorder::{BigEndian, ByteOrder};
 use cx_storage::Store;
 
@@ -67,18 +66,19 @@ pub(crate) fn store_multiple<S: Store>(
     first: u8,
     last: u8,
     a: u32,
-    ahead: Ahead,
+    updated: Updated,
 ) -> Result<(), Interruption>
     requires first { first < 16 }
     requires last { last < 16 }
     requires operand { a < 2 ^ 24 }
-    requires address { ahead.next < 2 ^ 24 }
-    ensures { Stores a (register_bytes cpu.old.regs first (register_count first last)) ahead (machine cpu.old (S.storage store.old)) result (machine cpu.new (S.storage store.new)) }
+    requires address { updated.address < 2 ^ 24 }
+    ensures { Stores a (register_bytes cpu.old.regs first (register_count first last)) cpu.old.cc updated (machine cpu.old (S.storage store.old)) result (machine cpu.new (S.storage store.new)) }
 {
     let count = place_after(first, last) as usize + 1;
     let mut bytes = [0; 64];
     write_registers(&cpu.regs, first, count, &mut bytes);
-    put_bytes(cpu, store, a, &bytes[..4 * count], ahead)
+    let cc = cpu.cc;
+    put_bytes(cpu, store, a, &bytes[..4 * count], cc, updated)
 }
 
 /// Loads the registers from the first through the last one: all of them, or none and interruption 5.
@@ -89,13 +89,13 @@ pub(crate) fn load_multiple<S: Store>(
     first: u8,
     last: u8,
     a: u32,
-    ahead: Ahead,
+    updated: Updated,
 ) -> Result<(), Interruption>
     requires first { first < 16 }
     requires last { last < 16 }
     requires operand { a < 2 ^ 24 }
-    requires address { ahead.next < 2 ^ 24 }
-    ensures { LoadsRegisters first last a ahead (machine cpu.old (S.storage store.now)) result (machine cpu.new (S.storage store.now)) }
+    requires address { updated.address < 2 ^ 24 }
+    ensures { LoadsRegisters first last a updated (machine cpu.old (S.storage store.now)) result (machine cpu.new (S.storage store.now)) }
 {
     let count = place_after(first, last) as usize + 1;
     let mut bytes = [0; 64];
@@ -106,6 +106,6 @@ pub(crate) fn load_multiple<S: Store>(
     let mut regs = cpu.regs;
     load_registers(&mut regs, first, last, words);
     cpu.regs = regs;
-    cpu.next = ahead.next;
+    cpu.next = updated.address;
     Ok(())
 }
