@@ -94,8 +94,7 @@ words_each s a (suc n) words e = go (words_at s a n) (λ front f. words_each s a
     go (Some front) each (Some word) f h =
         let shape : front ++ word ∷ [] ≡ words = cc in
         let before = each front refl in
-        let long : length front ≡ n = before.0 in
-        (
+        let long : length front ≡ n = before.0 in (
           sym (ap length shape) ∙ length-append front (word ∷ []) ∙ omega (arith, long),
           λ k l. rw (← shape) (elim (cases_lt k n) [
             | inl lt ↦ before.1 k lt ∙ ap Some (sym (earlier front (word ∷ []) k (omega (arith, long, lt))))
