@@ -95,7 +95,7 @@ pub fn stored_words()
     ensures { StoredWords }
 {}
 
-/// LM: the register k places after the first one is loaded from the word at place k.
+/// LM: the register k places after the first one is loaded from the word at the place 4k on.
 #[tactic(auto, using(crate::proofs::LawLemmas::loaded_words))]
 pub fn loaded_words()
     ensures { LoadedWords }

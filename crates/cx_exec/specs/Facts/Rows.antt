@@ -19,7 +19,7 @@ use Rattle.cx_exec.specs.Numbers.{word_of}
 use Rattle.cx_exec.specs.Outcome.{Outcome, Completes}
 use Rattle.cx_exec.specs.Operands.{extended_at, IfPresent, Stores}
 use Rattle.cx_exec.specs.Division.{Divided}
-use Rattle.cx_exec.specs.Registers.{LoadsRegisters}
+use Rattle.cx_exec.specs.Registers.{words_at, LoadsRegisters}
 use Rattle.cx_exec.specs.Strings.{MvcEffect, XcEffect}
 use Rattle.cx_exec.specs.Comparison.{ComparesStrings}
 use Rattle.cx_exec.specs.Translation.{table_byte, first_found, found_at, Finds, TrEffect, TrtEffect}
@@ -143,7 +143,7 @@ rs op.Sra r1 r3 a updated m = goes m _ refl
 rs op.Sla r1 r3 a updated m = goes m _ refl
 rs op.Srda r1 r3 a updated m = when_even r1 m _ (goes m _ refl)
 rs op.Stm r1 r3 a updated m = stored a _ _ updated m
-rs op.Lm r1 r3 a updated m = when_present (span m.storage a _) m _ (λ bytes. goes m _ refl)
+rs op.Lm r1 r3 a updated m = when_present (words_at m.storage a _) m _ (λ words. goes m _ refl)
 rs op.Stcm r1 mask a updated m = stored a _ _ updated m
 rs op.Icm r1 mask a updated m = when_present (span m.storage a _) m _ (λ bytes. goes m _ refl)
 rs _ r1 r3 a updated m = stops interruption.Operation m (λ e f. cc)

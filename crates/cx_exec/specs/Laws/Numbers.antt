@@ -1,11 +1,13 @@
 -- What the definitions of numbers, pairs, shifts and several registers come to, as the module `laws` promises it.
-use Rattle.std.specs.Prelude.{◌≡◌, ℕ, ◌+◌, ◌*◌, ◌%◌, ◌^◌, ◌<◌, true, List, length, take, drop, slice_index, ℤ, pos, ◌*ℤ◌, ◌≤ℤ◌}
-use Rattle.byteorder.specs.Endian.{big_bytes, big_from}
+use Rattle.std.specs.Prelude.{◌≡◌, ℕ, ◌+◌, ◌*◌, ◌%◌, ◌^◌, ◌<◌, true, Some, List, length, take, drop, slice_index, ℤ, pos, ◌*ℤ◌, ◌≤ℤ◌}
+use Rattle.cx_storage.specs.Storage.{Storage, along}
+use Rattle.cx_storage.specs.Word.{word_at}
+use Rattle.byteorder.specs.Endian.{big_bytes}
 use Rattle.cx_exec.specs.Numbers.{signed, word_of, signed_double, double_of, fits_word}
 use Rattle.cx_exec.specs.Results.{pair, with_pair}
 use Rattle.cx_exec.specs.Division.{IsDivision}
 use Rattle.cx_exec.specs.Shifts.{floor_shifted, times_power, shifted_arithmetic}
-use Rattle.cx_exec.specs.Registers.{register_count, loaded_registers, register_bytes}
+use Rattle.cx_exec.specs.Registers.{register_count, words_at, loaded_registers, register_bytes}
 
 -- a result that a word holds is read from its word again
 abbrev pub ResultIsExact : Type 0
@@ -33,7 +35,8 @@ abbrev pub StoredWords : Type 0
 StoredWords = (regs : List ℕ) (first n k : ℕ) → k < n
     → take 4 (drop (4 * k) (register_bytes regs first n)) ≡ big_bytes 4 (slice_index regs ((first + k) % 16))
 
--- the register k places after the first one is loaded from the word at place k
+-- the register k places after the first one is loaded from the word at the place 4k on
 abbrev pub LoadedWords : Type 0
-LoadedWords = (regs bytes : List ℕ) (first last k : ℕ) → first < 16 → k < register_count first last
-    → slice_index (loaded_registers regs first last bytes) ((first + k) % 16) ≡ big_from (4 * k) 4 bytes
+LoadedWords = (s : Storage) (a : ℕ) (regs words : List ℕ) (first last k : ℕ) → first < 16 → k < register_count first last
+    → words_at s a (register_count first last) ≡ Some words
+    → word_at s (along a (4 * k)) ≡ Some (slice_index (loaded_registers regs first last words) ((first + k) % 16))
