@@ -53,7 +53,10 @@ module _ {S : Type 0} (performs : S → Action → List ℕ → S → Type 0) wh
       → Came performs old n block ahead first mid m next left after → Came performs old n block (ahead ++ more) first mid m next (left ++ more) after
   came_more old mid n m block next ahead left more first after c =
       record {
-        done = c.done; text = c.text; runs = c.runs; written = c.written;
+        done = c.done;
+        text = c.text;
+        runs = c.runs;
+        written = c.written;
         splits = λ ending rest. ap (λ l. script_from ending (n + 1) block (lines_met ending l)) (append_assoc ahead more rest) ∙ c.splits ending (more ++ rest)
             ∙ ap (λ l. behind_done c.done (script_from ending (m + 1) next (lines_met ending l))) (sym (append_assoc left more rest));
         counts = λ ending rest. ap (λ l. n + length (lines_met ending l)) (append_assoc ahead more rest) ∙ c.counts ending (more ++ rest)
@@ -65,7 +68,8 @@ module _ {S : Type 0} (performs : S → Action → List ℕ → S → Type 0) wh
       → Came performs old n block ahead first new k last right end
   came_trans old mid new n m k block next last ahead left right first after end c d =
       record {
-        done = c.done ++ d.done; text = c.text ++ d.text;
+        done = c.done ++ d.done;
+        text = c.text ++ d.text;
         runs = runs_append performs old c.done c.text mid d.done d.text new c.runs d.runs;
         written = Appends-trans first after end c.text d.text c.written d.written;
         splits = λ ending rest. c.splits ending rest ∙ ap (behind_done c.done) (d.splits ending rest)
@@ -87,7 +91,10 @@ module _ {S : Type 0} (performs : S → Action → List ℕ → S → Type 0) wh
   came_line old new n block next line behind before after u t =
       let step = t.0 in
       record {
-        done = of_line step.action; text = t.3.0; runs = runs_line performs old step.action t.3.0 new t.3.1; written = t.3.2;
+        done = of_line step.action;
+        text = t.3.0;
+        runs = runs_line performs old step.action t.3.0 new t.3.1;
+        written = t.3.2;
         splits = λ ending rest. ap (λ l. script_from ending (n + 1) block l) (line_ahead ending line behind rest u)
             ∙ led performs (step_at (n + 1) block (strip_carriage_return line)) step (n + 1) (λ b. script_from ending (n + 1 + 1) b (lines_met ending (behind ++ rest))) t.1
             ∙ before_done step.action (script_from ending (n + 1 + 1) step.block (lines_met ending (behind ++ rest)))
@@ -141,19 +148,23 @@ module _ {S : Type 0} (performs : S → Action → List ℕ → S → Type 0) wh
   pub came_stopped : (old mid : S) (n m : ℕ) (block next : Option ImageBlock) (ahead left : List ℕ) (fault : RunFault) (first after last : Option (List ℕ))
       → Came performs old n block ahead first mid m next left after → Stopped performs mid m next left fault after last → Stopped performs old n block ahead fault first last
   came_stopped old mid n m block next ahead left fault first after last c s =
-      record { stops = λ ending rest. joined_stops old mid (script_from ending (n + 1) block (lines_met ending (ahead ++ rest))) (script_from ending (m + 1) next (lines_met ending (left ++ rest)))
-          c.done c.text fault first after last (c.splits ending rest) c.runs c.written (s.stops ending rest) }
+      record {
+        stops = λ ending rest. joined_stops old mid (script_from ending (n + 1) block (lines_met ending (ahead ++ rest))) (script_from ending (m + 1) next (lines_met ending (left ++ rest)))
+            c.done c.text fault first after last (c.splits ending rest) c.runs c.written (s.stops ending rest);
+      }
 
   -- a line that could not be taken
   pub line_stopped : (old new : S) (n : ℕ) (block next : Option ImageBlock) (line behind : List ℕ) (fault : RunFault) (before after : Option (List ℕ))
       → IsUnbroken line → TakesLine performs (step_at (n + 1) block (strip_carriage_return line)) (n + 1) old before (Err fault) new after next
       → Stopped performs old n block (line ++ 10 ∷ behind) fault before after
   line_stopped old new n block next line behind fault before after u t =
-      record { stops = λ ending rest.
-          let lines = lines_met ending (behind ++ rest) in
-          let whole = script_from ending (n + 1) block (strip_carriage_return line ∷ lines) in
-          subst (λ (l : List (List ℕ)). Stops performs old (script_from ending (n + 1) block l) fault before after) (sym (line_ahead ending line behind rest u))
-          (stops_line performs old old new whole before before after ending (n + 1) block next (strip_carriage_return line) lines fault (reached_start performs old whole before) t) }
+      record {
+        stops = λ ending rest.
+            let lines = lines_met ending (behind ++ rest) in
+            let whole = script_from ending (n + 1) block (strip_carriage_return line ∷ lines) in
+            subst (λ (l : List (List ℕ)). Stops performs old (script_from ending (n + 1) block l) fault before after) (sym (line_ahead ending line behind rest u))
+            (stops_line performs old old new whole before before after ending (n + 1) block next (strip_carriage_return line) lines fault (reached_start performs old whole before) t);
+      }
 
   -- bytes that are too long already
   long_script : (old : S) (ending : Ending) (n : ℕ) (block : Option ImageBlock) (lines : List (List ℕ)) (before : Option (List ℕ)) → BeginsLong lines
@@ -161,9 +172,10 @@ module _ {S : Type 0} (performs : S → Action → List ℕ → S → Type 0) wh
   unfolding Stops Runs script_from
   long_script old ending n block [] before h = absurd h
   long_script old ending n block (line ∷ lines) before h =
-      let bad = ap (λ d. led_to d n (λ next. script_from ending (n + 1) next lines)) (no_step n block line h) in
-      (ap (λ (s : Script). s.fault) bad,
-      record { text = []; new = old; runs = subst (λ (l : List Action). Runs performs old l [] old) (sym (ap (λ (s : Script). s.actions) bad)) (refl, refl); written = Appends-nil before })
+      let bad = ap (λ d. led_to d n (λ next. script_from ending (n + 1) next lines)) (no_step n block line h) in (
+        ap (λ (s : Script). s.fault) bad,
+        record { text = []; new = old; runs = subst (λ (l : List Action). Runs performs old l [] old) (sym (ap (λ (s : Script). s.actions) bad)) (refl, refl); written = Appends-nil before },
+      )
 
   pub long_stopped : (old : S) (n : ℕ) (block : Option ImageBlock) (bytes : List ℕ) (before : Option (List ℕ)) → IsUnbroken bytes → is_too_long (strip_carriage_return bytes) ≡ true
       → Stopped performs old n block bytes (BadLine (n + 1)) before before
@@ -218,7 +230,9 @@ module _ {S : Type 0} (performs : S → Action → List ℕ → S → Type 0) wh
       → Seen performs start left then (read + more) new m next last first after
   seen_piece start old new left now then read more n m block next part last piece first before after s c len d =
       record {
-        seen = s.seen ++ piece; consumed = Consumes-trans left now then s.seen piece s.consumed c; len = length-append s.seen piece ∙ ap (λ k. k + length piece) s.len ∙ ap (λ k. read + k) len;
+        seen = s.seen ++ piece;
+        consumed = Consumes-trans left now then s.seen piece s.consumed c;
+        len = length-append s.seen piece ∙ ap (λ k. k + length piece) s.len ∙ ap (λ k. read + k) len;
         came = came_trans start old new 0 n m None block next (s.seen ++ piece) (part ++ piece) last first before after (came_more start old 0 n None block s.seen part piece first before s.came) d;
       }
 
@@ -229,11 +243,11 @@ module _ {S : Type 0} (performs : S → Action → List ℕ → S → Type 0) wh
   unfolding script_of line_count
   ends_from start mid bytes part ending m next answer first after last c h =
       let split : script_from ending 1 None (lines_met ending bytes) ≡ behind_done c.done (script_from ending (m + 1) next (lines_met ending part)) =
-          ap (λ (l : List ℕ). script_from ending 1 None (lines_met ending l)) (sym (append-nil bytes)) ∙ c.splits ending []
-          ∙ ap (λ (l : List ℕ). behind_done c.done (script_from ending (m + 1) next (lines_met ending l))) (append-nil part) in
+      ap (λ (l : List ℕ). script_from ending 1 None (lines_met ending l)) (sym (append-nil bytes)) ∙ c.splits ending []
+      ∙ ap (λ (l : List ℕ). behind_done c.done (script_from ending (m + 1) next (lines_met ending l))) (append-nil part) in
       let count : m + length (lines_met ending part) ≡ length (lines_met ending bytes) =
-          ap (λ (l : List ℕ). m + length (lines_met ending l)) (sym (append-nil part)) ∙ sym (c.counts ending []) ∙ zero-add (length (lines_met ending (bytes ++ [])))
-          ∙ ap (λ (l : List ℕ). length (lines_met ending l)) (append-nil bytes) in
+      ap (λ (l : List ℕ). m + length (lines_met ending l)) (sym (append-nil part)) ∙ sym (c.counts ending []) ∙ zero-add (length (lines_met ending (bytes ++ [])))
+      ∙ ap (λ (l : List ℕ). length (lines_met ending l)) (append-nil bytes) in
       subst (λ (k : ℕ). Ends performs start (script_from ending 1 None (lines_met ending bytes)) k answer first last) count
       (joined_ends start mid (script_from ending 1 None (lines_met ending bytes)) (script_from ending (m + 1) next (lines_met ending part)) c.done c.text (m + length (lines_met ending part)) answer
       first after last split c.runs c.written h)
@@ -268,8 +282,14 @@ module _ {S : Type 0} (performs : S → Action → List ℕ → S → Type 0) wh
       let long = leb-false (length input) most_bytes b in
       let len = length-take most_bytes input in
       let within : length bytes ≤ most_bytes = omega (arith, len) in
-      record { bytes = bytes; ending = PastBound; read = has_read (Err fault) PastBound (Some input) now bytes (long, refl); within = within; failure = f;
-          ends = stops_on start seen (take (most_bytes - length seen) more) bytes fault PastBound first last s (fronts most_bytes seen more few ∙ ap (take most_bytes) (sym e)) }
+      record {
+        bytes = bytes;
+        ending = PastBound;
+        read = has_read (Err fault) PastBound (Some input) now bytes (long, refl);
+        within = within;
+        failure = f;
+        ends = stops_on start seen (take (most_bytes - length seen) more) bytes fault PastBound first last s (fronts most_bytes seen more few ∙ ap (take most_bytes) (sym e));
+      }
 
   ran_stopped : (start : S) (left now : Option (List ℕ)) (seen extra : List ℕ) (failed : Bool) (fault : RunFault) (first last : Option (List ℕ))
       → Consumes left now (seen ++ extra) → length seen ≤ most_bytes → failed ≡ false → Stopped performs start 0 None seen fault first last

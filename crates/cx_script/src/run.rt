@@ -2,7 +2,6 @@
 
 ghost use Rattle.std.specs.Prelude.{◌≡◌, ◌+◌, ◌++◌, ◌<◌, ◌≤◌, ◌^◌, ℕ, List, IfOk, IfErr, IfSome, IsOkAnd, OnOk, OnErr, MatchOption, Err, None, [], true, false, length};
 ghost use Rattle.std.specs.Str.Lines.{strip_carriage_return};
-
 ghost use Rattle.cx_script.specs.Blocks.{step_at};
 ghost use Rattle.cx_script.specs.Input.{is_failure};
 ghost use Rattle.cx_script.specs.Lines.{is_too_long, lines_met};

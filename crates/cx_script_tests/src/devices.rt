@@ -159,7 +159,7 @@ fn a_bad_line_comes_before_a_failed_read(rt: HostRuntime) {
         let ran = run_script(rt.alloc(), &mut input, &mut output);
         assert_eq!(rt; ran, Err(RunFault::BadLine(2)), "at {good}");
         assert!(rt; !input.failed());
-        assert_eq!(rt; output.text(), b"TERMINAL T001 DEFINED\n");
+        assert_eq!(rt; output.text(), b"TERMINAL T001 DEFINED\n".as_slice());
     }
 }
 

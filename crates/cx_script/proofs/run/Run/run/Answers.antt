@@ -14,9 +14,16 @@ unfailed a true e h = cc
 unfailed a false e h = e
 
 pub pieces-init : goal.pieces-init
-pieces-init g c =
-    (c.requires.reader, c.requires.writer, rw c.requires.part unbroken_nil, rw c.requires.part refl, omega (arith, c.requires.lines), omega arith, omega arith,
-    seen_start g.P.Stage.performs _ _ _ _ _ _ c.requires.lines c.requires.block c.requires.part)
+pieces-init g c = (
+  c.requires.reader,
+  c.requires.writer,
+  rw c.requires.part unbroken_nil,
+  rw c.requires.part refl,
+  omega (arith, c.requires.lines),
+  omega arith,
+  omega arith,
+  seen_start g.P.Stage.performs _ _ _ _ _ _ c.requires.lines c.requires.block c.requires.part,
+)
 
 pub returns-in_default-clause-ran : goal.returns-in_default-clause-ran
 returns-in_default-clause-ran g c =
@@ -48,8 +55,7 @@ pieces-preserved g c =
     let some = c.if-taken-eq0.false in
     let few = c.in-Ok.ensures.bound in
     let len : length c.in_front-piece.result.now ≡ c.min-room.result = ap length c.in_front-piece.ensures ∙ length-take-le c.min-room.result c.read.new.buffer (omega (arith, least, few)) in
-    let same : c.min-room.result ≡ c.in-Ok.taken = omega (arith, least, all) in
-    (
+    let same : c.min-room.result ≡ c.in-Ok.taken = omega (arith, least, all) in (
       unfailed _ _ c.in-Ok.ensures.failure c.pieces.invariant.0,
       c.in_default-take_piece.ensures.failure,
       c.in_default-take_piece.ensures.unbroken,

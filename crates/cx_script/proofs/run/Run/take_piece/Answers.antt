@@ -14,8 +14,7 @@ pub lines-preserved : goal.lines-preserved
 lines-preserved g c =
     let len = ap length c.in-Some.ensures.found in
     let more = c.lines.invariant.2 in
-    let one = c.in_default-end_line.ensures.lines in
-    (
+    let one = c.in_default-end_line.ensures.lines in (
       c.in_default-end_line.ensures.failure,
       rw c.in_default-end_line.ensures.part unbroken_nil,
       omega (arith, len, length-append {A = ℕ}, more, one),
