@@ -8,7 +8,8 @@ use Rattle.std.proofs.lemmas.Nat.{pow_pos, le-div, div_below, div-add-mod', mod_
 use Rattle.std.proofs.lemmas.List.{get_or-set_same, get_or-set_other, length-set, length-append, length-drop, drop-append-le, take-append-le, drop_at}
 use Rattle.std.proofs.lemmas.List.FromFn.{get_or-map-range_with_len}
 use Rattle.std.specs.List.{range_with_len}
-use Rattle.cx_storage.specs.Storage.{Storage, along}
+use Rattle.cx_storage.specs.Storage.{Storage}
+use Rattle.cx_storage.specs.Address.{along}
 use Rattle.cx_storage.specs.Word.{word_at}
 use Rattle.byteorder.specs.Endian.{big_bytes}
 use Rattle.cx_exec.specs.Numbers.{signed, word_of, signed_double, double_of, fits_word}

@@ -3,7 +3,8 @@ use Rattle.std.proofs.Common.{◌≡◌, ℕ, zero, suc, ◌+◌, ◌*◌, ◌<�
 use Rattle.std.specs.Option.{option_map, option_and_then}
 use Rattle.std.proofs.lemmas.Bool.{cases_lt}
 use Rattle.std.proofs.lemmas.Grind.{same_number_lists}
-use Rattle.cx_storage.specs.Storage.{Storage, along}
+use Rattle.cx_storage.specs.Storage.{Storage}
+use Rattle.cx_storage.specs.Address.{along}
 use Rattle.cx_storage.specs.Word.{word_at}
 use Rattle.std.proofs.lemmas.List.{append_assoc, length-append, length-take-le, take_at, take_more_set}
 use borrow.Rule.Slice.PartMut.{put_mid, post_of}

@@ -1,4 +1,4 @@
--- Addition and subtraction (POP, "Add", "Subtract", "Load Complement"). A byte of the operand absent 5.
+-- Addition and subtraction (GA22-7000, "Add", "Subtract", "Load Complement"). A byte of the operand absent 5.
 -- 1A AR [RR], 5A A, 4A AH [RX]  Add; 1B SR [RR], 5B S, 4B SH [RX]  Subtract: R1 and the second operand.
 -- 13 LCR [RR]  Load Complement: the second operand with its sign changed.
 -- The code: 0 zero, 1 less than zero, 2 greater, 3 overflow; then R1 holds the result modulo 2^32.

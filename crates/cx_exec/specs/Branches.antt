@@ -1,11 +1,11 @@
--- Branches (POP, "Branch and Link", "Branch on Condition", "Branch on Count"). Nothing interrupts them; the code stays.
+-- Branches (GA22-7000, "Branch and Link", "Branch on Condition", "Branch on Count"). Nothing interrupts them; the code stays.
 -- 05 BALR [RR], 45 BAL [RX]: R1 gets the link word. 07 BCR [RR], 47 BC [RX]: where the mask has the code's bit.
 -- 06 BCTR [RR], 46 BCT [RX]: R1 less one, modulo 2^32, where it isn't zero then.
 use Rattle.std.specs.Prelude.{ℕ, ◌+◌, ◌-◌, ◌*◌, ◌%◌, ◌^◌, List, Bool, ◌==◌, not, bit_and, slice_set, slice_index, if◌then◌else◌}
 use Rattle.cx_exec.specs.declared.machine.Updated.{Updated}
 use Rattle.cx_exec.specs.Machine.{Machine, reg, address}
 
--- a mask's bit of each condition code: 8, 4, 2, 1 for codes 0 to 3 (POP, "Branch on Condition")
+-- a mask's bit of each condition code: 8, 4, 2, 1 for codes 0 to 3 (GA22-7000, "Branch on Condition")
 abbrev pub mask_bit : ℕ → ℕ
 mask_bit cc = if cc == 0 then 8 else (if cc == 1 then 4 else (if cc == 2 then 2 else 1))
 
@@ -13,7 +13,7 @@ unfoldable pub selects : ℕ → ℕ → Bool
 selects mask cc = not (bit_and mask (mask_bit cc) == 0)
 
 -- the link word: length in halfwords (2 bits), condition code (2), program mask (4, always zero), address (24)
--- (POP, "Branch and Link")
+-- (GA22-7000, "Branch and Link")
 unfoldable pub link_word : Updated → ℕ → ℕ
 link_word updated cc = updated.length_code * 2 ^ 30 + cc * 2 ^ 28 + updated.address
 

@@ -1,4 +1,4 @@
--- Comparison (POP, "Compare", "Compare Logical"). A byte of an operand absent 5. The code: 0 equal, 1 first low, 2 first high.
+-- Comparison (GA22-7000, "Compare", "Compare Logical"). A byte of an operand absent 5. The code: 0 equal, 1 first low, 2 first high.
 -- 19 CR [RR], 59 C, 49 CH [RX]  Compare: R1 and the second operand as signed numbers.
 -- 15 CLR [RR], 55 CL [RX]  Compare Logical: as numbers without a sign. 95 CLI [SI]: the byte and the immediate byte.
 -- D5 CLC [SS]  Compare Logical: two strings of n bytes, at a1 and a2, as numbers without a sign.

@@ -1,4 +1,4 @@
--- 4F CVB  Convert to Binary, 4E CVD  Convert to Decimal [RX] (POP): 8 bytes with 15 decimal digits and a sign, a half byte
+-- 4F CVB  Convert to Binary, 4E CVD  Convert to Decimal [RX] (GA22-7000): 8 bytes with 15 decimal digits and a sign, a half byte
 -- each. A byte absent 5; CVB: an invalid digit or sign 7, a number that no word holds 9. The code stays.
 use Rattle.std.specs.Prelude.{◌≡◌, ℕ, zero, suc, ◌+◌, ◌*◌, ◌/◌, ◌%◌, ◌^◌, ◌<◌, ◌≤◌, Bool, ◌||◌, ◌==◌, List, [], ◌∷◌, Err, Option, Some, None, slice_index, slice_set, ℤ, pos, neg_ℤ, int_lt, unsigned_abs, MatchBool, MatchOption, if◌then◌else◌}
 use Rattle.cx_storage.specs.Storage.{span}

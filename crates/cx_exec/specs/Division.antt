@@ -1,4 +1,4 @@
--- 1D DR [RR], 5D D [RX]  Divide (POP): the pair of the even R1 by the second operand. Odd R1 6; a byte of the operand
+-- 1D DR [RR], 5D D [RX]  Divide (GA22-7000): the pair of the even R1 by the second operand. Odd R1 6; a byte of the operand
 -- absent 5; no quotient that a word holds 9; the code stays.
 use Rattle.std.specs.Prelude.{◌≡◌, ℕ, Option, ◌+◌, ◌<◌, ◌⊎◌, ℤ, pos, ◌+ℤ◌, ◌*ℤ◌, int_lt, unsigned_abs, slice_set, Ok, Err, FitsSigned}
 use Rattle.std.specs.Int.{w32}

@@ -1,4 +1,4 @@
--- Loads and stores (POP, "Load", "Insert Character", "Store", "Move"). A byte of the operand absent 5; the code stays, but
+-- Loads and stores (GA22-7000, "Load", "Insert Character", "Store", "Move"). A byte of the operand absent 5; the code stays, but
 -- for LTR.
 -- 18 LR [RR], 58 L, 48 LH [RX]  Load, Load Halfword: the second operand goes into R1.
 -- 12 LTR [RR]  Load and Test: so too; code 0 zero, 1 less than zero, 2 greater.

@@ -1,4 +1,4 @@
--- The machine (POP: System/370 Principles of Operation, GA22-7000, "Program Status Word", "General Registers").
+-- The machine (System/370 Principles of Operation, GA22-7000, "Program Status Word", "General Registers").
 use Rattle.std.specs.Prelude.{ℕ, ◌+◌, ◌%◌, ◌^◌, List, ◌==◌, slice_index, if◌then◌else◌}
 use Rattle.cx_storage.specs.Storage.{Storage}
 use Rattle.cx_exec.specs.declared.machine.Cpu.{Cpu}
@@ -20,7 +20,7 @@ machine cpu storage = record { regs = cpu.regs; cc = cpu.cc; next = cpu.next; st
 abbrev pub reg : Machine → ℕ → ℕ
 reg m r = slice_index m.regs r
 
--- an address has 24 bits (POP, "Address Generation")
+-- an address has 24 bits (GA22-7000, "Address Generation")
 abbrev pub address : ℕ → ℕ
 address n = n % 2 ^ 24
 
@@ -32,7 +32,7 @@ given regs r = if r == 0 then 0 else slice_index regs r
 unfoldable pub effective : List ℕ → ℕ → ℕ → ℕ → ℕ
 effective regs index base displacement = address (given regs base + given regs index + displacement)
 
--- the codes of the interruptions (POP, "Program-Interruption Conditions")
+-- the codes of the interruptions (GA22-7000, "Program-Interruption Conditions")
 abbrev pub interruption_code : Interruption → ℕ
 interruption_code interruption.Operation = 1
 interruption_code interruption.Execute = 3

@@ -1,4 +1,4 @@
--- BE STCM  Store Characters under Mask, BF ICM  Insert Characters under Mask [RS] (POP): the bytes of a register whose
+-- BE STCM  Store Characters under Mask, BF ICM  Insert Characters under Mask [RS] (GA22-7000): the bytes of a register whose
 -- bits of the mask are one, from left to right, and as many bytes of storage in a row. A byte of them absent 5. STCM
 -- leaves the code; ICM: 0 all bits inserted zero or none inserted, else by the first of them 1 one, 2 zero.
 use Rattle.std.specs.Prelude.{ℕ, ◌-◌, ◌*◌, ◌/◌, ◌%◌, ◌^◌, Bool, ◌==◌, List, length, map, nat_le, slice_index, if◌then◌else◌}

@@ -1,4 +1,4 @@
--- 1C MR [RR], 5C M [RX]  Multiply (POP): the pair of the even R1 gets the product of its second register and the second
+-- 1C MR [RR], 5C M [RX]  Multiply (GA22-7000): the pair of the even R1 gets the product of its second register and the second
 -- operand. Odd R1 6; a byte of the operand absent 5; the code stays.
 use Rattle.std.specs.Prelude.{ℕ, ◌+◌, Option, ◌*ℤ◌}
 use Rattle.cx_exec.specs.declared.machine.Updated.{Updated}

@@ -1,4 +1,4 @@
--- Operands, and what interrupts their fetch (POP, "Program Interruption").
+-- Operands, and what interrupts their fetch (GA22-7000, "Program Interruption").
 use Rattle.std.specs.Prelude.{ℕ, ◌%◌, List, length, ◌==◌, Option, MatchBool, MatchOption}
 use Rattle.std.specs.Option.{option_map}
 use Rattle.cx_storage.specs.Storage.{Storage, span, written}

@@ -1,4 +1,4 @@
--- How an instruction ends (POP, "Types of Instruction Ending"): it is completed, or suppressed by an interruption.
+-- How an instruction ends (GA22-7000, "Types of Instruction Ending"): it is completed, or suppressed by an interruption.
 use Rattle.std.specs.Prelude.{◌≡◌, Result, Ok, Err}
 use Rattle.cx_exec.specs.declared.machine.Interruption.{Interruption}
 use Rattle.cx_exec.specs.Machine.{Machine}

@@ -1,8 +1,9 @@
--- 98 LM, 90 STM [RS]  Load Multiple, Store Multiple (POP): from R1 through R3, register 0 following register 15. A byte of
+-- 98 LM, 90 STM [RS]  Load Multiple, Store Multiple (GA22-7000): from R1 through R3, register 0 following register 15. A byte of
 -- the operand absent 5; the code stays.
 use Rattle.std.specs.Prelude.{ℕ, zero, suc, ◌+◌, ◌-◌, ◌*◌, ◌%◌, List, [], ◌∷◌, ◌++◌, Option, Some, option_and_then, option_map, map, slice_index, nat_le, if◌then◌else◌}
 use Rattle.std.specs.List.{range_with_len}
-use Rattle.cx_storage.specs.Storage.{Storage, along}
+use Rattle.cx_storage.specs.Storage.{Storage}
+use Rattle.cx_storage.specs.Address.{along}
 use Rattle.cx_storage.specs.Word.{word_at}
 use Rattle.cx_exec.specs.declared.machine.Updated.{Updated}
 use Rattle.cx_exec.specs.Machine.{Machine}

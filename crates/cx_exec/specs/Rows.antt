@@ -1,4 +1,4 @@
--- The effect of each instruction: to each operation code its room (POP, "General Instructions"). The last
+-- The effect of each instruction: to each operation code its room (GA22-7000, "General Instructions"). The last
 -- arm of each format is not reached: no other row has the format, but EX, which stands apart.
 use Rattle.std.specs.Prelude.{ℕ, ◌+◌, ◌%◌, ◌^◌, [], ◌∷◌, Some}
 use Rattle.byteorder.specs.Endian.{big_bytes}

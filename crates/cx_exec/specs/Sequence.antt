@@ -1,4 +1,4 @@
--- Bytes that are stored one after the other (POP, "Move", "Exclusive Or", "Translate", "Pack", "Unpack": where
+-- Bytes that are stored one after the other (GA22-7000, "Move", "Exclusive Or", "Translate", "Pack", "Unpack": where
 -- operands overlap, the result is as if each byte were stored before the next ones are fetched).
 use Rattle.std.specs.Prelude.{ℕ, zero, suc, List, [], ◌∷◌, ◌++◌, length, slice_index, nat_lt, unwrap_or, if◌then◌else◌}
 use Rattle.cx_storage.specs.Storage.{Storage, byte_at}

@@ -1,4 +1,4 @@
--- Shifts (POP, "Shift Left Single", "Shift Right Double" and the others): by the low six bits of the second operand's
+-- Shifts (GA22-7000, "Shift Left Single", "Shift Right Double" and the others): by the low six bits of the second operand's
 -- address; the R3 field is ignored.
 -- 88 SRL, 89 SLL [RS]: R1 as a number without a sign; the code stays.
 -- 8A SRA, 8B SLA [RS]: R1 as a signed number; code 0 zero, 1 less than zero, 2 greater, 3 overflow of SLA.

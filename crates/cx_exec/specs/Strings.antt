@@ -1,4 +1,4 @@
--- D2 MVC  Move, D7 XC  Exclusive Or [SS] (POP): strings of n bytes, at a1 and a2, from left to right. A byte of an operand
+-- D2 MVC  Move, D7 XC  Exclusive Or [SS] (GA22-7000): strings of n bytes, at a1 and a2, from left to right. A byte of an operand
 -- absent 5. MVC leaves the code; XC: 0 zero, 1 not zero.
 use Rattle.std.specs.Prelude.{ℕ, List, bit_xor}
 use Rattle.cx_storage.specs.Storage.{Storage, span}

@@ -1,4 +1,4 @@
--- DC TR  Translate, DD TRT  Translate and Test [SS] (POP): n argument bytes from a1 on, left to right, and a table at a2.
+-- DC TR  Translate, DD TRT  Translate and Test [SS] (GA22-7000): n argument bytes from a1 on, left to right, and a table at a2.
 -- A byte of the argument absent 5, and so a byte of the table that the rule reads. TR leaves the code; TRT: 0 no byte
 -- found, 1 one before the last place, 2 one at the last.
 use Rattle.std.specs.Prelude.{◌≡◌, ℕ, ◌+◌, ◌*◌, ◌/◌, ◌^◌, ◌<◌, ◌==◌, Bool, true, not, List, Ok, Err, Option, Some, None, is_some, find, slice_set, option_and_then, unwrap_or, if◌then◌else◌}

@@ -2,7 +2,7 @@
 
 ghost use Rattle.std.specs.Prelude.{◌≡◌, MatchOption, MatchResult, Some};
 ghost use Rattle.cx_load.specs.Fault.{IsFit, IsLowestFault, all_apart, are_apart, are_inside, fault_name, is_apart};
-ghost use Rattle.cx_load.specs.Parts.Cascade.{fault_of};
+ghost use Rattle.cx_load.specs.Facts.Cascade.{fault_of};
 
 use cx_code::Image;
 use std::fmt::{Display, Formatter, Write};
@@ -96,7 +96,7 @@ fn fault_of(image: &Image) -> Option<ImageFault>
 }
 
 /// The fault of the first test that fails.
-#[tactic(auto, unfolding(crate::specs::Parts::Cascade::fault_of, crate::specs::Fault::has_length, crate::specs::Fault::has_entry, crate::specs::Fault::has_stg_length))]
+#[tactic(auto, unfolding(crate::specs::Facts::Cascade::fault_of, crate::specs::Fault::has_length, crate::specs::Fault::has_entry, crate::specs::Fault::has_stg_length))]
 fn first_fault(image: &Image) -> Option<ImageFault>
     ensures { result ≡ fault_of image.now }
 {

@@ -1,6 +1,7 @@
 -- What the definitions of numbers, pairs, shifts and several registers come to, as the module `laws` promises it.
 use Rattle.std.specs.Prelude.{◌≡◌, ℕ, ◌+◌, ◌*◌, ◌%◌, ◌^◌, ◌<◌, true, Some, List, length, take, drop, slice_index, ℤ, pos, ◌*ℤ◌, ◌≤ℤ◌}
-use Rattle.cx_storage.specs.Storage.{Storage, along}
+use Rattle.cx_storage.specs.Storage.{Storage}
+use Rattle.cx_storage.specs.Address.{along}
 use Rattle.cx_storage.specs.Word.{word_at}
 use Rattle.byteorder.specs.Endian.{big_bytes}
 use Rattle.cx_exec.specs.Numbers.{signed, word_of, signed_double, double_of, fits_word}
