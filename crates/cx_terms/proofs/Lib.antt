@@ -1,0 +1,5 @@
+mod NumberLemmas
+mod NameLemmas
+mod TermLemmas
+mod WeightLemmas
+mod FaultLemmas

@@ -1,0 +1,11 @@
+pub mod Faults
+pub mod Digits
+pub mod Names
+pub mod Symbols
+pub mod Texts
+pub mod Terms
+pub mod Worth
+pub mod Weights
+pub mod Expressions
+pub use Rattle.cx_ebcdic.specs.Characters
+pub use Rattle.cx_ebcdic.specs.Names as NameBytes
