@@ -3,3 +3,8 @@ mod NameLemmas
 mod TermLemmas
 mod WeightLemmas
 mod FaultLemmas
+mod FieldLemmas
+mod KindLemmas
+mod ByteLemmas
+mod WeighLemmas
+mod WrittenLemmas

@@ -51,7 +51,7 @@ step_kept sign part text outs i out within inside at_i kept =
     let other = drop_item outs i out inside at_i in
     rw (one, other, kept) refl
 
-range_more : (text : List ℕ) (start i : ℕ) → start ≤ i → i < length text
+pub range_more : (text : List ℕ) (start i : ℕ) → start ≤ i → i < length text
     → slice_range text start (i + 1) ≡ slice_range text start i ++ get_or text i 0 ∷ []
 range_more text start i begun within =
     let shorter : i - start < length (drop start text) = omega (arith, length-drop {A = ℕ}) in
@@ -62,7 +62,7 @@ range_more text start i begun within =
     let count : (i + 1) - start ≡ (i - start) + 1 = omega arith in
     ap (λ n. take n (drop start text)) count ∙ more ∙ ap (λ x. take (i - start) (drop start text) ++ x ∷ []) (there ∙ ap (λ n. get_or text n 0) at)
 
-range_none : (text : List ℕ) (i : ℕ) → slice_range text (i + 1) (i + 1) ≡ []
+pub range_none : (text : List ℕ) (i : ℕ) → slice_range text (i + 1) (i + 1) ≡ []
 range_none text i = grind (arith, common_steps, pieces)
 
 -- a sign ends a part

@@ -7,5 +7,9 @@ pub mod Terms
 pub mod Worth
 pub mod Weights
 pub mod Expressions
+pub mod Kinds
+pub mod Fields
+pub mod Items
+pub mod Bytes
 pub use Rattle.cx_ebcdic.specs.Characters
 pub use Rattle.cx_ebcdic.specs.Names as NameBytes

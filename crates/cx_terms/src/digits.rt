@@ -21,7 +21,7 @@ pub(crate) fn digit(c: u8) -> Option<u8>
 }
 
 /// Whether a character is a digit of a base.
-fn is_digit(c: u8, base: u8) -> bool
+pub(crate) fn is_digit(c: u8, base: u8) -> bool
     ensures { result ≡ is_digit base c }
 {
     match digit(c) {

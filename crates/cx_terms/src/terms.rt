@@ -83,7 +83,7 @@ impl<'a> Model for Term<'a> {
 }
 
 /// Whether a character is a sign.
-fn is_sign(c: u8) -> bool
+pub(crate) fn is_sign(c: u8) -> bool
     ensures { result ≡ is_sign c }
 {
     c == b'+' || c == b'-'

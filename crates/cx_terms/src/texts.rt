@@ -1,6 +1,6 @@
 //! The characters that stand between apostrophes.
 
-ghost use Rattle.std.specs.Prelude.{◌≡◌, ◌&&◌, false, length};
+ghost use Rattle.std.specs.Prelude.{◌≡◌, ◌≤◌, ◌&&◌, false, length};
 ghost use Rattle.std.specs.Option.{option_map};
 ghost use Rattle.cx_terms.specs.Digits.{bounded};
 ghost use Rattle.cx_terms.specs.Texts.{
@@ -36,7 +36,7 @@ pub(crate) fn closed(behind: &[u8]) -> Option<&[u8]>
 }
 
 /// Whether a mark stands in twos alone.
-fn is_doubled(mark: u8, body: &[u8]) -> bool
+pub(crate) fn is_doubled(mark: u8, body: &[u8]) -> bool
     ensures { result ≡ is_doubled mark false body.now }
 {
     let mut opened = false;
@@ -58,14 +58,14 @@ pub(crate) fn is_paired(body: &[u8]) -> bool
 }
 
 /// Whether a character has to be written twice.
-fn is_mark(c: u8) -> bool
+pub(crate) fn is_mark(c: u8) -> bool
     ensures { result ≡ is_mark c }
 {
     c == APOSTROPHE || c == AMPERSAND
 }
 
 /// Whether a character is the second of two apostrophes or ampersands; `opened` says that the one before is a first.
-fn repeats(opened: bool, c: u8) -> bool
+pub(crate) fn repeats(opened: bool, c: u8) -> bool
     ensures { result ≡ (opened && is_mark c) }
 {
     opened && is_mark(c)
@@ -73,7 +73,8 @@ fn repeats(opened: bool, c: u8) -> bool
 
 /// How many characters a text has, of two apostrophes or ampersands one.
 pub(crate) fn character_count(body: &[u8]) -> usize
-    ensures { result ≡ length (characters body.now) }
+    ensures count { result ≡ length (characters body.now) }
+    ensures bound { result ≤ length body.now }
 {
     let mut count = 0;
     let mut opened = false;

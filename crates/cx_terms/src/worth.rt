@@ -21,7 +21,7 @@ use cx_ebcdic::Name8;
 use std::alloc::AllocError;
 
 /// The greatest self-defining term.
-const GREATEST: u128 = 4_294_967_295;
+pub(crate) const GREATEST: u128 = 4_294_967_295;
 
 /// A self-defining term of this number.
 fn self_defined(number: u128) -> Result<Value, FaultKind>

@@ -1,0 +1,9 @@
+//! Tests of terms, expressions and constants, over public calls.
+#![tactic(auto)]
+
+#[cfg(test)]
+mod constants;
+#[cfg(test)]
+mod expressions;
+#[cfg(test)]
+mod symbols;
