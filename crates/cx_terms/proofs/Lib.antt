@@ -8,3 +8,4 @@ mod KindLemmas
 mod ByteLemmas
 mod WeighLemmas
 mod WrittenLemmas
+mod DigitLemmas

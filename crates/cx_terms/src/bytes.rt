@@ -24,6 +24,7 @@ ghost use Rattle.cx_terms.specs.Bytes.{
   is_absolute_word,
   is_signed_word,
   left_justified,
+  made,
   made_of,
   plain_made,
   packed_from_right,
@@ -68,6 +69,16 @@ impl Model for ConstantBytes {
 }
 
 impl ConstantBytes {
+    /// One copy of these bytes.
+    fn new(bytes: Vec<u8>, is_relocated: bool) -> ConstantBytes
+        ensures { result ≡ made bytes.items is_relocated }
+    {
+        ConstantBytes {
+            bytes,
+            is_relocated,
+        }
+    }
+
     /// The bytes.
     pub fn as_slice(&self) -> &[u8]
         ensures { result.now ≡ self.now.bytes }
@@ -388,10 +399,7 @@ fn plain_bytes(
         return Err(TermFault::Refused(fault));
     }
     let bytes = values_bytes(alloc, kind, modifier, values.as_slice())?;
-    Ok(ConstantBytes {
-        bytes,
-        is_relocated: false,
-    })
+    Ok(ConstantBytes::new(bytes, false))
 }
 
 /// Whether a place is in the control section.
@@ -418,18 +426,14 @@ fn address_bytes(
         if !is_absolute_word(n, value.number) {
             return Err(TermFault::Refused(FaultKind::ValueOutOfRange));
         }
-        return Ok(ConstantBytes {
-            bytes: integer_bytes(alloc, n, value.number)?,
-            is_relocated: false,
-        });
+        let bytes = integer_bytes(alloc, n, value.number)?;
+        return Ok(ConstantBytes::new(bytes, false));
     };
     if n != 4 || !is_in_control(section, control) {
         return Err(TermFault::Refused(FaultKind::NotRelocatable));
     }
-    Ok(ConstantBytes {
-        bytes: integer_bytes(alloc, 4, value.number)?,
-        is_relocated: true,
-    })
+    let word = integer_bytes(alloc, 4, value.number)?;
+    Ok(ConstantBytes::new(word, true))
 }
 
 impl Constant<'_> {
@@ -455,10 +459,7 @@ impl Constant<'_> {
         let kind = self.kind();
         let modifier = self.modifier();
         let Some(body) = self.value() else {
-            return Ok(ConstantBytes {
-                bytes: Vec::new(alloc),
-                is_relocated: false,
-            });
+            return Ok(ConstantBytes::new(Vec::new(alloc), false));
         };
         if kind != ConstantKind::Address {
             return plain_bytes(alloc, kind, modifier, body);

@@ -1,7 +1,8 @@
 //! What follows from the definitions of terms and expressions.
 
-ghost use Rattle.std.specs.Prelude.{◌≡◌, ◌∷◌, ◌↔◌, ℕ, List, Option, Some};
+ghost use Rattle.std.specs.Prelude.{◌≡◌, ◌∷◌, ◌↔◌, ◌<◌, ◌^◌, ℕ, List, Option, Some, true, length};
 ghost use Rattle.std.specs.List.{flat_map};
+ghost use Rattle.cx_terms.specs.Digits.{is_number, number_in};
 ghost use Rattle.cx_terms.specs.Terms.{Term, terms_of, written};
 ghost use Rattle.cx_terms.specs.Weights.{Weighs, relocation};
 ghost use Rattle.cx_terms.specs.declared.expressions.Signed.{Signed};
@@ -23,4 +24,11 @@ pub fn weighing_decides()
 #[tactic(auto, using(crate::proofs::WeighLemmas::where_it_weighs))]
 pub fn a_sum_is_where_it_weighs()
     ensures { (values : List Signed) (section : Option (List ℕ)) → (relocation values ≡ Some section) ↔ Weighs values section }
+{}
+
+/// The number that digits of a base write is below the base raised to their number: a self-defining term of n bytes is
+/// below 2^(8n), since two hexadecimal and eight binary digits make a byte.
+#[tactic(auto, using(crate::proofs::DigitLemmas::digits_fit))]
+pub fn digits_fit()
+    ensures { (base : ℕ) (text : List ℕ) → is_number base text ≡ true → number_in base text < base ^ length text }
 {}

@@ -62,7 +62,10 @@ const VALUE_FAULTS: [(&[u8], FaultKind); 15] = [
     (b"F'2147483648'", FaultKind::ValueOutOfRange),
     (b"F'-2147483649'", FaultKind::ValueOutOfRange),
     (b"FL1'-129'", FaultKind::ValueOutOfRange),
-    (b"H'99999999999999999999999999999999999999'", FaultKind::ValueOutOfRange),
+    (
+        b"H'99999999999999999999999999999999999999'",
+        FaultKind::ValueOutOfRange,
+    ),
     (b"AL1(256)", FaultKind::ValueOutOfRange),
     (b"AL1(0-129)", FaultKind::ValueOutOfRange),
     (b"F'1,'", FaultKind::BadOperand),
@@ -100,7 +103,11 @@ const REFUSED: [(&[u8], bool, FaultKind); 24] = [
     (b"FL0'0'", false, FaultKind::ValueOutOfRange),
     (b"XL257'0'", false, FaultKind::ValueOutOfRange),
     (b"CL65536", true, FaultKind::ValueOutOfRange),
-    (b"99999999999999999999F'0'", false, FaultKind::ValueOutOfRange),
+    (
+        b"99999999999999999999F'0'",
+        false,
+        FaultKind::ValueOutOfRange,
+    ),
     (b"4294967296FL'0'", false, FaultKind::BadOperand),
 ];
 
@@ -111,12 +118,7 @@ fn has_lengths(row: (&[u8], bool, u32, u128, u128)) -> bool {
     }
 }
 
-fn is_made(
-    alloc: Global,
-    symbols: &SymbolTable,
-    row: (&[u8], &[u8]),
-    is_relocated: bool,
-) -> bool {
+fn is_made(alloc: Global, symbols: &SymbolTable, row: (&[u8], &[u8]), is_relocated: bool) -> bool {
     let Ok(item) = Constant::read(row.0, false) else {
         return false;
     };

@@ -36,7 +36,10 @@ const FAULTS: [(&[u8], FaultKind); 20] = [
     (b"4294967296+NONE", FaultKind::UndefinedSymbol),
     (b"X+X+NONE", FaultKind::UndefinedSymbol),
     (b"X+X+4294967296", FaultKind::ValueOutOfRange),
-    (b"99999999999999999999999999999999999999999", FaultKind::ValueOutOfRange),
+    (
+        b"99999999999999999999999999999999999999999",
+        FaultKind::ValueOutOfRange,
+    ),
     (b"X'123456789'", FaultKind::BadOperand),
     (b"X'012345678'", FaultKind::BadOperand),
     (b"C'ABCDE'", FaultKind::BadOperand),

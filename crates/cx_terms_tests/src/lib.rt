@@ -6,4 +6,6 @@ mod constants;
 #[cfg(test)]
 mod expressions;
 #[cfg(test)]
+mod memory;
+#[cfg(test)]
 mod symbols;
