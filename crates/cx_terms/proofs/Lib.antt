@@ -1,0 +1,11 @@
+mod NumberLemmas
+mod NameLemmas
+mod TermLemmas
+mod WeightLemmas
+mod FaultLemmas
+mod FieldLemmas
+mod KindLemmas
+mod ByteLemmas
+mod WeighLemmas
+mod WrittenLemmas
+mod DigitLemmas
