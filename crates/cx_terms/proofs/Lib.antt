@@ -1,5 +1,6 @@
 mod NumberLemmas
 mod NameLemmas
+mod TableLemmas
 mod TermLemmas
 mod WeightLemmas
 mod FaultLemmas

@@ -8,8 +8,8 @@ use Rattle.std.proofs.lemmas.Grind.{common_steps, pieces}
 use Rattle.cx_terms.specs.Terms.{Part, part_of, parts_from, is_sign, sign_of}
 use Rattle.cx_terms.specs.declared.terms.Sign.{Sign}
 use Rattle.cx_source.specs.Marks.{outside, outside_from, passed}
-use Rattle.cx_source.specs.Outside.{at_start}
-use Rattle.cx_source.specs.declared.cuts.Scan.{Scan}
+use Rattle.cx_source.specs.Marks.{at_start}
+use Rattle.cx_source.specs.declared.marks.Scan.{Scan}
 use Rattle.cx_ebcdic.specs.Lookup.{each_some}
 
 from-length : (scan : Scan) (text : List ℕ) → length (outside_from scan text) ≡ length text

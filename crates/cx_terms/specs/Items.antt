@@ -3,7 +3,7 @@ use Rattle.std.specs.Prelude.{ℕ, ◌+◌, ◌-◌, ◌*◌, ◌/◌, Bool, tru
 use Rattle.std.specs.List.{list_all}
 use Rattle.std.specs.Option.{option_map_or}
 use Rattle.cx_source.specs.Marks.{first_mark}
-use Rattle.cx_source.specs.declared.cuts.Mark.TheVariants.{Parenthesis}
+use Rattle.cx_source.specs.declared.marks.Mark.TheVariants.{Parenthesis}
 use Rattle.cx_terms.specs.Digits.{is_digit, number_in}
 use Rattle.cx_terms.specs.Texts.{closed, is_doubled, is_paired, characters}
 use Rattle.cx_terms.specs.Worth.{greatest}

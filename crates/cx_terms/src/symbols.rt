@@ -1,7 +1,8 @@
 //! The table of symbols.
 
 ghost use Rattle.std.specs.Prelude.{◌≡◌, [], OnErr, OnOk, IsErrOf, IsOkUnless, MatchOption};
-ghost use Rattle.cx_terms.specs.Names.{symbol_name};
+ghost use Rattle.indexmap.specs.IndexMap.{insert_entry};
+ghost use Rattle.cx_terms.specs.Names.{is_same, symbol_name};
 ghost use Rattle.cx_terms.specs.Symbols.{Defines, find_in};
 
 use crate::faults::{FaultKind, TermFault};
@@ -9,7 +10,7 @@ use crate::values::Value;
 use cx_ebcdic::Name8;
 use cx_source::is_name;
 use indexmap::IndexMap;
-use std::alloc::Global;
+use std::alloc::{AllocError, Global};
 use std::marker::Model;
 
 /// The name that a symbol is known by, or None where a text is no symbol: 1 to 8 letters (A to Z, `@ # $`) and digits,
@@ -62,6 +63,7 @@ impl SymbolTable {
     ///
     /// DuplicateSymbol comes exactly where the name is a symbol's already, and Memory only where a growth was refused;
     /// then all is as before.
+    #[tactic(auto, using(crate::proofs::TableLemmas::defined_by_insert))]
     pub fn define(&mut self, name: Name8, value: Value) -> Result<(), TermFault>
         ensures defined { OnOk result (Defines self.old name value self.new) }
         ensures refused { MatchOption (find_in self.old name) (IsOkUnless result TermFault.Memory)
@@ -71,7 +73,16 @@ impl SymbolTable {
         if self.get(name).is_some() {
             return Err(TermFault::Refused(FaultKind::DuplicateSymbol));
         }
-        self.symbols.insert(name, value)?;
+        put(&mut self.symbols, name, value)?;
         Ok(())
     }
+}
+
+/// Puts a value under a name.
+fn put(symbols: &mut IndexMap<Name8, Value>, name: Name8, value: Value) -> Result<(), AllocError>
+    ensures put { OnOk result (symbols.new.entries ≡ insert_entry is_same symbols.old.entries name value) }
+    ensures err { OnErr result (symbols.new.entries ≡ symbols.old.entries) }
+{
+    symbols.insert(name, value)?;
+    Ok(())
 }

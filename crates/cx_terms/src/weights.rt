@@ -1,6 +1,9 @@
 //! Whether a sum of values is absolute, or a place in a section.
 
-ghost use Rattle.std.specs.Prelude.{◌≡◌, ◌∷◌, [], IfOk};
+ghost use Rattle.std.specs.Prelude.{◌≡◌, ◌∷◌, [], pos, unwrap_or, IfOk, OnOk};
+ghost use Rattle.std.specs.Map.{lookup};
+ghost use Rattle.indexmap.specs.IndexMap.{insert_entry};
+ghost use Rattle.cx_terms.specs.Names.{is_same};
 ghost use Rattle.std.specs.List.{filter};
 ghost use Rattle.cx_terms.specs.Weights.{is_heavy, relocation, section_in, unit, weights_from};
 
@@ -20,6 +23,25 @@ fn unit(sign: Sign) -> i128
     }
 }
 
+/// What a section weighs so far.
+fn weight_of(weights: &IndexMap<Name8, i128>, section: Name8) -> i128
+    ensures { result ≡ unwrap_or (lookup (is_same section) weights.now.entries) (pos 0) }
+{
+    weights.get(&section).copied().unwrap_or(0)
+}
+
+/// Puts what a section weighs.
+fn put_weight(
+    weights: &mut IndexMap<Name8, i128>,
+    section: Name8,
+    weight: i128,
+) -> Result<(), AllocError>
+    ensures { OnOk result (weights.new.entries ≡ insert_entry is_same weights.old.entries section weight) }
+{
+    weights.insert(section, weight)?;
+    Ok(())
+}
+
 /// The sections of values, each with the sum of its signs.
 #[tactic(auto, using(crate::proofs::WeightLemmas::put_as_inserted))]
 fn weights(alloc: Global, values: &[Signed]) -> Result<IndexMap<Name8, i128>, AllocError>
@@ -30,8 +52,8 @@ fn weights(alloc: Global, values: &[Signed]) -> Result<IndexMap<Name8, i128>, Al
         let Some(section) = value.value.section else {
             continue;
         };
-        let weight = weights.get(&section).copied().unwrap_or(0);
-        weights.insert(section, weight + unit(value.sign))?;
+        let weight = weight_of(&weights, section);
+        put_weight(&mut weights, section, weight + unit(value.sign))?;
     }
     Ok(weights)
 }
