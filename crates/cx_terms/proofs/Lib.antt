@@ -9,3 +9,4 @@ mod ByteLemmas
 mod WeighLemmas
 mod WrittenLemmas
 mod DigitLemmas
+mod LowestLemmas
