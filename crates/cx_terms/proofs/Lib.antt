@@ -10,3 +10,4 @@ mod ByteLemmas
 mod WeighLemmas
 mod WrittenLemmas
 mod DigitLemmas
+mod LowestLemmas

@@ -11,5 +11,6 @@ pub mod Kinds
 pub mod Fields
 pub mod Items
 pub mod Bytes
+pub mod Laws
 pub use Rattle.cx_ebcdic.specs.Characters
 pub use Rattle.cx_ebcdic.specs.Names as NameBytes

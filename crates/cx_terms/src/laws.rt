@@ -3,6 +3,11 @@
 ghost use Rattle.std.specs.Prelude.{◌≡◌, ◌∷◌, ◌↔◌, ◌<◌, ◌^◌, ℕ, List, Option, Some, true, length};
 ghost use Rattle.std.specs.List.{flat_map};
 ghost use Rattle.cx_terms.specs.Digits.{is_number, number_in};
+ghost use Rattle.cx_terms.specs.Faults.{lowest};
+ghost use Rattle.cx_terms.specs.Kinds.{kind_of, row_of};
+ghost use Rattle.cx_terms.specs.Laws.FaultLaws.{IsLowest};
+ghost use Rattle.cx_terms.specs.declared.faults.FaultKind.{FaultKind};
+ghost use Rattle.cx_terms.specs.declared.kinds.ConstantKind.{ConstantKind};
 ghost use Rattle.cx_terms.specs.Terms.{Term, terms_of, written};
 ghost use Rattle.cx_terms.specs.Weights.{Weighs, relocation};
 ghost use Rattle.cx_terms.specs.declared.expressions.Signed.{Signed};
@@ -31,4 +36,16 @@ pub fn a_sum_is_where_it_weighs()
 #[tactic(auto, using(crate::proofs::DigitLemmas::digits_fit))]
 pub fn digits_fit()
     ensures { (base : ℕ) (text : List ℕ) → is_number base text ≡ true → number_in base text < base ^ length text }
+{}
+
+/// The lowest of several faults is one of them, and none of them has a lower number; where none is answered there is none.
+#[tactic(auto, using(crate::proofs::LowestLemmas::lowest_is_lowest))]
+pub fn the_lowest_fault_is_lowest()
+    ensures { (faults : List (Option FaultKind)) → IsLowest faults (lowest faults) }
+{}
+
+/// A letter stands for a type of constant exactly where it is that type's letter.
+#[tactic(auto, using(crate::proofs::KindLemmas::kind_by_letter))]
+pub fn types_are_known_by_their_letters()
+    ensures { (letter : ℕ) (kind : ConstantKind) → (kind_of letter ≡ Some kind) ↔ ((row_of kind).letter ≡ letter) }
 {}
