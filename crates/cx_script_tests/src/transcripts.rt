@@ -49,10 +49,30 @@ fn image<R: AllocGlobal>(rt: &R, lines: usize, end: &[u8]) -> Result<Vec<u8>, Fa
 fn long_images(rt: HostRuntime) -> Result<(), Fail> {
     let refused = b"PROGRAM A REFUSED BadLength\n".as_slice();
     let loaded = b"PROGRAM A AT 010000 LENGTH 010000\n".as_slice();
-    expect_run(&rt, &image(&rt, 32, b"/*\n")?, Ok(Summary { lines: 34 }), loaded);
-    expect_run(&rt, &image(&rt, 32, b"00\n/*\n")?, Ok(Summary { lines: 35 }), refused);
-    expect_run(&rt, &image(&rt, 40, b"00\n/*\n")?, Ok(Summary { lines: 43 }), refused);
-    expect_run(&rt, &image(&rt, 40, b"0\n/*\n")?, Err(RunFault::BadLine(42)), b"");
+    expect_run(
+        &rt,
+        &image(&rt, 32, b"/*\n")?,
+        Ok(Summary { lines: 34 }),
+        loaded,
+    );
+    expect_run(
+        &rt,
+        &image(&rt, 32, b"00\n/*\n")?,
+        Ok(Summary { lines: 35 }),
+        refused,
+    );
+    expect_run(
+        &rt,
+        &image(&rt, 40, b"00\n/*\n")?,
+        Ok(Summary { lines: 43 }),
+        refused,
+    );
+    expect_run(
+        &rt,
+        &image(&rt, 40, b"0\n/*\n")?,
+        Err(RunFault::BadLine(42)),
+        b"",
+    );
     Ok(())
 }
 
