@@ -1,72 +1,83 @@
 -- Each row of the table of commands is well formed, row by row by computation.
-use Rattle.std.proofs.Common.{IsTrue, refl}
-use Rattle.cx_command.specs.Commands.{row_of}
-use Rattle.cx_command.specs.Laws.Rows.{are_apart, has_own_bits, rules_name_options}
+use Rattle.std.proofs.Common.{◌≡◌, ◌≤◌, Bool, length, lit≤, true, IsTrue, refl}
+use Rattle.std.specs.Prelude.{◌&&◌}
+use Rattle.cx_command.specs.Commands.{Row, row_of}
+use Rattle.cx_command.specs.Laws.Rows.{are_apart, has_own_bits, have_own_names, measured_have_length, rules_name_options}
 use Rattle.cx_command.specs.declared.commands.Command.{Command}
 use Rattle.cx_command.specs.declared.commands.Command.TheVariants as command
 
+abbrev is_sound : Row → Bool
+is_sound r =
+    has_own_bits r.options && (are_apart r.options && (rules_name_options r.options r.rules
+    && (have_own_names r.options && measured_have_length r.options r.rules)))
+
+sound : (c : Command) → is_sound (row_of c) ≡ true
+sound command.Address = refl
+sound command.HandleCondition = refl
+sound command.IgnoreCondition = refl
+sound command.PushHandle = refl
+sound command.PopHandle = refl
+sound command.Receive = refl
+sound command.WriteqTs = refl
+sound command.ReadqTs = refl
+sound command.DeleteqTs = refl
+sound command.Getmain = refl
+sound command.Freemain = refl
+sound command.Link = refl
+sound command.Xctl = refl
+sound command.Return = refl
+sound command.Abend = refl
+sound command.HandleAbend = refl
+sound command.Enq = refl
+sound command.Deq = refl
+sound command.Suspend = refl
+sound command.SendText = refl
+
+each : (a b c d e : Bool) → (a && (b && (c && (d && e)))) ≡ true → (a ≡ true) × (b ≡ true) × (c ≡ true) × (d ≡ true) × (e ≡ true)
+each true true true true true h = (refl, refl, refl, refl, refl)
+each _ _ _ _ _ h = absurd (cc)
+
+parts : (c : Command) → IsTrue (has_own_bits (row_of c).options) × IsTrue (are_apart (row_of c).options)
+    × IsTrue (rules_name_options (row_of c).options (row_of c).rules) × IsTrue (have_own_names (row_of c).options)
+    × IsTrue (measured_have_length (row_of c).options (row_of c).rules)
+parts c =
+    each (has_own_bits (row_of c).options) (are_apart (row_of c).options) (rules_name_options (row_of c).options (row_of c).rules)
+    (have_own_names (row_of c).options) (measured_have_length (row_of c).options (row_of c).rules) (sound c)
+
 pub own_bits : (c : Command) → IsTrue (has_own_bits (row_of c).options)
-own_bits command.Address = refl
-own_bits command.HandleCondition = refl
-own_bits command.IgnoreCondition = refl
-own_bits command.PushHandle = refl
-own_bits command.PopHandle = refl
-own_bits command.Receive = refl
-own_bits command.WriteqTs = refl
-own_bits command.ReadqTs = refl
-own_bits command.DeleteqTs = refl
-own_bits command.Getmain = refl
-own_bits command.Freemain = refl
-own_bits command.Link = refl
-own_bits command.Xctl = refl
-own_bits command.Return = refl
-own_bits command.Abend = refl
-own_bits command.HandleAbend = refl
-own_bits command.Enq = refl
-own_bits command.Deq = refl
-own_bits command.Suspend = refl
-own_bits command.SendText = refl
+own_bits c = (parts c).0
 
 pub apart : (c : Command) → IsTrue (are_apart (row_of c).options)
-apart command.Address = refl
-apart command.HandleCondition = refl
-apart command.IgnoreCondition = refl
-apart command.PushHandle = refl
-apart command.PopHandle = refl
-apart command.Receive = refl
-apart command.WriteqTs = refl
-apart command.ReadqTs = refl
-apart command.DeleteqTs = refl
-apart command.Getmain = refl
-apart command.Freemain = refl
-apart command.Link = refl
-apart command.Xctl = refl
-apart command.Return = refl
-apart command.Abend = refl
-apart command.HandleAbend = refl
-apart command.Enq = refl
-apart command.Deq = refl
-apart command.Suspend = refl
-apart command.SendText = refl
+apart c = (parts c).1
 
 pub rules_speak : (c : Command) → IsTrue (rules_name_options (row_of c).options (row_of c).rules)
-rules_speak command.Address = refl
-rules_speak command.HandleCondition = refl
-rules_speak command.IgnoreCondition = refl
-rules_speak command.PushHandle = refl
-rules_speak command.PopHandle = refl
-rules_speak command.Receive = refl
-rules_speak command.WriteqTs = refl
-rules_speak command.ReadqTs = refl
-rules_speak command.DeleteqTs = refl
-rules_speak command.Getmain = refl
-rules_speak command.Freemain = refl
-rules_speak command.Link = refl
-rules_speak command.Xctl = refl
-rules_speak command.Return = refl
-rules_speak command.Abend = refl
-rules_speak command.HandleAbend = refl
-rules_speak command.Enq = refl
-rules_speak command.Deq = refl
-rules_speak command.Suspend = refl
-rules_speak command.SendText = refl
+rules_speak c = (parts c).2
+
+pub own_names : (c : Command) → IsTrue (have_own_names (row_of c).options)
+own_names c = (parts c).3
+
+pub lengths : (c : Command) → IsTrue (measured_have_length (row_of c).options (row_of c).rules)
+lengths c = (parts c).4
+
+-- a command has at most as many options as a byte has bits
+pub few : (c : Command) → length (row_of c).options ≤ 8
+few command.Address = lit≤ tt
+few command.HandleCondition = lit≤ tt
+few command.IgnoreCondition = lit≤ tt
+few command.PushHandle = lit≤ tt
+few command.PopHandle = lit≤ tt
+few command.Receive = lit≤ tt
+few command.WriteqTs = lit≤ tt
+few command.ReadqTs = lit≤ tt
+few command.DeleteqTs = lit≤ tt
+few command.Getmain = lit≤ tt
+few command.Freemain = lit≤ tt
+few command.Link = lit≤ tt
+few command.Xctl = lit≤ tt
+few command.Return = lit≤ tt
+few command.Abend = lit≤ tt
+few command.HandleAbend = lit≤ tt
+few command.Enq = lit≤ tt
+few command.Deq = lit≤ tt
+few command.Suspend = lit≤ tt
+few command.SendText = lit≤ tt

@@ -5,7 +5,7 @@ use Rattle.std.specs.Str.{bytes_eq}
 use Rattle.std.proofs.lemmas.Bool.{eqb-true}
 use Rattle.std.proofs.lemmas.Slice.Eq.{bytes_eq-Decides}
 use Rattle.cx_ebcdic.specs.Facts.Lookup.{find_passes}
-use Rattle.cx_command.specs.Commands.{row_of}
+use Rattle.cx_command.specs.Commands.{all_commands, command_called, command_with, row_of}
 use Rattle.cx_command.specs.Conditions.{entry_of}
 use Rattle.cx_command.specs.Options.{option_name}
 use Rattle.cx_command.specs.declared.commands.Command.{Command}
@@ -44,6 +44,40 @@ pub found_by_function : (n : ℕ) (x : Command) → (find (λ y. (row_of y).func
 found_by_function n x = (
   λ e. eqb-true _ _ (find_passes (λ y. (row_of y).function == n) commands.Command.ALL x e),
   λ e. ap (λ k. find (λ y. (row_of y).function == k) commands.Command.ALL) (sym e) ∙ function_finds x,
+)
+
+name_finds : (x : Command) → find (λ y. bytes_eq (row_of y).name (row_of x).name) all_commands ≡ Some x
+name_finds command.Address = refl
+name_finds command.HandleCondition = refl
+name_finds command.IgnoreCondition = refl
+name_finds command.PushHandle = refl
+name_finds command.PopHandle = refl
+name_finds command.Receive = refl
+name_finds command.WriteqTs = refl
+name_finds command.ReadqTs = refl
+name_finds command.DeleteqTs = refl
+name_finds command.Getmain = refl
+name_finds command.Freemain = refl
+name_finds command.Link = refl
+name_finds command.Xctl = refl
+name_finds command.Return = refl
+name_finds command.Abend = refl
+name_finds command.HandleAbend = refl
+name_finds command.Enq = refl
+name_finds command.Deq = refl
+name_finds command.Suspend = refl
+name_finds command.SendText = refl
+
+-- the two look-ups of the table of commands
+pub command_by_function : (n : ℕ) (x : Command) → (command_with n ≡ Some x) ↔ ((row_of x).function ≡ n)
+unfolding command_with
+command_by_function = found_by_function
+
+pub command_by_name : (t : List ℕ) (x : Command) → (command_called t ≡ Some x) ↔ ((row_of x).name ≡ t)
+unfolding command_called
+command_by_name t x = (
+  λ e. (bytes_eq-Decides (row_of x).name t).0 (find_passes (λ y. bytes_eq (row_of y).name t) all_commands x e),
+  λ e. ap (λ n. find (λ y. bytes_eq (row_of y).name n) all_commands) (sym e) ∙ name_finds x,
 )
 
 condition_number_finds : (x : Condition) → find (λ y. (entry_of y).number == (entry_of x).number) conditions.Condition.ALL ≡ Some x

@@ -1,2 +1,3 @@
 -- What the laws state.
 pub mod Rows
+pub mod Layouts

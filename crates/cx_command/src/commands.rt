@@ -1,6 +1,8 @@
-ghost use Rattle.std.specs.Prelude.{◌≡◌, ◌↔◌, ◌==◌, IsTrue, Some};
+//! The commands and their rows.
+ghost use Rattle.std.specs.Prelude.{◌≡◌, ◌↔◌, ◌==◌, Some};
 ghost use Rattle.std.specs.List.{find};
-ghost use Rattle.cx_command.specs.Commands.{row_of};
+ghost use Rattle.std.specs.Str.{bytes_eq};
+ghost use Rattle.cx_command.specs.Commands.{command_called, command_named, command_with, joined, row_of};
 ghost use Rattle.cx_command.specs.Legal.{lists_conditions};
 
 use crate::options::{CommandOption, Mark, OptionName, Rule};
@@ -115,10 +117,28 @@ impl Command {
     }
 
     /// The command of that function value, or None where no command has it.
+    #[tactic(auto, unfolding(crate::specs::Commands::command_with))]
     pub fn from_function(function: u16) -> Option<Command>
-        ensures { (command : Command) → (result ≡ Some command) ↔ ((row_of command).function ≡ function) }
+        ensures value { result ≡ command_with function }
+        ensures exact { (command : Command) → (result ≡ Some command) ↔ ((row_of command).function ≡ function) }
     {
         with_function(&Command::ALL, function)
+    }
+
+    /// The command that words begin with, and how many of them are its name: both, or else the first alone, or
+    /// else the first with TS left out. None where no command has such a name, as for HANDLE alone.
+    /// The second is empty where there is one word.
+    #[tactic(auto, unfolding(crate::specs::Commands::command_named, crate::specs::Commands::command_called))]
+    pub fn named(first: &[u8], second: &[u8]) -> Option<(Command, usize)>
+        ensures { result ≡ command_named first.now second.now }
+    {
+        if let Some(command) = with_words(&Command::ALL, first, second) {
+            return Some((command, 2));
+        }
+        if let Some(command) = with_name(&Command::ALL, first) {
+            return Some((command, 1));
+        }
+        with_words(&Command::ALL, first, b"TS").map(|command| (command, 1))
     }
 
     /// The options that have a bit in option byte 1, in the order of their words in the argument list.
@@ -193,6 +213,36 @@ fn with_function(commands: &[Command], function: u16) -> Option<Command>
         .find(|command| command.function() == function)
 }
 
+/// The first of some commands that has a name.
+fn with_name(commands: &[Command], name: &[u8]) -> Option<Command>
+    ensures { result ≡ find (λ command. bytes_eq (row_of command).name name.now) commands.now }
+{
+    commands
+        .iter()
+        .copied()
+        .find(|command| command.name().as_bytes() == name)
+}
+
+/// The first of some commands whose name is two words.
+fn with_words(commands: &[Command], first: &[u8], second: &[u8]) -> Option<Command>
+    ensures { result ≡ find (λ command. bytes_eq (row_of command).name (joined first.now second.now)) commands.now }
+{
+    commands.iter().copied().find(|command| is_joined(command.name().as_bytes(), first, second))
+}
+
+/// Whether a text is two words with a blank between.
+fn is_joined(text: &[u8], first: &[u8], second: &[u8]) -> bool
+    ensures { result ≡ bytes_eq text.now (joined first.now second.now) }
+{
+    let Some(rest) = text.strip_prefix(first) else {
+        return false;
+    };
+    let Some((blank, last)) = rest.split_first() else {
+        return false;
+    };
+    *blank == b' ' && last == second
+}
+
 #[rattlefmt::skip]
 const ADDRESS: [CommandOption; 1] = [
     CommandOption { bit: 0x80, name: OptionName::Cwa, mark: Mark::Pointer, required: true },
@@ -200,14 +250,14 @@ const ADDRESS: [CommandOption; 1] = [
 
 #[rattlefmt::skip]
 const RECEIVE: [CommandOption; 2] = [
-    CommandOption { bit: 0x80, name: OptionName::Into, mark: Mark::Bytes, required: true },
+    CommandOption { bit: 0x80, name: OptionName::Into, mark: Mark::BytesWritten, required: true },
     CommandOption { bit: 0x40, name: OptionName::Length, mark: Mark::HalfwordBothWays, required: true },
 ];
 
 #[rattlefmt::skip]
 const WRITEQ_TS: [CommandOption; 8] = [
     CommandOption { bit: 0x80, name: OptionName::Queue, mark: Mark::Name8, required: true },
-    CommandOption { bit: 0x40, name: OptionName::From, mark: Mark::Bytes, required: true },
+    CommandOption { bit: 0x40, name: OptionName::From, mark: Mark::BytesRead, required: true },
     CommandOption { bit: 0x20, name: OptionName::Length, mark: Mark::Halfword, required: true },
     CommandOption { bit: 0x10, name: OptionName::Main, mark: Mark::Flag, required: false },
     CommandOption { bit: 0x08, name: OptionName::Auxiliary, mark: Mark::Flag, required: false },
@@ -219,7 +269,7 @@ const WRITEQ_TS: [CommandOption; 8] = [
 #[rattlefmt::skip]
 const READQ_TS: [CommandOption; 7] = [
     CommandOption { bit: 0x80, name: OptionName::Queue, mark: Mark::Name8, required: true },
-    CommandOption { bit: 0x40, name: OptionName::Into, mark: Mark::Bytes, required: false },
+    CommandOption { bit: 0x40, name: OptionName::Into, mark: Mark::BytesWritten, required: false },
     CommandOption { bit: 0x20, name: OptionName::Length, mark: Mark::HalfwordBothWaysWithoutSet, required: true },
     CommandOption { bit: 0x10, name: OptionName::Item, mark: Mark::Halfword, required: false },
     CommandOption { bit: 0x08, name: OptionName::Next, mark: Mark::Flag, required: false },
@@ -255,14 +305,14 @@ const LINK: [CommandOption; 3] = [
 #[rattlefmt::skip]
 const XCTL: [CommandOption; 3] = [
     CommandOption { bit: 0x80, name: OptionName::Program, mark: Mark::Name8, required: true },
-    CommandOption { bit: 0x40, name: OptionName::Commarea, mark: Mark::Bytes, required: false },
+    CommandOption { bit: 0x40, name: OptionName::Commarea, mark: Mark::BytesRead, required: false },
     CommandOption { bit: 0x20, name: OptionName::Length, mark: Mark::Halfword, required: false },
 ];
 
 #[rattlefmt::skip]
 const RETURN: [CommandOption; 3] = [
     CommandOption { bit: 0x80, name: OptionName::Transid, mark: Mark::Name4, required: false },
-    CommandOption { bit: 0x40, name: OptionName::Commarea, mark: Mark::Bytes, required: false },
+    CommandOption { bit: 0x40, name: OptionName::Commarea, mark: Mark::BytesRead, required: false },
     CommandOption { bit: 0x20, name: OptionName::Length, mark: Mark::Halfword, required: false },
 ];
 
@@ -295,7 +345,7 @@ const DEQ: [CommandOption; 2] = [
 
 #[rattlefmt::skip]
 const SEND_TEXT: [CommandOption; 4] = [
-    CommandOption { bit: 0x80, name: OptionName::From, mark: Mark::Bytes, required: true },
+    CommandOption { bit: 0x80, name: OptionName::From, mark: Mark::BytesRead, required: true },
     CommandOption { bit: 0x40, name: OptionName::Length, mark: Mark::Halfword, required: true },
     CommandOption { bit: 0x20, name: OptionName::Erase, mark: Mark::Flag, required: false },
     CommandOption { bit: 0x10, name: OptionName::Freekb, mark: Mark::Flag, required: false },

@@ -1,3 +1,4 @@
+//! The exceptional conditions.
 ghost use Rattle.std.specs.Prelude.{◌≡◌, ◌↔◌, ◌==◌, Some};
 ghost use Rattle.std.specs.List.{find};
 ghost use Rattle.std.specs.Str.{bytes_eq};
@@ -105,7 +106,14 @@ impl Condition {
     pub fn from_name(name: &str) -> Option<Condition>
         ensures { (condition : Condition) → (result ≡ Some condition) ↔ ((entry_of condition).name ≡ name.now) }
     {
-        named(&Condition::ALL, name)
+        Condition::named(name.as_bytes())
+    }
+
+    /// The condition of that name, as bytes of text, or None where no condition has it.
+    pub fn named(name: &[u8]) -> Option<Condition>
+        ensures { (condition : Condition) → (result ≡ Some condition) ↔ ((entry_of condition).name ≡ name.now) }
+    {
+        with_name(&Condition::ALL, name)
     }
 }
 
@@ -120,11 +128,11 @@ fn numbered(conditions: &[Condition], number: u8) -> Option<Condition>
 }
 
 /// The first of some conditions that has a name.
-fn named(conditions: &[Condition], name: &str) -> Option<Condition>
+fn with_name(conditions: &[Condition], name: &[u8]) -> Option<Condition>
     ensures { result ≡ find (λ condition. bytes_eq (entry_of condition).name name.now) conditions.now }
 {
     conditions
         .iter()
         .copied()
-        .find(|condition| condition.name() == name)
+        .find(|condition| condition.name().as_bytes() == name)
 }

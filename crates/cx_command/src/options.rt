@@ -1,7 +1,12 @@
-ghost use Rattle.std.specs.Prelude.{◌≡◌, ◌≢◌, ◌↔◌, IsTrue, Some};
+//! The options of commands: names, marks, rules.
+ghost use Rattle.std.specs.Prelude.{◌≡◌, ◌↔◌, Some};
 ghost use Rattle.std.specs.List.{find};
 ghost use Rattle.std.specs.Str.{bytes_eq};
-ghost use Rattle.cx_command.specs.Options.{option_name};
+ghost use Rattle.cx_command.specs.Arguments.{takes_argument};
+ghost use Rattle.cx_command.specs.Legal.{has_bit};
+ghost use Rattle.cx_command.specs.Options.{common_of, option_name};
+
+use crate::legal::has_bit;
 
 /// An option of a command that has a bit in option byte 1 of the argument list.
 ///
@@ -105,15 +110,85 @@ impl OptionName {
     pub fn from_name(name: &str) -> Option<OptionName>
         ensures { (option : OptionName) → (result ≡ Some option) ↔ (option_name option ≡ name.now) }
     {
-        named(&OptionName::ALL, name)
+        OptionName::named(name.as_bytes())
+    }
+
+    /// The option of that name, as bytes of text, or None where no option has it.
+    pub fn named(name: &[u8]) -> Option<OptionName>
+        ensures { (option : OptionName) → (result ≡ Some option) ↔ (option_name option ≡ name.now) }
+    {
+        with_name(&OptionName::ALL, name)
     }
 }
 
 /// The first of some options that has a name.
-fn named(options: &[OptionName], name: &str) -> Option<OptionName>
+fn with_name(options: &[OptionName], name: &[u8]) -> Option<OptionName>
     ensures { result ≡ find (λ option. bytes_eq (option_name option) name.now) options.now }
 {
-    options.iter().copied().find(|option| option.name() == name)
+    options
+        .iter()
+        .copied()
+        .find(|option| option.name().as_bytes() == name)
+}
+
+/// An option that every command may have. It has a bit in option byte 2 of the argument list.
+///
+/// Application Programmer's Reference Manual, SC33-0077, "Exceptional conditions". The bits are this project's own.
+#[derive(Clone, Copy, Debug, PartialEq, Eq)]
+pub enum CommonOption {
+    /// The program goes on after the command, whatever condition it meets.
+    Nohandle,
+    /// And the condition's number is written into a fullword.
+    Resp,
+}
+
+impl CommonOption {
+    /// The option's name.
+    pub fn name(self) -> &'static str
+        ensures { result.now ≡ (common_of self).name }
+    {
+        match self {
+            CommonOption::Nohandle => "NOHANDLE",
+            CommonOption::Resp => "RESP",
+        }
+    }
+
+    /// Its bit in option byte 2.
+    pub fn bit(self) -> u8
+        ensures { result ≡ (common_of self).bit }
+    {
+        match self {
+            CommonOption::Nohandle => 0x80,
+            CommonOption::Resp => 0x40,
+        }
+    }
+
+    /// Whether option byte 2 has it.
+    pub fn is_in(self, second: u8) -> bool
+        ensures { result ≡ has_bit second (common_of self).bit }
+    {
+        has_bit(second, self.bit())
+    }
+
+    /// Whether it has an argument, and so the last word of the argument list.
+    pub fn takes_argument(self) -> bool
+        ensures { result ≡ (common_of self).has_argument }
+    {
+        matches!(self, CommonOption::Resp)
+    }
+
+    /// The option of that name, as bytes of text, or None where it is neither's.
+    pub fn named(name: &[u8]) -> Option<CommonOption>
+        ensures { (option : CommonOption) → (result ≡ Some option) ↔ ((common_of option).name ≡ name.now) }
+    {
+        if name == b"NOHANDLE".as_slice() {
+            Some(CommonOption::Nohandle)
+        } else if name == b"RESP".as_slice() {
+            Some(CommonOption::Resp)
+        } else {
+            None
+        }
+    }
 }
 
 /// What an option's argument is, and how the command uses the storage at its address.
@@ -123,9 +198,11 @@ pub enum Mark {
     Flag,
     /// The address alone: nothing is read there.
     Address,
-    /// Bytes that the command reads or writes, as many as another option says.
-    Bytes,
-    /// Bytes where LENGTH stands beside it, else the address alone.
+    /// Bytes that the command reads, as many as LENGTH says.
+    BytesRead,
+    /// Bytes that the command writes, at most as many as LENGTH says.
+    BytesWritten,
+    /// Bytes that the command reads where LENGTH stands beside it, else the address alone: a resource's name.
     BytesOrAddress,
     /// One byte that the command reads.
     Byte,
@@ -148,13 +225,11 @@ pub enum Mark {
 }
 
 impl Mark {
-    ghost use Rattle.cx_command.specs.declared.options.Mark.TheVariants.{Flag};
-
     /// Whether the option has an argument, and so a word in the argument list.
     pub fn takes_argument(self) -> bool
-        ensures { IsTrue result ↔ (self ≢ Flag) }
+        ensures { result ≡ takes_argument self }
     {
-        self != Mark::Flag
+        !matches!(self, Mark::Flag)
     }
 }
 
