@@ -2,7 +2,7 @@
 use Rattle.std.proofs.Common.{◌≡◌, ℕ, true, List, [], ◌∷◌, length, Some, None, refl, subst, arith}
 use Rattle.std.specs.Prelude.{slice_index, ◌==◌, ◌↔◌}
 use Rattle.std.proofs.lemmas.Bool.Decides.{nat_tests}
-use Rattle.cx_ebcdic.specs.Lookup.{find_passes}
+use Rattle.cx_ebcdic.specs.Facts.Lookup.{find_passes}
 use Rattle.cx_terms.specs.Kinds.{kind_of, kinds, row_of}
 use Rattle.cx_terms.specs.declared.kinds.ConstantKind.{ConstantKind}
 use Rattle.cx_terms.specs.declared.kinds.ConstantKind.TheVariants.{Character, Hexadecimal, Binary, Fullword, Halfword, Packed, Address, External, Doubleword}
