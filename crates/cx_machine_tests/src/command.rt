@@ -173,9 +173,26 @@ fn options_are_found_by_name(rt: HostRuntime) {
     ] {
         assert!(rt; marked(command, name) == option);
     }
-    assert!(rt; Command::Return.has_option(0xE0, OptionName::Transid));
-    assert!(rt; !Command::Return.has_option(0x60, OptionName::Transid));
-    assert!(rt; !Command::Return.has_option(0xFF, OptionName::Program));
+}
+
+/// Whether an option is among those of RETURN in option byte 1.
+fn returns_with(first: u8, name: OptionName) -> bool {
+    Command::Return.has_option(first, name)
+}
+
+#[test]
+fn options_are_in_option_byte_1(rt: HostRuntime) {
+    assert!(rt; returns_with(0xE0, OptionName::Transid));
+    assert!(rt; !returns_with(0x60, OptionName::Transid));
+    assert!(rt; !returns_with(0xFF, OptionName::Program));
+}
+
+/// How many arguments a command has, and the place of this option's.
+fn arguments(command: Command, first: u8, name: OptionName) -> (usize, Option<usize>) {
+    (
+        command.argument_count(first),
+        command.argument_index(first, name),
+    )
 }
 
 // QUEUE, INTO, LENGTH and then NEXT, a flag, or ITEM; GETMAIN SET LENGTH INITIMG NOSUSPEND; ABEND of all three.
@@ -191,9 +208,16 @@ fn arguments_stand_in_the_order_of_their_options(rt: HostRuntime) {
         (Command::Abend, 0xE0, 1, OptionName::Abcode, Some(0)),
         (Command::Suspend, 0x00, 0, OptionName::Length, None),
     ] {
-        assert!(rt; command.argument_count(first) == count, "{first:02x}");
-        assert!(rt; command.argument_index(first, name) == index, "{first:02x}");
+        assert!(rt;
+            arguments(command, first, name) == (count, index),
+            "{first:02x}"
+        );
     }
+}
+
+/// How many bytes a command reads at an argument.
+fn input(command: Command, first: u8, mark: Mark, length: Option<u16>) -> u16 {
+    command.input_len(first, mark, length)
 }
 
 #[test]
@@ -220,10 +244,7 @@ fn inputs_have_lengths(rt: HostRuntime) {
             2,
         ),
     ] {
-        assert!(rt;
-            command.input_len(first, mark, length) == bytes,
-            "{first:02x}"
-        );
+        assert!(rt; input(command, first, mark, length) == bytes, "{first:02x}");
     }
 }
 
