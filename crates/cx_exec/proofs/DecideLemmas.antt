@@ -1,168 +1,29 @@
--- Each relation of the machine decides its outcome.
-use Rattle.std.proofs.Common.{◌≡◌, ◌≢◌, ℕ, zero, suc, ◌+◌, ◌*◌, ◌^◌, ◌<◌, ◌≤◌, Result, Ok, Err, List, length, ℤ, slice_set, refl, sym, ◌∙◌, ap, subst, arith, MatchResult}
-use Rattle.cx_code.specs.declared.table.Op.{Op}
-use Rattle.cx_code.specs.declared.table.Op.TheVariants as op
-use Rattle.cx_code.specs.declared.instruction.Fields.{Fields}
-use Rattle.cx_code.specs.declared.instruction.Fields.TheVariants.{Rr, Rx, Rs, Si, Ss, Ss2}
-use Rattle.cx_code.specs.Spelling.{Instruction}
-use Rattle.cx_storage.specs.Storage.{span}
+-- A step and a run are decided by the machine before them.
+use Rattle.std.proofs.Common.{◌≡◌, ◌≢◌, ℕ, zero, suc, ◌<◌, ◌≤◌, Result, Ok, Err, refl, sym, ◌∙◌, ap, subst, arith, MatchResult}
 use Rattle.cx_exec.specs.declared.machine.Interruption.{Interruption}
-use Rattle.cx_exec.specs.declared.machine.Interruption.TheVariants as interruption
 use Rattle.cx_exec.specs.declared.machine.Step.{Step}
 use Rattle.cx_exec.specs.declared.machine.Step.TheVariants.{Done, AtEntry, Interrupt}
 use Rattle.cx_exec.specs.declared.machine.Halt.{Halt}
 use Rattle.cx_exec.specs.declared.machine.Halt.TheVariants as halt
-use Rattle.cx_exec.specs.declared.rows.Ahead.{Ahead}
-use Rattle.cx_exec.specs.Machine.{Machine, reg, effective}
-use Rattle.cx_exec.specs.Fetch.{code_at, read_as}
-use Rattle.cx_exec.specs.Frame.{Goes, Stops}
-use Rattle.cx_exec.specs.Numbers.{word_of}
-use Rattle.cx_exec.proofs.DivideLemmas.{division_once}
-use Rattle.cx_exec.specs.Operands.{byte_operand, halfword_operand, word_operand, even_register, IfFound}
-use Rattle.cx_exec.specs.Divide.{Divided}
-use Rattle.cx_exec.specs.Registers.{register_count, loaded_registers, LoadsRegisters}
-use Rattle.cx_exec.specs.Rows.{multiplied, RrEffect, RxEffect, RsEffect, SiEffect, EffectOf, Effect}
-use Rattle.cx_exec.specs.Step.{Executes, ExecutesWith, Performs, Runs, Steps, is_execute, target_at, ahead_of, entry}
+use Rattle.cx_exec.specs.declared.stepping.Due.{Due}
+use Rattle.cx_exec.specs.Machine.{Machine}
+use Rattle.cx_exec.specs.Outcome.{Outcome, Suppressed}
+use Rattle.cx_exec.specs.Rows.{Effect}
+use Rattle.cx_exec.specs.Step.{performed, Runs, Steps, entry}
 use Rattle.cx_exec.specs.Advance.{Passes, Advances}
-use Rattle.cx_exec.proofs.Deciding.{Decides, goes_decides, stops_decides, present_decides, result_decides, bool_decides, stores_decides}
-use Rattle.cx_exec.proofs.DecimalLemmas.{cvb_decides, cvd_decides}
-use Rattle.cx_exec.proofs.MaskLemmas.{icm_decides, stcm_decides}
-use Rattle.cx_exec.proofs.LengthLemmas.{ss_decides, ss2_decides}
+use Rattle.cx_exec.specs.Facts.Rows.{effect}
+use Rattle.cx_exec.proofs.DivideLemmas.{division_once}
 
-effective_low : (regs : List ℕ) (index base displacement : ℕ) → effective regs index base displacement < 2 ^ 24
-unfolding effective
-effective_low regs index base displacement = omega arith
+abbrev Ends : Machine → Result Due Interruption → Outcome → Machine → Type 0
+Ends m r outcome after = MatchResult r (λ d. Effect d.inst d.updated m outcome after) (λ cause. Suppressed cause m outcome after)
 
-loads_decides : (first last a : ℕ) (ahead : Ahead) (m : Machine) → Decides (LoadsRegisters first last a ahead m)
-unfolding LoadsRegisters
-loads_decides first last a ahead m =
-    present_decides (span m.storage a (4 * register_count first last)) m
-    (λ bytes o b. Goes o b (record m { regs = loaded_registers m.regs first last bytes; next = ahead.next })) (λ bytes. goes_decides _)
-
--- what is done with an operand that was found leaves one machine
-found_decides : (operand : Result ℕ Interruption) (m : Machine) (written : ℕ → Machine)
-    → Decides (λ o a. IfFound operand m o a (λ x. Goes o a (written x)))
-found_decides operand m written = result_decides operand m (λ x o a. Goes o a (written x)) (λ x. goes_decides (written x))
-
--- a pair with its remainder and quotient
-abbrev halves : ℕ → Ahead → Machine → ℤ → ℤ → Machine
-halves r ahead m quotient remainder =
-    record m { regs = slice_set (slice_set m.regs r (word_of remainder)) (r + 1) (word_of quotient); next = ahead.next }
-
-divided_decides : (r divisor : ℕ) (ahead : Ahead) (m : Machine) → Decides (Divided r divisor ahead m)
-unfolding Divided
-divided_decides r divisor ahead m (Ok u) (Ok v) a b h k =
-    let same = division_once _ _ h.0 h.1 k.0 k.1 h.2 k.2 in
-    let quotient = same.0 in
-    let remainder = same.1 in
-    (refl, h.3 ∙ ap (λ (x : ℤ). halves r ahead m x h.1) quotient ∙ ap (λ (x : ℤ). halves r ahead m k.0 x) remainder ∙ sym k.3)
-divided_decides r divisor ahead m (Ok u) (Err d) a b h k = absurd (k.0 h.0 h.1 h.2)
-divided_decides r divisor ahead m (Err c) (Ok v) a b h k = absurd (h.0 k.0 k.1 k.2)
-divided_decides r divisor ahead m (Err c) (Err d) a b h k = (ap Err (h.1 ∙ sym k.1), h.2 ∙ sym k.2)
-
-rr_decides : (row : Op) (r1 r2 : ℕ) (ahead : Ahead) (m : Machine) → Decides (RrEffect row r1 r2 ahead m)
-unfolding RrEffect
-rr_decides op.Balr r1 r2 ahead m = goes_decides _
-rr_decides op.Bctr r1 r2 ahead m = goes_decides _
-rr_decides op.Bcr r1 r2 ahead m = goes_decides _
-rr_decides op.Ltr r1 r2 ahead m = goes_decides _
-rr_decides op.Lcr r1 r2 ahead m = goes_decides _
-rr_decides op.Clr r1 r2 ahead m = goes_decides _
-rr_decides op.Xr r1 r2 ahead m = goes_decides _
-rr_decides op.Lr r1 r2 ahead m = goes_decides _
-rr_decides op.Cr r1 r2 ahead m = goes_decides _
-rr_decides op.Ar r1 r2 ahead m = goes_decides _
-rr_decides op.Sr r1 r2 ahead m = goes_decides _
-rr_decides op.Mr r1 r2 ahead m = found_decides (even_register r1) m _
-rr_decides op.Dr r1 r2 ahead m =
-    result_decides (even_register r1) m (λ r. Divided r (reg m r2) ahead m) (λ r. divided_decides r (reg m r2) ahead m)
-rr_decides _ r1 r2 ahead m = stops_decides interruption.Operation m
-
-rx_decides : (row : Op) (r1 a : ℕ) (ahead : Ahead) (m : Machine) → Decides (RxEffect row r1 a ahead m)
-unfolding RxEffect
-rx_decides op.Sth r1 a ahead m = stores_decides a _ ahead m
-rx_decides op.La r1 a ahead m = goes_decides _
-rx_decides op.Stc r1 a ahead m = stores_decides a _ ahead m
-rx_decides op.Ic r1 a ahead m = found_decides (byte_operand m.storage a) m _
-rx_decides op.Bal r1 a ahead m = goes_decides _
-rx_decides op.Bct r1 a ahead m = goes_decides _
-rx_decides op.Bc r1 a ahead m = goes_decides _
-rx_decides op.Lh r1 a ahead m = found_decides (halfword_operand m.storage a) m _
-rx_decides op.Ch r1 a ahead m = found_decides (halfword_operand m.storage a) m _
-rx_decides op.Ah r1 a ahead m = found_decides (halfword_operand m.storage a) m _
-rx_decides op.Sh r1 a ahead m = found_decides (halfword_operand m.storage a) m _
-rx_decides op.St r1 a ahead m = stores_decides a _ ahead m
-rx_decides op.Cl r1 a ahead m = found_decides (word_operand m.storage a) m _
-rx_decides op.L r1 a ahead m = found_decides (word_operand m.storage a) m _
-rx_decides op.C r1 a ahead m = found_decides (word_operand m.storage a) m _
-rx_decides op.A r1 a ahead m = found_decides (word_operand m.storage a) m _
-rx_decides op.S r1 a ahead m = found_decides (word_operand m.storage a) m _
-rx_decides op.M r1 a ahead m =
-    result_decides (even_register r1) m (λ r o b. IfFound (word_operand m.storage a) m o b (λ word. Goes o b (multiplied r word ahead m)))
-    (λ r. found_decides (word_operand m.storage a) m _)
-rx_decides op.D r1 a ahead m =
-    result_decides (even_register r1) m (λ r o b. IfFound (word_operand m.storage a) m o b (λ word. Divided r word ahead m o b))
-    (λ r. result_decides (word_operand m.storage a) m (λ word. Divided r word ahead m) (λ word. divided_decides r word ahead m))
-rx_decides op.Cvd r1 a ahead m = cvd_decides r1 a ahead m
-rx_decides op.Cvb r1 a ahead m = cvb_decides r1 a ahead m
-rx_decides _ r1 a ahead m = stops_decides interruption.Operation m
-
-rs_decides : (row : Op) (r1 r3 a : ℕ) (ahead : Ahead) (m : Machine) → Decides (RsEffect row r1 r3 a ahead m)
-unfolding RsEffect
-rs_decides op.Srl r1 r3 a ahead m = goes_decides _
-rs_decides op.Sll r1 r3 a ahead m = goes_decides _
-rs_decides op.Sra r1 r3 a ahead m = goes_decides _
-rs_decides op.Sla r1 r3 a ahead m = goes_decides _
-rs_decides op.Srda r1 r3 a ahead m = found_decides (even_register r1) m _
-rs_decides op.Stm r1 r3 a ahead m = stores_decides a _ ahead m
-rs_decides op.Lm r1 r3 a ahead m = loads_decides r1 r3 a ahead m
-rs_decides op.Stcm r1 mask a ahead m = stcm_decides r1 mask a ahead m
-rs_decides op.Icm r1 mask a ahead m = icm_decides r1 mask a ahead m
-rs_decides _ r1 r3 a ahead m = stops_decides interruption.Operation m
-
-si_decides : (row : Op) (i2 a : ℕ) (ahead : Ahead) (m : Machine) → Decides (SiEffect row i2 a ahead m)
-unfolding SiEffect
-si_decides op.Tm i2 a ahead m = found_decides (byte_operand m.storage a) m _
-si_decides op.Mvi i2 a ahead m = stores_decides a _ ahead m
-si_decides op.Ni i2 a ahead m = found_decides (byte_operand m.storage a) m _
-si_decides op.Cli i2 a ahead m = found_decides (byte_operand m.storage a) m _
-si_decides op.Oi i2 a ahead m = found_decides (byte_operand m.storage a) m _
-si_decides _ i2 a ahead m = stops_decides interruption.Operation m
-
-effect_of_decides : (row : Op) (fields : Fields) (ahead : Ahead) (m : Machine) → Decides (EffectOf row fields ahead m)
-effect_of_decides row (Rr r1 r2) ahead m = rr_decides row r1 r2 ahead m
-effect_of_decides row (Rx r1 x2 b2 d2) ahead m = rx_decides row r1 (effective m.regs x2 b2 d2) ahead m
-effect_of_decides row (Rs r1 r3 b2 d2) ahead m = rs_decides row r1 r3 (effective m.regs 0 b2 d2) ahead m
-effect_of_decides row (Si i2 b1 d1) ahead m = si_decides row i2 (effective m.regs 0 b1 d1) ahead m
-effect_of_decides row (Ss l b1 d1 b2 d2) ahead m =
-    ss_decides row (l + 1) (effective m.regs 0 b1 d1) (effective m.regs 0 b2 d2) ahead m (effective_low m.regs 0 b1 d1)
-effect_of_decides row (Ss2 l1 l2 b1 d1 b2 d2) ahead m =
-    ss2_decides row (l1 + 1) (l2 + 1) (effective m.regs 0 b1 d1) (effective m.regs 0 b2 d2) ahead m
-
-effect_decides : (i : Instruction) (ahead : Ahead) (m : Machine) → Decides (Effect i ahead m)
-unfolding Effect
-effect_decides i ahead m = effect_of_decides i.op i.fields ahead m
-
-executes_decides : (r1 a next : ℕ) (m : Machine) → Decides (Executes r1 a next m)
-unfolding Executes
-executes_decides r1 a next m =
-    result_decides (target_at m r1 a) m (λ i. Effect i (record { length = 2; next = next }) m) (λ i. effect_decides i _ m)
-
-executes_with_decides : (fields : Fields) (i : Instruction) (ahead : Ahead) (m : Machine) → Decides (ExecutesWith fields i ahead m)
-executes_with_decides (Rx r1 x2 b2 d2) i ahead m = executes_decides r1 (effective m.regs x2 b2 d2) ahead.next m
-executes_with_decides _ i ahead m = effect_decides i ahead m
-
-performs_decides : (i : Instruction) (ahead : Ahead) (m : Machine) → Decides (Performs i ahead m)
-unfolding Performs
-performs_decides i ahead m =
-    bool_decides (is_execute i.op) _ _ (executes_with_decides i.fields i ahead m) (effect_decides i ahead m)
-
-runs_decides : (m : Machine) → Decides (Runs m)
+runs_decides : (m : Machine) (o p : Outcome) (a b : Machine) → Runs m o a → Runs m p b → (o ≡ p) × (a ≡ b)
 unfolding Runs
-runs_decides m =
-    result_decides (code_at m.storage m.next) m
-    (λ bytes o a. MatchResult (read_as bytes) (λ i. Performs i (ahead_of m.next (length bytes)) m o a) (λ cause. Stops cause m o a))
-    (λ bytes. result_decides (read_as bytes) m (λ i. Performs i (ahead_of m.next (length bytes)) m) (λ i. performs_decides i _ m))
+runs_decides m o p a b h k = go (performed m) h k
+  where
+    go : (r : Result Due Interruption) → Ends m r o a → Ends m r p b → (o ≡ p) × (a ≡ b)
+    go (Ok d) h k = (effect d.inst d.updated m).decides division_once o p a b h k
+    go (Err cause) h k = (h.0 ∙ sym k.0, h.1 ∙ sym k.1)
 
 pub steps_decide : (m : Machine) (s t : Step) (a b : Machine) → Steps m s a → Steps m t b → (s ≡ t) × (a ≡ b)
 unfolding Steps

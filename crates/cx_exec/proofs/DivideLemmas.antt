@@ -1,12 +1,12 @@
 -- There is one quotient and one remainder, those of a division that rounds toward zero.
-use Rattle.std.proofs.Common.{◌≡◌, ℕ, zero, suc, ◌+◌, ◌*◌, ◌<◌, ◌%◌, true, false, ◌⊎◌, inl, inr, refl, sym, ◌∙◌, ap, subst, arith, ℤ, pos, negsuc, ◌+ℤ◌, ◌-ℤ◌, ◌*ℤ◌, neg_ℤ, ◌<ℤ◌, ◌≤ℤ◌, int_lt, int_div, int_rem, unsigned_abs, FitsSigned, slice_set, Ok}
+use Rattle.std.proofs.Common.{◌≡◌, ℕ, zero, suc, ◌+◌, ◌*◌, ◌<◌, ◌%◌, true, false, ◌⊎◌, inl, inr, refl, sym, ◌∙◌, ap, subst, arith, ℤ, pos, negsuc, ◌+ℤ◌, ◌-ℤ◌, ◌*ℤ◌, neg_ℤ, int_lt, int_div, int_rem, unsigned_abs, FitsSigned, slice_set, Ok}
 use Rattle.std.proofs.lemmas.Bool.{cases_Bool}
 use Rattle.std.proofs.lemmas.Int.{ints, quot-rem, unsigned_abs-mul, rem_below}
 use borrow.Author.Differences.{false_is_lt}
 use lib.IntN.{suc_ℤ-*ℤ, pred_ℤ-*ℤ, zero-*ℤ, *ℤ_comm}
-use Rattle.std.specs.Int.{w32, w64, CanDivide, cast_unsigned}
-use Rattle.cx_exec.specs.Divide.{Divides, IsDivision, Divided}
-use Rattle.cx_exec.specs.declared.rows.Ahead.{Ahead}
+use Rattle.std.specs.Int.{w32}
+use Rattle.cx_exec.specs.Division.{Divides, IsDivision, Divided}
+use Rattle.cx_exec.specs.declared.machine.Updated.{Updated}
 use Rattle.cx_exec.specs.Machine.{Machine}
 use Rattle.cx_exec.specs.Numbers.{signed, signed_double, word_of}
 use Rattle.cx_exec.specs.Results.{pair}
@@ -109,37 +109,21 @@ positive n d q r h = let small = h.smaller in omega (arith, small)
 pub quotient_is : (n d q r : ℤ) → Divides n d q r → q ≡ int_div n d
 quotient_is n d q r h = (divides_once n d q r _ _ h (divides_truncated n d (positive n d q r h))).0
 
-nonzero : (d : ℤ) → FitsSigned w64 d → 0 < unsigned_abs d → 0 < cast_unsigned w64 d
-nonzero d fits h = omega (arith, ints)
-
-wider : (q : ℤ) → FitsSigned w32 q → FitsSigned w64 q
-wider q fits = omega (arith, ints)
-
-pub can_divide : (n d q r : ℤ) → FitsSigned w64 d → IsDivision n d q r → CanDivide w64 n d
-can_divide n d q r fits h =
-    (nonzero d fits (positive n d q r h.divides), subst (λ (x : ℤ). FitsSigned w64 x) (quotient_is n d q r h.divides) (wider q h.fits))
-
 -- where there is a quotient, the division that rounds toward zero gives it
 pub quotient_fits : (n d q r : ℤ) → IsDivision n d q r → FitsSigned w32 (int_div n d)
 quotient_fits n d q r h = subst (λ (x : ℤ). FitsSigned w32 x) (quotient_is n d q r h.divides) h.fits
 
-pub not_below : (x : ℤ) → FitsSigned w32 x → x <ℤ negsuc 2147483647 → ⊥
-not_below x fits h = omega (arith, ints)
-
-pub not_above : (x : ℤ) → FitsSigned w32 x → pos 2147483648 ≤ℤ x → ⊥
-not_above x fits h = omega (arith, ints)
-
-abbrev written : Machine → ℕ → Ahead → ℕ → ℕ → Machine
-written m r ahead high low = record m { regs = slice_set (slice_set m.regs r high) (r + 1) low; next = ahead.next }
+abbrev written : Machine → ℕ → Updated → ℕ → ℕ → Machine
+written m r updated high low = record m { regs = slice_set (slice_set m.regs r high) (r + 1) low; next = updated.address }
 
 -- a pair with a remainder and a quotient is a pair divided
-pub divided_written : (r divisor high low : ℕ) (ahead : Ahead) (m : Machine) (n d q rem : ℤ) → n ≡ signed_double (pair m.regs r) → d ≡ signed divisor
+pub divided_written : (r divisor high low : ℕ) (updated : Updated) (m : Machine) (n d q rem : ℤ) → n ≡ signed_double (pair m.regs r) → d ≡ signed divisor
     → IsDivision n d q rem → high ≡ word_of rem → low ≡ word_of q
-    → Divided r divisor ahead m (Ok tt) (record m { regs = slice_set (slice_set m.regs r high) (r + 1) low; next = ahead.next })
+    → Divided r divisor updated m (Ok tt) (record m { regs = slice_set (slice_set m.regs r high) (r + 1) low; next = updated.address })
 unfolding Divided
-divided_written r divisor high low ahead m n d q rem dividend by found first second = (
+divided_written r divisor high low updated m n d q rem dividend by found first second = (
   q,
   rem,
   subst (λ (x : ℤ). IsDivision x (signed divisor) q rem) dividend (subst (λ (x : ℤ). IsDivision n x q rem) by found),
-  ap (λ (x : ℕ). written m r ahead x low) first ∙ ap (λ (x : ℕ). written m r ahead (word_of rem) x) second,
+  ap (λ (x : ℕ). written m r updated x low) first ∙ ap (λ (x : ℕ). written m r updated (word_of rem) x) second,
 )

@@ -1,5 +1,5 @@
 -- The laws of numbers, pairs, shifts and several registers.
-use Rattle.std.proofs.Common.{◌≡◌, ◌≢◌, ℕ, zero, suc, ◌+◌, ◌-◌, ◌*◌, ◌/◌, ◌%◌, ◌^◌, ◌<◌, ◌≤◌, true, false, inl, inr, List, ◌++◌, length, take, drop, slice_index, slice_set, nat_le, refl, sym, ◌∙◌, ap, arith, ℤ, pos, negsuc, neg_ℤ, ◌*ℤ◌, ◌<ℤ◌, ◌≤ℤ◌, int_lt, unsigned_abs, FitsSigned}
+use Rattle.std.proofs.Common.{◌≡◌, ◌≢◌, ℕ, zero, suc, ◌+◌, ◌-◌, ◌*◌, ◌/◌, ◌%◌, ◌^◌, ◌<◌, ◌≤◌, Some, map, true, false, inl, inr, List, ◌++◌, length, take, drop, slice_index, slice_set, nat_le, refl, sym, ◌∙◌, ap, arith, ℤ, pos, negsuc, neg_ℤ, ◌*ℤ◌, ◌<ℤ◌, ◌≤ℤ◌, int_lt, unsigned_abs, FitsSigned}
 use Rattle.std.specs.Int.{w32, w64, int_wrap, int_rem_euclid}
 use lib.Signed.{shr_z}
 use Rattle.std.proofs.lemmas.Bool.{cases_Bool, cases_lt}
@@ -7,11 +7,16 @@ use Rattle.std.proofs.lemmas.Int.{ints, of_z-to_z, to_z-of_z, int_wrap_fits, fit
 use Rattle.std.proofs.lemmas.Nat.{pow_pos, le-div, div_below, div-add-mod', mod_below}
 use Rattle.std.proofs.lemmas.List.{get_or-set_same, get_or-set_other, length-set, length-append, length-drop, drop-append-le, take-append-le, drop_at}
 use Rattle.std.proofs.lemmas.List.FromFn.{get_or-map-range_with_len}
-use Rattle.byteorder.specs.Endian.{big_bytes, big_from}
+use Rattle.std.specs.List.{range_with_len}
+use Rattle.cx_storage.specs.Storage.{Storage}
+use Rattle.cx_storage.specs.Address.{along}
+use Rattle.cx_storage.specs.Word.{word_at}
+use Rattle.byteorder.specs.Endian.{big_bytes}
 use Rattle.cx_exec.specs.Numbers.{signed, word_of, signed_double, double_of, fits_word}
 use Rattle.cx_exec.specs.Results.{pair, with_pair}
-use Rattle.cx_exec.specs.Shifts.{halved, doubled, shifted_arithmetic}
-use Rattle.cx_exec.specs.Registers.{place_after, register_count, loaded_register, loaded_registers, register_bytes}
+use Rattle.cx_exec.specs.Shifts.{floor_shifted, times_power, shifted_arithmetic}
+use Rattle.cx_exec.specs.Registers.{place_after, register_count, words_at, loaded_register, loaded_registers, register_bytes}
+use Rattle.cx_exec.proofs.RegisterLemmas.{words_each}
 
 fits : (x : ℤ) → fits_word x ≡ true → FitsSigned w32 x
 fits x e = elim (cases_Bool (int_lt x (neg_ℤ (pos (2 ^ 31))))) [
@@ -63,8 +68,8 @@ floor_greatest (pos a) (negsuc b) m h e = omega (arith, ints)
 floor_greatest (negsuc a) (pos b) m h e = absurd (omega (arith, ints))
 floor_greatest (negsuc a) (negsuc b) m h e = let high : a / m < suc b = div_below a m (suc b) h (omega (arith, ints)) in omega (arith, ints)
 
-pub halved_is_floor : (x : ℤ) (n : ℕ) → ((halved x n *ℤ pos (2 ^ n)) ≤ℤ x) × ((k : ℤ) → (k *ℤ pos (2 ^ n)) ≤ℤ x → k ≤ℤ halved x n)
-halved_is_floor x n = (floor_not_above x (2 ^ n) (pow_pos n), λ k e. floor_greatest x k (2 ^ n) (pow_pos n) e)
+pub shifted_is_floor : (x : ℤ) (n : ℕ) → ((floor_shifted x n *ℤ pos (2 ^ n)) ≤ℤ x) × ((k : ℤ) → (k *ℤ pos (2 ^ n)) ≤ℤ x → k ≤ℤ floor_shifted x n)
+shifted_is_floor x n = (floor_not_above x (2 ^ n) (pow_pos n), λ k e. floor_greatest x k (2 ^ n) (pow_pos n) e)
 
 -- a word shifted left, where its exact number fits
 kept_positive : (word a : ℕ) → word < 2 ^ 31 → a < 2 ^ 31 → signed ((word / 2 ^ 31) * 2 ^ 31 + a % 2 ^ 31) ≡ pos a
@@ -97,9 +102,9 @@ word_negative word h e = let back = of_z-to_z w32 word h in omega (arith, ints)
 word_positive : (word : ℕ) → word < 2 ^ 32 → pos 0 ≤ℤ signed word → word < 2 ^ 31
 word_positive word h e = let back = of_z-to_z w32 word h in omega (arith, ints)
 
-pub shifted_is_exact : (word n : ℕ) → word < 2 ^ 32 → fits_word (doubled word n) ≡ true → signed (shifted_arithmetic word n) ≡ doubled word n
+pub shifted_is_exact : (word n : ℕ) → word < 2 ^ 32 → fits_word (times_power word n) ≡ true → signed (shifted_arithmetic word n) ≡ times_power word n
 shifted_is_exact word n h e =
-    kept word (doubled word n) h (fits (doubled word n) e)
+    kept word (times_power word n) h (fits (times_power word n) e)
     (λ low. word_negative word h (times_negative (signed word) (2 ^ n) (pow_pos n) low))
     (λ high. word_positive word h (times_positive (signed word) (2 ^ n) (pow_pos n) high))
 
@@ -134,15 +139,17 @@ stored_words regs first (suc n) k h =
 place_back : (first k : ℕ) → first < 16 → k < 16 → place_after first ((first + k) % 16) ≡ k
 place_back first k h j = omega arith
 
-pub loaded_words : (regs bytes : List ℕ) (first last k : ℕ) → first < 16 → k < register_count first last
-    → slice_index (loaded_registers regs first last bytes) ((first + k) % 16) ≡ big_from (4 * k) 4 bytes
+pub loaded_words : (s : Storage) (a : ℕ) (regs words : List ℕ) (first last k : ℕ) → first < 16 → k < register_count first last
+    → words_at s a (register_count first last) ≡ Some words
+    → word_at s (along a (4 * k)) ≡ Some (slice_index (loaded_registers regs first last words) ((first + k) % 16))
 unfolding loaded_registers
-loaded_words regs bytes first last k h j =
+loaded_words s a regs words first last k h j e =
     let small : k < 16 = omega arith in
     let r : ℕ = (first + k) % 16 in
     let low : r < 16 = omega arith in
     let place : place_after first r ≡ k = place_back first k h small in
     let within : place_after first r ≤ place_after first last = omega arith in
     let among : nat_le (place_after first r) (place_after first last) ≡ true = grind arith in
-    get_or-map-range_with_len (loaded_register regs first last bytes) 0 16 r r 0 low (omega arith)
-    ∙ rw among (ap (λ (p : ℕ). big_from (4 * p) 4 bytes) place)
+    let here : slice_index (map (loaded_register regs first last words) (range_with_len 0 16)) r ≡ slice_index words k =
+    get_or-map-range_with_len (loaded_register regs first last words) 0 16 r r 0 low (omega arith) ∙ rw among (ap (slice_index words) place) in
+    (words_each s a (register_count first last) words e).1 k j ∙ ap Some (sym here)

@@ -1,34 +1,72 @@
--- ICM and STCM decide their outcome.
-use Rattle.std.proofs.Common.{◌≡◌, ℕ, zero, suc, is_some, slice_set, refl, sym, ◌∙◌, ap, arith}
-use Rattle.cx_storage.specs.Storage.{Storage, span}
-use Rattle.cx_exec.specs.declared.rows.Ahead.{Ahead}
-use Rattle.cx_exec.specs.Machine.{Machine, reg}
-use Rattle.cx_exec.specs.Masks.{number_taken, taken, word_inserted, IsInsertCode, IcmEffect, StcmEffect}
-use Rattle.cx_exec.proofs.Deciding.{Decides, stops_decides, bool_decides, stores_decides}
+-- The places that a mask chooses, one by one.
+use Rattle.std.proofs.Common.{◌≡◌, ℕ, zero, suc, ◌+◌, ◌<◌, inl, inr, Bool, true, false, cond, List, [], ◌∷◌, ◌++◌, length, map, take, slice_set, refl, sym, ◌∙◌, ap, add-one, arith, if◌then◌else◌}
+use Rattle.std.specs.List.{filter, range_with_len}
+use Rattle.std.proofs.lemmas.Bool.{cases_lt}
+use Rattle.std.proofs.lemmas.List.{length-append, map_push, take_more_set}
+use Rattle.cx_exec.specs.Masks.{takes, byte_of, chosen}
 
-insert_codes_alike : (s : Storage) (a n x y : ℕ) → IsInsertCode s a n x → IsInsertCode s a n y → x ≡ y
-unfolding IsInsertCode
-insert_codes_alike s a n zero zero h k = refl
-insert_codes_alike s a n zero (suc zero) h k = absurd (k.0 h)
-insert_codes_alike s a n zero (suc (suc zero)) h k = absurd (k.0 h)
-insert_codes_alike s a n zero (suc (suc (suc y))) h k = absurd k
-insert_codes_alike s a n (suc zero) zero h k = absurd (h.0 k)
-insert_codes_alike s a n (suc zero) (suc zero) h k = refl
-insert_codes_alike s a n (suc zero) (suc (suc zero)) h k = absurd (omega (arith, h.1, k.1))
-insert_codes_alike s a n (suc zero) (suc (suc (suc y))) h k = absurd k
-insert_codes_alike s a n (suc (suc zero)) zero h k = absurd (h.0 k)
-insert_codes_alike s a n (suc (suc zero)) (suc zero) h k = absurd (omega (arith, h.1, k.1))
-insert_codes_alike s a n (suc (suc zero)) (suc (suc zero)) h k = refl
-insert_codes_alike s a n (suc (suc zero)) (suc (suc (suc y))) h k = absurd k
-insert_codes_alike s a n (suc (suc (suc x))) y h k = absurd h
+filter_more : (test : ℕ → Bool) (a n : ℕ) → filter test (range_with_len a (suc n)) ≡ filter test (range_with_len a n) ++ cond (test (a + n)) ((a + n) ∷ []) []
+filter_more test a zero = let here : a + 0 ≡ a = omega arith in rw here refl
+filter_more test a (suc n) =
+    let place : a + 1 + n ≡ a + suc n = omega arith in
+    let rest = rw place at (filter_more test (a + 1) n) in
+    go (test a) _ _ _ rest
+  where
+    go : (b : Bool) (more front back : List ℕ) → more ≡ front ++ back → cond b (a ∷ more) more ≡ cond b (a ∷ front) front ++ back
+    go true more front back e = ap (λ (x : List ℕ). a ∷ x) e
+    go false more front back e = e
 
-pub icm_decides : (r1 mask a : ℕ) (ahead : Ahead) (m : Machine) → Decides (IcmEffect r1 mask a ahead m)
-unfolding IcmEffect
-icm_decides r1 mask a ahead m = bool_decides (is_some (span m.storage a (number_taken mask 4))) _ _ (λ o p x y h k.
-    let code = insert_codes_alike m.storage a (number_taken mask 4) x.cc y.cc h.0 k.0 in
-    let last = ap (λ (cc : ℕ). record m { regs = slice_set m.regs r1 (word_inserted m.storage a mask (reg m r1)); cc = cc; next = ahead.next }) code in
-    (h.1.0 ∙ sym k.1.0, h.1.1 ∙ last ∙ sym k.1.1)) (stops_decides _ m)
+chosen_more : (mask n : ℕ) → chosen mask (n + 1) ≡ chosen mask n ++ cond (takes mask n) (n ∷ []) []
+unfolding chosen
+chosen_more mask n = let here : 0 + n ≡ n = omega arith in rw add-one (rw here at (filter_more (takes mask) 0 n))
 
-pub stcm_decides : (r1 mask a : ℕ) (ahead : Ahead) (m : Machine) → Decides (StcmEffect r1 mask a ahead m)
-unfolding StcmEffect
-stcm_decides r1 mask a ahead m = stores_decides a (taken mask (reg m r1) 4) ahead m
+pub number_none : (mask : ℕ) → length (chosen mask 0) ≡ 0
+unfolding chosen
+number_none mask = refl
+
+pub number_more : (mask n : ℕ) → length (chosen mask (n + 1)) ≡ (if takes mask n then length (chosen mask n) + 1 else length (chosen mask n))
+number_more mask n = ap length (chosen_more mask n) ∙ length-append (chosen mask n) (cond (takes mask n) (n ∷ []) []) ∙ go (takes mask n)
+  where
+    go : (b : Bool) → length (chosen mask n) + length (cond b (n ∷ []) []) ≡ (if b then length (chosen mask n) + 1 else length (chosen mask n))
+    go true = omega arith
+    go false = omega arith
+
+pub bytes_none : (mask word : ℕ) → map (byte_of word) (chosen mask 0) ≡ []
+unfolding chosen
+bytes_none mask word = refl
+
+pub bytes_more : (mask word n : ℕ) → map (byte_of word) (chosen mask (n + 1)) ≡ (if takes mask n then map (byte_of word) (chosen mask n) ++ byte_of word n ∷ [] else map (byte_of word) (chosen mask n))
+bytes_more mask word n = ap (map (byte_of word)) (chosen_more mask n) ∙ go (takes mask n)
+  where
+    go : (b : Bool) → map (byte_of word) (chosen mask n ++ cond b (n ∷ []) []) ≡ (if b then map (byte_of word) (chosen mask n) ++ byte_of word n ∷ [] else map (byte_of word) (chosen mask n))
+    go true = map_push (byte_of word) (chosen mask n) n
+    go false = ap (map (byte_of word)) (end (chosen mask n))
+      where
+        end : (xs : List ℕ) → xs ++ [] ≡ xs
+        end [] = refl
+        end (x ∷ xs) = ap (λ (l : List ℕ). x ∷ l) (end xs)
+
+-- a place that is chosen is one of all
+pub number_below : (mask k n : ℕ) → k < n → takes mask k ≡ true → length (chosen mask k) < length (chosen mask n)
+number_below mask k zero h e = absurd (omega (arith, h))
+number_below mask k (suc n) h e =
+    let more : length (chosen mask (suc n)) ≡ (if takes mask n then length (chosen mask n) + 1 else length (chosen mask n)) = rw add-one at (number_more mask n) in
+    elim (cases_lt k n) [
+      | inl lt ↦ let before = number_below mask k n lt e in rw more (at_least (takes mask n) _ _ before)
+      | inr ge ↦ let same : n ≡ k = omega (arith, h, ge) in rw (more, same, e) (omega arith)
+    ]
+  where
+    at_least : (b : Bool) (x y : ℕ) → x < y → x < (if b then y + 1 else y)
+    at_least true x y h = omega (arith, h)
+    at_least false x y h = h
+
+-- a buffer with the byte at a place that is chosen, and at one that isn't
+pub byte_taken : (mask word k count byte : ℕ) (buffer : List ℕ) → takes mask k ≡ true → count < length buffer → take count buffer ≡ map (byte_of word) (chosen mask k)
+    → byte ≡ byte_of word k → take (count + 1) (slice_set buffer count byte) ≡ map (byte_of word) (chosen mask (k + 1))
+byte_taken mask word k count byte buffer e h so_far made =
+    let more = rw e at (bytes_more mask word k) in
+    take_more_set buffer count byte h ∙ rw (so_far, made) (sym more)
+
+pub byte_left : (mask word k count : ℕ) (buffer : List ℕ) → takes mask k ≡ false → take count buffer ≡ map (byte_of word) (chosen mask k)
+    → take count buffer ≡ map (byte_of word) (chosen mask (k + 1))
+byte_left mask word k count buffer e so_far = let more = rw e at (bytes_more mask word k) in so_far ∙ sym more

@@ -1,20 +1,25 @@
 -- All sixteen registers, and the bytes of several.
-use Rattle.std.proofs.Common.{◌≡◌, ℕ, ◌+◌, ◌*◌, ◌<◌, ◌≤◌, ◌%◌, List, [], ◌++◌, length, take, slice_index, refl, sym, ap, ◌∙◌, arith, add-one}
+use Rattle.std.proofs.Common.{◌≡◌, ℕ, zero, suc, ◌+◌, ◌*◌, ◌<◌, ◌≤◌, ◌%◌, List, [], ◌∷◌, ◌++◌, length, take, slice_index, slice_set, Option, Some, None, refl, sym, ap, ◌∙◌, inl, inr, arith, add-one}
+use Rattle.std.specs.Option.{option_map, option_and_then}
+use Rattle.std.proofs.lemmas.Bool.{cases_lt}
 use Rattle.std.proofs.lemmas.Grind.{same_number_lists}
-use Rattle.std.proofs.lemmas.List.{append_assoc, length-append, length-take-le, take_at}
+use Rattle.cx_storage.specs.Storage.{Storage}
+use Rattle.cx_storage.specs.Address.{along}
+use Rattle.cx_storage.specs.Word.{word_at}
+use Rattle.std.proofs.lemmas.List.{append_assoc, length-append, length-take-le, take_at, take_more_set}
 use borrow.Rule.Slice.PartMut.{put_mid, post_of}
 use Rattle.std.proofs.lemmas.List.FromFn.{length-map-range_with_len, get_or-map-range_with_len}
 use Rattle.byteorder.specs.Endian.{big_bytes}
-use Rattle.cx_exec.specs.Registers.{loaded_register, loaded_registers, register_bytes}
+use Rattle.cx_exec.specs.Registers.{words_at, loaded_register, loaded_registers, register_bytes}
 
-pub all_loaded : (regs new : List ℕ) (first last : ℕ) (bytes : List ℕ) → length new ≡ 16
-    → ((k : ℕ) → k < 16 → slice_index new k ≡ loaded_register regs first last bytes k) → new ≡ loaded_registers regs first last bytes
+pub all_loaded : (regs new : List ℕ) (first last : ℕ) (words : List ℕ) → length new ≡ 16
+    → ((k : ℕ) → k < 16 → slice_index new k ≡ loaded_register regs first last words k) → new ≡ loaded_registers regs first last words
 unfolding loaded_registers
-all_loaded regs new first last bytes len each =
-    same_number_lists new _ (len ∙ sym (length-map-range_with_len (loaded_register regs first last bytes) 0 16))
+all_loaded regs new first last words len each =
+    same_number_lists new _ (len ∙ sym (length-map-range_with_len (loaded_register regs first last words) 0 16))
     (λ k h.
     let low : k < 16 = omega arith in
-    each k low ∙ sym (get_or-map-range_with_len (loaded_register regs first last bytes) 0 16 k k 0 low (omega arith)))
+    each k low ∙ sym (get_or-map-range_with_len (loaded_register regs first last words) 0 16 k k 0 low (omega arith)))
 
 pub no_bytes : (regs : List ℕ) (first : ℕ) → register_bytes regs first 0 ≡ []
 unfolding register_bytes
@@ -38,3 +43,65 @@ written_more regs first k j bytes part rest fits so_far new =
     ∙ ap (take (4 * (k + 1))) (sym (append_assoc front word (rest ++ after)))
     ∙ take_at (front ++ word) (rest ++ after) (4 * (k + 1)) most
     ∙ ap (λ (x : List ℕ). x ++ word) so_far ∙ sym (more_bytes regs first k)
+
+-- the words in a row, one by one
+pub words_none : (s : Storage) (a : ℕ) → words_at s a 0 ≡ Some []
+unfolding words_at
+words_none s a = refl
+
+pub words_more : (s : Storage) (a n word : ℕ) (words : List ℕ) → words_at s a n ≡ Some words → word_at s (along a (4 * n)) ≡ Some word → words_at s a (n + 1) ≡ Some (words ++ word ∷ [])
+unfolding words_at
+words_more s a n word words so_far here = rw (add-one, so_far, here) refl
+
+no_word : (o : Option (List ℕ)) → option_and_then (λ words. option_map (λ word. words ++ word ∷ []) None) o ≡ None
+no_word None = refl
+no_word (Some words) = refl
+
+pub words_gone : (s : Storage) (a k n : ℕ) → k < n → word_at s (along a (4 * k)) ≡ None → words_at s a n ≡ None
+unfolding words_at
+words_gone s a k zero h none = absurd (omega (arith, h))
+words_gone s a k (suc n) h none = elim (cases_lt k n) [
+  | inl lt ↦ rw (words_gone s a k n lt none) refl
+  | inr ge ↦ let same : n ≡ k = omega (arith, h, ge) in rw (same, none) (no_word (words_at s a k))
+]
+
+-- a buffer with one word more
+pub words_filled : (s : Storage) (a n word : ℕ) (new : List ℕ) → n < length new → words_at s a n ≡ Some (take n new) → word_at s (along a (4 * n)) ≡ Some word
+    → words_at s a (n + 1) ≡ Some (take (n + 1) (slice_set new n word))
+words_filled s a n word new h so_far here = words_more s a n word (take n new) so_far here ∙ ap Some (sym (take_more_set new n word h))
+
+last_of : (front : List ℕ) (x : ℕ) → slice_index (front ++ x ∷ []) (length front) ≡ x
+last_of [] x = refl
+last_of (y ∷ front) x = last_of front x
+
+earlier : (front back : List ℕ) (k : ℕ) → k < length front → slice_index (front ++ back) k ≡ slice_index front k
+earlier [] back k h = absurd (omega arith)
+earlier (y ∷ front) back zero h = refl
+earlier (y ∷ front) back (suc k) h = earlier front back k (omega arith)
+
+pub words_each : (s : Storage) (a n : ℕ) (words : List ℕ) → words_at s a n ≡ Some words
+    → (length words ≡ n) × ((k : ℕ) → k < n → word_at s (along a (4 * k)) ≡ Some (slice_index words k))
+unfolding words_at
+words_each s a zero words e = let none : [] ≡ words = cc in (ap length (sym none), λ k h. absurd (omega (arith, h)))
+words_each s a (suc n) words e = go (words_at s a n) (λ front f. words_each s a n front f) (word_at s (along a (4 * n))) refl e
+  where
+    go : (o : Option (List ℕ))
+        → ((front : List ℕ) → o ≡ Some front → (length front ≡ n) × ((k : ℕ) → k < n → word_at s (along a (4 * k)) ≡ Some (slice_index front k)))
+        → (p : Option ℕ) → word_at s (along a (4 * n)) ≡ p
+        → option_and_then (λ words. option_map (λ word. words ++ word ∷ []) p) o ≡ Some words
+        → (length words ≡ suc n) × ((k : ℕ) → k < suc n → word_at s (along a (4 * k)) ≡ Some (slice_index words k))
+    go None each p f h = cc
+    go (Some front) each None f h = cc
+    go (Some front) each (Some word) f h =
+        let shape : front ++ word ∷ [] ≡ words = cc in
+        let before = each front refl in
+        let long : length front ≡ n = before.0 in (
+          sym (ap length shape) ∙ length-append front (word ∷ []) ∙ omega (arith, long),
+          λ k l. rw (← shape) (elim (cases_lt k n) [
+            | inl lt ↦ before.1 k lt ∙ ap Some (sym (earlier front (word ∷ []) k (omega (arith, long, lt))))
+            | inr ge ↦
+                let same : k ≡ n = omega (arith, l, ge) in
+                let here : slice_index (front ++ word ∷ []) n ≡ word = rw long at (last_of front word) in
+                rw same (f ∙ ap Some (sym here))
+          ]),
+        )

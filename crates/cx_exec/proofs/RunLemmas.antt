@@ -1,6 +1,7 @@
 -- Runs of steps, one more at their end.
-use Rattle.std.proofs.Common.{ℕ, zero, suc, ◌+◌, ◌≤◌, refl, sym, ◌∙◌, ap, add-one, subst}
+use Rattle.std.proofs.Common.{◌≡◌, ℕ, zero, suc, ◌+◌, ◌≤◌, refl, sym, ◌∙◌, ap, add-one, subst, arith}
 use Rattle.cx_exec.specs.declared.machine.Step.TheVariants.{Done, AtEntry}
+use Rattle.cx_exec.specs.declared.machine.Halt.{Halt}
 use Rattle.cx_exec.specs.declared.machine.Halt.TheVariants as halt
 use Rattle.cx_exec.specs.Machine.{Machine}
 use Rattle.cx_exec.specs.Step.{Steps}
@@ -23,3 +24,21 @@ pub at_entry : (limit n : ℕ) (m now after : Machine) → n ≤ limit → Passe
 unfolding Advances Steps
 at_entry limit n m now after below so_far step =
     (n, below, subst (λ (s : Machine). Passes n m s) (sym step.1) so_far, ap (λ (s : Machine). s.next) step.1 ∙ step.0)
+
+-- runs one behind the other
+pub steps_join : (n k : ℕ) (m mid after : Machine) → Passes n m mid → Passes k mid after → Passes (n + k) m after
+unfolding Passes
+steps_join zero k m mid after first second =
+    let none : 0 + k ≡ k = omega arith in
+    rw none (subst (λ (s : Machine). Passes k s after) first second)
+steps_join (suc n) k m mid after first second =
+    let more : suc n + k ≡ suc (n + k) = omega arith in
+    rw more (first.0, first.1, steps_join n k first.0 mid after first.2 second)
+
+pub runs_join : (n k : ℕ) (m mid after : Machine) (end : Halt) → Passes n m mid → Advances k mid end after → Advances (n + k) m end after
+unfolding Advances
+runs_join n k m mid after halt.AtEntry first (j, small, run, e) =
+    (n + j, omega (arith, small), steps_join n j m mid after first run, e)
+runs_join n k m mid after (halt.Interrupt cause place) first (j, small, before, run, last, e) =
+    (n + j, omega (arith, small), before, steps_join n j m mid before first run, last, e)
+runs_join n k m mid after halt.Limit first (all, apart) = (steps_join n k m mid after first all, apart)

@@ -1,12 +1,12 @@
--- CVB and CVD (POP, "Convert to Binary", "Convert to Decimal"): 8 bytes with 15 decimal digits and a sign, a half
--- byte each.
+-- 4F CVB  Convert to Binary, 4E CVD  Convert to Decimal [RX] (GA22-7000): 8 bytes with 15 decimal digits and a sign, a half byte
+-- each. A byte absent 5; CVB: an invalid digit or sign 7, a number that no word holds 9. The code stays.
 use Rattle.std.specs.Prelude.{◌≡◌, ℕ, zero, suc, ◌+◌, ◌*◌, ◌/◌, ◌%◌, ◌^◌, ◌<◌, ◌≤◌, Bool, ◌||◌, ◌==◌, List, [], ◌∷◌, Err, Option, Some, None, slice_index, slice_set, ℤ, pos, neg_ℤ, int_lt, unsigned_abs, MatchBool, MatchOption, if◌then◌else◌}
 use Rattle.cx_storage.specs.Storage.{span}
 use Rattle.cx_exec.specs.declared.machine.Interruption.TheVariants as interruption
-use Rattle.cx_exec.specs.declared.rows.Ahead.{Ahead}
+use Rattle.cx_exec.specs.declared.machine.Updated.{Updated}
 use Rattle.cx_exec.specs.Machine.{Machine, reg}
-use Rattle.cx_exec.specs.Frame.{Outcome, Goes, Stops, IfPresent}
-use Rattle.cx_exec.specs.Operands.{Stores}
+use Rattle.cx_exec.specs.Outcome.{Outcome, Completes, Suppressed}
+use Rattle.cx_exec.specs.Operands.{IfPresent, Stores}
 use Rattle.cx_exec.specs.Numbers.{signed, word_of, fits_word}
 
 -- the i-th half byte from the left
@@ -40,19 +40,19 @@ IsReadAs bytes (Some number) = IsDecimal bytes × (number ≡ decimal_number byt
 
 -- the register gets the number modulo 2^32; where no word holds the number, divide is the interruption then, and
 -- the next address stays
-unfoldable pub Converts : ℕ → ℤ → Ahead → Machine → Outcome → Machine → Type 0
-Converts r1 number ahead m outcome after =
+unfoldable pub Converts : ℕ → ℤ → Updated → Machine → Outcome → Machine → Type 0
+Converts r1 number updated m outcome after =
     MatchBool (fits_word number)
-    (Goes outcome after (record m { regs = slice_set m.regs r1 (word_of number); next = ahead.next }))
+    (Completes outcome after (record m { regs = slice_set m.regs r1 (word_of number); next = updated.address }))
     ((outcome ≡ Err interruption.FixedPointDivide) × (after ≡ record m { regs = slice_set m.regs r1 (word_of number) }))
 
 -- CVB: an invalid digit or sign is the interruption data
-unfoldable pub CvbEffect : ℕ → ℕ → Ahead → Machine → Outcome → Machine → Type 0
-CvbEffect r1 a ahead m outcome after =
+unfoldable pub CvbEffect : ℕ → ℕ → Updated → Machine → Outcome → Machine → Type 0
+CvbEffect r1 a updated m outcome after =
     IfPresent (span m.storage a 8) m outcome after
     (λ bytes.
     (number : Option ℤ) × IsReadAs bytes number
-    × MatchOption number (Stops interruption.Data m outcome after) (λ z. Converts r1 z ahead m outcome after))
+    × MatchOption number (Suppressed interruption.Data m outcome after) (λ z. Converts r1 z updated m outcome after))
 
 -- the digit of a number that counts powers 10^j, and the byte of two digits
 abbrev pub digit : ℕ → ℕ → ℕ
@@ -69,5 +69,5 @@ decimal_bytes z =
     ∷ (16 * digit n 0 + (if int_lt z (pos 0) then 0xD else 0xC)) ∷ []
 
 -- CVD: the register as a signed number
-unfoldable pub CvdEffect : ℕ → ℕ → Ahead → Machine → Outcome → Machine → Type 0
-CvdEffect r1 a ahead m outcome after = Stores a (decimal_bytes (signed (reg m r1))) ahead m outcome after
+unfoldable pub CvdEffect : ℕ → ℕ → Updated → Machine → Outcome → Machine → Type 0
+CvdEffect r1 a updated m outcome after = Stores a (decimal_bytes (signed (reg m r1))) m.cc updated m outcome after

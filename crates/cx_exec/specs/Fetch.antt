@@ -1,4 +1,4 @@
--- The instruction at an address, and what interrupts its fetch (POP, "Instruction Fetch", "Program Interruption").
+-- The instruction at an address, and what interrupts its fetch (GA22-7000, "Instruction Fetch", "Program Interruption").
 -- Of several causes the first in this order is taken (own): an odd address, a byte of its length absent, a code
 -- that is in no row.
 use Rattle.std.specs.Prelude.{ℕ, ◌%◌, List, ◌==◌, Option, Result, Err, if◌then◌else◌}

@@ -1,39 +1,9 @@
--- What the definitions of numbers, pairs, shifts and several registers come to, as the module `laws` promises it.
-use Rattle.std.specs.Prelude.{◌≡◌, ℕ, ◌+◌, ◌*◌, ◌%◌, ◌^◌, ◌<◌, true, List, length, take, drop, slice_index, ℤ, pos, ◌*ℤ◌, ◌≤ℤ◌}
-use Rattle.byteorder.specs.Endian.{big_bytes, big_from}
-use Rattle.cx_exec.specs.Numbers.{signed, word_of, signed_double, double_of, fits_word}
-use Rattle.cx_exec.specs.Results.{pair, with_pair}
-use Rattle.cx_exec.specs.Divide.{IsDivision}
-use Rattle.cx_exec.specs.Shifts.{halved, doubled, shifted_arithmetic}
-use Rattle.cx_exec.specs.Registers.{register_count, loaded_registers, register_bytes}
-
--- a result that a word holds is read from its word again
-abbrev pub ResultIsExact : Type 0
-ResultIsExact = (x : ℤ) → fits_word x ≡ true → signed (word_of x) ≡ x
-
--- the pair that a multiplication leaves is read as the exact product
-abbrev pub ProductIsExact : Type 0
-ProductIsExact = (regs : List ℕ) (r first second : ℕ) → r + 1 < length regs → first < 2 ^ 32 → second < 2 ^ 32
-    → signed_double (pair (with_pair regs r (double_of (signed first *ℤ signed second))) r) ≡ signed first *ℤ signed second
-
--- a dividend and a divisor have one quotient and one remainder
-abbrev pub DivisionIsOne : Type 0
-DivisionIsOne = (dividend divisor q r p s : ℤ) → IsDivision dividend divisor q r → IsDivision dividend divisor p s → (q ≡ p) × (r ≡ s)
-
--- a number shifted right is the greatest whole number not above x / 2^n
-abbrev pub HalvedIsFloor : Type 0
-HalvedIsFloor = (x : ℤ) (n : ℕ) → ((halved x n *ℤ pos (2 ^ n)) ≤ℤ x) × ((k : ℤ) → (k *ℤ pos (2 ^ n)) ≤ℤ x → k ≤ℤ halved x n)
-
--- a word shifted left holds its exact number, where a word holds that
-abbrev pub ShiftedIsExact : Type 0
-ShiftedIsExact = (word n : ℕ) → word < 2 ^ 32 → fits_word (doubled word n) ≡ true → signed (shifted_arithmetic word n) ≡ doubled word n
-
--- the word at place k after a store is that of the register k places after the first one, 0 following 15
-abbrev pub StoredWords : Type 0
-StoredWords = (regs : List ℕ) (first n k : ℕ) → k < n
-    → take 4 (drop (4 * k) (register_bytes regs first n)) ≡ big_bytes 4 (slice_index regs ((first + k) % 16))
-
--- the register k places after the first one is loaded from the word at place k
-abbrev pub LoadedWords : Type 0
-LoadedWords = (regs bytes : List ℕ) (first last k : ℕ) → first < 16 → k < register_count first last
-    → slice_index (loaded_registers regs first last bytes) ((first + k) % 16) ≡ big_from (4 * k) 4 bytes
+-- The statements that the module `laws` promises.
+pub mod Decide
+pub mod Areas
+pub mod Numbers
+pub mod Strings
+pub mod Runs
+pub mod Fetch
+pub mod Rows
+pub mod Interruptions

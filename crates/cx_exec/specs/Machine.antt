@@ -1,6 +1,9 @@
--- The machine (POP: System/370 Principles of Operation, GA22-7000, "Program Status Word", "General Registers").
+-- The machine (System/370 Principles of Operation, GA22-7000, "Program Status Word", "General Registers").
 use Rattle.std.specs.Prelude.{ℕ, ◌+◌, ◌%◌, ◌^◌, List, ◌==◌, slice_index, if◌then◌else◌}
 use Rattle.cx_storage.specs.Storage.{Storage}
+use Rattle.cx_exec.specs.declared.machine.Cpu.{Cpu}
+use Rattle.cx_exec.specs.declared.machine.Interruption.{Interruption}
+use Rattle.cx_exec.specs.declared.machine.Interruption.TheVariants as interruption
 
 -- sixteen registers of 32 bits, the condition code, the address of the next instruction, and storage
 pub record Machine : Type 0 where
@@ -9,11 +12,15 @@ pub record Machine : Type 0 where
   pub next : ℕ
   pub storage : Storage
 
+-- the machine that a processor and a storage make
+abbrev pub machine : Cpu → Storage → Machine
+machine cpu storage = record { regs = cpu.regs; cc = cpu.cc; next = cpu.next; storage = storage }
+
 -- the content of a register
 abbrev pub reg : Machine → ℕ → ℕ
 reg m r = slice_index m.regs r
 
--- an address has 24 bits (POP, "Address Generation")
+-- an address has 24 bits (GA22-7000, "Address Generation")
 abbrev pub address : ℕ → ℕ
 address n = n % 2 ^ 24
 
@@ -24,3 +31,12 @@ given regs r = if r == 0 then 0 else slice_index regs r
 -- the effective address: base, index and displacement
 unfoldable pub effective : List ℕ → ℕ → ℕ → ℕ → ℕ
 effective regs index base displacement = address (given regs base + given regs index + displacement)
+
+-- the codes of the interruptions (GA22-7000, "Program-Interruption Conditions")
+abbrev pub interruption_code : Interruption → ℕ
+interruption_code interruption.Operation = 1
+interruption_code interruption.Execute = 3
+interruption_code interruption.Addressing = 5
+interruption_code interruption.Specification = 6
+interruption_code interruption.Data = 7
+interruption_code interruption.FixedPointDivide = 9

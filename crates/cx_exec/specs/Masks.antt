@@ -1,58 +1,42 @@
--- ICM and STCM (POP, "Insert Characters under Mask", "Store Characters under Mask"): the bytes of a register whose
--- bits of the mask are one, from left to right, and as many bytes of storage in a row.
-use Rattle.std.specs.Prelude.{ℕ, zero, suc, ◌+◌, ◌-◌, ◌*◌, ◌/◌, ◌%◌, ◌^◌, ◌<◌, ◌≤◌, Bool, ◌==◌, List, [], ◌∷◌, ◌++◌, is_some, slice_set, if◌then◌else◌}
-use Rattle.cx_storage.specs.Storage.{Storage, span}
-use Rattle.cx_storage.specs.Address.{along}
-use Rattle.cx_exec.specs.declared.rows.Ahead.{Ahead}
+-- BE STCM  Store Characters under Mask, BF ICM  Insert Characters under Mask [RS] (GA22-7000): the bytes of a register whose
+-- bits of the mask are one, from left to right, and as many bytes of storage in a row. A byte of them absent 5. STCM
+-- leaves the code; ICM: 0 all bits inserted zero or none inserted, else by the first of them 1 one, 2 zero.
+use Rattle.std.specs.Prelude.{ℕ, ◌-◌, ◌*◌, ◌/◌, ◌%◌, ◌^◌, Bool, ◌==◌, List, length, map, nat_le, slice_index, if◌then◌else◌}
+use Rattle.std.specs.List.{filter, range_with_len}
+use Rattle.cx_storage.specs.Storage.{span}
+use Rattle.cx_exec.specs.Numbers.{number_of}
+use Rattle.cx_exec.specs.declared.machine.Updated.{Updated}
 use Rattle.cx_exec.specs.Machine.{Machine, reg}
-use Rattle.cx_exec.specs.Frame.{Outcome, Goes}
-use Rattle.cx_exec.specs.Operands.{Stores}
-use Rattle.cx_exec.specs.Sequence.{content}
-use Rattle.cx_exec.specs.Moves.{WhenPresent, IsZero}
+use Rattle.cx_exec.specs.Outcome.{Outcome, Completes}
+use Rattle.cx_exec.specs.Operands.{IfPresent, Stores}
+use Rattle.cx_exec.specs.Results.{loaded_coded}
 
--- the k-th byte of a word, the leftmost first, and whether the mask's bit for it is one
+-- the k-th byte of a word, the leftmost first
 abbrev pub byte_of : ℕ → ℕ → ℕ
 byte_of word k = word / 2 ^ (8 * (3 - k)) % 256
 
+-- the places below n whose bits of the mask are one
 abbrev pub takes : ℕ → ℕ → Bool
 takes mask k = mask / 2 ^ (3 - k) % 2 == 1
 
--- how many of the first k bytes are taken, and these bytes
-unfoldable pub number_taken : ℕ → ℕ → ℕ
-number_taken mask zero = 0
-number_taken mask (suc k) = if takes mask k then number_taken mask k + 1 else number_taken mask k
+unfoldable pub chosen : ℕ → ℕ → List ℕ
+chosen mask n = filter (takes mask) (range_with_len 0 n)
 
-unfoldable pub taken : ℕ → ℕ → ℕ → List ℕ
-taken mask word zero = []
-taken mask word (suc k) = if takes mask k then taken mask word k ++ byte_of word k ∷ [] else taken mask word k
+-- STCM: the bytes at the places chosen
+unfoldable pub StcmEffect : ℕ → ℕ → ℕ → Updated → Machine → Outcome → Machine → Type 0
+StcmEffect r1 mask a updated m outcome after = Stores a (map (byte_of (reg m r1)) (chosen mask 4)) m.cc updated m outcome after
 
--- STCM: the bytes taken
-unfoldable pub StcmEffect : ℕ → ℕ → ℕ → Ahead → Machine → Outcome → Machine → Type 0
-StcmEffect r1 mask a ahead m outcome after = Stores a (taken mask (reg m r1) 4) ahead m outcome after
+-- ICM: the byte at a place that is the i-th one chosen is the i-th of the bytes; the others stay
+abbrev pub inserted_byte : ℕ → ℕ → List ℕ → ℕ → ℕ
+inserted_byte mask word bytes k = if takes mask k then slice_index bytes (length (chosen mask k)) else byte_of word k
 
--- ICM: a byte taken is the next one of storage, the others stay
-abbrev pub inserted_byte : Storage → ℕ → ℕ → ℕ → ℕ → ℕ
-inserted_byte s a mask word k = if takes mask k then content s (along a (number_taken mask k)) else byte_of word k
+unfoldable pub word_inserted : ℕ → ℕ → List ℕ → ℕ
+word_inserted mask word bytes = number_of (map (inserted_byte mask word bytes) (range_with_len 0 4))
 
-unfoldable pub word_inserted : Storage → ℕ → ℕ → ℕ → ℕ
-word_inserted s a mask word =
-    inserted_byte s a mask word 0 * 2 ^ 24 + inserted_byte s a mask word 1 * 2 ^ 16
-    + inserted_byte s a mask word 2 * 2 ^ 8 + inserted_byte s a mask word 3
+unfoldable pub insert_code : List ℕ → ℕ
+insert_code bytes = if number_of bytes == 0 then 0 else (if nat_le 128 (slice_index bytes 0) then 1 else 2)
 
--- the code of n bytes inserted from an address on: 0 where all their bits are zero, or none is inserted; else 1 where
--- the first bit is one, and 2 where it is zero
-unfoldable pub IsInsertCode : Storage → ℕ → ℕ → ℕ → Type 0
-IsInsertCode s a n zero = IsZero s a n
-IsInsertCode s a n (suc zero) = (IsZero s a n → ⊥) × (128 ≤ content s a)
-IsInsertCode s a n (suc (suc zero)) = (IsZero s a n → ⊥) × (content s a < 128)
-IsInsertCode s a n (suc (suc (suc _))) = ⊥
-
-unfoldable pub IcmEffect : ℕ → ℕ → ℕ → Ahead → Machine → Outcome → Machine → Type 0
-IcmEffect r1 mask a ahead m outcome after =
-    WhenPresent (is_some (span m.storage a (number_taken mask 4))) m outcome after
-    (IsInsertCode m.storage a (number_taken mask 4) after.cc
-    × Goes outcome after (record m {
-      regs = slice_set m.regs r1 (word_inserted m.storage a mask (reg m r1));
-      cc = after.cc;
-      next = ahead.next;
-    }))
+unfoldable pub IcmEffect : ℕ → ℕ → ℕ → Updated → Machine → Outcome → Machine → Type 0
+IcmEffect r1 mask a updated m outcome after =
+    IfPresent (span m.storage a (length (chosen mask 4))) m outcome after
+    (λ bytes. Completes outcome after (loaded_coded r1 (word_inserted mask (reg m r1) bytes) (insert_code bytes) updated m))

@@ -1,7 +1,12 @@
 -- Fixed-point numbers: words as signed numbers, and the condition codes that numbers set
--- (POP, "Fixed-Point Data Format", "Add", "Compare").
-use Rattle.std.specs.Prelude.{ℕ, ◌+◌, ◌*◌, ◌/◌, ◌^◌, Bool, ◌&&◌, ◌==◌, not, bit_and, ℤ, pos, neg_ℤ, int_lt, unsigned_abs, if◌then◌else◌}
+-- (GA22-7000, "Fixed-Point Data Format", "Add", "Compare").
+use Rattle.std.specs.Prelude.{ℕ, ◌+◌, ◌*◌, ◌^◌, Bool, ◌&&◌, not, List, [], ◌∷◌, length, ℤ, pos, neg_ℤ, int_lt, unsigned_abs, if◌then◌else◌}
 use Rattle.std.specs.Int.{w16, w32, w64, cast_signed, int_rem_euclid}
+
+-- bytes as one unsigned number, the first byte the highest
+abbrev pub number_of : List ℕ → ℕ
+number_of [] = 0
+number_of (b ∷ bs) = b * 256 ^ length bs + number_of bs
 
 -- a word as a signed number, in two's complement
 abbrev pub signed : ℕ → ℤ
@@ -37,15 +42,3 @@ fits_word x = not (int_lt x (neg_ℤ (pos (2 ^ 31)))) && int_lt x (pos (2 ^ 31))
 -- the code of an exact result: 3 where no word holds it
 unfoldable pub sum_code : ℤ → ℕ
 sum_code x = if fits_word x then sign_code x else 3
-
--- the code of a logical result: 0 zero, 1 not zero
-abbrev pub logical_code : ℕ → ℕ
-logical_code result = if result == 0 then 0 else 1
-
--- the bits of a byte that a mask selects: 0 where all are zero or none is selected, 3 where all are one, 1 where they are mixed
-abbrev pub test_code : ℕ → ℕ → ℕ
-test_code mask byte = if bit_and byte mask == 0 then 0 else (if bit_and byte mask == mask then 3 else 1)
-
--- a word with its low byte, bits 24 to 31, changed
-abbrev pub inserted : ℕ → ℕ → ℕ
-inserted word byte = (word / 2 ^ 8) * 2 ^ 8 + byte

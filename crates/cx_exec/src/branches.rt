@@ -1,14 +1,13 @@
 //! Branches.
 
 ghost use Rattle.std.specs.Prelude.{◌≡◌, ◌<◌, ◌≤◌, ◌^◌, Ok, slice_set, slice_index, if◌then◌else◌, ◌==◌};
-ghost use Rattle.cx_exec.specs.Results.{less_one};
-ghost use Rattle.cx_exec.specs.Rows.{mask_bit, selects, link_word, branch_address};
+ghost use Rattle.cx_exec.specs.Branches.{less_one};
+ghost use Rattle.cx_exec.specs.Branches.{mask_bit, selects, link_word, branch_address};
 
-use crate::machine::{Cpu, Interruption};
-use crate::rows::Ahead;
+use crate::machine::{Cpu, Interruption, Updated};
 
 /// Whether a mask has the bit of a condition code.
-#[tactic(auto, unfolding(crate::specs::Rows::selects))]
+#[tactic(auto, unfolding(crate::specs::Branches::selects))]
 fn selects(mask: u8, cc: u8) -> bool
     ensures { result ≡ selects mask cc }
 {
@@ -28,75 +27,75 @@ fn mask_bit(cc: u8) -> u8
 }
 
 /// The link word of a branch.
-#[tactic(auto, unfolding(crate::specs::Rows::link_word))]
-fn link_word(ahead: Ahead, cc: u8) -> u32
-    requires length { ahead.length ≤ 3 }
-    requires address { ahead.next < 2 ^ 24 }
+#[tactic(auto, unfolding(crate::specs::Branches::link_word))]
+fn link_word(updated: Updated, cc: u8) -> u32
+    requires length { updated.length_code ≤ 3 }
+    requires address { updated.address < 2 ^ 24 }
     requires code { cc ≤ 3 }
-    ensures { result ≡ link_word ahead cc }
+    ensures { result ≡ link_word updated cc }
 {
-    u32::from(ahead.length) * 0x4000_0000 + u32::from(cc) * 0x1000_0000 + ahead.next
+    u32::from(updated.length_code) * 0x4000_0000 + u32::from(cc) * 0x1000_0000 + updated.address
 }
 
 /// Where a branch to a register's address goes: register 0 is no branch.
-pub(crate) fn branch_address(regs: &[u32; 16], r: u8, ahead: Ahead) -> u32
+pub(crate) fn branch_address(regs: &[u32; 16], r: u8, updated: Updated) -> u32
     requires register { r < 16 }
-    requires address { ahead.next < 2 ^ 24 }
-    ensures value { result ≡ branch_address regs.now r ahead }
+    requires address { updated.address < 2 ^ 24 }
+    ensures value { result ≡ branch_address regs.now r updated }
     ensures short { result < 2 ^ 24 }
 {
     if r == 0 {
-        ahead.next
+        updated.address
     } else {
         regs[r as usize] % 0x100_0000
     }
 }
 
 /// Puts the link word into a register and goes on elsewhere.
-pub(crate) fn link(cpu: &mut Cpu, r: u8, to: u32, ahead: Ahead) -> Result<(), Interruption>
+pub(crate) fn link(cpu: &mut Cpu, r: u8, to: u32, updated: Updated) -> Result<(), Interruption>
     requires register { r < 16 }
     requires to { to < 2 ^ 24 }
-    requires length { ahead.length ≤ 3 }
-    requires address { ahead.next < 2 ^ 24 }
+    requires length { updated.length_code ≤ 3 }
+    requires address { updated.address < 2 ^ 24 }
     ensures done { result ≡ Ok tt }
-    ensures regs { cpu.new.regs ≡ slice_set cpu.old.regs r (link_word ahead cpu.old.cc) }
+    ensures regs { cpu.new.regs ≡ slice_set cpu.old.regs r (link_word updated cpu.old.cc) }
     ensures code { cpu.new.cc ≡ cpu.old.cc }
     ensures next { cpu.new.next ≡ to }
 {
-    cpu.regs[r as usize] = link_word(ahead, cpu.cc);
+    cpu.regs[r as usize] = link_word(updated, cpu.cc);
     cpu.next = to;
     Ok(())
 }
 
-/// Goes on elsewhere where the mask selects the condition code.
-pub(crate) fn branch(cpu: &mut Cpu, mask: u8, to: u32, ahead: Ahead) -> Result<(), Interruption>
+/// Completes on elsewhere where the mask selects the condition code.
+pub(crate) fn branch(cpu: &mut Cpu, mask: u8, to: u32, updated: Updated) -> Result<(), Interruption>
     requires to { to < 2 ^ 24 }
-    requires address { ahead.next < 2 ^ 24 }
+    requires address { updated.address < 2 ^ 24 }
     ensures done { result ≡ Ok tt }
     ensures regs { cpu.new.regs ≡ cpu.old.regs }
     ensures code { cpu.new.cc ≡ cpu.old.cc }
-    ensures next { cpu.new.next ≡ (if selects mask cpu.old.cc then to else ahead.next) }
+    ensures next { cpu.new.next ≡ (if selects mask cpu.old.cc then to else updated.address) }
 {
     cpu.next = if selects(mask, cpu.cc) {
         to
     } else {
-        ahead.next
+        updated.address
     };
     Ok(())
 }
 
 /// Counts a register down by one, and goes on elsewhere where it isn't zero then.
-pub(crate) fn count(cpu: &mut Cpu, r: u8, to: u32, ahead: Ahead) -> Result<(), Interruption>
+pub(crate) fn count(cpu: &mut Cpu, r: u8, to: u32, updated: Updated) -> Result<(), Interruption>
     requires register { r < 16 }
     requires to { to < 2 ^ 24 }
-    requires address { ahead.next < 2 ^ 24 }
+    requires address { updated.address < 2 ^ 24 }
     ensures done { result ≡ Ok tt }
     ensures regs { cpu.new.regs ≡ slice_set cpu.old.regs r (less_one (slice_index cpu.old.regs r)) }
     ensures code { cpu.new.cc ≡ cpu.old.cc }
-    ensures next { cpu.new.next ≡ (if less_one (slice_index cpu.old.regs r) == 0 then ahead.next else to) }
+    ensures next { cpu.new.next ≡ (if less_one (slice_index cpu.old.regs r) == 0 then updated.address else to) }
 {
     let left = cpu.regs[r as usize].wrapping_sub(1);
     cpu.regs[r as usize] = left;
-    cpu.next = if left == 0 { ahead.next } else { to };
+    cpu.next = if left == 0 { updated.address } else { to };
     Ok(())
 }

@@ -2,14 +2,13 @@
 
 ghost use Rattle.std.specs.Prelude.{◌≡◌, ℕ, ◌+◌, ◌*◌, ◌/◌, ◌%◌, ◌<◌, ◌≤◌, ◌^◌, length, MatchOption, pos, ◌<ℤ◌, ⊤};
 ghost use Rattle.cx_storage.specs.Storage.{Storage};
-ghost use Rattle.cx_exec.specs.State.{machine};
+ghost use Rattle.cx_exec.specs.Machine.{machine};
 ghost use Rattle.cx_exec.specs.Numbers.{signed, fits_word};
 ghost use Rattle.cx_exec.specs.Decimal.{half, AreDigits, IsDecimal, first_digits, is_minus, decimal_number, IsReadAs, Converts, CvbEffect, decimal_bytes, CvdEffect};
 
-use crate::machine::{Cpu, Interruption};
+use crate::machine::{Cpu, Interruption, Updated};
 use crate::numbers::word_of;
 use crate::operands::put_bytes;
-use crate::rows::Ahead;
 use cx_storage::Store;
 
 /// The `i`-th half byte (`i` is below 16) of 8 bytes, from the left.
@@ -62,16 +61,16 @@ fn fits_word(number: i64) -> bool
 
 /// What CVB leaves of a number.
 #[tactic(auto, unfolding(crate::specs::Decimal::Converts))]
-fn convert(cpu: &mut Cpu, r1: u8, number: i64, ahead: Ahead) -> Result<(), Interruption>
+fn convert(cpu: &mut Cpu, r1: u8, number: i64, updated: Updated) -> Result<(), Interruption>
     requires first { r1 < 16 }
-    requires address { ahead.next < 2 ^ 24 }
-    ensures { (storage : Storage) → Converts r1 number ahead (machine cpu.old storage) result (machine cpu.new storage) }
+    requires address { updated.address < 2 ^ 24 }
+    ensures { (storage : Storage) → Converts r1 number updated (machine cpu.old storage) result (machine cpu.new storage) }
 {
     cpu.regs[r1 as usize] = word_of(number);
     if !fits_word(number) {
         return Err(Interruption::FixedPointDivide);
     }
-    cpu.next = ahead.next;
+    cpu.next = updated.address;
     Ok(())
 }
 
@@ -83,12 +82,12 @@ pub(crate) fn cvb<S: Store>(
     store: &S,
     r1: u8,
     a: u32,
-    ahead: Ahead,
+    updated: Updated,
 ) -> Result<(), Interruption>
     requires first { r1 < 16 }
     requires operand { a < 2 ^ 24 }
-    requires address { ahead.next < 2 ^ 24 }
-    ensures { CvbEffect r1 a ahead (machine cpu.old (S.storage store.now)) result (machine cpu.new (S.storage store.now)) }
+    requires address { updated.address < 2 ^ 24 }
+    ensures { CvbEffect r1 a updated (machine cpu.old (S.storage store.now)) result (machine cpu.new (S.storage store.now)) }
 {
     let mut bytes = [0; 8];
     if !store.read(a, &mut bytes) {
@@ -97,7 +96,7 @@ pub(crate) fn cvb<S: Store>(
     let Some(number) = decimal(&bytes) else {
         return Err(Interruption::Data);
     };
-    convert(cpu, r1, number, ahead)
+    convert(cpu, r1, number, updated)
 }
 
 /// Two digits of a number: the one that counts `power`, and the one before it.
@@ -136,13 +135,14 @@ pub(crate) fn cvd<S: Store>(
     store: &mut S,
     r1: u8,
     a: u32,
-    ahead: Ahead,
+    updated: Updated,
 ) -> Result<(), Interruption>
     requires first { r1 < 16 }
     requires operand { a < 2 ^ 24 }
-    requires address { ahead.next < 2 ^ 24 }
-    ensures { CvdEffect r1 a ahead (machine cpu.old (S.storage store.old)) result (machine cpu.new (S.storage store.new)) }
+    requires address { updated.address < 2 ^ 24 }
+    ensures { CvdEffect r1 a updated (machine cpu.old (S.storage store.old)) result (machine cpu.new (S.storage store.new)) }
 {
     let bytes = decimal_bytes(cpu.regs[r1 as usize]);
-    put_bytes(cpu, store, a, &bytes, ahead)
+    let cc = cpu.cc;
+    put_bytes(cpu, store, a, &bytes, cc, updated)
 }

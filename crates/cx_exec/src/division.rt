@@ -1,7 +1,13 @@
 //! Division.
 
-ghost use Rattle.std.specs.Prelude.{ℤ, IfSome, IfNone};
-ghost use Rattle.cx_exec.specs.Divide.{IsDivision};
+ghost use Rattle.std.specs.Prelude.{ℤ, ◌<◌, ◌^◌, IfSome, IfNone};
+ghost use Rattle.cx_storage.specs.Storage.{Storage};
+ghost use Rattle.cx_exec.specs.Machine.{machine};
+ghost use Rattle.cx_exec.specs.Division.{IsDivision, Divided};
+
+use crate::machine::{Cpu, Interruption, Updated};
+use crate::numbers::{signed, signed_double, word_of};
+use crate::results::pair;
 
 /// The quotient and the remainder; None where no quotient that a word holds exists, as for a divisor
 /// of zero.
@@ -17,4 +23,22 @@ pub(crate) fn division(dividend: i64, divisor: i64) -> Option<(i64, i64)>
         return None;
     }
     Some((quotient, remainder))
+}
+
+/// Divides the pair by a word: the remainder into its first register, the quotient into its second.
+/// Interruption 9, and no change, where no word holds the quotient or the divisor is zero.
+#[tactic(auto, unfolding(crate::specs::Division::Divided))]
+pub(crate) fn divide(cpu: &mut Cpu, r: u8, word: u32, updated: Updated) -> Result<(), Interruption>
+    requires register { r < 15 }
+    requires address { updated.address < 2 ^ 24 }
+    ensures { (storage : Storage) → Divided r word updated (machine cpu.old storage) result (machine cpu.new storage) }
+{
+    let dividend = signed_double(pair(&cpu.regs, r));
+    let Some(found) = division(dividend, signed(word)) else {
+        return Err(Interruption::FixedPointDivide);
+    };
+    cpu.regs[r as usize] = word_of(found.1);
+    cpu.regs[r as usize + 1] = word_of(found.0);
+    cpu.next = updated.address;
+    Ok(())
 }

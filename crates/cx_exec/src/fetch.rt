@@ -46,7 +46,7 @@ impl Code {
         }
     }
 
-    /// Joins a byte to the second one by OR.
+    /// Joins a byte to the second one, which every instruction has, by OR.
     pub(crate) fn join_second(&mut self, low: u8)
         ensures { self.new ≡ joined_second low self.old }
     {

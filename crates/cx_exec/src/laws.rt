@@ -1,15 +1,18 @@
-//! Laws of execution: a step and a run are decided by the machine before them, and leave the areas of storage;
-//! and what the definitions of numbers, pairs, shifts and several registers come to.
+//! Laws of execution: a step and a run are decided by the machine before them, and leave the areas of storage; every
+//! instruction has a row; what an interruption leaves; runs join; what is fetched; and what the definitions of numbers,
+//! shifts, registers, strings and decimal numbers come to.
 
 ghost use Rattle.std.specs.Prelude.{ℕ};
 ghost use Rattle.cx_exec.specs.Step.{Steps};
 ghost use Rattle.cx_exec.specs.Advance.{Advances};
-ghost use Rattle.cx_exec.specs.declared.machine.Halt.{Halt};
-ghost use Rattle.cx_exec.specs.Decide.{StepsDecide, RunsDecide};
-ghost use Rattle.cx_exec.specs.Keeps.{SameAreas};
-ghost use Rattle.cx_exec.specs.Laws.{ResultIsExact, ProductIsExact, DivisionIsOne, HalvedIsFloor, ShiftedIsExact, StoredWords, LoadedWords};
-ghost use Rattle.cx_exec.specs.Machine.{Machine};
-ghost use Rattle.cx_exec.specs.StringLaws.{DecimalReadsBack, ApartIsCopied, AllIsTaken};
+ghost use Rattle.cx_exec.specs.Laws.Decide.{StepsDecide, RunsDecide};
+ghost use Rattle.cx_exec.specs.Laws.Areas.{RunsKeepAreas};
+ghost use Rattle.cx_exec.specs.Laws.Fetch.{SpelledIsFetched};
+ghost use Rattle.cx_exec.specs.Laws.Rows.{EveryRowIsThere};
+ghost use Rattle.cx_exec.specs.Laws.Interruptions.{InterruptionsLeave, InterruptionsKeep};
+ghost use Rattle.cx_exec.specs.Laws.Runs.{RunsJoin, StepsJoin};
+ghost use Rattle.cx_exec.specs.Laws.Numbers.{ResultIsExact, ProductIsExact, DivisionIsOne, ShiftedIsFloor, ShiftedIsExact, StoredWords, LoadedWords};
+ghost use Rattle.cx_exec.specs.Laws.Strings.{DecimalReadsBack, EachIsStored, ApartIsCopied, AllIsTaken};
 
 /// The step's answer and the machine after it are determined by the machine before.
 pub fn steps_decide()
@@ -23,8 +26,40 @@ pub fn runs_decide()
 
 /// No instruction makes, frees or moves an area: after a run the areas of storage are those before.
 pub fn runs_keep_areas()
-    ensures { (limit : ℕ) (m : Machine) (end : Halt) (after : Machine) → Advances limit m end after → SameAreas m after }
+    ensures { RunsKeepAreas }
 {}
+
+/// Steps that are done, and then a run, are one run, whose limit is the number of those steps and the run's limit.
+#[tactic(auto, using(crate::proofs::RunLemmas::runs_join, crate::proofs::RunLemmas::steps_join))]
+pub fn runs_join()
+    ensures runs { RunsJoin }
+    ensures steps { StepsJoin }
+{}
+
+/// Every well-formed instruction but EX has a row: its effect is never the interruption operation.
+#[tactic(auto, using(crate::proofs::InterruptLemmas::every_row_is_there))]
+pub fn every_row_is_there()
+    ensures { EveryRowIsThere }
+{}
+
+/// An interruption leaves registers, code, next address and storage as before, but for the register R1 of a CVB that
+/// is interrupted by 9.
+#[tactic(auto, using(crate::proofs::InterruptLemmas::interruptions_leave, crate::proofs::InterruptLemmas::interruptions_keep))]
+pub fn interruptions_leave()
+    ensures left { InterruptionsLeave }
+    ensures kept { InterruptionsKeep }
+{}
+
+/// An instruction that is spelled at an even address, all of its bytes present, is fetched, and read as itself.
+pub fn spelled_is_fetched()
+    ensures { SpelledIsFetched }
+{
+    cx_code::laws::first_bits();
+    cx_code::laws::spelled_reads();
+    cx_code::laws::length_read();
+    cx_code::laws::read_before_rest();
+    cx_code::laws::read_by_first_byte();
+}
 
 /// A result that a word holds is read from its word again.
 #[tactic(auto, using(crate::proofs::LawLemmas::result_is_exact))]
@@ -44,8 +79,8 @@ pub fn division_is_one()
 {}
 
 /// A number shifted right by n bits is the greatest whole number not above it divided by 2^n.
-pub fn halved_is_floor()
-    ensures { HalvedIsFloor }
+pub fn shifted_is_floor()
+    ensures { ShiftedIsFloor }
 {}
 
 /// A word shifted left holds its exact number, where a word holds that.
@@ -60,7 +95,7 @@ pub fn stored_words()
     ensures { StoredWords }
 {}
 
-/// LM: the register k places after the first one is loaded from the word at place k.
+/// LM: the register k places after the first one is loaded from the word at the place 4k on.
 #[tactic(auto, using(crate::proofs::LawLemmas::loaded_words))]
 pub fn loaded_words()
     ensures { LoadedWords }
@@ -76,8 +111,15 @@ pub fn apart_is_copied()
     ensures { ApartIsCopied }
 {}
 
+/// MVC, XC, TR, PACK and UNPK: as many bytes are stored as are asked for, and each is what the rule makes of those
+/// before it.
+#[tactic(auto, using(crate::proofs::SequenceLemmas::each_is_stored))]
+pub fn each_is_stored()
+    ensures { EachIsStored }
+{}
+
 /// STCM: a mask of four ones takes the whole word.
-#[tactic(auto, unfolding(crate::specs::Masks::taken))]
+#[tactic(auto, unfolding(crate::specs::Masks::chosen))]
 pub fn all_is_taken()
     ensures { AllIsTaken }
 {}

@@ -1,28 +1,31 @@
 //! Executing instructions: one step, and runs of steps.
 #![tactic(auto)]
 
+mod arithmetic;
 mod branches;
+mod comparison;
 mod decimal;
 mod division;
 mod fetch;
 pub mod laws;
-mod lengths;
+mod loads;
+mod logic;
 mod machine;
 mod masks;
-mod moves;
+mod multiplication;
 mod numbers;
 mod operands;
-mod pairs;
 mod registers;
 mod results;
 mod rows;
 mod runs;
+mod sequence;
 mod shifts;
 mod stepping;
-mod translate;
+mod strings;
+mod translation;
 mod zoned;
 
-pub use machine::{Cpu, ENTRY, Halt, Interruption, Step};
-pub use rows::Ahead;
+pub use machine::{Cpu, ENTRY, Halt, Interruption, Step, Updated};
 pub use runs::advance;
 pub use stepping::step;

@@ -39,7 +39,7 @@ pub enum Interruption {
 
 impl Interruption {
     ghost use Rattle.std.specs.Prelude.{◌≡◌};
-    ghost use Rattle.cx_exec.specs.Codes.{interruption_code};
+    ghost use Rattle.cx_exec.specs.Machine.{interruption_code};
 
     /// The interruption's code: 1 operation, 3 execute, 5 addressing, 6 specification, 7 data,
     /// 9 fixed-point divide.
@@ -77,4 +77,12 @@ pub enum Halt {
     Interrupt(Interruption, u32),
     /// As many instructions as the limit allows were performed.
     Limit,
+}
+
+/// What an instruction updates the program-status word to, unless it branches: its length in halfwords (1 to 3), which
+/// the link word holds, and the address of the next one (below 2^24).
+#[derive(Clone, Copy)]
+pub struct Updated {
+    pub length_code: u8,
+    pub address: u32,
 }

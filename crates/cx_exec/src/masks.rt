@@ -1,13 +1,13 @@
 //! ICM and STCM: the bytes of a register that a mask takes.
 
-ghost use Rattle.std.specs.Prelude.{◌≡◌, ◌<◌, ◌≤◌, ◌^◌, length, take};
-ghost use Rattle.cx_exec.specs.State.{machine};
-ghost use Rattle.cx_exec.specs.Masks.{byte_of, takes, number_taken, taken, inserted_byte, word_inserted, IsInsertCode, IcmEffect, StcmEffect};
+ghost use Rattle.std.specs.Prelude.{◌≡◌, ◌<◌, ◌≤◌, ◌^◌, length, map, take};
+ghost use Rattle.cx_exec.specs.Machine.{machine};
+ghost use Rattle.cx_exec.specs.Masks.{byte_of, takes, chosen, inserted_byte, word_inserted, insert_code, IcmEffect, StcmEffect};
 
-use crate::machine::{Cpu, Interruption};
-use crate::moves::{along, content, logical_code};
+use crate::logic::is_zero;
+use crate::machine::{Cpu, Interruption, Updated};
 use crate::operands::put_bytes;
-use crate::rows::Ahead;
+use crate::results::load_coded;
 use cx_storage::Store;
 
 /// The `k`-th byte (`k` is below 4) of a word, the leftmost first.
@@ -26,11 +26,11 @@ fn takes(mask: u8, k: u32) -> bool
     (mask >> (3 - k)) % 2 == 1
 }
 
-/// How many of the first `k` bytes (`k` is at most 4) a mask takes.
-#[tactic(auto, unfolding(crate::specs::Masks::number_taken))]
-fn number_taken(mask: u8, k: u32) -> u32
+/// How many places below `k` (at most 4) a mask chooses.
+#[tactic(auto, using(crate::proofs::MaskLemmas::number_none, crate::proofs::MaskLemmas::number_more))]
+fn number_chosen(mask: u8, k: u32) -> u32
     requires { k ≤ 4 }
-    ensures value { result ≡ number_taken mask k }
+    ensures value { result ≡ length (chosen mask k) }
     ensures short { result ≤ k }
 {
     let mut count = 0;
@@ -42,10 +42,10 @@ fn number_taken(mask: u8, k: u32) -> u32
     count
 }
 
-/// Puts the bytes that a mask takes at the front of the buffer, and tells how many they are.
-#[tactic(auto, unfolding(crate::specs::Masks::taken))]
+/// Puts the bytes at the places that a mask chooses at the front of the buffer, and tells how many they are.
+#[tactic(auto, using(crate::proofs::MaskLemmas::bytes_none, crate::proofs::MaskLemmas::bytes_more))]
 fn take_bytes(mask: u8, word: u32, buffer: &mut [u8; 4]) -> usize
-    ensures bytes { take result buffer.new ≡ taken mask word 4 }
+    ensures bytes { take result buffer.new ≡ map (byte_of word) (chosen mask 4) }
     ensures short { result ≤ 4 }
 {
     let mut count = 0;
@@ -66,26 +66,28 @@ pub(crate) fn stcm<S: Store>(
     r1: u8,
     mask: u8,
     a: u32,
-    ahead: Ahead,
+    updated: Updated,
 ) -> Result<(), Interruption>
     requires first { r1 < 16 }
     requires operand { a < 2 ^ 24 }
-    requires address { ahead.next < 2 ^ 24 }
-    ensures { StcmEffect r1 mask a ahead (machine cpu.old (S.storage store.old)) result (machine cpu.new (S.storage store.new)) }
+    requires address { updated.address < 2 ^ 24 }
+    ensures { StcmEffect r1 mask a updated (machine cpu.old (S.storage store.old)) result (machine cpu.new (S.storage store.new)) }
 {
     let mut buffer = [0; 4];
     let count = take_bytes(mask, cpu.regs[r1 as usize], &mut buffer);
-    put_bytes(cpu, store, a, &buffer[..count], ahead)
+    let cc = cpu.cc;
+    put_bytes(cpu, store, a, &buffer[..count], cc, updated)
 }
 
-/// The `k`-th byte (`k` is below 4) that ICM leaves in a register.
-fn inserted_byte<S: Store>(store: &S, a: u32, mask: u8, word: u32, k: u32) -> u8
-    requires operand { a < 2 ^ 24 }
+/// The `k`-th byte (`k` is below 4) that ICM leaves in a register; there are as many bytes as places chosen.
+#[tactic(auto, using(crate::proofs::MaskLemmas::number_below))]
+fn inserted_byte(mask: u8, word: u32, bytes: &[u8], k: u32) -> u8
     requires place { k < 4 }
-    ensures { result ≡ inserted_byte (S.storage store.now) a mask word k }
+    requires size { length bytes.now ≡ length (chosen mask 4) }
+    ensures { result ≡ inserted_byte mask word bytes.now k }
 {
     if takes(mask, k) {
-        content(store, along(a, number_taken(mask, k)))
+        bytes[number_chosen(mask, k) as usize]
     } else {
         byte_of(word, k)
     }
@@ -93,27 +95,25 @@ fn inserted_byte<S: Store>(store: &S, a: u32, mask: u8, word: u32, k: u32) -> u8
 
 /// The word that ICM leaves in a register.
 #[tactic(auto, unfolding(crate::specs::Masks::word_inserted))]
-fn word_inserted<S: Store>(store: &S, a: u32, mask: u8, word: u32) -> u32
-    requires { a < 2 ^ 24 }
-    ensures { result ≡ word_inserted (S.storage store.now) a mask word }
+fn word_inserted(mask: u8, word: u32, bytes: &[u8]) -> u32
+    requires { length bytes.now ≡ length (chosen mask 4) }
+    ensures { result ≡ word_inserted mask word bytes.now }
 {
-    u32::from(inserted_byte(store, a, mask, word, 0)) * 0x100_0000
-        + u32::from(inserted_byte(store, a, mask, word, 1)) * 0x1_0000
-        + u32::from(inserted_byte(store, a, mask, word, 2)) * 0x100
-        + u32::from(inserted_byte(store, a, mask, word, 3))
+    u32::from(inserted_byte(mask, word, bytes, 0)) * 0x100_0000
+        + u32::from(inserted_byte(mask, word, bytes, 1)) * 0x1_0000
+        + u32::from(inserted_byte(mask, word, bytes, 2)) * 0x100
+        + u32::from(inserted_byte(mask, word, bytes, 3))
 }
 
-/// The condition code of `n` bytes (at most 4) inserted from `a` on.
-#[tactic(auto, unfolding(crate::specs::Masks::IsInsertCode, crate::specs::Moves::IsLogicalCode))]
-fn insert_code<S: Store>(store: &S, n: u32, a: u32) -> u8
-    requires operand { a < 2 ^ 24 }
-    requires count { n ≤ 4 }
-    ensures value { IsInsertCode (S.storage store.now) a n result }
+/// The condition code of the bytes inserted.
+#[tactic(auto, unfolding(crate::specs::Masks::insert_code))]
+fn insert_code(bytes: &[u8]) -> u8
+    ensures value { result ≡ insert_code bytes.now }
     ensures short { result ≤ 2 }
 {
-    if logical_code(store, n, a) == 0 {
+    if is_zero(bytes) {
         0
-    } else if content(store, a) >= 128 {
+    } else if bytes[0] >= 128 {
         1
     } else {
         2
@@ -128,19 +128,18 @@ pub(crate) fn icm<S: Store>(
     r1: u8,
     mask: u8,
     a: u32,
-    ahead: Ahead,
+    updated: Updated,
 ) -> Result<(), Interruption>
     requires first { r1 < 16 }
     requires operand { a < 2 ^ 24 }
-    requires address { ahead.next < 2 ^ 24 }
-    ensures { IcmEffect r1 mask a ahead (machine cpu.old (S.storage store.now)) result (machine cpu.new (S.storage store.now)) }
+    requires address { updated.address < 2 ^ 24 }
+    ensures { IcmEffect r1 mask a updated (machine cpu.old (S.storage store.now)) result (machine cpu.new (S.storage store.now)) }
 {
-    let count = number_taken(mask, 4);
-    if !store.has_span(a, count as usize) {
+    let mut buffer = [0; 4];
+    let bytes = &mut buffer[..number_chosen(mask, 4) as usize];
+    if !store.read(a, bytes) {
         return Err(Interruption::Addressing);
     }
-    cpu.regs[r1 as usize] = word_inserted(store, a, mask, cpu.regs[r1 as usize]);
-    cpu.cc = insert_code(store, count, a);
-    cpu.next = ahead.next;
-    Ok(())
+    let word = word_inserted(mask, cpu.regs[r1 as usize], bytes);
+    load_coded(cpu, r1, word, insert_code(bytes), updated)
 }

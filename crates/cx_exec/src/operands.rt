@@ -1,33 +1,30 @@
 //! Operands in storage and in pairs of registers.
 
-ghost use Rattle.std.specs.Prelude.{◌≡◌, ◌<◌, ◌≤◌, ◌^◌, ◌%◌, length, IfOk, Ok};
-ghost use Rattle.cx_exec.specs.State.{machine};
-ghost use Rattle.cx_exec.specs.Operands.{byte_operand, halfword_operand, word_operand, even_register, Stores};
-ghost use Rattle.cx_storage.specs.Storage.{with_byte};
-ghost use Rattle.byteorder.specs.Endian.{big_bytes};
-ghost use Rattle.cx_exec.specs.Numbers.{logical_code};
+ghost use Rattle.std.specs.Prelude.{◌≡◌, ◌<◌, ◌≤◌, ◌^◌, ◌%◌, ◌==◌, length, true, false, Some, None, MatchResult};
+ghost use Rattle.cx_storage.specs.Storage.{byte_at};
+ghost use Rattle.cx_storage.specs.Word.{word_at};
+ghost use Rattle.cx_exec.specs.declared.machine.Interruption.TheVariants as interruption;
+ghost use Rattle.cx_exec.specs.Machine.{machine};
+ghost use Rattle.cx_exec.specs.Operands.{extended_at, Stores};
 
-use crate::machine::{Cpu, Interruption};
-use crate::numbers::{extended, logical_code};
-use crate::results::set_code;
-use crate::rows::Ahead;
+use crate::machine::{Cpu, Interruption, Updated};
+use crate::numbers::extended;
 use byteorder::{BigEndian, ByteOrder};
 use cx_storage::Store;
 
 /// The byte at an address, or interruption 5.
-#[tactic(auto, unfolding(crate::specs::Operands::byte_operand))]
 pub(crate) fn byte_at<S: Store>(store: &S, a: u32) -> Result<u8, Interruption>
     requires { a < 2 ^ 24 }
-    ensures { result ≡ byte_operand (S.storage store.now) a }
+    ensures { MatchResult result (λ x. byte_at (S.storage store.now) a ≡ Some x) (λ cause. (byte_at (S.storage store.now) a ≡ None) × (cause ≡ interruption.Addressing)) }
 {
     store.byte(a).ok_or(Interruption::Addressing)
 }
 
 /// The halfword at an address, extended to a word by its sign, or interruption 5.
-#[tactic(auto, using(cx_storage::specs::Facts::Words::halfword_read, cx_storage::specs::Facts::Words::halfword_absent), unfolding(crate::specs::Operands::halfword_operand))]
+#[tactic(auto, using(cx_storage::specs::Facts::Words::halfword_read, cx_storage::specs::Facts::Words::halfword_absent), unfolding(crate::specs::Operands::extended_at))]
 pub(crate) fn halfword_at<S: Store>(store: &S, a: u32) -> Result<u32, Interruption>
     requires { a < 2 ^ 24 }
-    ensures { result ≡ halfword_operand (S.storage store.now) a }
+    ensures { MatchResult result (λ x. extended_at (S.storage store.now) a ≡ Some x) (λ cause. (extended_at (S.storage store.now) a ≡ None) × (cause ≡ interruption.Addressing)) }
 {
     let mut bytes = [0; 2];
     if !store.read(a, &mut bytes) {
@@ -37,10 +34,10 @@ pub(crate) fn halfword_at<S: Store>(store: &S, a: u32) -> Result<u32, Interrupti
 }
 
 /// The word at an address, or interruption 5.
-#[tactic(auto, using(cx_storage::specs::Facts::Words::word_read, cx_storage::specs::Facts::Words::word_absent), unfolding(crate::specs::Operands::word_operand))]
+#[tactic(auto, using(cx_storage::specs::Facts::Words::word_read, cx_storage::specs::Facts::Words::word_absent))]
 pub(crate) fn word_at<S: Store>(store: &S, a: u32) -> Result<u32, Interruption>
     requires { a < 2 ^ 24 }
-    ensures { result ≡ word_operand (S.storage store.now) a }
+    ensures { MatchResult result (λ x. word_at (S.storage store.now) a ≡ Some x) (λ cause. (word_at (S.storage store.now) a ≡ None) × (cause ≡ interruption.Addressing)) }
 {
     let mut bytes = [0; 4];
     if !store.read(a, &mut bytes) {
@@ -50,10 +47,8 @@ pub(crate) fn word_at<S: Store>(store: &S, a: u32) -> Result<u32, Interruption>
 }
 
 /// The first register of a pair, which is even, or interruption 6.
-#[tactic(auto, unfolding(crate::specs::Operands::even_register))]
 pub(crate) fn even(r: u8) -> Result<u8, Interruption>
-    ensures value { result ≡ even_register r }
-    ensures even { IfOk result (λ x. (x ≡ r) × (x % 2 ≡ 0)) }
+    ensures { MatchResult result (λ x. (x ≡ r) × ((r % 2 == 0) ≡ true)) (λ cause. ((r % 2 == 0) ≡ false) × (cause ≡ interruption.Specification)) }
 {
     if r % 2 == 0 {
         Ok(r)
@@ -62,61 +57,27 @@ pub(crate) fn even(r: u8) -> Result<u8, Interruption>
     }
 }
 
-/// Stores bytes, at most 65,536, from an address on: all of them, or none and interruption 5.
-#[tactic(auto, using(crate::specs::Storing::not_written), unfolding(crate::specs::Operands::Stores))]
+/// Stores bytes, at most 65,536, from an address on, and sets the condition code: all of them, or nothing and
+/// interruption 5.
+#[tactic(auto, using(crate::proofs::Storing::not_written), unfolding(crate::specs::Operands::Stores))]
 pub(crate) fn put_bytes<S: Store>(
     cpu: &mut Cpu,
     store: &mut S,
     a: u32,
     bytes: &[u8],
-    ahead: Ahead,
+    cc: u8,
+    updated: Updated,
 ) -> Result<(), Interruption>
     requires operand { a < 2 ^ 24 }
     requires size { length bytes.now ≤ 65536 }
-    requires address { ahead.next < 2 ^ 24 }
-    ensures { Stores a bytes.now ahead (machine cpu.old (S.storage store.old)) result (machine cpu.new (S.storage store.new)) }
+    requires code { cc ≤ 3 }
+    requires address { updated.address < 2 ^ 24 }
+    ensures { Stores a bytes.now cc updated (machine cpu.old (S.storage store.old)) result (machine cpu.new (S.storage store.new)) }
 {
     if !store.write(a, bytes) {
         return Err(Interruption::Addressing);
     }
-    cpu.next = ahead.next;
+    cpu.cc = cc;
+    cpu.next = updated.address;
     Ok(())
-}
-
-/// Stores one byte where a byte is present, and sets the code of a logical result.
-pub(crate) fn put_logical<S: Store>(
-    cpu: &mut Cpu,
-    store: &mut S,
-    a: u32,
-    byte: u8,
-    ahead: Ahead,
-) -> Result<(), Interruption>
-    requires operand { a < 2 ^ 24 }
-    requires address { ahead.next < 2 ^ 24 }
-    ensures done { result ≡ Ok tt }
-    ensures storage { S.storage store.new ≡ with_byte (S.storage store.old) a byte }
-    ensures regs { cpu.new.regs ≡ cpu.old.regs }
-    ensures code { cpu.new.cc ≡ logical_code byte }
-    ensures next { cpu.new.next ≡ ahead.next }
-{
-    store.set(a, byte);
-    set_code(cpu, logical_code(u32::from(byte)), ahead)
-}
-
-/// The bytes of a word.
-pub(crate) fn word_bytes(word: u32) -> [u8; 4]
-    ensures { result ≡ big_bytes 4 word }
-{
-    let mut bytes = [0; 4];
-    BigEndian::write_u32(&mut bytes, word);
-    bytes
-}
-
-/// The bytes of a word's right half.
-pub(crate) fn half_bytes(word: u32) -> [u8; 2]
-    ensures { result ≡ big_bytes 2 (word % 2 ^ 16) }
-{
-    let mut bytes = [0; 2];
-    BigEndian::write_u16(&mut bytes, (word % 0x1_0000) as u16);
-    bytes
 }

@@ -1,14 +1,14 @@
 //! Several registers at once: LM and STM.
 
-ghost use Rattle.std.specs.Prelude.{◌≡◌, ◌<◌, ◌≤◌, ◌^◌, ◌+◌, ◌*◌, length, take};
-ghost use Rattle.byteorder.specs.Endian.{big_from};
-ghost use Rattle.cx_exec.specs.State.{machine};
+ghost use Rattle.std.specs.Prelude.{◌≡◌, ◌<◌, ◌≤◌, ◌^◌, ◌+◌, ◌*◌, length, take, Some, None, MatchResult};
+ghost use Rattle.cx_exec.specs.declared.machine.Interruption.TheVariants as interruption;
+ghost use Rattle.cx_exec.specs.Machine.{machine};
 ghost use Rattle.cx_exec.specs.Operands.{Stores};
-ghost use Rattle.cx_exec.specs.Registers.{place_after, register_count, loaded_registers, register_bytes, LoadsRegisters};
+ghost use Rattle.cx_exec.specs.Registers.{place_after, register_count, words_at, loaded_registers, register_bytes, LoadsRegisters};
 
-use crate::machine::{Cpu, Interruption};
-use crate::operands::put_bytes;
-use crate::rows::Ahead;
+use crate::machine::{Cpu, Interruption, Updated};
+use crate::operands::{put_bytes, word_at};
+use crate::sequence::along;
 use byteorder::{BigEndian, ByteOrder};
 use cx_storage::Store;
 
@@ -22,26 +22,36 @@ pub(crate) fn place_after(first: u8, r: u8) -> u8
     (r + (16 - first)) % 16
 }
 
-/// The word at a place in a row of words.
-fn word_in(bytes: &[u8], place: u8) -> u32
-    requires { 4 * place + 4 ≤ length bytes.now }
-    ensures { result ≡ big_from (4 * place) 4 bytes.now }
+/// Reads words in a row (at most 16), from `a` on, to the front of the buffer; interruption 5 where one is absent.
+#[tactic(auto, using(crate::proofs::RegisterLemmas::words_none, crate::proofs::RegisterLemmas::words_gone))]
+fn read_words<S: Store>(
+    store: &S,
+    a: u32,
+    count: usize,
+    words: &mut [u32; 16],
+) -> Result<(), Interruption>
+    requires operand { a < 2 ^ 24 }
+    requires count { count ≤ 16 }
+    ensures { MatchResult result (λ _. words_at (S.storage store.now) a count ≡ Some (take count words.new)) (λ cause. (words_at (S.storage store.now) a count ≡ None) × (cause ≡ interruption.Addressing)) }
 {
-    let at = 4 * place as usize;
-    BigEndian::read_u32(&bytes[at..])
+    for k in 0..count {
+        let word = word_at(store, along(a, 4 * k as u32))?;
+        words[k] = word;
+    }
+    Ok(())
 }
 
 /// Loads the registers from the first through the last one.
-pub(crate) fn load_registers(regs: &mut [u32; 16], first: u8, last: u8, bytes: &[u8])
+pub(crate) fn load_registers(regs: &mut [u32; 16], first: u8, last: u8, words: &[u32])
     requires first { first < 16 }
     requires last { last < 16 }
-    requires length { length bytes.now ≡ 4 * register_count first last }
-    ensures { regs.new ≡ loaded_registers regs.old first last bytes.now }
+    requires length { length words.now ≡ register_count first last }
+    ensures { regs.new ≡ loaded_registers regs.old first last words.now }
 {
     for r in 0..16 {
         let place = place_after(first, r);
         if place <= place_after(first, last) {
-            regs[r as usize] = word_in(bytes, place);
+            regs[r as usize] = words[place as usize];
         }
     }
 }
@@ -67,18 +77,19 @@ pub(crate) fn store_multiple<S: Store>(
     first: u8,
     last: u8,
     a: u32,
-    ahead: Ahead,
+    updated: Updated,
 ) -> Result<(), Interruption>
     requires first { first < 16 }
     requires last { last < 16 }
     requires operand { a < 2 ^ 24 }
-    requires address { ahead.next < 2 ^ 24 }
-    ensures { Stores a (register_bytes cpu.old.regs first (register_count first last)) ahead (machine cpu.old (S.storage store.old)) result (machine cpu.new (S.storage store.new)) }
+    requires address { updated.address < 2 ^ 24 }
+    ensures { Stores a (register_bytes cpu.old.regs first (register_count first last)) cpu.old.cc updated (machine cpu.old (S.storage store.old)) result (machine cpu.new (S.storage store.new)) }
 {
     let count = place_after(first, last) as usize + 1;
     let mut bytes = [0; 64];
     write_registers(&cpu.regs, first, count, &mut bytes);
-    put_bytes(cpu, store, a, &bytes[..4 * count], ahead)
+    let cc = cpu.cc;
+    put_bytes(cpu, store, a, &bytes[..4 * count], cc, updated)
 }
 
 /// Loads the registers from the first through the last one: all of them, or none and interruption 5.
@@ -89,23 +100,20 @@ pub(crate) fn load_multiple<S: Store>(
     first: u8,
     last: u8,
     a: u32,
-    ahead: Ahead,
+    updated: Updated,
 ) -> Result<(), Interruption>
     requires first { first < 16 }
     requires last { last < 16 }
     requires operand { a < 2 ^ 24 }
-    requires address { ahead.next < 2 ^ 24 }
-    ensures { LoadsRegisters first last a ahead (machine cpu.old (S.storage store.now)) result (machine cpu.new (S.storage store.now)) }
+    requires address { updated.address < 2 ^ 24 }
+    ensures { LoadsRegisters first last a updated (machine cpu.old (S.storage store.now)) result (machine cpu.new (S.storage store.now)) }
 {
     let count = place_after(first, last) as usize + 1;
-    let mut bytes = [0; 64];
-    let words = &mut bytes[..4 * count];
-    if !store.read(a, words) {
-        return Err(Interruption::Addressing);
-    }
+    let mut words = [0; 16];
+    read_words(store, a, count, &mut words)?;
     let mut regs = cpu.regs;
-    load_registers(&mut regs, first, last, words);
+    load_registers(&mut regs, first, last, &words[..count]);
     cpu.regs = regs;
-    cpu.next = ahead.next;
+    cpu.next = updated.address;
     Ok(())
 }

@@ -2,38 +2,35 @@
 //! more, and answers that the instruction is performed.
 
 ghost use Rattle.std.specs.Prelude.{◌≡◌, ◌<◌, ◌≤◌, ◌^◌, Ok, slice_set};
-ghost use Rattle.cx_exec.specs.Numbers.{word_of, sum_code};
 ghost use Rattle.cx_exec.specs.Results.{pair, with_pair};
 
-use crate::machine::{Cpu, Interruption};
-use crate::numbers::{sum_code, word_of};
-use crate::rows::Ahead;
+use crate::machine::{Cpu, Interruption, Updated};
 
 /// Changes a register.
-pub(crate) fn load(cpu: &mut Cpu, r: u8, word: u32, ahead: Ahead) -> Result<(), Interruption>
+pub(crate) fn load(cpu: &mut Cpu, r: u8, word: u32, updated: Updated) -> Result<(), Interruption>
     requires register { r < 16 }
-    requires address { ahead.next < 2 ^ 24 }
+    requires address { updated.address < 2 ^ 24 }
     ensures done { result ≡ Ok tt }
     ensures regs { cpu.new.regs ≡ slice_set cpu.old.regs r word }
     ensures code { cpu.new.cc ≡ cpu.old.cc }
-    ensures next { cpu.new.next ≡ ahead.next }
+    ensures next { cpu.new.next ≡ updated.address }
 {
     cpu.regs[r as usize] = word;
-    cpu.next = ahead.next;
+    cpu.next = updated.address;
     Ok(())
 }
 
 /// Sets the condition code.
-pub(crate) fn set_code(cpu: &mut Cpu, cc: u8, ahead: Ahead) -> Result<(), Interruption>
+pub(crate) fn set_code(cpu: &mut Cpu, cc: u8, updated: Updated) -> Result<(), Interruption>
     requires code { cc ≤ 3 }
-    requires address { ahead.next < 2 ^ 24 }
+    requires address { updated.address < 2 ^ 24 }
     ensures done { result ≡ Ok tt }
     ensures regs { cpu.new.regs ≡ cpu.old.regs }
     ensures code { cpu.new.cc ≡ cc }
-    ensures next { cpu.new.next ≡ ahead.next }
+    ensures next { cpu.new.next ≡ updated.address }
 {
     cpu.cc = cc;
-    cpu.next = ahead.next;
+    cpu.next = updated.address;
     Ok(())
 }
 
@@ -43,32 +40,20 @@ pub(crate) fn load_coded(
     r: u8,
     word: u32,
     cc: u8,
-    ahead: Ahead,
+    updated: Updated,
 ) -> Result<(), Interruption>
     requires register { r < 16 }
     requires code { cc ≤ 3 }
-    requires address { ahead.next < 2 ^ 24 }
+    requires address { updated.address < 2 ^ 24 }
     ensures done { result ≡ Ok tt }
     ensures regs { cpu.new.regs ≡ slice_set cpu.old.regs r word }
     ensures code { cpu.new.cc ≡ cc }
-    ensures next { cpu.new.next ≡ ahead.next }
+    ensures next { cpu.new.next ≡ updated.address }
 {
     cpu.regs[r as usize] = word;
     cpu.cc = cc;
-    cpu.next = ahead.next;
+    cpu.next = updated.address;
     Ok(())
-}
-
-/// Puts an exact result into a register, modulo 2^32, and sets its code.
-pub(crate) fn put_sum(cpu: &mut Cpu, r: u8, x: i64, ahead: Ahead) -> Result<(), Interruption>
-    requires register { r < 16 }
-    requires address { ahead.next < 2 ^ 24 }
-    ensures done { result ≡ Ok tt }
-    ensures regs { cpu.new.regs ≡ slice_set cpu.old.regs r (word_of x) }
-    ensures code { cpu.new.cc ≡ sum_code x }
-    ensures next { cpu.new.next ≡ ahead.next }
-{
-    load_coded(cpu, r, word_of(x), sum_code(i128::from(x)), ahead)
 }
 
 /// The doubleword in a pair of registers, the first one's word high.
@@ -85,19 +70,19 @@ pub(crate) fn load_pair(
     r: u8,
     double: u64,
     cc: u8,
-    ahead: Ahead,
+    updated: Updated,
 ) -> Result<(), Interruption>
     requires register { r < 15 }
     requires code { cc ≤ 3 }
-    requires address { ahead.next < 2 ^ 24 }
+    requires address { updated.address < 2 ^ 24 }
     ensures done { result ≡ Ok tt }
     ensures regs { cpu.new.regs ≡ with_pair cpu.old.regs r double }
     ensures code { cpu.new.cc ≡ cc }
-    ensures next { cpu.new.next ≡ ahead.next }
+    ensures next { cpu.new.next ≡ updated.address }
 {
     cpu.regs[r as usize] = (double / 0x1_0000_0000) as u32;
     cpu.regs[r as usize + 1] = (double % 0x1_0000_0000) as u32;
     cpu.cc = cc;
-    cpu.next = ahead.next;
+    cpu.next = updated.address;
     Ok(())
 }

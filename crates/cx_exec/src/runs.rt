@@ -1,6 +1,6 @@
 //! Runs of steps.
 
-ghost use Rattle.cx_exec.specs.State.{machine};
+ghost use Rattle.cx_exec.specs.Machine.{machine};
 ghost use Rattle.cx_exec.specs.Advance.{Advances};
 
 use crate::machine::{Cpu, ENTRY, Halt, Step};

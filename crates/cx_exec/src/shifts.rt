@@ -1,13 +1,13 @@
-//! Shifts of words.
+//! Shifts of words and of pairs of registers.
 
 ghost use Rattle.std.specs.Prelude.{◌≡◌, ◌<◌, ◌^◌, Ok, slice_set, slice_index};
-ghost use Rattle.cx_exec.specs.Numbers.{signed, word_of, sign_code, sum_code};
-ghost use Rattle.cx_exec.specs.Shifts.{shifted_right, shifted_left, halved, doubled, shifted_arithmetic};
+ghost use Rattle.cx_exec.specs.Numbers.{signed, word_of, sign_code, sum_code, signed_double, double_of};
+ghost use Rattle.cx_exec.specs.Results.{pair, with_pair};
+ghost use Rattle.cx_exec.specs.Shifts.{shifted_right, shifted_left, floor_shifted, times_power, shifted_arithmetic};
 
-use crate::machine::{Cpu, Interruption};
-use crate::numbers::{order_code, signed, sum_code, word_of};
-use crate::results::load_coded;
-use crate::rows::Ahead;
+use crate::machine::{Cpu, Interruption, Updated};
+use crate::numbers::{double_of, order_code, signed, signed_double, sum_code, word_of};
+use crate::results::{load_coded, load_pair, pair};
 
 /// 2 to the power n.
 fn power(n: u8) -> u64
@@ -34,9 +34,9 @@ pub(crate) fn shifted_left(word: u32, n: u8) -> u32
 }
 
 /// A word's number times 2^n.
-pub(crate) fn doubled(word: u32, n: u8) -> i128
+pub(crate) fn times_power(word: u32, n: u8) -> i128
     requires { n < 64 }
-    ensures { result ≡ doubled word n }
+    ensures { result ≡ times_power word n }
 {
     i128::from(word.cast_signed()) * i128::from(power(n))
 }
@@ -46,18 +46,18 @@ pub(crate) fn shifted_arithmetic(word: u32, n: u8) -> u32
     requires { n < 64 }
     ensures { result ≡ shifted_arithmetic word n }
 {
-    word / 0x8000_0000 * 0x8000_0000 + doubled(word, n).rem_euclid(0x8000_0000) as u32
+    word / 0x8000_0000 * 0x8000_0000 + times_power(word, n).rem_euclid(0x8000_0000) as u32
 }
 
 /// Shifts a register right by n bits, its sign filled in.
-pub(crate) fn shift_right(cpu: &mut Cpu, r: u8, n: u8, ahead: Ahead) -> Result<(), Interruption>
+pub(crate) fn shift_right(cpu: &mut Cpu, r: u8, n: u8, updated: Updated) -> Result<(), Interruption>
     requires register { r < 16 }
     requires amount { n < 64 }
-    requires address { ahead.next < 2 ^ 24 }
+    requires address { updated.address < 2 ^ 24 }
     ensures done { result ≡ Ok tt }
-    ensures regs { cpu.new.regs ≡ slice_set cpu.old.regs r (word_of (halved (signed (slice_index cpu.old.regs r)) n)) }
-    ensures code { cpu.new.cc ≡ sign_code (halved (signed (slice_index cpu.old.regs r)) n) }
-    ensures next { cpu.new.next ≡ ahead.next }
+    ensures regs { cpu.new.regs ≡ slice_set cpu.old.regs r (word_of (floor_shifted (signed (slice_index cpu.old.regs r)) n)) }
+    ensures code { cpu.new.cc ≡ sign_code (floor_shifted (signed (slice_index cpu.old.regs r)) n) }
+    ensures next { cpu.new.next ≡ updated.address }
 {
     let shifted = signed(cpu.regs[r as usize]) >> n;
     load_coded(
@@ -65,26 +65,46 @@ pub(crate) fn shift_right(cpu: &mut Cpu, r: u8, n: u8, ahead: Ahead) -> Result<(
         r,
         word_of(shifted),
         order_code(i128::from(shifted), 0),
-        ahead,
+        updated,
     )
 }
 
 /// Shifts a register left by n bits but for its sign bit, which stays.
-pub(crate) fn shift_left(cpu: &mut Cpu, r: u8, n: u8, ahead: Ahead) -> Result<(), Interruption>
+pub(crate) fn shift_left(cpu: &mut Cpu, r: u8, n: u8, updated: Updated) -> Result<(), Interruption>
     requires register { r < 16 }
     requires amount { n < 64 }
-    requires address { ahead.next < 2 ^ 24 }
+    requires address { updated.address < 2 ^ 24 }
     ensures done { result ≡ Ok tt }
     ensures regs { cpu.new.regs ≡ slice_set cpu.old.regs r (shifted_arithmetic (slice_index cpu.old.regs r) n) }
-    ensures code { cpu.new.cc ≡ sum_code (doubled (slice_index cpu.old.regs r) n) }
-    ensures next { cpu.new.next ≡ ahead.next }
+    ensures code { cpu.new.cc ≡ sum_code (times_power (slice_index cpu.old.regs r) n) }
+    ensures next { cpu.new.next ≡ updated.address }
 {
     let word = cpu.regs[r as usize];
     load_coded(
         cpu,
         r,
         shifted_arithmetic(word, n),
-        sum_code(doubled(word, n)),
-        ahead,
+        sum_code(times_power(word, n)),
+        updated,
+    )
+}
+
+/// Shifts the pair right by n bits, its sign filled in.
+pub(crate) fn shift_pair(cpu: &mut Cpu, r: u8, n: u8, updated: Updated) -> Result<(), Interruption>
+    requires register { r < 15 }
+    requires amount { n < 64 }
+    requires address { updated.address < 2 ^ 24 }
+    ensures done { result ≡ Ok tt }
+    ensures regs { cpu.new.regs ≡ with_pair cpu.old.regs r (double_of (floor_shifted (signed_double (pair cpu.old.regs r)) n)) }
+    ensures code { cpu.new.cc ≡ sign_code (floor_shifted (signed_double (pair cpu.old.regs r)) n) }
+    ensures next { cpu.new.next ≡ updated.address }
+{
+    let shifted = signed_double(pair(&cpu.regs, r)) >> n;
+    load_pair(
+        cpu,
+        r,
+        double_of(shifted),
+        order_code(i128::from(shifted), 0),
+        updated,
     )
 }

@@ -1,28 +1,28 @@
 //! One step.
 
-ghost use Rattle.std.specs.Prelude.{◌≡◌, ◌<◌, ◌≤◌, ◌^◌};
-ghost use Rattle.cx_exec.specs.State.{machine};
-ghost use Rattle.cx_exec.specs.Step.{Executes, Performs, Runs, Steps};
+ghost use Rattle.std.specs.Prelude.{◌≡◌, ◌<◌, ◌≤◌, ◌^◌, IfOk};
+ghost use Rattle.cx_exec.specs.Machine.{machine};
+ghost use Rattle.cx_exec.specs.Step.{target_at, performed, Runs, Steps};
 
 use crate::fetch::code_at;
-use crate::machine::{Cpu, ENTRY, Interruption, Step};
-use crate::rows::{Ahead, effect, effective};
+use crate::machine::{Cpu, ENTRY, Interruption, Step, Updated};
+use crate::rows::{effect, effective};
 use cx_code::{Fields, Inst, Op};
 use cx_storage::Store;
 
-/// Performs the changed copy of the target of an EX; `next` is the address after the EX.
-#[tactic(auto, unfolding(crate::specs::Step::Executes, crate::specs::Step::target_at))]
-fn execute<S: Store>(
-    cpu: &mut Cpu,
-    store: &mut S,
-    r1: u8,
-    a: u32,
-    next: u32,
-) -> Result<(), Interruption>
+/// An instruction to be performed, and what comes after it.
+#[derive(Drop)]
+pub struct Due {
+    pub inst: Inst,
+    pub updated: Updated,
+}
+
+/// The target at `a` (below 2^24) of an EX, from its changed copy. `r1` is below 16.
+#[tactic(auto, unfolding(crate::specs::Step::target_at))]
+fn target_at<S: Store>(cpu: &Cpu, store: &S, r1: u8, a: u32) -> Result<Inst, Interruption>
     requires first { r1 < 16 }
     requires operand { a < 2 ^ 24 }
-    requires address { next < 2 ^ 24 }
-    ensures { Executes r1 a next (machine cpu.old (S.storage store.old)) result (machine cpu.new (S.storage store.new)) }
+    ensures { result ≡ target_at (machine cpu.now (S.storage store.now)) r1 a }
 {
     let mut code = code_at(store, a)?;
     if r1 != 0 {
@@ -32,42 +32,46 @@ fn execute<S: Store>(
     if target.op() == Op::Ex {
         return Err(Interruption::Execute);
     }
-    effect(cpu, store, &target, Ahead { length: 2, next })
+    Ok(target)
 }
 
-/// Performs an instruction.
-#[tactic(auto, unfolding(crate::specs::Step::Performs))]
-fn perform<S: Store>(
-    cpu: &mut Cpu,
-    store: &mut S,
-    inst: &Inst,
-    ahead: Ahead,
-) -> Result<(), Interruption>
-    requires length { ahead.length ≤ 3 }
-    requires address { ahead.next < 2 ^ 24 }
-    ensures { Performs inst.now ahead (machine cpu.old (S.storage store.old)) result (machine cpu.new (S.storage store.new)) }
+/// The instruction that is performed at the next address: for EX its target.
+#[tactic(auto, unfolding(crate::specs::Step::performed))]
+fn performed<S: Store>(cpu: &Cpu, store: &S) -> Result<Due, Interruption>
+    ensures value { result ≡ performed (machine cpu.now (S.storage store.now)) }
+    ensures length { IfOk result (λ due. due.updated.length_code ≤ 3) }
+    ensures address { IfOk result (λ due. due.updated.address < 2 ^ 24) }
 {
+    let code = code_at(store, cpu.next)?;
+    let inst = code.read()?;
+    let updated = Updated {
+        length_code: (code.len() / 2) as u8,
+        address: (cpu.next + code.len() as u32) % 0x100_0000,
+    };
     if inst.op() == Op::Ex {
         if let Fields::Rx { r1, x2, b2, d2 } = inst.fields() {
             let a = effective(&cpu.regs, x2, b2, d2);
-            return execute(cpu, store, r1, a, ahead.next);
+            let target = target_at(cpu, store, r1, a)?;
+            let next = updated.address;
+            return Ok(Due {
+                inst: target,
+                updated: Updated {
+                    length_code: 2,
+                    address: next,
+                },
+            });
         }
     }
-    effect(cpu, store, inst, ahead)
+    Ok(Due { inst, updated })
 }
 
-/// Fetches the next instruction and performs it.
+/// Performs the instruction at the next address.
 #[tactic(auto, unfolding(crate::specs::Step::Runs))]
 fn run<S: Store>(cpu: &mut Cpu, store: &mut S) -> Result<(), Interruption>
     ensures { Runs (machine cpu.old (S.storage store.old)) result (machine cpu.new (S.storage store.new)) }
 {
-    let code = code_at(store, cpu.next)?;
-    let inst = code.read()?;
-    let ahead = Ahead {
-        length: (code.len() / 2) as u8,
-        next: (cpu.next + code.len() as u32) % 0x100_0000,
-    };
-    perform(cpu, store, &inst, ahead)
+    let due = performed(cpu, store)?;
+    effect(cpu, store, &due.inst, due.updated)
 }
 
 /// Performs the instruction at the next address, unless that is the entry.

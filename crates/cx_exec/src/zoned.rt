@@ -1,14 +1,13 @@
 //! PACK and UNPK: two operands with lengths of their own, from right to left.
 
-ghost use Rattle.std.specs.Prelude.{◌≡◌, ◌+◌, ◌-◌, ◌<◌, ◌≤◌, ◌^◌, IsTrue};
-ghost use Rattle.cx_storage.specs.Address.{along};
-ghost use Rattle.cx_exec.specs.State.{machine};
-ghost use Rattle.cx_exec.specs.Sequence.{leftward, behind, StoresInOrder};
-ghost use Rattle.cx_exec.specs.Zoned.{source, swapped, packed, packed_byte, unpacked, unpacked_half, fetched, have_both, PackEffect, UnpkEffect};
+ghost use Rattle.std.specs.Prelude.{◌≡◌, ◌<◌, ◌≤◌, ◌^◌, length, take};
+ghost use Rattle.cx_exec.specs.Machine.{machine};
+ghost use Rattle.cx_exec.specs.Sequence.{stored_by};
+ghost use Rattle.cx_exec.specs.Zoned.{behind, source, swapped, packed, unpacked, unpacked_half, PackEffect, UnpkEffect};
 
-use crate::machine::{Cpu, Interruption};
-use crate::moves::{along, content};
-use crate::rows::Ahead;
+use crate::machine::{Cpu, Interruption, Updated};
+use crate::operands::put_bytes;
+use crate::sequence::{along, distance, seen};
 use cx_storage::Store;
 
 /// The address `k` bytes (at most 256) before `a` (below 2^24); before 0 comes X'FFFFFF'.
@@ -21,15 +20,18 @@ fn behind(a: u32, k: u32) -> u32
     (a + (0x100_0000 - k)) % 0x100_0000
 }
 
-/// The `i`-th byte (`i` is at most 256) from the right of a source of `n` bytes whose last one is at `e`;
-/// a missing one is zero.
-fn source<S: Store>(store: &S, n: u32, e: u32, i: u32) -> u8
-    requires last { e < 2 ^ 24 }
+/// The `i`-th byte (`i` is at most 256) from the right of a source of `n2` bytes whose last one is at `e2`, once some
+/// bytes before `e1` are stored; a missing one is zero.
+#[tactic(auto, unfolding(crate::specs::Zoned::source))]
+fn source<S: Store>(store: &S, e1: u32, n2: u32, e2: u32, stored: &[u8], i: u32) -> u8
+    requires first { e1 < 2 ^ 24 }
+    requires second { e2 < 2 ^ 24 }
     requires place { i ≤ 256 }
-    ensures { result ≡ source (S.storage store.now) n e i }
+    ensures { result ≡ source (S.storage store.now) e1 n2 e2 stored.now i }
 {
-    if i < n {
-        content(store, behind(e, i))
+    if i < n2 {
+        let from = behind(e2, i);
+        seen(store, stored, distance(from, e1), from)
     } else {
         0
     }
@@ -43,52 +45,32 @@ fn swapped(byte: u8) -> u8
 }
 
 /// The `k`-th byte (`k` is at most 16) from the right that PACK makes.
-#[tactic(auto, unfolding(crate::specs::Zoned::packed_byte))]
-fn packed_byte<S: Store>(store: &S, n: u32, e: u32, k: u32) -> u8
-    requires last { e < 2 ^ 24 }
+#[tactic(auto, unfolding(crate::specs::Zoned::packed))]
+fn packed<S: Store>(store: &S, e1: u32, n2: u32, e2: u32, stored: &[u8], k: u32) -> u8
+    requires first { e1 < 2 ^ 24 }
+    requires second { e2 < 2 ^ 24 }
     requires place { k ≤ 16 }
-    ensures { result ≡ packed_byte (S.storage store.now) n e k }
+    ensures { result ≡ packed (S.storage store.now) e1 n2 e2 stored.now k }
 {
     if k == 0 {
-        return swapped(source(store, n, e, 0));
+        return swapped(source(store, e1, n2, e2, stored, 0));
     }
-    let left = source(store, n, e, 2 * k);
-    let right = source(store, n, e, 2 * k - 1);
+    let left = source(store, e1, n2, e2, stored, 2 * k);
+    let right = source(store, e1, n2, e2, stored, 2 * k - 1);
     left % 16 * 16 + right % 16
 }
 
-/// Stores what PACK makes, the rightmost byte first. The operands, of `n1` and `n2` bytes, begin at `a1`
-/// and `a2`.
-fn pack_bytes<S: Store>(store: &mut S, n1: u32, n2: u32, a1: u32, a2: u32)
-    requires first { a1 < 2 ^ 24 }
-    requires second { a2 < 2 ^ 24 }
-    requires count1 { n1 ≤ 16 }
-    requires count2 { n2 ≤ 16 }
-    requires some1 { 0 < n1 }
-    requires some2 { 0 < n2 }
-    requires present { IsTrue (have_both (S.storage store.old) n1 a1 n2 a2) }
-    ensures { StoresInOrder (leftward (along a1 (n1 - 1))) n1 (packed (along a1 (n1 - 1)) n2 (along a2 (n2 - 1))) (S.storage store.old) (S.storage store.new) }
+/// Puts the bytes that PACK stores at the front of the buffer, the rightmost first.
+#[tactic(auto, using(crate::proofs::SequenceLemmas::stored_none))]
+fn pack_bytes<S: Store>(store: &S, n1: u32, e1: u32, n2: u32, e2: u32, new: &mut [u8; 16])
+    requires first { e1 < 2 ^ 24 }
+    requires second { e2 < 2 ^ 24 }
+    requires count { n1 ≤ 16 }
+    ensures { take n1 new.new ≡ stored_by (packed (S.storage store.now) e1 n2 e2) n1 }
 {
-    let e1 = along(a1, n1 - 1);
-    let e2 = along(a2, n2 - 1);
     for k in 0..n1 {
-        let byte = packed_byte(store, n2, e2, k);
-        store.set(behind(e1, k), byte);
-    }
-}
-
-/// The source byte that UNPK makes its `k`-th byte (`k` is at most 16) from the right of: `held`, the one
-/// fetched last, for the left half, else the next one.
-#[tactic(auto, unfolding(crate::specs::Zoned::fetched))]
-fn fetched<S: Store>(store: &S, n: u32, e: u32, k: u32, held: u8) -> u8
-    requires last { e < 2 ^ 24 }
-    requires place { k ≤ 16 }
-    ensures { result ≡ fetched (S.storage store.now) n e k held }
-{
-    if k == 0 || k % 2 == 1 {
-        source(store, n, e, (k + 1) / 2)
-    } else {
-        held
+        let byte = packed(store, e1, n2, e2, &new[..k as usize], k);
+        new[k as usize] = byte;
     }
 }
 
@@ -105,35 +87,39 @@ fn unpacked_half(k: u32, byte: u8) -> u8
     }
 }
 
-/// Stores what UNPK makes, the rightmost byte first. The operands, of `n1` and `n2` bytes, begin at `a1`
-/// and `a2`.
-fn unpack_bytes<S: Store>(store: &mut S, n1: u32, n2: u32, a1: u32, a2: u32)
-    requires first { a1 < 2 ^ 24 }
-    requires second { a2 < 2 ^ 24 }
-    requires count1 { n1 ≤ 16 }
-    requires count2 { n2 ≤ 16 }
-    requires some1 { 0 < n1 }
-    requires some2 { 0 < n2 }
-    requires present { IsTrue (have_both (S.storage store.old) n1 a1 n2 a2) }
-    ensures { StoresInOrder (leftward (along a1 (n1 - 1))) n1 (unpacked (along a1 (n1 - 1)) n2 (along a2 (n2 - 1))) (S.storage store.old) (S.storage store.new) }
+/// The `k`-th byte (`k` is at most 16) from the right that UNPK makes; all before it are stored.
+#[tactic(auto, unfolding(crate::specs::Zoned::unpacked))]
+fn unpacked<S: Store>(store: &S, e1: u32, n2: u32, e2: u32, stored: &[u8], k: u32) -> u8
+    requires first { e1 < 2 ^ 24 }
+    requires second { e2 < 2 ^ 24 }
+    requires place { k ≤ 16 }
+    requires stored { length stored.now ≡ k }
+    ensures { result ≡ unpacked (S.storage store.now) e1 n2 e2 stored.now k }
 {
-    let e1 = along(a1, n1 - 1);
-    let e2 = along(a2, n2 - 1);
-    let mut held = 0;
-    for k in 0..n1 {
-        held = fetched(store, n2, e2, k, held);
-        let byte = unpacked_half(k, held);
-        store.set(behind(e1, k), byte);
-    }
+    let fetched_at = if k % 2 == 0 { k.saturating_sub(1) } else { k };
+    let byte = source(
+        store,
+        e1,
+        n2,
+        e2,
+        &stored[..fetched_at as usize],
+        (k + 1) / 2,
+    );
+    unpacked_half(k, byte)
 }
 
-/// Whether both operands are present.
-fn have_both<S: Store>(store: &S, n1: u32, a1: u32, n2: u32, a2: u32) -> bool
-    requires first { a1 < 2 ^ 24 }
-    requires second { a2 < 2 ^ 24 }
-    ensures { result ≡ have_both (S.storage store.now) n1 a1 n2 a2 }
+/// Puts the bytes that UNPK stores at the front of the buffer, the rightmost first.
+#[tactic(auto, using(crate::proofs::SequenceLemmas::stored_none))]
+fn unpack_bytes<S: Store>(store: &S, n1: u32, e1: u32, n2: u32, e2: u32, new: &mut [u8; 16])
+    requires first { e1 < 2 ^ 24 }
+    requires second { e2 < 2 ^ 24 }
+    requires count { n1 ≤ 16 }
+    ensures { take n1 new.new ≡ stored_by (unpacked (S.storage store.now) e1 n2 e2) n1 }
 {
-    store.has_span(a1, n1 as usize) && store.has_span(a2, n2 as usize)
+    for k in 0..n1 {
+        let byte = unpacked(store, e1, n2, e2, &new[..k as usize], k);
+        new[k as usize] = byte;
+    }
 }
 
 /// PACK. The operands, of `n1` and `n2` bytes, begin at `a1` and `a2`.
@@ -145,7 +131,7 @@ pub(crate) fn pack<S: Store>(
     n2: u32,
     a1: u32,
     a2: u32,
-    ahead: Ahead,
+    updated: Updated,
 ) -> Result<(), Interruption>
     requires first { a1 < 2 ^ 24 }
     requires second { a2 < 2 ^ 24 }
@@ -153,15 +139,25 @@ pub(crate) fn pack<S: Store>(
     requires count2 { n2 ≤ 16 }
     requires some1 { 0 < n1 }
     requires some2 { 0 < n2 }
-    requires address { ahead.next < 2 ^ 24 }
-    ensures { PackEffect n1 n2 a1 a2 ahead (machine cpu.old (S.storage store.old)) result (machine cpu.new (S.storage store.new)) }
+    requires address { updated.address < 2 ^ 24 }
+    ensures { PackEffect n1 n2 a1 a2 updated (machine cpu.old (S.storage store.old)) result (machine cpu.new (S.storage store.new)) }
 {
-    if !have_both(store, n1, a1, n2, a2) {
+    if !store.has_span(a2, n2 as usize) {
         return Err(Interruption::Addressing);
     }
-    pack_bytes(store, n1, n2, a1, a2);
-    cpu.next = ahead.next;
-    Ok(())
+    let mut new = [0; 16];
+    pack_bytes(
+        store,
+        n1,
+        along(a1, n1 - 1),
+        n2,
+        along(a2, n2 - 1),
+        &mut new,
+    );
+    let bytes = &mut new[..n1 as usize];
+    bytes.reverse();
+    let cc = cpu.cc;
+    put_bytes(cpu, store, a1, bytes, cc, updated)
 }
 
 /// UNPK. The operands, of `n1` and `n2` bytes, begin at `a1` and `a2`.
@@ -173,7 +169,7 @@ pub(crate) fn unpk<S: Store>(
     n2: u32,
     a1: u32,
     a2: u32,
-    ahead: Ahead,
+    updated: Updated,
 ) -> Result<(), Interruption>
     requires first { a1 < 2 ^ 24 }
     requires second { a2 < 2 ^ 24 }
@@ -181,13 +177,23 @@ pub(crate) fn unpk<S: Store>(
     requires count2 { n2 ≤ 16 }
     requires some1 { 0 < n1 }
     requires some2 { 0 < n2 }
-    requires address { ahead.next < 2 ^ 24 }
-    ensures { UnpkEffect n1 n2 a1 a2 ahead (machine cpu.old (S.storage store.old)) result (machine cpu.new (S.storage store.new)) }
+    requires address { updated.address < 2 ^ 24 }
+    ensures { UnpkEffect n1 n2 a1 a2 updated (machine cpu.old (S.storage store.old)) result (machine cpu.new (S.storage store.new)) }
 {
-    if !have_both(store, n1, a1, n2, a2) {
+    if !store.has_span(a2, n2 as usize) {
         return Err(Interruption::Addressing);
     }
-    unpack_bytes(store, n1, n2, a1, a2);
-    cpu.next = ahead.next;
-    Ok(())
+    let mut new = [0; 16];
+    unpack_bytes(
+        store,
+        n1,
+        along(a1, n1 - 1),
+        n2,
+        along(a2, n2 - 1),
+        &mut new,
+    );
+    let bytes = &mut new[..n1 as usize];
+    bytes.reverse();
+    let cc = cpu.cc;
+    put_bytes(cpu, store, a1, bytes, cc, updated)
 }

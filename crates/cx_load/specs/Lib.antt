@@ -10,4 +10,3 @@ pub mod Laws
 -- Lemmas for the crates above.
 pub mod Facts
 -- Words of private functions.
-pub mod Parts

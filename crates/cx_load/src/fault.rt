@@ -1,8 +1,8 @@
 //! Checking an image.
 
-ghost use Rattle.std.specs.Prelude.{◌≡◌, MatchOption, MatchResult};
+ghost use Rattle.std.specs.Prelude.{◌≡◌, MatchOption, MatchResult, Some};
 ghost use Rattle.cx_load.specs.Fault.{IsFit, IsLowestFault, all_apart, are_apart, are_inside, fault_name, is_apart};
-ghost use Rattle.cx_load.specs.Parts.Cascade.{fault_of};
+ghost use Rattle.cx_load.specs.Facts.Cascade.{fault_of};
 
 use cx_code::Image;
 use std::fmt::{Display, Formatter, Write};
@@ -40,6 +40,8 @@ impl ImageFault {
 }
 
 impl Display for ImageFault {
+    ghost output = { λ fault. Some (fault_name fault) };
+
     fn fmt<W: Write>(&self, f: &mut Formatter<W>) -> Result<(), std::fmt::Error> {
         f.write_str(self.name())
     }
@@ -94,7 +96,7 @@ fn fault_of(image: &Image) -> Option<ImageFault>
 }
 
 /// The fault of the first test that fails.
-#[tactic(auto, unfolding(crate::specs::Parts::Cascade::fault_of, crate::specs::Fault::has_length, crate::specs::Fault::has_entry, crate::specs::Fault::has_stg_length))]
+#[tactic(auto, unfolding(crate::specs::Facts::Cascade::fault_of, crate::specs::Fault::has_length, crate::specs::Fault::has_entry, crate::specs::Fault::has_stg_length))]
 fn first_fault(image: &Image) -> Option<ImageFault>
     ensures { result ≡ fault_of image.now }
 {

@@ -17,7 +17,7 @@ use Rattle.cx_exec.specs.declared.machine.Halt.{Halt}
 use Rattle.cx_exec.specs.declared.machine.Halt.TheVariants as halt
 use Rattle.cx_exec.specs.Machine.{Machine}
 use Rattle.cx_exec.specs.Advance.{Advances}
-use Rattle.cx_exec.specs.Decide.{RunsDecide as MachineRunsDecide}
+use Rattle.cx_exec.specs.Laws.Decide.{RunsDecide as MachineRunsDecide}
 use Rattle.cx_region.specs.declared.asking.Asked.{Asked}
 use Rattle.cx_region.specs.declared.asking.Asked.TheVariants.{Answer, Give, Attach}
 use Rattle.cx_region.specs.declared.asking.Places.{Places}

@@ -38,7 +38,7 @@ use Rattle.cx_call.specs.Call.{Call, call_of, resp_place}
 use Rattle.cx_region.specs.Performing.{Called, Carries, Commanded, can_respond, fault_code, is_written, judged, last_report, list_of, performed, responded, returned, with_report}
 use Rattle.cx_region.specs.Reach.{Reach}
 use Rattle.cx_region.specs.Turn.{HalfTurn, Halted, RunsOn, after_machine, at_command, machine_of, most_steps}
-use Rattle.cx_exec.specs.Keeps.{runs_keep_areas}
+use Rattle.cx_exec.specs.Facts.Keeps.{runs_keep_areas}
 use Rattle.cx_region.specs.Sound.{IsAreaOf, IsSoundLevel, IsSoundTask}
 use Rattle.cx_region.proofs.AreaLemmas.{all_areas_kept, all_areas_same, area_kept_free}
 

@@ -1,14 +1,15 @@
 -- An action has one outcome, and a run of a script is one of its events.
 use Rattle.std.proofs.Common.{◌≡◌, ℕ, List, [], ◌∷◌, ◌++◌, None, Some, Option, refl, sym, ap, ◌∙◌, subst}
 use Rattle.cx_code.specs.declared.image.Image.{Image}
-use Rattle.cx_load.specs.Parts.Cascade.{fault_of}
+use Rattle.cx_load.specs.Facts.Cascade.{fault_of}
+use Rattle.cx_load.specs.Facts.Faults.{answered_of_lowest, no_fault_of_fit}
 use Rattle.cx_load.specs.declared.fault.ImageFault.{ImageFault}
 use Rattle.cx_region.specs.State.{RegionState}
 use Rattle.cx_region.specs.Events.{Happens, Run}
 use Rattle.cx_region.specs.Laws.Regions.{EventsDecide}
 use Rattle.cx_region.specs.declared.replies.Event.{Event}
 use Rattle.cx_region.specs.declared.replies.Reply.{Reply}
-use Rattle.cx_script.specs.Effects.{Performs, Replies, ByFault}
+use Rattle.cx_script.specs.Effects.{Checks, Finds, Performs, Replies, ByFault}
 use Rattle.cx_script.specs.Texts.{reply_text}
 use Rattle.cx_script.specs.Transcript.{Runs}
 use Rattle.cx_script.specs.Laws.Events.{AreTold, IsRun, IsToldBy, ScriptsRunTheirEvents, event_of, events_of, program_event}
@@ -23,6 +24,16 @@ replies_decide events old event text other new another p q =
     let same = events old event p.0 q.0 new another p.1 q.1 in
     (p.2 ∙ ap (reply_text event) same.0 ∙ sym q.2, same.1)
 
+-- what is found is the answer of the cascade of tests
+found_by_cascade : (image : Image) (fault : Option ImageFault) → Finds image fault → fault_of image ≡ fault
+found_by_cascade image None fit = no_fault_of_fit image fit
+found_by_cascade image (Some fault) lowest = answered_of_lowest image fault lowest
+
+does_by_cascade : (old : RegionState) (name : List ℕ) (image : Image) (text : List ℕ) (new : RegionState) → Checks old name image text new
+    → ByFault (fault_of image) old name image text new
+does_by_cascade old name image text new c =
+    subst (λ (due : Option ImageFault). ByFault due old name image text new) (sym (found_by_cascade image c.fault c.finds)) c.does
+
 image_decides : EventsDecide → (fault : Option ImageFault) (old : RegionState) (name : List ℕ) (image : Image) (text other : List ℕ) (new another : RegionState)
     → ByFault fault old name image text new → ByFault fault old name image other another → (text ≡ other) × (new ≡ another)
 image_decides events None old name image text other new another p q = replies_decide events old _ text other new another p q
@@ -31,7 +42,7 @@ image_decides events (Some fault) old name image text other new another p q = (p
 pub actions_decide : EventsDecide → (old : RegionState) (a : Action) (text other : List ℕ) (new another : RegionState)
     → Performs old a text new → Performs old a other another → (text ≡ other) × (new ≡ another)
 unfolding Performs
-actions_decide events old (action.Image name image) text other new another p q = image_decides events (fault_of image) old name image text other new another p q
+actions_decide events old (action.Image name image) text other new another p q = image_decides events (fault_of image) old name image text other new another (does_by_cascade old name image text new p) (does_by_cascade old name image other another q)
 actions_decide events old (action.Event event) text other new another p q = replies_decide events old event text other new another p q
 actions_decide events old (action.Screen name) text other new another p q = (p.0 ∙ sym q.0, p.1 ∙ sym q.1)
 
@@ -49,7 +60,7 @@ image_gives (Some fault) old name image text new p = p.1
 
 gives : (old : RegionState) (a : Action) (text : List ℕ) (new : RegionState) → Performs old a text new → Gives (event_of a) old text new
 unfolding Performs Replies
-gives old (action.Image name image) text new p = image_gives (fault_of image) old name image text new p
+gives old (action.Image name image) text new p = image_gives (fault_of image) old name image text new (does_by_cascade old name image text new p)
 gives old (action.Event event) text new p = p
 gives old (action.Screen name) text new p = p.1
 

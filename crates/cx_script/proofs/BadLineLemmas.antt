@@ -117,7 +117,12 @@ met_here ending number block text lines n e f =
     let none : (script_from ending number block (text ∷ lines)).actions ≡ [] = ap (λ (s : Script). s.actions) bad in
     let same : n ≡ number = cc in
     record {
-      k = 0; at = omega (arith, same); text = text; is = refl; within = omega arith; bad = is_bad number block text e;
+      k = 0;
+      at = omega (arith, same);
+      text = text;
+      is = refl;
+      within = omega arith;
+      bad = is_bad number block text e;
       done = ap (λ (l : List Action). let s : Script = record { actions = l; fault = Some Read } in s) (sym none);
     }
 
@@ -126,7 +131,11 @@ met_later : (ending : Ending) (number : ℕ) (block : Option ImageBlock) (text :
 unfolding block_behind
 met_later ending number block text lines n step e m =
     record {
-      k = suc m.k; at = omega (arith, m.at); text = m.text; is = m.is; within = omega (arith, m.within);
+      k = suc m.k;
+      at = omega (arith, m.at);
+      text = m.text;
+      is = m.is;
+      within = omega (arith, m.within);
       bad = subst (λ d. IsBadIn (block_behind (number + 1) (block_after d) (take m.k lines)) m.text) (sym e) m.bad;
       done = led Failed number block text (take m.k lines) step e ∙ ap (before step.action) m.done
           ∙ before_unended step.action (script_from ending (number + 1) step.block lines) ∙ ap unended (sym (led ending number block text lines step e));
@@ -137,7 +146,9 @@ open_later : (ending : Ending) (number : ℕ) (block : Option ImageBlock) (text 
 unfolding block_behind
 open_later ending number block text lines n step e o =
     record {
-      ended = o.ended; left = o.left; at = o.at;
+      ended = o.ended;
+      left = o.left;
+      at = o.at;
       is = ap (λ d. block_behind (number + 1) (block_after d) lines) e ∙ o.is;
       done = led Failed number block text lines step e ∙ ap (before step.action) o.done
           ∙ before_unended step.action (script_from ending (number + 1) step.block lines) ∙ ap unended (sym (led ending number block text lines step e));
@@ -152,7 +163,7 @@ later ending number block text lines n (Some step) e f ih =
     let rest = script_from ending (number + 1) step.block lines in
     let same : (script_from ending number block (text ∷ lines)).fault ≡ rest.fault = ap (λ (s : Script). s.fault) (led ending number block text lines step e) ∙ fault_before step.action rest in
     elim (ih step.block (sym same ∙ f)) [
-      inl m ↦ inl (met_later ending number block text lines n step e m)
+      | inl m ↦ inl (met_later ending number block text lines n step e m)
       | inr o ↦ inr (open_later ending number block text lines n step e o)
     ]
 
@@ -210,14 +221,16 @@ began_later : (number : ℕ) (block : Option ImageBlock) (text : List ℕ) (line
     → BeganAt (number + 1) step.block lines left → BeganAt number block (text ∷ lines) left
 began_later number block text lines left step e b =
     record {
-      k = suc b.k; within = omega (arith, b.within); at = omega (arith, b.at);
+      k = suc b.k;
+      within = omega (arith, b.within);
+      at = omega (arith, b.at);
       done = led Failed number block text (take b.k lines) step e ∙ ap (before step.action) b.done ∙ sym (led Failed number block text lines step e);
     }
 
 opened_line : (number : ℕ) (block : Option ImageBlock) (text : List ℕ) (lines : List (List ℕ)) (left : ImageBlock) (due : Option Step) → step_at number block text ≡ due
     → (script_from Failed number block (text ∷ lines)).fault ≡ Some Read → block_behind (number + 1) (block_after due) lines ≡ Some left
     → ((next : Option ImageBlock) → (script_from Failed (number + 1) next lines).fault ≡ Some Read → block_behind (number + 1) next lines ≡ Some left
-        → BeganAt (number + 1) next lines left ⊎ Stays (number + 1) next lines left)
+    → BeganAt (number + 1) next lines left ⊎ Stays (number + 1) next lines left)
     → BeganAt number block (text ∷ lines) left ⊎ Stays number block (text ∷ lines) left
 unfolding script_from
 opened_line number block text lines left None e f b ih =
@@ -227,7 +240,7 @@ opened_line number block text lines left (Some step) e f b ih =
     let rest = script_from Failed (number + 1) step.block lines in
     let same : (script_from Failed number block (text ∷ lines)).fault ≡ rest.fault = ap (λ (s : Script). s.fault) (led Failed number block text lines step e) ∙ fault_before step.action rest in
     elim (ih step.block (sym same ∙ f) b) [
-      inl m ↦ inl (began_later number block text lines left step e m)
+      | inl m ↦ inl (began_later number block text lines left step e m)
       | inr s ↦ stays_on number block text lines left step.action step.block e f s
     ]
 
@@ -262,7 +275,7 @@ from_began ending lines n o b =
 from_open : (ending : Ending) (lines : List (List ℕ)) (n : ℕ) → Open ending 1 None lines n → IsBadLine ending lines n (script_from ending 1 None lines)
 from_open ending lines n o =
     elim (opened 1 None lines o.left (ap (λ (s : Script). s.fault) o.done) o.is) [
-      inl b ↦ from_began ending lines n o b
+      | inl b ↦ from_began ending lines n o b
       | inr s ↦ absurd s.same
     ]
 
@@ -271,6 +284,6 @@ unfolding script_of
 bad_lines_are_bad ending bytes n e =
     let lines = lines_met ending bytes in
     elim (found ending 1 None lines n e) [
-      inl m ↦ from_met ending lines n m
+      | inl m ↦ from_met ending lines n m
       | inr o ↦ from_open ending lines n o
     ]

@@ -1,7 +1,7 @@
 -- An action performed, by what the region answered.
 use Rattle.std.proofs.Common.{◌≡◌, ℕ, List, None, Some, codes, sym, subst}
 use Rattle.cx_code.specs.declared.image.Image.{Image}
-use Rattle.cx_load.specs.Parts.Cascade.{fault_of}
+use Rattle.cx_load.specs.Fault.{IsFit, IsLowestFault}
 use Rattle.cx_load.specs.declared.fault.ImageFault.{ImageFault}
 use Rattle.cx_region.specs.State.{RegionState}
 use Rattle.cx_region.specs.Events.{Happens}
@@ -17,14 +17,14 @@ unfolding Replies
 event_replied old new event reply text h t = (reply, h, t)
 
 pub image_refused : (old new : RegionState) (name : List ℕ) (image : Image) (fault : ImageFault) (text : List ℕ)
-    → fault_of image ≡ Some fault → text ≡ refused_text (codes "PROGRAM") name (image_fault_name fault) → new ≡ old → Performs old (action.Image name image) text new
+    → IsLowestFault image fault → text ≡ refused_text (codes "PROGRAM") name (image_fault_name fault) → new ≡ old → Performs old (action.Image name image) text new
 unfolding Performs
-image_refused old new name image fault text e t n = subst (λ due. ByFault due old name image text new) (sym e) (t, n)
+image_refused old new name image fault text lowest t n = record { fault = Some fault; finds = lowest; does = (t, n) }
 
 pub image_defined : (old new : RegionState) (name : List ℕ) (image : Image) (text : List ℕ)
-    → fault_of image ≡ None → Replies old (event.Program name image) text new → Performs old (action.Image name image) text new
+    → IsFit image → Replies old (event.Program name image) text new → Performs old (action.Image name image) text new
 unfolding Performs
-image_defined old new name image text e d = subst (λ due. ByFault due old name image text new) (sym e) d
+image_defined old new name image text fit d = record { fault = None; finds = fit; does = d }
 
 pub event_done : (old new : RegionState) (event : Event) (text : List ℕ) → Replies old event text new → Performs old (action.Event event) text new
 unfolding Performs

@@ -12,3 +12,4 @@ pub mod WholeLemmas
 pub mod ActionLemmas
 pub mod InputLemmas
 pub mod BadLineLemmas
+pub mod PieceLemmas

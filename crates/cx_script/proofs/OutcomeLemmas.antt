@@ -1,11 +1,10 @@
 -- A run of a script, from what was read.
-use Rattle.std.proofs.Common.{◌≡◌, ℕ, ◌≤◌, Bool, false, lit≤, length, ◌++◌, List, [], drop, None, Some, Option, Result, Ok, Err, refl, sym, ap, ◌∙◌, subst, append-nil, take-append-drop}
+use Rattle.std.proofs.Common.{◌≡◌, ℕ, Bool, false, lit≤, ◌++◌, List, [], drop, None, Some, Option, Result, Ok, Err, refl, sym, ap, ◌∙◌, subst, append-nil, take-append-drop}
 use Rattle.std.specs.Io.KnownBytes.{Appends, Consumes}
 use Rattle.std.proofs.KnownBytes.{Appends-nil}
 use Rattle.cx_region.specs.Defining.{fresh_region}
-use Rattle.cx_script.specs.Input.{Reads, is_failure, most_bytes}
-use Rattle.cx_script.specs.Script.{Script, script_of, line_count}
-use Rattle.cx_script.specs.Transcript.{Ends, Stops, Runs}
+use Rattle.cx_script.specs.Input.{Reads, most_bytes}
+use Rattle.cx_script.specs.Transcript.{Stops, Runs}
 use Rattle.cx_script.specs.Effects.{Performs}
 use Rattle.cx_script.specs.Outcome.{RanScript, HasRead, IsFront}
 use Rattle.cx_script.specs.declared.faults.RunFault.{RunFault}
@@ -27,7 +26,7 @@ front_read most Failed before after bytes p = front_consumed before after bytes 
 front_read most PastBound None after bytes p = tt
 front_read most PastBound (Some x) after bytes p = (drop most x, sym (take-append-drop most x) ∙ ap (λ l. l ++ drop most x) p.1)
 
-has_read : (r : Result Summary RunFault) (ending : Ending) (before after : Option (List ℕ)) (bytes : List ℕ) → Reads most_bytes ending before after bytes → HasRead r ending before after bytes
+pub has_read : (r : Result Summary RunFault) (ending : Ending) (before after : Option (List ℕ)) (bytes : List ℕ) → Reads most_bytes ending before after bytes → HasRead r ending before after bytes
 has_read (Ok s) ending before after bytes p = p
 has_read (Err (BadLine n)) ending before after bytes p = p
 has_read (Err Read) ending before after bytes p = p
@@ -37,25 +36,12 @@ has_read (Err Memory) AtEnd before after bytes p = p
 has_read (Err Memory) Failed before after bytes p = front_read most_bytes Failed before after bytes p
 has_read (Err Memory) PastBound before after bytes p = front_read most_bytes PastBound before after bytes p
 
-pub ran_read : (before after written last : Option (List ℕ)) (failed : Bool) (r : Result Summary RunFault) (ending : Ending) (bytes : List ℕ)
-    → Reads 16777216 ending before after bytes → length bytes ≤ 16777216 → failed ≡ is_failure ending
-    → Ends Performs fresh_region (script_of ending bytes) (line_count ending bytes) r written last
-    → RanScript before after failed r written last
-unfolding most_bytes
-ran_read before after written last failed r ending bytes p few f e =
-    record { bytes = bytes; ending = ending; read = has_read r ending before after bytes p; within = few; failure = f; ends = e }
-
 some_front : (before : Option (List ℕ)) → IsFront before []
 some_front None = tt
 some_front (Some x) = (x, refl)
 
--- nothing was done
-pub stops_at_once : (script : Script) (lines : ℕ) (written : Option (List ℕ)) → Ends Performs fresh_region script lines (Err Memory) written written
-unfolding Stops Runs
-stops_at_once script lines written = (0, record { text = []; new = fresh_region; runs = (refl, refl); written = Appends-nil written })
-
 -- where nothing was done
-pub ran_nothing : (before after written last : Option (List ℕ)) (failed : Bool) → last ≡ written → failed ≡ false → RanScript before after failed (Err Memory) written last
+pub ran_nothing : (before after written last : Option (List ℕ)) (failed : Bool) → last ≡ written → failed ≡ false → RanScript Performs fresh_region before after failed (Err Memory) written last
 unfolding Stops Runs most_bytes
 ran_nothing before after written last failed e f =
     record {

@@ -1,5 +1,5 @@
 -- A run of a script, line by line.
-use Rattle.std.proofs.Common.{◌≡◌, ℕ, ◌+◌, List, [], ◌∷◌, ◌++◌, length, take, None, Some, Option, Result, Ok, Err, MatchOption, IfErr, IsOkAnd, refl, sym, ap, ◌∙◌, subst, append-nil, append_assoc, zero-add, arith}
+use Rattle.std.proofs.Common.{◌≡◌, ℕ, ◌+◌, List, [], ◌∷◌, ◌++◌, length, take, None, Some, Option, Result, Ok, Err, MatchOption, IsOkAnd, refl, sym, ap, ◌∙◌, subst, append-nil, append_assoc, arith}
 use Rattle.std.specs.Io.KnownBytes.{Appends}
 use Rattle.std.proofs.KnownBytes.{Appends-trans, Appends-nil}
 use Rattle.std.proofs.Math.Seq.{take-append-add, take-append_seam}
@@ -7,8 +7,7 @@ use Rattle.std.proofs.lemmas.List.{take_all}
 use Rattle.cx_script.specs.Devices.{WroteFront}
 use Rattle.cx_script.specs.ImageBlock.{ImageBlock}
 use Rattle.cx_script.specs.Blocks.{step_at}
-use Rattle.cx_script.specs.Script.{Script, script_from, script_of, line_count, fault_at, before, led_to}
-use Rattle.cx_script.specs.Lines.{lines_met}
+use Rattle.cx_script.specs.Script.{Script, script_from, fault_at, before, led_to}
 use Rattle.cx_script.specs.declared.faults.Summary.{Summary}
 use Rattle.cx_script.specs.Transcript.{Runs, WroteAll, WroteSome, Stops, Ends}
 use Rattle.cx_script.specs.Parts.Progress.{Acts, Acted, TakesLine, Reached, behind_done}
@@ -19,7 +18,7 @@ use Rattle.cx_script.specs.declared.faults.RunFault.TheVariants.{BadLine, Read, 
 use Rattle.cx_script.specs.declared.input.Ending.{Ending}
 
 -- the actions of a line
-abbrev of_line : Option Action → List Action
+abbrev pub of_line : Option Action → List Action
 of_line None = []
 of_line (Some action) = action ∷ []
 
@@ -28,14 +27,14 @@ module _ {S : Type 0} (performs : S → Action → List ℕ → S → Type 0) wh
   unfolding Runs
   runs_one old action text new p = (new, text, [], p, (refl, refl), sym (append-nil text))
 
-  runs_append : (old : S) (xs : List Action) (s : List ℕ) (mid : S) (ys : List Action) (t : List ℕ) (new : S)
+  pub runs_append : (old : S) (xs : List Action) (s : List ℕ) (mid : S) (ys : List Action) (t : List ℕ) (new : S)
       → Runs performs old xs s mid → Runs performs mid ys t new → Runs performs old (xs ++ ys) (s ++ t) new
   unfolding Runs
   runs_append old [] s mid ys t new p q = subst (λ m. Runs performs m ys (s ++ t) new) p.1 (subst (λ l. Runs performs mid ys (l ++ t) new) (sym p.0) q)
   runs_append old (x ∷ xs) s mid ys t new p q =
       (p.0, p.1, p.2 ++ t, p.3, runs_append p.0 xs p.2 mid ys t new p.4 q, ap (λ l. l ++ t) p.5 ∙ append_assoc p.1 p.2 t)
 
-  runs_line : (old : S) (action : Option Action) (text : List ℕ) (new : S) → Acts performs action old text new → Runs performs old (of_line action) text new
+  pub runs_line : (old : S) (action : Option Action) (text : List ℕ) (new : S) → Acts performs action old text new → Runs performs old (of_line action) text new
   unfolding Runs
   runs_line old None text new p = p
   runs_line old (Some action) text new p = runs_one old action text new p
@@ -45,13 +44,13 @@ module _ {S : Type 0} (performs : S → Action → List ℕ → S → Type 0) wh
   reached_start old script before = record { done = []; text = []; runs = (refl, refl); written = Appends-nil before; splits = refl }
 
   -- one line's actions moved over to those that are done
-  moved : (done : List Action) (action : Option Action) (left : Script) → behind_done done (before action left) ≡ behind_done (done ++ of_line action) left
+  pub moved : (done : List Action) (action : Option Action) (left : Script) → behind_done done (before action left) ≡ behind_done (done ++ of_line action) left
   moved done None left = ap (λ l. behind_done l left) (sym (append-nil done))
   moved done (Some action) left =
       let same : done ++ action ∷ left.actions ≡ (done ++ action ∷ []) ++ left.actions = sym (append_assoc done (action ∷ []) left.actions) in
       ap (λ (l : List Action). let s : Script = record { actions = l; fault = left.fault } in s) same
 
-  led : (due : Option Step) (step : Step) (n : ℕ) (next : Option ImageBlock → Script) → due ≡ Some step → led_to due n next ≡ before step.action (next step.block)
+  pub led : (due : Option Step) (step : Step) (n : ℕ) (next : Option ImageBlock → Script) → due ≡ Some step → led_to due n next ≡ before step.action (next step.block)
   led due step n next e = ap (λ d. led_to d n next) e
 
   not_led : (due : Option Step) (n : ℕ) (next : Option ImageBlock → Script) → due ≡ None → led_to due n next ≡ record { actions = []; fault = Some (BadLine n) }
@@ -83,12 +82,12 @@ module _ {S : Type 0} (performs : S → Action → List ℕ → S → Type 0) wh
   whole : (script : Script) (done : List Action) (left : Script) → script ≡ behind_done done left → left.actions ≡ [] → done ≡ script.actions
   whole script done left e none = sym (append-nil done) ∙ ap (λ l. done ++ l) (sym none) ∙ sym (ap (λ (s : Script). s.actions) e)
 
-  front_written : (first after last : Option (List ℕ)) (s t : List ℕ) → Appends first after s → WroteFront after last t → WroteFront first last (s ++ t)
+  pub front_written : (first after last : Option (List ℕ)) (s t : List ℕ) → Appends first after s → WroteFront after last t → WroteFront first last (s ++ t)
   unfolding WroteFront
   front_written first after last s t p w =
       (length s + w.0, subst (Appends first last) (sym (take-append-add s t w.0)) (Appends-trans first after last s (take w.0 t) p w.1))
 
-  all_is_front : (first last : Option (List ℕ)) (s : List ℕ) → Appends first last s → WroteFront first last s
+  pub all_is_front : (first last : Option (List ℕ)) (s : List ℕ) → Appends first last s → WroteFront first last s
   unfolding WroteFront
   all_is_front first last s p = (length s, subst (Appends first last) (sym (take_all (length s) s (omega arith))) p)
 
@@ -152,28 +151,7 @@ module _ {S : Type 0} (performs : S → Action → List ℕ → S → Type 0) wh
   ends_badly old mid script first after ending n block Read r e = (ap (λ (s : Script). s.fault) r.splits ∙ e, reached_all old mid script (script_from ending n block []) first after r refl)
   ends_badly old mid script first after ending n block ReadBound r e = (ap (λ (s : Script). s.fault) r.splits ∙ e, reached_all old mid script (script_from ending n block []) first after r refl)
 
-  pub stops_at : (old mid new : S) (script : Script) (first after last : Option (List ℕ)) (ending : Ending) (n : ℕ) (block next : Option ImageBlock) (line : List ℕ) (all lines : List (List ℕ)) (fault : RunFault)
-      → all ≡ line ∷ lines → Reached performs old script first mid (script_from ending n block all) after
-      → TakesLine performs (step_at n block line) n mid after (Err fault) new last next
-      → Stops performs old script fault first last
-  stops_at old mid new script first after last ending n block next line all lines fault e r t =
-      stops_line old mid new script first after last ending n block next line lines fault
-      (subst (λ l. Reached performs old script first mid (script_from ending n block l) after) e r) t
-
-  pub stops_if : (old mid new : S) (script : Script) (first after last : Option (List ℕ)) (ending : Ending) (n : ℕ) (block next : Option ImageBlock) (line : List ℕ) (all lines : List (List ℕ)) (r : Result (Unit {0}) RunFault)
-      → all ≡ line ∷ lines → Reached performs old script first mid (script_from ending n block all) after
-      → TakesLine performs (step_at n block line) n mid after r new last next
-      → IfErr r (λ fault. Stops performs old script fault first last)
-  stops_if old mid new script first after last ending n block next line all lines (Ok done) e reached t = tt
-  stops_if old mid new script first after last ending n block next line all lines (Err fault) e reached t =
-      stops_at old mid new script first after last ending n block next line all lines fault e reached t
-
-  starts : (ending : Ending) (bytes : List ℕ) (n : ℕ) (block : Option ImageBlock) → n ≡ 0 → block ≡ None
-      → script_from ending (n + 1) block (lines_met ending bytes) ≡ script_of ending bytes
-  unfolding script_of
-  starts ending bytes n block e b = ap (λ k. script_from ending (k + 1) block (lines_met ending bytes)) e ∙ ap (λ x. script_from ending 1 x (lines_met ending bytes)) b
-
-  ended : (old mid : S) (script : Script) (first after : Option (List ℕ)) (ending : Ending) (n m : ℕ) (block : Option ImageBlock) (due : Option RunFault) (r : Result Summary RunFault)
+  pub ended : (old mid : S) (script : Script) (first after : Option (List ℕ)) (ending : Ending) (n m : ℕ) (block : Option ImageBlock) (due : Option RunFault) (r : Result Summary RunFault)
       → fault_at ending block ≡ due → Reached performs old script first mid (script_from ending n block []) after
       → MatchOption due (IsOkAnd r (λ s. s.lines ≡ m)) (λ f. r ≡ Err f) → Ends performs old script m r first after
   ended old mid script first after ending n m block None (Ok s) e reached h =
@@ -183,20 +161,3 @@ module _ {S : Type 0} (performs : S → Action → List ℕ → S → Type 0) wh
   ended old mid script first after ending n m block (Some due) (Err fault) e reached h =
       let same : due ≡ fault = cc in
       subst (λ f. Stops performs old script f first after) same (ends_badly old mid script first after ending n block due reached e)
-
-  pub run_ends : (old mid : S) (first after : Option (List ℕ)) (ending : Ending) (bytes : List ℕ) (n m : ℕ) (block last : Option ImageBlock) (r : Result Summary RunFault)
-      → n ≡ 0 → block ≡ None → m ≡ n + length (lines_met ending bytes)
-      → Reached performs old (script_from ending (n + 1) block (lines_met ending bytes)) first mid (script_from ending (m + 1) last []) after
-      → MatchOption (fault_at ending last) (IsOkAnd r (λ s. s.lines ≡ m)) (λ f. r ≡ Err f)
-      → Ends performs old (script_of ending bytes) (line_count ending bytes) r first after
-  unfolding line_count
-  run_ends old mid first after ending bytes n m block last r e b k reached h =
-      let count : m ≡ length (lines_met ending bytes) = k ∙ ap (λ i. i + length (lines_met ending bytes)) e ∙ zero-add (length (lines_met ending bytes)) in
-      let script = subst (λ s. Reached performs old s first mid (script_from ending (m + 1) last []) after) (starts ending bytes n block e b) reached in
-      subst (λ i. Ends performs old (script_of ending bytes) i r first after) count
-      (ended old mid (script_of ending bytes) first after ending (m + 1) m last (fault_at ending last) r refl script h)
-
-  pub run_stops : (old : S) (first after : Option (List ℕ)) (ending : Ending) (bytes : List ℕ) (n : ℕ) (block : Option ImageBlock) (fault : RunFault)
-      → n ≡ 0 → block ≡ None → Stops performs old (script_from ending (n + 1) block (lines_met ending bytes)) fault first after
-      → Stops performs old (script_of ending bytes) fault first after
-  run_stops old first after ending bytes n block fault e b h = subst (λ s. Stops performs old s fault first after) (starts ending bytes n block e b) h

@@ -1,5 +1,5 @@
 -- Lines and blocks: what each line of a script leads to.
-use Rattle.std.specs.Prelude.{ℕ, ◌++◌, if◌then◌else◌, Option, Some, None, List, [], codes}
+use Rattle.std.specs.Prelude.{ℕ, ◌++◌, if◌then◌else◌, Option, Some, None, List, [], take, codes}
 use Rattle.std.specs.Option.{option_map}
 use Rattle.std.specs.Str.{bytes_eq}
 use Rattle.cx_code.specs.declared.image.Image.{Image}
@@ -26,10 +26,14 @@ step_of number line.Idle = record { action = None; block = None }
 step_of number (line.Image name stg_len) = record { action = None; block = Some (record { line = number; name = name; stg_len = stg_len; text = [] }) }
 step_of number (line.Action a) = record { action = Some a; block = None }
 
+-- No more than 65,537 bytes of a text are kept: one that is longer than 65,536 is BadLength, whatever follows.
+unfoldable pub kept : List ℕ → List ℕ
+kept text = take 65537 text
+
 -- a block with the bytes of one more line
 abbrev pub with_bytes : ImageBlock → List ℕ → Step
 with_bytes block bytes =
-    record { action = None; block = Some (record { line = block.line; name = block.name; stg_len = block.stg_len; text = block.text ++ bytes }) }
+    record { action = None; block = Some (record { line = block.line; name = block.name; stg_len = block.stg_len; text = kept (block.text ++ bytes) }) }
 
 -- a line inside a block: its end, or hexadecimal digits
 abbrev pub step_within : ImageBlock → List ℕ → Option Step

@@ -1,10 +1,9 @@
 -- What a run of a script answers, by the bytes that its devices tell.
 use Rattle.std.specs.Prelude.{◌≡◌, ℕ, ◌≤◌, Bool, ◌++◌, List, length, Option, Result, Err, IfSome}
-use Rattle.cx_region.specs.Defining.{fresh_region}
 use Rattle.cx_script.specs.Input.{Reads, is_failure, most_bytes}
 use Rattle.cx_script.specs.Script.{script_of, line_count}
 use Rattle.cx_script.specs.Transcript.{Ends}
-use Rattle.cx_script.specs.Effects.{Performs}
+use Rattle.cx_script.specs.declared.actions.Action.{Action}
 use Rattle.cx_script.specs.declared.faults.RunFault.{RunFault}
 use Rattle.cx_script.specs.declared.faults.RunFault.TheVariants.{Memory}
 use Rattle.cx_script.specs.declared.faults.Summary.{Summary}
@@ -22,13 +21,13 @@ HasRead (Err Memory) AtEnd before after bytes = Reads most_bytes AtEnd before af
 HasRead (Err Memory) ending before after bytes = IsFront before bytes
 HasRead answer ending before after bytes = Reads most_bytes ending before after bytes
 
--- A run of a script on a fresh region: the bytes that were read, why no more was, and that the run ended as the script
--- that these are says. `left` is what the reader has, before the run and after it, `failed` whether a read of it failed,
+-- A run of a script from some state on, over actions that do what `performs` says: the bytes that were read, why no more
+-- was, and that the run ended as the script that these are says. `left` is what the reader has, before the run and after it, `failed` whether a read of it failed,
 -- and `written` what the writer holds, before the run and after it.
-pub record RanScript (left left_after : Option (List ℕ)) (failed : Bool) (answer : Result Summary RunFault) (written written_after : Option (List ℕ)) : Type 0 where
+pub record RanScript {S : Type 0} (performs : S → Action → List ℕ → S → Type 0) (start : S) (left left_after : Option (List ℕ)) (failed : Bool) (answer : Result Summary RunFault) (written written_after : Option (List ℕ)) : Type 0 where
   pub bytes : List ℕ
   pub ending : Ending
   pub read : HasRead answer ending left left_after bytes
   pub within : length bytes ≤ most_bytes
   pub failure : failed ≡ is_failure ending
-  pub ends : Ends Performs fresh_region (script_of ending bytes) (line_count ending bytes) answer written written_after
+  pub ends : Ends performs start (script_of ending bytes) (line_count ending bytes) answer written written_after

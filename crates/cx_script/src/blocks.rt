@@ -3,7 +3,7 @@
 ghost use Rattle.std.specs.Prelude.{◌≡◌, ◌≤◌, ◌/◌, ◌++◌, IfOk, IfSome, MatchOption, true, false, length};
 ghost use Rattle.cx_script.specs.Parts.Allowed.{IsAllowed, IsAllowedLine};
 ghost use Rattle.cx_script.specs.Words.{hex_bytes};
-ghost use Rattle.cx_script.specs.Blocks.{block_action, step_at, step_of, step_within, with_bytes};
+ghost use Rattle.cx_script.specs.Blocks.{block_action, kept, step_at, step_of, step_within, with_bytes};
 
 use crate::actions::{Action, Line, line_of};
 use crate::lines::is_too_long;
@@ -14,6 +14,9 @@ use std::marker::Model;
 
 /// The most bytes that a line of hexadecimal digits spells.
 const MOST_IN_LINE: usize = 2_048;
+
+/// The most bytes of a text that are kept: one byte more than an image may have.
+const MOST_KEPT: usize = 65_537;
 
 /// An image's block, up to some line of it.
 #[derive(Drop)]
@@ -101,10 +104,11 @@ fn decode_line(line: &[u8], out: &mut [u8]) -> bool
     hex::decode_to_slice(line, out).is_ok()
 }
 
-/// Adds the bytes that a line of hexadecimal digits spells; false where it isn't one.
+/// Adds the bytes that a line of hexadecimal digits spells, as far as they are kept; false where it isn't one.
+#[tactic(auto, unfolding(crate::specs::Blocks::kept))]
 fn append_line(text: &mut Vec<u8>, line: &[u8]) -> Result<bool, AllocError>
     requires { length line.now ≤ 4096 }
-    ensures { IfOk result (λ spelled. MatchOption (hex_bytes line.now) (spelled ≡ false) (λ bytes. (spelled ≡ true) × (text.new.items ≡ text.old.items ++ bytes))) }
+    ensures { IfOk result (λ spelled. MatchOption (hex_bytes line.now) (spelled ≡ false) (λ bytes. (spelled ≡ true) × (text.new.items ≡ kept (text.old.items ++ bytes)))) }
 {
     let mut buffer = [0; MOST_IN_LINE];
     let out = &mut buffer[..line.len() / 2];
@@ -112,6 +116,7 @@ fn append_line(text: &mut Vec<u8>, line: &[u8]) -> Result<bool, AllocError>
         return Ok(false);
     }
     text.extend_from_slice(out)?;
+    text.truncate(MOST_KEPT);
     Ok(true)
 }
 

@@ -1,10 +1,10 @@
 //! The lines of a script.
 
-ghost use Rattle.std.specs.Prelude.{◌≡◌, ◌<◌, ◌==◌, ◌∷◌, ◌+◌, IfSome, IfNone, length, drop, position};
+ghost use Rattle.std.specs.Prelude.{◌≡◌, ◌<◌, ◌≤◌, ◌==◌, ◌∷◌, ◌+◌, ◌++◌, IfSome, IfNone, length, take, drop, position};
 ghost use Rattle.std.specs.Option.{option_map, option_to_list};
 ghost use Rattle.std.specs.Str.Lines.{strip_carriage_return};
-ghost use Rattle.cx_script.specs.Lines.{is_too_long, last_met, lines_met};
-ghost use Rattle.cx_script.specs.declared.input.Ending.{Ending};
+ghost use Rattle.cx_script.specs.Lines.{is_too_long, last_met};
+ghost use Rattle.cx_script.specs.Parts.Unbroken.{IsUnbroken};
 
 use crate::input::Ending;
 
@@ -18,7 +18,7 @@ const LINE_FEED: u8 = b'\n';
 const CARRIAGE_RETURN: u8 = b'\r';
 
 /// A part without the carriage return at its end, if it has one.
-fn strip_carriage_return(part: &[u8]) -> &[u8]
+pub fn strip_carriage_return(part: &[u8]) -> &[u8]
     ensures { result.now ≡ strip_carriage_return part.now }
 {
     let len = part.len();
@@ -35,18 +35,25 @@ fn end_of_line(bytes: &[u8]) -> Option<usize>
     bytes.iter().position(|byte| *byte == LINE_FEED)
 }
 
-/// The first line that a line feed ends, and the bytes behind it.
-#[tactic(auto, using(crate::proofs::LineLemmas::first_line, crate::proofs::LineLemmas::no_line))]
-pub fn next_line(bytes: &[u8]) -> Option<(&[u8], &[u8])>
-    ensures found { IfSome result (λ found. (ending : Ending) →
-        lines_met ending bytes.now ≡ found.0.now ∷ lines_met ending found.1.now) }
-    ensures shorter { IfSome result (λ found. length found.1.now < length bytes.now) }
-    ensures none { IfNone result ((ending : Ending) → lines_met ending bytes.now ≡ last_met ending bytes.now) }
+/// The bytes in front of the first line feed, and those behind it.
+#[tactic(auto, using(crate::proofs::LineLemmas::split_found, crate::proofs::LineLemmas::split_unbroken, crate::proofs::LineLemmas::split_none))]
+pub fn split_line(bytes: &[u8]) -> Option<(&[u8], &[u8])>
+    ensures found { IfSome result (λ found. bytes.now ≡ found.0.now ++ 10 ∷ found.1.now) }
+    ensures unbroken { IfSome result (λ found. IsUnbroken found.0.now) }
+    ensures none { IfNone result (IsUnbroken bytes.now) }
 {
     match end_of_line(bytes) {
-        Some(end) => Some((strip_carriage_return(&bytes[..end]), behind(bytes, end))),
+        Some(end) => Some((in_front(bytes, end), behind(bytes, end))),
         None => None,
     }
+}
+
+/// The bytes in front of a place.
+pub fn in_front(bytes: &[u8], end: usize) -> &[u8]
+    requires { end ≤ length bytes.now }
+    ensures { result.now ≡ take end bytes.now }
+{
+    bytes.split_at(end).0
 }
 
 /// The bytes behind a place.

@@ -1,23 +1,37 @@
 //! Running a script line by line.
 
-ghost use Rattle.std.specs.Prelude.{◌≡◌, ◌+◌, ◌<◌, ◌^◌, ℕ, List, IfOk, IfErr, IfSome, IsOkAnd, OnOk, MatchOption, Err, None, [], true, false, length};
-ghost use Rattle.cx_script.specs.Parts.Allowed.{IsAllowed};
+ghost use Rattle.std.specs.Prelude.{◌≡◌, ◌+◌, ◌++◌, ◌<◌, ◌≤◌, ◌^◌, ℕ, List, IfOk, IfErr, IfSome, IsOkAnd, OnOk, OnErr, MatchOption, Err, None, [], true, false, length};
+ghost use Rattle.std.specs.Str.Lines.{strip_carriage_return};
 ghost use Rattle.cx_script.specs.Blocks.{step_at};
-ghost use Rattle.cx_script.specs.Lines.{lines_met};
 ghost use Rattle.cx_script.specs.Input.{is_failure};
-ghost use Rattle.cx_script.specs.Parts.Progress.{Acted, Reached, TakesLine};
-ghost use Rattle.cx_script.specs.Transcript.{Ends, Stops, is_read, is_write};
-ghost use Rattle.cx_script.specs.Script.{fault_at, line_count, script_from, script_of};
+ghost use Rattle.cx_script.specs.Lines.{is_too_long, lines_met};
+ghost use Rattle.cx_script.specs.Outcome.{RanScript};
+ghost use Rattle.cx_script.specs.Script.{fault_at, script_from};
+ghost use Rattle.cx_script.specs.Transcript.{Ends, is_read, is_write};
+ghost use Rattle.cx_script.specs.Parts.Allowed.{IsAllowed};
+ghost use Rattle.cx_script.specs.Parts.Progress.{Acted, Came, Stopped, TakesLine};
+ghost use Rattle.cx_script.specs.Parts.Unbroken.{IsUnbroken};
 ghost use Rattle.cx_script.specs.declared.actions.Action.{Action};
+ghost use Rattle.cx_script.specs.declared.faults.RunFault.TheVariants.{BadLine};
 
 use crate::actions::Action;
 use crate::blocks::{Block, step_at};
-use crate::devices::ScriptOut;
+use crate::devices::{ScriptIn, ScriptOut};
 use crate::faults::{RunFault, Summary};
 use crate::input::Ending;
-use crate::lines::{last_line, next_line};
+use crate::lines::{in_front, is_too_long, last_line, split_line, strip_carriage_return};
 use crate::output::write_all;
+use arrayvec::ArrayVec;
 use std::alloc::{AllocError, Global};
+
+/// How many bytes are asked for at once.
+const CHUNK: usize = 4_096;
+
+/// The most bytes of an unfinished line that may be a line yet: 4,096, and a carriage return.
+const MOST_KEPT: usize = 4_097;
+
+/// The most bytes that a script may have.
+const MOST_BYTES: usize = 16_777_216;
 
 /// What the actions of a script are performed on.
 pub trait Stage {
@@ -54,26 +68,15 @@ fn act<P: Stage, W: ScriptOut>(
     }
 }
 
-/// A run of a script: the lines that were taken so far, and the block that the next one is in.
+/// Lines that were taken: what they were performed on, how many they are, and the block that the next one is in.
 #[derive(Drop)]
-pub struct Run<P> {
+pub struct Progress<P> {
     stage: P,
     lines: usize,
     block: Option<Block>,
 }
 
-impl<P: Stage + Drop> Run<P> {
-    /// A run that has taken no line.
-    pub fn new(stage: P) -> Run<P>
-        ensures { (result.stage ≡ stage) × (result.lines ≡ 0) × (result.block ≡ None) }
-    {
-        Run {
-            stage,
-            lines: 0,
-            block: None,
-        }
-    }
-
+impl<P: Stage + Drop> Progress<P> {
     /// Takes one complete line: does what it asks, and writes what is to be written.
     #[tactic(auto, using(crate::proofs::TakeLemmas::line_bad, crate::proofs::TakeLemmas::line_memory, crate::proofs::TakeLemmas::line_acted))]
     fn take_line<W: ScriptOut>(
@@ -98,45 +101,13 @@ impl<P: Stage + Drop> Run<P> {
         act(&mut self.stage, alloc, writer, step.action)
     }
 
-    /// Takes all lines of what was read.
-    #[tactic(auto, using(crate::proofs::RunLemmas::reached_start, crate::proofs::RunLemmas::reached_line))]
-    fn take_lines<W: ScriptOut>(
-        &mut self,
-        alloc: Global,
-        writer: &mut W,
-        bytes: &[u8],
-        ending: Ending,
-    ) -> Result<(), RunFault>
-        requires lines { self.old.lines + length bytes.now < 2 ^ 32 }
-        requires failure { W.has_failed writer.old ≡ false }
-        ensures ok { OnOk result (Reached P.performs self.old.stage (script_from ending (self.old.lines + 1) self.old.block (lines_met ending bytes.now))
-            (W.written writer.old) self.new.stage (script_from ending (self.new.lines + 1) self.new.block []) (W.written writer.new)) }
-        ensures lines { OnOk result (self.new.lines ≡ self.old.lines + length (lines_met ending bytes.now)) }
-        ensures err { IfErr result (λ fault. Stops P.performs self.old.stage (script_from ending (self.old.lines + 1) self.old.block (lines_met ending bytes.now))
-            fault (W.written writer.old) (W.written writer.new)) }
-        ensures failure { W.has_failed writer.new ≡ is_write result }
-        ensures unread { is_read result ≡ false }
-    {
-        let mut rest = bytes;
-        'lines: while let Some((line, behind)) = next_line(rest) {
-            if let Err(fault) = self.take_line(alloc, writer, line) {
-                return Err(fault);
-            }
-            rest = behind;
-        }
-        match last_line(rest, ending) {
-            Some(line) => self.take_line(alloc, writer, line),
-            None => Ok(()),
-        }
-    }
-
-    /// Ends the run where no line is left.
+    /// The answer where no line is left.
     #[tactic(auto, unfolding(crate::specs::Script::fault_at))]
     fn end(&self, ending: Ending) -> Result<Summary, RunFault>
         ensures value { MatchOption (fault_at ending self.now.block)
             (IsOkAnd result (λ summary. summary.lines ≡ self.now.lines)) (λ fault. result ≡ Err fault) }
         ensures unwritten { is_write result ≡ false }
-        ensures unread { is_read result ≡ is_failure ending }
+        ensures read { is_read result ≡ is_failure ending }
     {
         match ending {
             Ending::AtEnd => match &self.block {
@@ -147,27 +118,173 @@ impl<P: Stage + Drop> Run<P> {
             Ending::PastBound => Err(RunFault::ReadBound),
         }
     }
+}
 
-    /// Runs the script that was read.
-    pub fn run<W: ScriptOut>(
-        mut self,
+/// A run of a script: the lines that were taken so far, and the bytes of the next one that were read.
+#[derive(Drop)]
+pub struct Run<P> {
+    progress: Progress<P>,
+    part: ArrayVec<u8, MOST_KEPT>,
+}
+
+impl<P: Stage + Drop> Run<P> {
+    /// A run that has taken no line.
+    pub fn new(stage: P) -> Run<P>
+        ensures stage { result.progress.stage ≡ stage }
+        ensures lines { result.progress.lines ≡ 0 }
+        ensures block { result.progress.block ≡ None }
+        ensures part { result.part.items ≡ [] }
+    {
+        Run {
+            progress: Progress {
+                stage,
+                lines: 0,
+                block: None,
+            },
+            part: ArrayVec::new(),
+        }
+    }
+
+    /// Takes the line that these bytes end.
+    #[tactic(auto, using(crate::proofs::PieceLemmas::too_long_line))]
+    fn end_line<W: ScriptOut>(
+        &mut self,
         alloc: Global,
         writer: &mut W,
         bytes: &[u8],
-        ending: Ending,
-    ) -> Result<Summary, RunFault>
-        requires lines { self.lines ≡ 0 }
-        requires block { self.block ≡ None }
-        requires few { length bytes.now < 2 ^ 32 }
+    ) -> Result<(), RunFault>
+        requires lines { self.old.progress.lines < 2 ^ 32 }
         requires failure { W.has_failed writer.old ≡ false }
-        ensures ends { Ends P.performs self.stage (script_of ending bytes.now) (line_count ending bytes.now) result
-            (W.written writer.old) (W.written writer.new) }
+        ensures taken { TakesLine P.performs (step_at (self.old.progress.lines + 1) self.old.progress.block (strip_carriage_return (self.old.part.items ++ bytes.now)))
+            (self.old.progress.lines + 1) self.old.progress.stage (W.written writer.old) result self.new.progress.stage (W.written writer.new) self.new.progress.block }
+        ensures lines { self.new.progress.lines ≡ self.old.progress.lines + 1 }
+        ensures part { OnOk result (self.new.part.items ≡ []) }
         ensures failure { W.has_failed writer.new ≡ is_write result }
-        ensures read { is_read result ≡ true → is_failure ending ≡ true }
+        ensures unread { is_read result ≡ false }
     {
-        if let Err(fault) = self.take_lines(alloc, writer, bytes, ending) {
+        if self.part.try_extend_from_slice(bytes).is_err() {
+            self.progress.lines += 1;
+            return Err(RunFault::BadLine(self.progress.lines));
+        }
+        let line = strip_carriage_return(self.part.as_slice());
+        if let Err(fault) = self.progress.take_line(alloc, writer, line) {
             return Err(fault);
         }
-        self.end(ending)
+        self.part.clear();
+        Ok(())
+    }
+
+    /// Keeps bytes of a line that is not ended yet; a bad line where they are too many already.
+    #[tactic(auto, using(crate::proofs::LineLemmas::long_bytes))]
+    fn keep(&mut self, bytes: &[u8]) -> Result<(), RunFault>
+        requires { self.old.progress.lines < 2 ^ 32 }
+        ensures part { OnOk result (self.new.part.items ≡ self.old.part.items ++ bytes.now) }
+        ensures short { OnOk result (is_too_long (strip_carriage_return self.new.part.items) ≡ false) }
+        ensures fault { IfErr result (λ fault. fault ≡ BadLine (self.old.progress.lines + 1)) }
+        ensures long { OnErr result (is_too_long (strip_carriage_return (self.old.part.items ++ bytes.now)) ≡ true) }
+        ensures progress { self.new.progress ≡ self.old.progress }
+    {
+        if self.part.try_extend_from_slice(bytes).is_err() {
+            return Err(RunFault::BadLine(self.progress.lines + 1));
+        }
+        if is_too_long(strip_carriage_return(self.part.as_slice())) {
+            return Err(RunFault::BadLine(self.progress.lines + 1));
+        }
+        Ok(())
+    }
+
+    /// Takes the lines that end in a piece of the script, and keeps the bytes behind the last.
+    #[tactic(auto, using(crate::proofs::LineLemmas::unbroken_nil, crate::proofs::LineLemmas::unbroken_append))]
+    fn take_piece<W: ScriptOut>(
+        &mut self,
+        alloc: Global,
+        writer: &mut W,
+        piece: &[u8],
+    ) -> Result<(), RunFault>
+        requires lines { self.old.progress.lines + length piece.now < 2 ^ 32 }
+        requires unbroken { IsUnbroken self.old.part.items }
+        requires failure { W.has_failed writer.old ≡ false }
+        ensures came { OnOk result (Came P.performs self.old.progress.stage self.old.progress.lines self.old.progress.block (self.old.part.items ++ piece.now) (W.written writer.old)
+            self.new.progress.stage self.new.progress.lines self.new.progress.block self.new.part.items (W.written writer.new)) }
+        ensures unbroken { OnOk result (IsUnbroken self.new.part.items) }
+        ensures short { OnOk result (is_too_long (strip_carriage_return self.new.part.items) ≡ false) }
+        ensures lines { OnOk result (self.new.progress.lines ≤ self.old.progress.lines + length piece.now) }
+        ensures err { IfErr result (λ fault. Stopped P.performs self.old.progress.stage self.old.progress.lines self.old.progress.block (self.old.part.items ++ piece.now) fault
+            (W.written writer.old) (W.written writer.new)) }
+        ensures failure { W.has_failed writer.new ≡ is_write result }
+        ensures unread { is_read result ≡ false }
+    {
+        let mut rest = piece;
+        'lines: while let Some((bytes, behind)) = split_line(rest) {
+            if let Err(fault) = self.end_line(alloc, writer, bytes) {
+                return Err(fault);
+            }
+            rest = behind;
+        }
+        self.keep(rest)
+    }
+
+    /// Ends the run where no more is read: the bytes that are kept may be a line yet.
+    fn finish<W: ScriptOut>(
+        mut self,
+        alloc: Global,
+        writer: &mut W,
+        ending: Ending,
+    ) -> Result<Summary, RunFault>
+        requires lines { self.progress.lines < 2 ^ 32 }
+        requires unbroken { IsUnbroken self.part.items }
+        requires short { is_too_long (strip_carriage_return self.part.items) ≡ false }
+        requires failure { W.has_failed writer.old ≡ false }
+        ensures ends { Ends P.performs self.progress.stage (script_from ending (self.progress.lines + 1) self.progress.block (lines_met ending self.part.items))
+            (self.progress.lines + length (lines_met ending self.part.items)) result (W.written writer.old) (W.written writer.new) }
+        ensures failure { W.has_failed writer.new ≡ is_write result }
+        ensures read { is_read result ≡ is_failure ending }
+    {
+        let Some(line) = last_line(self.part.as_slice(), ending) else {
+            return self.progress.end(ending);
+        };
+        if let Err(fault) = self.progress.take_line(alloc, writer, line) {
+            return Err(fault);
+        }
+        self.progress.end(ending)
+    }
+
+    /// Runs the script that a reader has, line by line as it is read.
+    pub fn run<R: ScriptIn, W: ScriptOut>(
+        mut self,
+        alloc: Global,
+        reader: &mut R,
+        writer: &mut W,
+    ) -> Result<Summary, RunFault>
+        requires lines { self.progress.lines ≡ 0 }
+        requires block { self.progress.block ≡ None }
+        requires part { self.part.items ≡ [] }
+        requires reader { R.has_failed reader.old ≡ false }
+        requires writer { W.has_failed writer.old ≡ false }
+        ensures ran { RanScript P.performs self.progress.stage (R.left reader.old) (R.left reader.new) (R.has_failed reader.new) result
+            (W.written writer.old) (W.written writer.new) }
+        ensures read { R.has_failed reader.new ≡ is_read result }
+        ensures write { W.has_failed writer.new ≡ is_write result }
+    {
+        let mut buffer = [0; CHUNK];
+        let mut read = 0;
+        'pieces: for _turn in 0..MOST_BYTES + 1 {
+            let Ok(taken) = reader.read(&mut buffer) else {
+                return self.finish(alloc, writer, Ending::Failed);
+            };
+            if taken == 0 {
+                return self.finish(alloc, writer, Ending::AtEnd);
+            }
+            let room = taken.min(MOST_BYTES - read);
+            let piece = in_front(&buffer, room);
+            if let Err(fault) = self.take_piece(alloc, writer, piece) {
+                return Err(fault);
+            }
+            if room < taken {
+                return self.finish(alloc, writer, Ending::PastBound);
+            }
+            read += taken;
+        }
+        unreachable!()
     }
 }

@@ -6,6 +6,7 @@ use crate::runs::comment;
 use cx_script::{
     DeviceFault, MemoryIn, MemoryOut, RunFault, ScriptIn, ScriptOut, Std, Summary, run_script,
 };
+use std::io::{self, Read};
 use std::test::Fail;
 
 /// A reader that gives one byte at a time, and fails behind some of them.
@@ -143,11 +144,79 @@ fn a_long_line_comes_before_a_failed_read(rt: HostRuntime) -> Result<(), Fail> {
     Ok(())
 }
 
+/// A bad line is told in front of a failure behind it, and the reader has not failed.
+#[test]
+fn a_bad_line_comes_before_a_failed_read(rt: HostRuntime) {
+    let script = b"TERMINAL T001\nHELLO\nTERMINAL T002\n";
+    for good in 20..script.len() {
+        let mut buffer = [0; 64];
+        let mut output = MemoryOut::new(&mut buffer);
+        let mut input = FailingIn {
+            rest: script,
+            good,
+            failed: false,
+        };
+        let ran = run_script(rt.alloc(), &mut input, &mut output);
+        assert_eq!(rt; ran, Err(RunFault::BadLine(2)), "at {good}");
+        assert!(rt; !input.failed());
+        assert_eq!(rt; output.text(), b"TERMINAL T001 DEFINED\n".as_slice());
+    }
+}
+
+/// A slice of the transcript's length takes all of it; one that is shorter takes what it has room for.
+#[test]
+fn a_slice_is_filled_to_its_last_byte(rt: HostRuntime) {
+    let mut buffer = [0; 66];
+    for len in 0..67 {
+        let mut output = MemoryOut::new(&mut buffer[..len]);
+        let ran = run_script(rt.alloc(), &mut MemoryIn::new(DEFINITIONS), &mut output);
+        let whole = len == DEFINED.len();
+        let want = if whole {
+            Ok(Summary { lines: 3 })
+        } else {
+            Err(RunFault::Write)
+        };
+        assert_eq!(rt; ran, want, "of {len}");
+        assert_eq!(rt; output.room(), 0);
+        assert!(rt; len <= DEFINED.len());
+        assert_eq!(rt; output.text(), &DEFINED[..len], "of {len}");
+    }
+}
+
+/// A reader and a writer of the standard library that fail once, and would work again.
+#[derive(Drop)]
+struct Flaky {
+    calls: usize,
+}
+
+impl Read for Flaky {
+    fn read(&mut self, buf: &mut [u8]) -> io::Result<usize> {
+        self.calls = self.calls.saturating_add(1);
+        if self.calls == 1 {
+            return Err(io::Error::from(io::ErrorKind::Other));
+        }
+        Ok(buf.len().min(1))
+    }
+}
+
+#[test]
+fn a_device_that_failed_has_failed(rt: HostRuntime) {
+    let mut input = Std::new(Flaky { calls: 0 });
+    let mut buffer = [0; 4];
+    assert!(rt; !input.failed());
+    assert_eq!(rt; input.read(&mut buffer), Err(DeviceFault));
+    assert!(rt; input.failed());
+    assert_eq!(rt; input.read(&mut buffer), Ok(1));
+    assert!(rt; input.failed());
+}
+
 #[test]
 fn the_standard_library_s_devices(rt: HostRuntime) -> Result<(), Fail> {
-    let mut output = Std::new(Vec::new(rt.alloc()));
+    let mut text = Vec::new(rt.alloc());
+    let mut output = Std::new(&mut text);
     let ran = run_script(rt.alloc(), &mut Std::new(DEFINITIONS), &mut output);
     assert_eq!(rt; ran, Ok(Summary { lines: 3 }));
     assert!(rt; !output.failed());
+    assert_eq!(rt; text.as_slice(), DEFINED);
     Ok(())
 }

@@ -33,6 +33,49 @@ KEY T001 NoSuchTransaction\nTURN T001 Idle\nKEY T009 NoSuchTerminal\n",
     );
 }
 
+/// The block of an image with so many whole lines of hexadecimal digits, and some lines behind them.
+fn image<R: AllocGlobal>(rt: &R, lines: usize, end: &[u8]) -> Result<Vec<u8>, Fail> {
+    let mut script = Vec::from_slice(rt.alloc(), b"IMAGE A 80\n")?;
+    for _line in 0..lines {
+        script.extend_from_slice(&[b'0'; 4096])?;
+        script.push(b'\n')?;
+    }
+    script.extend_from_slice(end)?;
+    Ok(script)
+}
+
+/// A text has at most 65,536 bytes; a longer one is judged as hexadecimal to its end.
+#[test]
+fn long_images(rt: HostRuntime) -> Result<(), Fail> {
+    let refused = b"PROGRAM A REFUSED BadLength\n".as_slice();
+    let loaded = b"PROGRAM A AT 010000 LENGTH 010000\n".as_slice();
+    expect_run(
+        &rt,
+        &image(&rt, 32, b"/*\n")?,
+        Ok(Summary { lines: 34 }),
+        loaded,
+    );
+    expect_run(
+        &rt,
+        &image(&rt, 32, b"00\n/*\n")?,
+        Ok(Summary { lines: 35 }),
+        refused,
+    );
+    expect_run(
+        &rt,
+        &image(&rt, 40, b"00\n/*\n")?,
+        Ok(Summary { lines: 43 }),
+        refused,
+    );
+    expect_run(
+        &rt,
+        &image(&rt, 40, b"0\n/*\n")?,
+        Err(RunFault::BadLine(42)),
+        b"",
+    );
+    Ok(())
+}
+
 #[test]
 fn a_loop_is_ended(rt: HostRuntime) {
     expect_run(

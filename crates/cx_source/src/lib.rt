@@ -9,7 +9,9 @@ mod reader;
 mod source;
 mod statements;
 
-pub use lines::{begins_with_letter, is_letter, is_name, is_name_character};
+pub use lines::{
+    begins_with_letter, is_letter, is_name, is_name_character, skip_blanks, text_of, trimmed,
+};
 pub use marks::{Mark, cut, first_mark, outside};
 pub use reader::{SourceReader, read_source};
 pub use source::{Item, Items, Source, SourceFault, Stmt, Text};

@@ -14,7 +14,7 @@ const MARK: usize = 72;
 const NAME_MAX: usize = 8;
 
 /// A text without the blanks at its end.
-pub(crate) fn trimmed(text: &[u8]) -> &[u8]
+pub fn trimmed(text: &[u8]) -> &[u8]
     ensures { result.now ≡ trimmed text.now }
 {
     let mut len = text.len();
@@ -57,7 +57,7 @@ fn first_blank(text: &[u8]) -> Option<usize>
 }
 
 /// A text without the blanks at its beginning.
-pub(crate) fn skip_blanks(text: &[u8]) -> &[u8]
+pub fn skip_blanks(text: &[u8]) -> &[u8]
     ensures { result.now ≡ skip_blanks text.now }
 {
     let (_, rest) = text.split_at(blanks_len(text));
@@ -75,7 +75,7 @@ pub(crate) fn columns(text: &[u8], first: usize, last: usize) -> &[u8]
 
 /// Columns 1 to 72 of a line, without the blanks at their end.
 #[tactic(auto, unfolding(crate::specs::Lines::text_of))]
-pub(crate) fn text_of(line: &[u8]) -> &[u8]
+pub fn text_of(line: &[u8]) -> &[u8]
     ensures { result.now ≡ text_of line.now }
 {
     trimmed(columns(line, 1, MARK))

@@ -20,5 +20,5 @@ pub record IsTranscribed (input : List ℕ) (counted : ℕ) (written written_aft
 -- an Ok of a reader that tells its bytes
 abbrev pub OkIsTheWholeScript : Type 0
 OkIsTheWholeScript = (left left_after : Option (List ℕ)) (failed : Bool) (written written_after : Option (List ℕ)) (summary : Summary)
-    → RanScript left left_after failed (Ok summary) written written_after
+    → RanScript Performs fresh_region left left_after failed (Ok summary) written written_after
     → IfSome left (λ input. IsTranscribed input summary.lines written written_after)

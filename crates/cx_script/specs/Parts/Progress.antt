@@ -1,14 +1,16 @@
 -- A run of a script, line by line.
-use Rattle.std.specs.Prelude.{◌≡◌, ℕ, Option, Some, None, Result, Ok, Err, List, [], ◌++◌}
-use Rattle.std.specs.Io.KnownBytes.{Appends}
+use Rattle.std.specs.Prelude.{◌≡◌, ℕ, ◌+◌, Option, Some, None, Result, Ok, Err, List, [], ◌++◌, length}
+use Rattle.std.specs.Io.KnownBytes.{Appends, Consumes}
 use Rattle.cx_script.specs.Devices.{WroteFront}
 use Rattle.cx_script.specs.ImageBlock.{ImageBlock}
-use Rattle.cx_script.specs.Script.{Script}
+use Rattle.cx_script.specs.Lines.{lines_met}
+use Rattle.cx_script.specs.Script.{Script, script_from}
+use Rattle.cx_script.specs.declared.input.Ending.{Ending}
 use Rattle.cx_script.specs.declared.actions.Action.{Action}
 use Rattle.cx_script.specs.declared.blocks.Step.{Step}
 use Rattle.cx_script.specs.declared.faults.RunFault.{RunFault}
 use Rattle.cx_script.specs.declared.faults.RunFault.TheVariants.{BadLine, Write, Memory}
-use Rattle.cx_script.specs.Transcript.{Runs}
+use Rattle.cx_script.specs.Transcript.{Runs, Stops}
 
 -- what is done for a line: nothing where it asks none
 abbrev pub Acts : {S : Type 0} → (S → Action → List ℕ → S → Type 0) → Option Action → S → List ℕ → S → Type 0
@@ -42,3 +44,24 @@ pub record Reached {S : Type 0} (performs : S → Action → List ℕ → S → 
   pub runs : Runs performs old done text new
   pub written : Appends before after text
   pub splits : script ≡ behind_done done left
+
+-- how far a run has come from one place of a script to another: some actions are done and written, and however the script
+-- goes on, what the bytes ahead ask is these actions and what the bytes left ask
+pub record Came {S : Type 0} (performs : S → Action → List ℕ → S → Type 0) (old : S) (n : ℕ) (block : Option ImageBlock) (ahead : List ℕ) (before : Option (List ℕ)) (new : S) (m : ℕ) (next : Option ImageBlock) (left : List ℕ) (after : Option (List ℕ)) : Type 0 where
+  pub done : List Action
+  pub text : List ℕ
+  pub runs : Runs performs old done text new
+  pub written : Appends before after text
+  pub splits : (ending : Ending) (rest : List ℕ) → script_from ending (n + 1) block (lines_met ending (ahead ++ rest)) ≡ behind_done done (script_from ending (m + 1) next (lines_met ending (left ++ rest)))
+  pub counts : (ending : Ending) (rest : List ℕ) → n + length (lines_met ending (ahead ++ rest)) ≡ m + length (lines_met ending (left ++ rest))
+
+-- a run stopped at such a place, however the script goes on
+pub record Stopped {S : Type 0} (performs : S → Action → List ℕ → S → Type 0) (old : S) (n : ℕ) (block : Option ImageBlock) (ahead : List ℕ) (fault : RunFault) (before after : Option (List ℕ)) : Type 0 where
+  pub stops : (ending : Ending) (rest : List ℕ) → Stops performs old (script_from ending (n + 1) block (lines_met ending (ahead ++ rest))) fault before after
+
+-- what a run from a script's beginning has read so far: so many bytes, and how far it has come in them
+pub record Seen {S : Type 0} (performs : S → Action → List ℕ → S → Type 0) (start : S) (left now : Option (List ℕ)) (read : ℕ) (new : S) (m : ℕ) (next : Option ImageBlock) (part : List ℕ) (before after : Option (List ℕ)) : Type 0 where
+  pub seen : List ℕ
+  pub consumed : Consumes left now seen
+  pub len : length seen ≡ read
+  pub came : Came performs start 0 None seen before new m next part after

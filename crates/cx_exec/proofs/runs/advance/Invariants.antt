@@ -1,4 +1,4 @@
-use Rattle.cx_exec.specs.State.{machine}
+use Rattle.cx_exec.specs.Machine.{machine}
 use Rattle.cx_exec.specs.Advance.{Passes}
 use Rattle.cx_exec.proofs.runs.advance.Given as goal
 

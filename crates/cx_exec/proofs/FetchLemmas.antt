@@ -1,0 +1,48 @@
+-- What is fetched of a spelled instruction.
+use Rattle.std.proofs.Common.{◌≡◌, ℕ, ◌%◌, ◌<◌, ◌==◌, zero, suc, false, List, ◌∷◌, length, slice_index, Option, Some, None, Ok, refl, arith}
+use Rattle.std.specs.Option.{option_map, option_and_then}
+use Rattle.std.proofs.lemmas.Bool.{ne_eqb}
+use Rattle.cx_storage.specs.Storage.{Storage, byte_at, span}
+use Rattle.cx_storage.specs.Address.{along}
+use Rattle.cx_code.specs.declared.table.Op.{Op}
+use Rattle.cx_code.specs.declared.table.Format.{Format}
+use Rattle.cx_code.specs.declared.table.Format.TheVariants as form
+use Rattle.cx_code.specs.Table.{format_of, length_of, length_of_format, length_of_code}
+use Rattle.cx_code.specs.Spelling.{Instruction}
+use Rattle.cx_code.specs.Reading.{reading}
+use Rattle.cx_exec.specs.Fetch.{code_bytes, code_at, read_as}
+
+-- the first byte of a span
+first_byte : (s : Storage) (a n : ℕ) (bytes : List ℕ) → span s a n ≡ Some bytes → 0 < n → byte_at s a ≡ Some (slice_index bytes 0)
+unfolding span
+first_byte s a zero bytes e h = absurd (omega arith)
+first_byte s a (suc n) bytes e h = go (byte_at s a) (span s (along a 1) n) e
+  where
+    go : (o : Option ℕ) (r : Option (List ℕ)) → option_and_then (λ b. option_map (λ bs. b ∷ bs) r) o ≡ Some bytes → o ≡ Some (slice_index bytes 0)
+    go None r e = cc
+    go (Some b) None e = cc
+    go (Some b) (Some bs) e = let shape : b ∷ bs ≡ bytes = cc in rw (← shape) refl
+
+pub code_there : (s : Storage) (a : ℕ) (bytes : List ℕ) → a % 2 ≡ 0 → 0 < length bytes → length_of_code (slice_index bytes 0) ≡ length bytes → span s a (length bytes) ≡ Some bytes
+    → code_at s a ≡ Ok bytes
+unfolding code_at
+code_there s a bytes even some long there =
+    let first = first_byte s a (length bytes) bytes there some in
+    let odd : (a % 2 == 1) ≡ false = ne_eqb (a % 2) 1 (λ e. omega (arith, e, even)) in
+    let whole : code_bytes s a ≡ Some bytes = rw (first, long) there in
+    rw (odd, whole) refl
+
+pub reads_as : (bytes : List ℕ) (i : Instruction) → reading bytes ≡ Some i → read_as bytes ≡ Ok i
+unfolding read_as
+reads_as bytes i e = rw e refl
+
+pub length_some : (bytes : List ℕ) (op : Op) → length bytes ≡ length_of op → 0 < length bytes
+length_some bytes op e = some (format_of op) e
+  where
+    some : (format : Format) → length bytes ≡ length_of_format format → 0 < length bytes
+    some form.Rr h = omega (arith, h)
+    some form.Rx h = omega (arith, h)
+    some form.Rs h = omega (arith, h)
+    some form.Si h = omega (arith, h)
+    some form.Ss h = omega (arith, h)
+    some form.Ss2 h = omega (arith, h)

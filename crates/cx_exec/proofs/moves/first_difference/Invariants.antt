@@ -1,9 +1,0 @@
-use Rattle.std.proofs.Common.{◌≡◌, ℕ, ◌<◌}
-use Rattle.cx_storage.specs.Address.{along}
-use Rattle.cx_exec.specs.Sequence.{content}
-use Rattle.cx_exec.proofs.moves.first_difference.Given as goal
-
--- the operands are alike so far
-abbrev pub invariant-loop-k : goal.invariant-loop-k
-invariant-loop-k g l =
-    (j : ℕ) → j < l.k → content (g.S.Store.storage l.store) (along l.a1 j) ≡ content (g.S.Store.storage l.store) (along l.a2 j)

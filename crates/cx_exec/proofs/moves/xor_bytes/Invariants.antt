@@ -1,7 +1,0 @@
-use Rattle.cx_exec.specs.Sequence.{rightward, StoresInOrder}
-use Rattle.cx_exec.specs.Moves.{xored}
-use Rattle.cx_exec.proofs.moves.xor_bytes.Given as goal
-
--- so many bytes are stored
-abbrev pub invariant-loop-k : goal.invariant-loop-k
-invariant-loop-k g l = StoresInOrder (rightward l.a1) l.k (xored l.a1 l.a2) (g.S.Store.storage l.initial.store) (g.S.Store.storage l.store)

@@ -1,0 +1,41 @@
+//! Addition and subtraction.
+
+ghost use Rattle.std.specs.Prelude.{◌≡◌, ◌<◌, ◌^◌, ◌+ℤ◌, ◌-ℤ◌, neg_ℤ, Ok, slice_set};
+ghost use Rattle.cx_exec.specs.Numbers.{signed, word_of, sum_code};
+
+use crate::machine::{Cpu, Interruption, Updated};
+use crate::numbers::{sum_code, word_of};
+use crate::results::load_coded;
+
+/// The exact sum of two words.
+pub(crate) fn sum(first: u32, second: u32) -> i64
+    ensures { result ≡ signed first +ℤ signed second }
+{
+    i64::from(first.cast_signed()) + i64::from(second.cast_signed())
+}
+
+/// The exact difference of two words.
+pub(crate) fn difference(first: u32, second: u32) -> i64
+    ensures { result ≡ signed first -ℤ signed second }
+{
+    i64::from(first.cast_signed()) - i64::from(second.cast_signed())
+}
+
+/// The exact complement of a word.
+pub(crate) fn complement(word: u32) -> i64
+    ensures { result ≡ neg_ℤ (signed word) }
+{
+    -i64::from(word.cast_signed())
+}
+
+/// Puts an exact result into a register, modulo 2^32, and sets its code.
+pub(crate) fn put_sum(cpu: &mut Cpu, r: u8, x: i64, updated: Updated) -> Result<(), Interruption>
+    requires register { r < 16 }
+    requires address { updated.address < 2 ^ 24 }
+    ensures done { result ≡ Ok tt }
+    ensures regs { cpu.new.regs ≡ slice_set cpu.old.regs r (word_of x) }
+    ensures code { cpu.new.cc ≡ sum_code x }
+    ensures next { cpu.new.next ≡ updated.address }
+{
+    load_coded(cpu, r, word_of(x), sum_code(i128::from(x)), updated)
+}

@@ -1,0 +1,83 @@
+//! Comparison.
+
+ghost use Rattle.std.specs.Prelude.{◌≡◌, ◌<◌, ◌≤◌, ◌^◌, length, pos};
+ghost use Rattle.cx_exec.specs.Numbers.{number_of};
+ghost use Rattle.cx_exec.specs.Machine.{machine};
+ghost use Rattle.cx_exec.specs.Numbers.{signed, order_code};
+ghost use Rattle.cx_exec.specs.Comparison.{ComparesStrings};
+
+use crate::machine::{Cpu, Interruption, Updated};
+use crate::numbers::order_code;
+use crate::results::set_code;
+use cx_storage::Store;
+
+/// The code of two words compared as signed numbers.
+pub(crate) fn signed_order(first: u32, second: u32) -> u8
+    ensures value { result ≡ order_code (signed first) (signed second) }
+    ensures short { result ≤ 3 }
+{
+    order_code(
+        i128::from(first.cast_signed()),
+        i128::from(second.cast_signed()),
+    )
+}
+
+/// The code of two words compared as numbers without a sign.
+pub(crate) fn logical_order(first: u32, second: u32) -> u8
+    ensures value { result ≡ order_code (pos first) (pos second) }
+    ensures short { result ≤ 3 }
+{
+    order_code(i128::from(first), i128::from(second))
+}
+
+/// The code of two bytes compared as numbers without a sign.
+pub(crate) fn byte_order(first: u8, second: u8) -> u8
+    ensures value { result ≡ order_code (pos first) (pos second) }
+    ensures short { result ≤ 3 }
+{
+    order_code(i128::from(first), i128::from(second))
+}
+
+/// The condition code of two strings of one length compared as numbers without a sign.
+fn string_order(first: &[u8], second: &[u8]) -> u8
+    requires { length first.now ≡ length second.now }
+    ensures value { result ≡ order_code (pos (number_of first.now)) (pos (number_of second.now)) }
+    ensures short { result ≤ 3 }
+{
+    for k in 0..first.len() {
+        if first[k] != second[k] {
+            return byte_order(first[k], second[k]);
+        }
+    }
+    0
+}
+
+/// CLC. The operands, of `n` bytes, begin at `a1` and `a2`.
+#[tactic(auto, unfolding(crate::specs::Comparison::ComparesStrings))]
+pub(crate) fn clc<S: Store>(
+    cpu: &mut Cpu,
+    store: &S,
+    n: u32,
+    a1: u32,
+    a2: u32,
+    updated: Updated,
+) -> Result<(), Interruption>
+    requires first { a1 < 2 ^ 24 }
+    requires second { a2 < 2 ^ 24 }
+    requires count { n ≤ 256 }
+    requires address { updated.address < 2 ^ 24 }
+    ensures { ComparesStrings n a1 a2 updated (machine cpu.old (S.storage store.now)) result (machine cpu.new (S.storage store.now)) }
+{
+    let mut left = [0; 256];
+    let mut right = [0; 256];
+    let first = &mut left[..n as usize];
+    let second = &mut right[..n as usize];
+    if !store.read(a1, first) {
+        return Err(Interruption::Addressing);
+    }
+    if !store.read(a2, second) {
+        return Err(Interruption::Addressing);
+    }
+    let cc = string_order(first, second);
+    set_code(cpu, cc, updated)
+}

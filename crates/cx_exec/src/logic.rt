@@ -1,0 +1,73 @@
+//! Logic.
+
+ghost use Rattle.std.specs.Prelude.{◌≡◌, ◌<◌, ◌≤◌, ◌^◌, ◌==◌};
+ghost use Rattle.std.specs.List.{list_all};
+ghost use Rattle.cx_exec.specs.Numbers.{number_of};
+ghost use Rattle.cx_exec.specs.Machine.{machine};
+ghost use Rattle.cx_exec.specs.Logic.{logical_code, test_code, StoresLogical};
+
+use crate::machine::{Cpu, Interruption, Updated};
+use crate::operands::put_bytes;
+use cx_storage::Store;
+
+/// The condition code of a logical result.
+pub(crate) fn logical_code(word: u32) -> u8
+    ensures value { result ≡ logical_code word }
+    ensures short { result ≤ 3 }
+{
+    u8::from(word != 0)
+}
+
+/// The condition code of the bits of a byte that a mask selects.
+pub(crate) fn test_code(mask: u8, byte: u8) -> u8
+    ensures value { result ≡ test_code mask byte }
+    ensures short { result ≤ 3 }
+{
+    let selected = byte & mask;
+    if selected == 0 {
+        0
+    } else if selected == mask {
+        3
+    } else {
+        1
+    }
+}
+
+/// Stores one byte, with the code of a logical result.
+pub(crate) fn put_logical<S: Store>(
+    cpu: &mut Cpu,
+    store: &mut S,
+    a: u32,
+    byte: u8,
+    updated: Updated,
+) -> Result<(), Interruption>
+    requires operand { a < 2 ^ 24 }
+    requires address { updated.address < 2 ^ 24 }
+    ensures { StoresLogical a byte updated (machine cpu.old (S.storage store.old)) result (machine cpu.new (S.storage store.new)) }
+{
+    let cc = logical_code(u32::from(byte));
+    put_bytes(cpu, store, a, &[byte], cc, updated)
+}
+
+/// Whether the bytes are all zero.
+fn are_zero(bytes: &[u8]) -> bool
+    ensures { result ≡ list_all (λ byte. byte == 0) bytes.now }
+{
+    bytes.iter().all(|byte| *byte == 0)
+}
+
+/// Whether the bytes, as a number, are zero.
+#[tactic(auto, using(crate::proofs::NumberLemmas::all_zero))]
+pub(crate) fn is_zero(bytes: &[u8]) -> bool
+    ensures { result ≡ (number_of bytes.now == 0) }
+{
+    are_zero(bytes)
+}
+
+/// The condition code of a logical result of several bytes.
+pub(crate) fn string_code(bytes: &[u8]) -> u8
+    ensures value { result ≡ logical_code (number_of bytes.now) }
+    ensures short { result ≤ 1 }
+{
+    if is_zero(bytes) { 0 } else { 1 }
+}

@@ -1,0 +1,35 @@
+//! Multiplication.
+
+ghost use Rattle.std.specs.Prelude.{◌≡◌, ◌<◌, ◌^◌, ◌+◌, ◌*ℤ◌, Ok, slice_index};
+ghost use Rattle.cx_exec.specs.Numbers.{signed, double_of};
+ghost use Rattle.cx_exec.specs.Results.{with_pair};
+
+use crate::machine::{Cpu, Interruption, Updated};
+use crate::numbers::double_of;
+use crate::results::load_pair;
+
+/// The exact product of two words.
+fn product(first: u32, second: u32) -> i64
+    ensures { result ≡ signed first *ℤ signed second }
+{
+    i64::from(first.cast_signed()) * i64::from(second.cast_signed())
+}
+
+/// Multiplies the pair's second register by a word, into the pair.
+pub(crate) fn multiply(
+    cpu: &mut Cpu,
+    r: u8,
+    word: u32,
+    updated: Updated,
+) -> Result<(), Interruption>
+    requires register { r < 15 }
+    requires address { updated.address < 2 ^ 24 }
+    ensures done { result ≡ Ok tt }
+    ensures regs { cpu.new.regs ≡ with_pair cpu.old.regs r (double_of (signed (slice_index cpu.old.regs (r + 1)) *ℤ signed word)) }
+    ensures code { cpu.new.cc ≡ cpu.old.cc }
+    ensures next { cpu.new.next ≡ updated.address }
+{
+    let double = double_of(product(cpu.regs[r as usize + 1], word));
+    let cc = cpu.cc;
+    load_pair(cpu, r, double, cc, updated)
+}

@@ -1,0 +1,49 @@
+//! Bytes that are stored one after the other, and addresses that go on at 0 after the last.
+
+ghost use Rattle.std.specs.Prelude.{◌≡◌, ◌<◌, ◌≤◌, ◌^◌};
+ghost use Rattle.cx_storage.specs.Address.{along, distance};
+ghost use Rattle.cx_exec.specs.Sequence.{content, seen};
+
+use cx_storage::Store;
+
+/// The address `k` bytes (at most 256) after `a` (below 2^24); after X'FFFFFF' comes 0.
+pub(crate) fn along(a: u32, k: u32) -> u32
+    requires address { a < 2 ^ 24 }
+    requires count { k ≤ 256 }
+    ensures value { result ≡ along a k }
+    ensures short { result < 2 ^ 24 }
+{
+    (a + k) % 0x100_0000
+}
+
+/// How many bytes after `a` the address `x` comes (both below 2^24).
+pub(crate) fn distance(a: u32, x: u32) -> u32
+    requires first { a < 2 ^ 24 }
+    requires second { x < 2 ^ 24 }
+    ensures { result ≡ distance a x }
+{
+    (x + (0x100_0000 - a)) % 0x100_0000
+}
+
+/// The byte at an address (below 2^24), or 0 where it is absent.
+pub(crate) fn content<S: Store>(store: &S, a: u32) -> u8
+    requires { a < 2 ^ 24 }
+    ensures { result ≡ content (S.storage store.now) a }
+{
+    store.byte(a).unwrap_or(0)
+}
+
+/// The byte seen at `x` (below 2^24), the address of the `number`-th byte to be stored, once some are stored: theirs,
+/// else storage's.
+#[tactic(auto, unfolding(crate::specs::Sequence::seen))]
+pub(crate) fn seen<S: Store>(store: &S, stored: &[u8], number: u32, x: u32) -> u8
+    requires { x < 2 ^ 24 }
+    ensures { result ≡ seen (S.storage store.now) stored.now number x }
+{
+    let number = number as usize;
+    if number < stored.len() {
+        stored[number]
+    } else {
+        content(store, x)
+    }
+}

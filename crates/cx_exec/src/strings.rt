@@ -1,0 +1,93 @@
+//! MVC and XC: two operands of one length, from left to right.
+
+ghost use Rattle.std.specs.Prelude.{◌≡◌, ◌<◌, ◌≤◌, ◌^◌, take};
+ghost use Rattle.cx_exec.specs.Machine.{machine};
+ghost use Rattle.cx_exec.specs.Sequence.{stored_by};
+ghost use Rattle.cx_exec.specs.Strings.{moved, xored, MvcEffect, XcEffect};
+
+use crate::logic::string_code;
+use crate::machine::{Cpu, Interruption, Updated};
+use crate::operands::put_bytes;
+use crate::sequence::{along, content, distance, seen};
+use cx_storage::Store;
+
+/// Puts the bytes that MVC stores at the front of the buffer.
+#[tactic(auto, using(crate::proofs::SequenceLemmas::stored_none))]
+fn move_bytes<S: Store>(store: &S, n: u32, a1: u32, a2: u32, new: &mut [u8; 256])
+    requires first { a1 < 2 ^ 24 }
+    requires second { a2 < 2 ^ 24 }
+    requires count { n ≤ 256 }
+    ensures { take n new.new ≡ stored_by (moved (S.storage store.now) a1 a2) n }
+{
+    for k in 0..n {
+        let from = along(a2, k);
+        let byte = seen(store, &new[..k as usize], distance(a1, from), from);
+        new[k as usize] = byte;
+    }
+}
+
+/// Puts the bytes that XC stores at the front of the buffer.
+#[tactic(auto, using(crate::proofs::SequenceLemmas::stored_none))]
+fn xor_bytes<S: Store>(store: &S, n: u32, a1: u32, a2: u32, new: &mut [u8; 256])
+    requires first { a1 < 2 ^ 24 }
+    requires second { a2 < 2 ^ 24 }
+    requires count { n ≤ 256 }
+    ensures { take n new.new ≡ stored_by (xored (S.storage store.now) a1 a2) n }
+{
+    for k in 0..n {
+        let from = along(a2, k);
+        let second = seen(store, &new[..k as usize], distance(a1, from), from);
+        new[k as usize] = content(store, along(a1, k)) ^ second;
+    }
+}
+
+/// MVC. The operands, of `n` bytes, begin at `a1` and `a2`.
+#[tactic(auto, unfolding(crate::specs::Strings::MvcEffect))]
+pub(crate) fn mvc<S: Store>(
+    cpu: &mut Cpu,
+    store: &mut S,
+    n: u32,
+    a1: u32,
+    a2: u32,
+    updated: Updated,
+) -> Result<(), Interruption>
+    requires first { a1 < 2 ^ 24 }
+    requires second { a2 < 2 ^ 24 }
+    requires count { n ≤ 256 }
+    requires address { updated.address < 2 ^ 24 }
+    ensures { MvcEffect n a1 a2 updated (machine cpu.old (S.storage store.old)) result (machine cpu.new (S.storage store.new)) }
+{
+    if !store.has_span(a2, n as usize) {
+        return Err(Interruption::Addressing);
+    }
+    let mut new = [0; 256];
+    move_bytes(store, n, a1, a2, &mut new);
+    let cc = cpu.cc;
+    put_bytes(cpu, store, a1, &new[..n as usize], cc, updated)
+}
+
+/// XC. The operands, of `n` bytes, begin at `a1` and `a2`.
+#[tactic(auto, unfolding(crate::specs::Strings::XcEffect))]
+pub(crate) fn xc<S: Store>(
+    cpu: &mut Cpu,
+    store: &mut S,
+    n: u32,
+    a1: u32,
+    a2: u32,
+    updated: Updated,
+) -> Result<(), Interruption>
+    requires first { a1 < 2 ^ 24 }
+    requires second { a2 < 2 ^ 24 }
+    requires count { n ≤ 256 }
+    requires address { updated.address < 2 ^ 24 }
+    ensures { XcEffect n a1 a2 updated (machine cpu.old (S.storage store.old)) result (machine cpu.new (S.storage store.new)) }
+{
+    if !store.has_span(a2, n as usize) {
+        return Err(Interruption::Addressing);
+    }
+    let mut new = [0; 256];
+    xor_bytes(store, n, a1, a2, &mut new);
+    let bytes = &new[..n as usize];
+    let cc = string_code(bytes);
+    put_bytes(cpu, store, a1, bytes, cc, updated)
+}

@@ -1,0 +1,152 @@
+//! TR and TRT: argument bytes and a table.
+
+ghost use Rattle.std.specs.Prelude.{◌≡◌, ◌<◌, ◌≤◌, ◌^◌, take, IfSome, MatchBool};
+ghost use Rattle.cx_storage.specs.Storage.{Storage};
+ghost use Rattle.cx_exec.specs.Machine.{machine};
+ghost use Rattle.cx_exec.specs.Sequence.{stored_by};
+ghost use Rattle.cx_exec.specs.Translation.{table_byte, HasTable, translated, first_found, TrEffect, with_address, found_at, TrtEffect};
+
+use crate::loads::inserted;
+use crate::machine::{Cpu, Interruption, Updated};
+use crate::sequence::{along, content, distance, seen};
+use cx_storage::Store;
+
+/// The table's byte for the `k`-th argument byte (`k` is at most 256), where both are present.
+fn table_byte<S: Store>(store: &S, a1: u32, a2: u32, k: u32) -> Option<u8>
+    requires first { a1 < 2 ^ 24 }
+    requires second { a2 < 2 ^ 24 }
+    requires place { k ≤ 256 }
+    ensures { result ≡ table_byte (S.storage store.now) a1 a2 k }
+{
+    let argument = store.byte(along(a1, k))?;
+    store.byte(along(a2, u32::from(argument)))
+}
+
+/// Whether each of `n` argument bytes, and the table's byte for it, is present.
+#[tactic(auto, unfolding(crate::specs::Translation::HasTable))]
+fn has_table<S: Store>(store: &S, n: u32, a1: u32, a2: u32) -> bool
+    requires first { a1 < 2 ^ 24 }
+    requires second { a2 < 2 ^ 24 }
+    requires count { n ≤ 256 }
+    ensures { MatchBool result (HasTable (S.storage store.now) n a1 a2) (HasTable (S.storage store.now) n a1 a2 → ⊥) }
+{
+    for k in 0..n {
+        if table_byte(store, a1, a2, k).is_none() {
+            return false;
+        }
+    }
+    true
+}
+
+/// Puts the bytes that TR stores at the front of the buffer.
+#[tactic(auto, using(crate::proofs::SequenceLemmas::stored_none))]
+fn translate_bytes<S: Store>(store: &S, n: u32, a1: u32, a2: u32, new: &mut [u8; 256])
+    requires first { a1 < 2 ^ 24 }
+    requires second { a2 < 2 ^ 24 }
+    requires count { n ≤ 256 }
+    ensures { take n new.new ≡ stored_by (translated (S.storage store.now) a1 a2) n }
+{
+    for k in 0..n {
+        let argument = content(store, along(a1, k));
+        let from = along(a2, u32::from(argument));
+        let byte = seen(store, &new[..k as usize], distance(a1, from), from);
+        new[k as usize] = byte;
+    }
+}
+
+/// TR. The argument, of `n` bytes, begins at `a1`, the table at `a2`.
+#[tactic(auto, unfolding(crate::specs::Translation::TrEffect))]
+pub(crate) fn tr<S: Store>(
+    cpu: &mut Cpu,
+    store: &mut S,
+    n: u32,
+    a1: u32,
+    a2: u32,
+    updated: Updated,
+) -> Result<(), Interruption>
+    requires first { a1 < 2 ^ 24 }
+    requires second { a2 < 2 ^ 24 }
+    requires count { n ≤ 256 }
+    requires address { updated.address < 2 ^ 24 }
+    ensures { TrEffect n a1 a2 updated (machine cpu.old (S.storage store.old)) result (machine cpu.new (S.storage store.new)) }
+{
+    if !has_table(store, n, a1, a2) {
+        return Err(Interruption::Addressing);
+    }
+    let mut new = [0; 256];
+    translate_bytes(store, n, a1, a2, &mut new);
+    store.write(a1, &new[..n as usize]);
+    cpu.next = updated.address;
+    Ok(())
+}
+
+/// The first of `n` places whose byte of the table is not there with the value zero.
+#[tactic(auto, using(crate::proofs::TranslationLemmas::none_found, crate::proofs::TranslationLemmas::found_first))]
+fn first_found<S: Store>(store: &S, n: u32, a1: u32, a2: u32) -> Option<u32>
+    requires first { a1 < 2 ^ 24 }
+    requires second { a2 < 2 ^ 24 }
+    requires count { n ≤ 256 }
+    ensures place { result ≡ first_found (S.storage store.now) n a1 a2 }
+    ensures within { IfSome result (λ k. k < n) }
+{
+    for k in 0..n {
+        if table_byte(store, a1, a2, k) != Some(0) {
+            return Some(k);
+        }
+    }
+    None
+}
+
+/// A word with an address (below 2^24) in bits 8 to 31; the other bits stay.
+fn with_address(word: u32, a: u32) -> u32
+    requires { a < 2 ^ 24 }
+    ensures { result ≡ with_address word a }
+{
+    word / 0x100_0000 * 0x100_0000 + a
+}
+
+/// What a search leaves that found a byte for the argument byte at place `k` of `n`.
+#[tactic(auto, unfolding(crate::specs::Translation::found_at))]
+fn set_found(cpu: &mut Cpu, n: u32, a1: u32, k: u32, byte: u8, updated: Updated)
+    requires first { a1 < 2 ^ 24 }
+    requires place { k < n }
+    requires count { n ≤ 256 }
+    requires address { updated.address < 2 ^ 24 }
+    ensures { (storage : Storage) → machine cpu.new storage ≡ found_at n a1 k byte updated (machine cpu.old storage) }
+{
+    cpu.regs[1] = with_address(cpu.regs[1], along(a1, k));
+    cpu.regs[2] = inserted(cpu.regs[2], byte);
+    cpu.cc = if k + 1 == n { 2 } else { 1 };
+    cpu.next = updated.address;
+}
+
+/// TRT. The argument, of `n` bytes, begins at `a1`, the table at `a2`.
+#[tactic(auto, unfolding(crate::specs::Translation::TrtEffect, crate::specs::Translation::Finds))]
+pub(crate) fn trt<S: Store>(
+    cpu: &mut Cpu,
+    store: &S,
+    n: u32,
+    a1: u32,
+    a2: u32,
+    updated: Updated,
+) -> Result<(), Interruption>
+    requires first { a1 < 2 ^ 24 }
+    requires second { a2 < 2 ^ 24 }
+    requires count { n ≤ 256 }
+    requires address { updated.address < 2 ^ 24 }
+    ensures { TrtEffect n a1 a2 updated (machine cpu.old (S.storage store.now)) result (machine cpu.new (S.storage store.now)) }
+{
+    if !store.has_span(a1, n as usize) {
+        return Err(Interruption::Addressing);
+    }
+    let Some(k) = first_found(store, n, a1, a2) else {
+        cpu.cc = 0;
+        cpu.next = updated.address;
+        return Ok(());
+    };
+    let Some(byte) = table_byte(store, a1, a2, k) else {
+        return Err(Interruption::Addressing);
+    };
+    set_found(cpu, n, a1, k, byte, updated);
+    Ok(())
+}

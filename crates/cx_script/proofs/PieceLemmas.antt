@@ -1,0 +1,403 @@
+-- A run of a script, piece by piece.
+use Rattle.std.proofs.Common.{◌≡◌, ℕ, ◌+◌, ◌-◌, ◌<◌, ◌≤◌, Bool, true, false, List, [], ◌∷◌, ◌++◌, length, take, drop, None, Some, Option, Result, Ok, Err, MatchOption, IsOkAnd, IfErr, OnErr, cond, nat_le, refl, sym, ap, ◌∙◌, subst, append-nil, append_assoc, zero-add, arith, length-append, length-drop}
+use Rattle.std.specs.Io.KnownBytes.{Appends, Consumes, IsAtEnd, Keeps}
+use Rattle.std.specs.Str.Lines.{strip_carriage_return}
+use Rattle.std.proofs.KnownBytes.{Appends-trans, Appends-nil, Consumes-nil, Consumes-trans, Consumes-kept}
+use borrow.Author.Tests.{leb-true, leb-false}
+use Rattle.std.proofs.lemmas.Grind.{common_steps}
+use Rattle.std.proofs.lemmas.List.{length-take, length-take-le, take-append-drop}
+use Rattle.cx_script.proofs.DeviceLemmas.{read_end}
+use Rattle.std.proofs.Math.Seq.{take-append-add, take-append_seam}
+use Rattle.cx_script.specs.ImageBlock.{ImageBlock}
+use Rattle.cx_script.specs.Blocks.{step_at, step_in}
+use Rattle.cx_script.specs.Input.{Reads, is_failure, most_bytes}
+use Rattle.cx_script.specs.Lines.{is_too_long, last_met, lines_met}
+use Rattle.cx_script.specs.Outcome.{RanScript}
+use Rattle.cx_script.specs.Script.{Script, script_from, script_of, line_count, fault_at, before, led_to}
+use Rattle.cx_script.specs.Transcript.{Runs, WroteAll, WroteSome, Stops, Ends}
+use Rattle.cx_script.specs.Parts.Progress.{Acted, TakesLine, behind_done, Came, Stopped, Seen}
+use Rattle.cx_script.specs.Parts.Unbroken.{IsUnbroken}
+use Rattle.cx_script.specs.declared.actions.Action.{Action}
+use Rattle.cx_script.specs.declared.faults.RunFault.{RunFault}
+use Rattle.cx_script.specs.declared.faults.RunFault.TheVariants.{BadLine, Read, Write, Memory, ReadBound}
+use Rattle.cx_script.specs.declared.faults.Summary.{Summary}
+use Rattle.cx_script.specs.declared.input.Ending.{Ending}
+use Rattle.cx_script.specs.declared.input.Ending.TheVariants.{AtEnd, Failed, PastBound}
+use Rattle.cx_script.proofs.LineLemmas.{line_met, none_met, begins_long, long_bytes, unbroken_append, BeginsLong}
+use Rattle.cx_script.proofs.OutcomeLemmas.{has_read}
+use Rattle.cx_script.proofs.RunLemmas.{of_line, runs_append, runs_line, led, front_written, reached_start, reached_line, stops_line, ended}
+
+-- a line that is too long leads to nothing
+no_step : (n : ℕ) (block : Option ImageBlock) (line : List ℕ) → is_too_long line ≡ true → step_at n block line ≡ None
+unfolding step_at
+no_step n block line e = ap (λ b. cond b None (step_in n block line)) e
+
+pub too_long_line : (n : ℕ) (block : Option ImageBlock) (bytes : List ℕ) → 4097 < length bytes → step_at n block (strip_carriage_return bytes) ≡ None
+too_long_line n block bytes h = no_step n block (strip_carriage_return bytes) (long_bytes bytes h)
+
+behind_append : (a b : List Action) (s : Script) → behind_done a (behind_done b s) ≡ behind_done (a ++ b) s
+behind_append a b s = ap (λ (l : List Action). let r : Script = record { actions = l; fault = s.fault } in r) (sym (append_assoc a b s.actions))
+
+before_done : (action : Option Action) (s : Script) → before action s ≡ behind_done (of_line action) s
+before_done None s = refl
+before_done (Some action) s = refl
+
+module _ {S : Type 0} (performs : S → Action → List ℕ → S → Type 0) where
+  pub came_start : (old : S) (n : ℕ) (block : Option ImageBlock) (ahead : List ℕ) (w : Option (List ℕ)) → Came performs old n block ahead w old n block ahead w
+  unfolding Runs
+  came_start old n block ahead w =
+      record { done = []; text = []; runs = (refl, refl); written = Appends-nil w; splits = λ ending rest. refl; counts = λ ending rest. refl }
+
+  -- more bytes behind both
+  pub came_more : (old mid : S) (n m : ℕ) (block next : Option ImageBlock) (ahead left more : List ℕ) (first after : Option (List ℕ))
+      → Came performs old n block ahead first mid m next left after → Came performs old n block (ahead ++ more) first mid m next (left ++ more) after
+  came_more old mid n m block next ahead left more first after c =
+      record {
+        done = c.done;
+        text = c.text;
+        runs = c.runs;
+        written = c.written;
+        splits = λ ending rest. ap (λ l. script_from ending (n + 1) block (lines_met ending l)) (append_assoc ahead more rest) ∙ c.splits ending (more ++ rest)
+            ∙ ap (λ l. behind_done c.done (script_from ending (m + 1) next (lines_met ending l))) (sym (append_assoc left more rest));
+        counts = λ ending rest. ap (λ l. n + length (lines_met ending l)) (append_assoc ahead more rest) ∙ c.counts ending (more ++ rest)
+            ∙ ap (λ l. m + length (lines_met ending l)) (sym (append_assoc left more rest));
+      }
+
+  pub came_trans : (old mid new : S) (n m k : ℕ) (block next last : Option ImageBlock) (ahead left right : List ℕ) (first after end : Option (List ℕ))
+      → Came performs old n block ahead first mid m next left after → Came performs mid m next left after new k last right end
+      → Came performs old n block ahead first new k last right end
+  came_trans old mid new n m k block next last ahead left right first after end c d =
+      record {
+        done = c.done ++ d.done;
+        text = c.text ++ d.text;
+        runs = runs_append performs old c.done c.text mid d.done d.text new c.runs d.runs;
+        written = Appends-trans first after end c.text d.text c.written d.written;
+        splits = λ ending rest. c.splits ending rest ∙ ap (behind_done c.done) (d.splits ending rest)
+            ∙ behind_append c.done d.done (script_from ending (k + 1) last (lines_met ending (right ++ rest)));
+        counts = λ ending rest. c.counts ending rest ∙ d.counts ending rest;
+      }
+
+  -- a line that an LF ends
+  line_ahead : (ending : Ending) (line behind rest : List ℕ) → IsUnbroken line → lines_met ending ((line ++ 10 ∷ behind) ++ rest) ≡ strip_carriage_return line ∷ lines_met ending (behind ++ rest)
+  line_ahead ending line behind rest u = ap (lines_met ending) (append_assoc line (10 ∷ behind) rest) ∙ line_met ending line (behind ++ rest) u
+
+  one_more : (n : ℕ) (line : List ℕ) (lines : List (List ℕ)) → n + length (line ∷ lines) ≡ n + 1 + length lines
+  one_more n line lines = omega arith
+
+  pub came_line : (old new : S) (n : ℕ) (block next : Option ImageBlock) (line behind : List ℕ) (before after : Option (List ℕ))
+      → IsUnbroken line → TakesLine performs (step_at (n + 1) block (strip_carriage_return line)) (n + 1) old before (Ok tt) new after next
+      → Came performs old n block (line ++ 10 ∷ behind) before new (n + 1) next behind after
+  unfolding TakesLine Acted script_from
+  came_line old new n block next line behind before after u t =
+      let step = t.0 in
+      record {
+        done = of_line step.action;
+        text = t.3.0;
+        runs = runs_line performs old step.action t.3.0 new t.3.1;
+        written = t.3.2;
+        splits = λ ending rest. ap (λ l. script_from ending (n + 1) block l) (line_ahead ending line behind rest u)
+            ∙ led performs (step_at (n + 1) block (strip_carriage_return line)) step (n + 1) (λ b. script_from ending (n + 1 + 1) b (lines_met ending (behind ++ rest))) t.1
+            ∙ before_done step.action (script_from ending (n + 1 + 1) step.block (lines_met ending (behind ++ rest)))
+            ∙ ap (λ b. behind_done (of_line step.action) (script_from ending (n + 1 + 1) b (lines_met ending (behind ++ rest)))) (sym t.2);
+        counts = λ ending rest. ap (λ l. n + length l) (line_ahead ending line behind rest u) ∙ one_more n (strip_carriage_return line) (lines_met ending (behind ++ rest));
+      }
+
+  -- ---- what was done before, and how the rest ended
+  wrote_all_more : (old mid : S) (done actions : List Action) (text : List ℕ) (first after last : Option (List ℕ)) → Runs performs old done text mid → Appends first after text
+      → WroteAll performs mid actions after last → WroteAll performs old (done ++ actions) first last
+  wrote_all_more old mid done actions text first after last r a w =
+      record { text = text ++ w.text; new = w.new; runs = runs_append performs old done text mid actions w.text w.new r w.runs; written = Appends-trans first after last text w.text a w.written }
+
+  wrote_some_more : (old mid : S) (done actions : List Action) (text : List ℕ) (first after last : Option (List ℕ)) → Runs performs old done text mid → Appends first after text
+      → WroteSome performs mid actions after last → WroteSome performs old (done ++ actions) first last
+  wrote_some_more old mid done actions text first after last r a w =
+      record { text = text ++ w.text; new = w.new; runs = runs_append performs old done text mid actions w.text w.new r w.runs; written = front_written performs first after last text w.text a w.written }
+
+  all_of : (old mid : S) (script left : Script) (done : List Action) (text : List ℕ) (first after last : Option (List ℕ)) → script ≡ behind_done done left
+      → Runs performs old done text mid → Appends first after text → WroteAll performs mid left.actions after last → WroteAll performs old script.actions first last
+  all_of old mid script left done text first after last e r a w =
+      subst (λ (l : List Action). WroteAll performs old l first last) (sym (ap (λ (s : Script). s.actions) e)) (wrote_all_more old mid done left.actions text first after last r a w)
+
+  front_of : (script left : Script) (done : List Action) (k : ℕ) → script ≡ behind_done done left → done ++ take k left.actions ≡ take (length done + k) script.actions
+  front_of script left done k e = sym (take-append-add done left.actions k) ∙ ap (λ (s : Script). take (length done + k) s.actions) (sym e)
+
+  own_stops : (old mid : S) (script left : Script) (done : List Action) (text : List ℕ) (fault : RunFault) (first after last : Option (List ℕ)) → script ≡ behind_done done left
+      → Runs performs old done text mid → Appends first after text → (left.fault ≡ Some fault) × WroteAll performs mid left.actions after last
+      → (script.fault ≡ Some fault) × WroteAll performs old script.actions first last
+  own_stops old mid script left done text fault first after last e r a s =
+      (ap (λ (x : Script). x.fault) e ∙ s.0, all_of old mid script left done text first after last e r a s.1)
+
+  joined_stops : (old mid : S) (script left : Script) (done : List Action) (text : List ℕ) (fault : RunFault) (first after last : Option (List ℕ)) → script ≡ behind_done done left
+      → Runs performs old done text mid → Appends first after text → Stops performs mid left fault after last → Stops performs old script fault first last
+  unfolding Stops
+  joined_stops old mid script left done text Memory first after last e r a s =
+      (length done + s.0, subst (λ (l : List Action). WroteAll performs old l first last) (front_of script left done s.0 e) (wrote_all_more old mid done (take s.0 left.actions) text first after last r a s.1))
+  joined_stops old mid script left done text Write first after last e r a s =
+      (length done + s.0, subst (λ (l : List Action). WroteSome performs old l first last) (front_of script left done s.0 e) (wrote_some_more old mid done (take s.0 left.actions) text first after last r a s.1))
+  joined_stops old mid script left done text (BadLine n) first after last e r a s = own_stops old mid script left done text (BadLine n) first after last e r a s
+  joined_stops old mid script left done text Read first after last e r a s = own_stops old mid script left done text Read first after last e r a s
+  joined_stops old mid script left done text ReadBound first after last e r a s = own_stops old mid script left done text ReadBound first after last e r a s
+
+  joined_ends : (old mid : S) (script left : Script) (done : List Action) (text : List ℕ) (lines : ℕ) (answer : Result Summary RunFault) (first after last : Option (List ℕ)) → script ≡ behind_done done left
+      → Runs performs old done text mid → Appends first after text → Ends performs mid left lines answer after last → Ends performs old script lines answer first last
+  joined_ends old mid script left done text lines (Ok s) first after last e r a h =
+      (ap (λ (x : Script). x.fault) e ∙ h.0, h.1, all_of old mid script left done text first after last e r a h.2)
+  joined_ends old mid script left done text lines (Err fault) first after last e r a h = joined_stops old mid script left done text fault first after last e r a h
+
+  -- a run that stopped behind what was done
+  pub came_stopped : (old mid : S) (n m : ℕ) (block next : Option ImageBlock) (ahead left : List ℕ) (fault : RunFault) (first after last : Option (List ℕ))
+      → Came performs old n block ahead first mid m next left after → Stopped performs mid m next left fault after last → Stopped performs old n block ahead fault first last
+  came_stopped old mid n m block next ahead left fault first after last c s =
+      record {
+        stops = λ ending rest. joined_stops old mid (script_from ending (n + 1) block (lines_met ending (ahead ++ rest))) (script_from ending (m + 1) next (lines_met ending (left ++ rest)))
+            c.done c.text fault first after last (c.splits ending rest) c.runs c.written (s.stops ending rest);
+      }
+
+  -- a line that could not be taken
+  pub line_stopped : (old new : S) (n : ℕ) (block next : Option ImageBlock) (line behind : List ℕ) (fault : RunFault) (before after : Option (List ℕ))
+      → IsUnbroken line → TakesLine performs (step_at (n + 1) block (strip_carriage_return line)) (n + 1) old before (Err fault) new after next
+      → Stopped performs old n block (line ++ 10 ∷ behind) fault before after
+  line_stopped old new n block next line behind fault before after u t =
+      record {
+        stops = λ ending rest.
+            let lines = lines_met ending (behind ++ rest) in
+            let whole = script_from ending (n + 1) block (strip_carriage_return line ∷ lines) in
+            subst (λ (l : List (List ℕ)). Stops performs old (script_from ending (n + 1) block l) fault before after) (sym (line_ahead ending line behind rest u))
+            (stops_line performs old old new whole before before after ending (n + 1) block next (strip_carriage_return line) lines fault (reached_start performs old whole before) t);
+      }
+
+  -- bytes that are too long already
+  long_script : (old : S) (ending : Ending) (n : ℕ) (block : Option ImageBlock) (lines : List (List ℕ)) (before : Option (List ℕ)) → BeginsLong lines
+      → Stops performs old (script_from ending n block lines) (BadLine n) before before
+  unfolding Stops Runs script_from
+  long_script old ending n block [] before h = absurd h
+  long_script old ending n block (line ∷ lines) before h =
+      let bad = ap (λ d. led_to d n (λ next. script_from ending (n + 1) next lines)) (no_step n block line h) in (
+        ap (λ (s : Script). s.fault) bad,
+        record { text = []; new = old; runs = subst (λ (l : List Action). Runs performs old l [] old) (sym (ap (λ (s : Script). s.actions) bad)) (refl, refl); written = Appends-nil before },
+      )
+
+  pub long_stopped : (old : S) (n : ℕ) (block : Option ImageBlock) (bytes : List ℕ) (before : Option (List ℕ)) → IsUnbroken bytes → is_too_long (strip_carriage_return bytes) ≡ true
+      → Stopped performs old n block bytes (BadLine (n + 1)) before before
+  long_stopped old n block bytes before u h =
+      record { stops = λ ending rest. long_script old ending (n + 1) block (lines_met ending (bytes ++ rest)) before (begins_long ending bytes rest u h) }
+
+  -- ---- the end
+  pub finished : (old : S) (n : ℕ) (block : Option ImageBlock) (part : List ℕ) (ending : Ending) (before : Option (List ℕ)) (r : Result Summary RunFault)
+      → IsUnbroken part → last_met ending part ≡ [] → MatchOption (fault_at ending block) (IsOkAnd r (λ s. s.lines ≡ n)) (λ f. r ≡ Err f)
+      → Ends performs old (script_from ending (n + 1) block (lines_met ending part)) (n + length (lines_met ending part)) r before before
+  finished old n block part ending before r u e h =
+      let none : lines_met ending part ≡ [] = none_met ending part u ∙ e in
+      let script = script_from ending (n + 1) block [] in
+      subst (λ (l : List (List ℕ)). Ends performs old (script_from ending (n + 1) block l) (n + length l) r before before) (sym none)
+      (subst (λ (k : ℕ). Ends performs old script k r before before) (let same : n ≡ n + 0 = omega arith in same)
+      (ended performs old old script before before ending (n + 1) n block (fault_at ending block) r refl (reached_start performs old script before) h))
+
+  pub finished_line : (old new : S) (n m : ℕ) (block next : Option ImageBlock) (part line : List ℕ) (ending : Ending) (before after : Option (List ℕ)) (r : Result Summary RunFault)
+      → IsUnbroken part → last_met ending part ≡ line ∷ [] → TakesLine performs (step_at (n + 1) block line) (n + 1) old before (Ok tt) new after next → m ≡ n + 1
+      → MatchOption (fault_at ending next) (IsOkAnd r (λ s. s.lines ≡ m)) (λ f. r ≡ Err f)
+      → Ends performs old (script_from ending (n + 1) block (lines_met ending part)) (n + length (lines_met ending part)) r before after
+  finished_line old new n m block next part line ending before after r u e t k h =
+      let one : lines_met ending part ≡ line ∷ [] = none_met ending part u ∙ e in
+      let script = script_from ending (n + 1) block (line ∷ []) in
+      let reached = reached_line performs old old new script before before after ending (n + 1) block next line [] (reached_start performs old script before) t in
+      subst (λ (l : List (List ℕ)). Ends performs old (script_from ending (n + 1) block l) (n + length l) r before after) (sym one)
+      (subst (λ (i : ℕ). Ends performs old script i r before after) k
+      (ended performs old new script before after ending (n + 1 + 1) m next (fault_at ending next) r refl reached h))
+
+  pub finished_badly : (old new : S) (n : ℕ) (block next : Option ImageBlock) (part line : List ℕ) (ending : Ending) (before after : Option (List ℕ)) (fault : RunFault)
+      → IsUnbroken part → last_met ending part ≡ line ∷ [] → TakesLine performs (step_at (n + 1) block line) (n + 1) old before (Err fault) new after next
+      → Stops performs old (script_from ending (n + 1) block (lines_met ending part)) fault before after
+  finished_badly old new n block next part line ending before after fault u e t =
+      let one : lines_met ending part ≡ line ∷ [] = none_met ending part u ∙ e in
+      let script = script_from ending (n + 1) block (line ∷ []) in
+      subst (λ (l : List (List ℕ)). Stops performs old (script_from ending (n + 1) block l) fault before after) (sym one)
+      (stops_line performs old old new script before before after ending (n + 1) block next line [] fault (reached_start performs old script before) t)
+
+  -- ---- from the script's beginning
+  pub seen_start : (start : S) (left : Option (List ℕ)) (n : ℕ) (block : Option ImageBlock) (part : List ℕ) (w : Option (List ℕ)) → n ≡ 0 → block ≡ None → part ≡ []
+      → Seen performs start left left 0 start n block part w w
+  seen_start start left n block part w e b p =
+      let begun : Seen performs start left left 0 start 0 None [] w w = record { seen = []; consumed = Consumes-nil left; len = refl; came = came_start start 0 None [] w } in
+      subst (λ (k : ℕ). Seen performs start left left 0 start k block part w w) (sym e)
+      (subst (λ (x : Option ImageBlock). Seen performs start left left 0 start 0 x part w w) (sym b)
+      (subst (λ (l : List ℕ). Seen performs start left left 0 start 0 None l w w) (sym p) begun))
+
+  -- one piece more, all of it
+  pub seen_piece : (start old new : S) (left now then : Option (List ℕ)) (read more n m : ℕ) (block next : Option ImageBlock) (part last piece : List ℕ) (first before after : Option (List ℕ))
+      → Seen performs start left now read old n block part first before → Consumes now then piece → length piece ≡ more
+      → Came performs old n block (part ++ piece) before new m next last after
+      → Seen performs start left then (read + more) new m next last first after
+  seen_piece start old new left now then read more n m block next part last piece first before after s c len d =
+      record {
+        seen = s.seen ++ piece;
+        consumed = Consumes-trans left now then s.seen piece s.consumed c;
+        len = length-append s.seen piece ∙ ap (λ k. k + length piece) s.len ∙ ap (λ k. read + k) len;
+        came = came_trans start old new 0 n m None block next (s.seen ++ piece) (part ++ piece) last first before after (came_more start old 0 n None block s.seen part piece first before s.came) d;
+      }
+
+  ends_from : (start mid : S) (bytes part : List ℕ) (ending : Ending) (m : ℕ) (next : Option ImageBlock) (answer : Result Summary RunFault) (first after last : Option (List ℕ))
+      → Came performs start 0 None bytes first mid m next part after
+      → Ends performs mid (script_from ending (m + 1) next (lines_met ending part)) (m + length (lines_met ending part)) answer after last
+      → Ends performs start (script_of ending bytes) (line_count ending bytes) answer first last
+  unfolding script_of line_count
+  ends_from start mid bytes part ending m next answer first after last c h =
+      let split : script_from ending 1 None (lines_met ending bytes) ≡ behind_done c.done (script_from ending (m + 1) next (lines_met ending part)) =
+      ap (λ (l : List ℕ). script_from ending 1 None (lines_met ending l)) (sym (append-nil bytes)) ∙ c.splits ending []
+      ∙ ap (λ (l : List ℕ). behind_done c.done (script_from ending (m + 1) next (lines_met ending l))) (append-nil part) in
+      let count : m + length (lines_met ending part) ≡ length (lines_met ending bytes) =
+      ap (λ (l : List ℕ). m + length (lines_met ending l)) (sym (append-nil part)) ∙ sym (c.counts ending []) ∙ zero-add (length (lines_met ending (bytes ++ [])))
+      ∙ ap (λ (l : List ℕ). length (lines_met ending l)) (append-nil bytes) in
+      subst (λ (k : ℕ). Ends performs start (script_from ending 1 None (lines_met ending bytes)) k answer first last) count
+      (joined_ends start mid (script_from ending 1 None (lines_met ending bytes)) (script_from ending (m + 1) next (lines_met ending part)) c.done c.text (m + length (lines_met ending part)) answer
+      first after last split c.runs c.written h)
+
+  pub ran_finished : (start mid : S) (left now : Option (List ℕ)) (failed : Bool) (bytes part : List ℕ) (ending : Ending) (m : ℕ) (next : Option ImageBlock) (answer : Result Summary RunFault) (first after last : Option (List ℕ))
+      → Reads most_bytes ending left now bytes → length bytes ≤ most_bytes → failed ≡ is_failure ending
+      → Came performs start 0 None bytes first mid m next part after
+      → Ends performs mid (script_from ending (m + 1) next (lines_met ending part)) (m + length (lines_met ending part)) answer after last
+      → RanScript performs start left now failed answer first last
+  ran_finished start mid left now failed bytes part ending m next answer first after last r few f c h =
+      record { bytes = bytes; ending = ending; read = has_read answer ending left now bytes r; within = few; failure = f; ends = ends_from start mid bytes part ending m next answer first after last c h }
+
+  -- ---- why no more was read
+  -- of bytes that were read in front of some more, where a run stopped in them
+  stops_on : (start : S) (seen rest bytes : List ℕ) (fault : RunFault) (ending : Ending) (first last : Option (List ℕ)) → Stopped performs start 0 None seen fault first last → seen ++ rest ≡ bytes
+      → Ends performs start (script_of ending bytes) (line_count ending bytes) (Err fault) first last
+  unfolding script_of
+  stops_on start seen rest bytes fault ending first last s e = subst (λ (l : List ℕ). Stops performs start (script_from ending 1 None (lines_met ending l)) fault first last) e (s.stops ending rest)
+
+  fronts : (most : ℕ) (seen more : List ℕ) → length seen ≤ most → seen ++ take (most - length seen) more ≡ take most (seen ++ more)
+  fronts most seen more few =
+      let whole : length seen + (most - length seen) ≡ most = omega arith in
+      sym (take-append-add seen more (most - length seen)) ∙ ap (λ k. take k (seen ++ more)) whole
+
+  ran_by_length : (start : S) (input seen more : List ℕ) (now : Option (List ℕ)) (failed : Bool) (fault : RunFault) (first last : Option (List ℕ)) (b : Bool) → nat_le (length input) most_bytes ≡ b
+      → input ≡ seen ++ more → length seen ≤ most_bytes → failed ≡ false → Stopped performs start 0 None seen fault first last
+      → RanScript performs start (Some input) now failed (Err fault) first last
+  ran_by_length start input seen more now failed fault first last true b e few f s =
+      record { bytes = input; ending = AtEnd; read = has_read (Err fault) AtEnd (Some input) now input refl; within = leb-true _ _ b; failure = f; ends = stops_on start seen more input fault AtEnd first last s (sym e) }
+  ran_by_length start input seen more now failed fault first last false b e few f s =
+      let bytes = take most_bytes input in
+      let long = leb-false (length input) most_bytes b in
+      let len = length-take most_bytes input in
+      let within : length bytes ≤ most_bytes = omega (arith, len) in
+      record {
+        bytes = bytes;
+        ending = PastBound;
+        read = has_read (Err fault) PastBound (Some input) now bytes (long, refl);
+        within = within;
+        failure = f;
+        ends = stops_on start seen (take (most_bytes - length seen) more) bytes fault PastBound first last s (fronts most_bytes seen more few ∙ ap (take most_bytes) (sym e));
+      }
+
+  ran_stopped : (start : S) (left now : Option (List ℕ)) (seen extra : List ℕ) (failed : Bool) (fault : RunFault) (first last : Option (List ℕ))
+      → Consumes left now (seen ++ extra) → length seen ≤ most_bytes → failed ≡ false → Stopped performs start 0 None seen fault first last
+      → RanScript performs start left now failed (Err fault) first last
+  ran_stopped start None now seen extra failed fault first last c few f s =
+      record { bytes = seen; ending = PastBound; read = has_read (Err fault) PastBound None now seen tt; within = few; failure = f; ends = stops_on start seen [] seen fault PastBound first last s (append-nil seen) }
+  ran_stopped start (Some input) None seen extra failed fault first last c few f s = absurd c
+  ran_stopped start (Some input) (Some y) seen extra failed fault first last c few f s =
+      ran_by_length start input seen (extra ++ y) (Some y) failed fault first last (nat_le (length input) most_bytes) refl (c ∙ append_assoc seen extra y) few f s
+
+  pub ran_failed : (start mid : S) (left now then : Option (List ℕ)) (failed : Bool) (read m : ℕ) (next : Option ImageBlock) (part : List ℕ) (answer : Result Summary RunFault) (first after last : Option (List ℕ))
+      → Seen performs start left now read mid m next part first after → Keeps now then → read ≤ 16777216 → failed ≡ true
+      → Ends performs mid (script_from Failed (m + 1) next (lines_met Failed part)) (m + length (lines_met Failed part)) answer after last
+      → RanScript performs start left then failed answer first last
+  unfolding most_bytes
+  ran_failed start mid left now then failed read m next part answer first after last s k few f h =
+      ran_finished start mid left then failed s.seen part Failed m next answer first after last (Consumes-kept left now then s.seen s.consumed k) (rw s.len few) f s.came h
+
+  pub ran_at_end : (start mid : S) (left now then : Option (List ℕ)) (failed : Bool) (read n m : ℕ) (buffer : List ℕ) (next : Option ImageBlock) (part : List ℕ) (answer : Result Summary RunFault) (first after last : Option (List ℕ))
+      → Seen performs start left now read mid m next part first after → n ≡ 0 → Consumes now then (take n buffer) → IsAtEnd then → read ≤ 16777216 → failed ≡ false
+      → Ends performs mid (script_from AtEnd (m + 1) next (lines_met AtEnd part)) (m + length (lines_met AtEnd part)) answer after last
+      → RanScript performs start left then failed answer first last
+  unfolding most_bytes
+  ran_at_end start mid left now then failed read n m buffer next part answer first after last s e c end few f h =
+      ran_finished start mid left then failed s.seen part AtEnd m next answer first after last (read_end left now then s.seen buffer n e s.consumed c end) (rw s.len few) f s.came h
+
+  -- a piece that was read of a buffer, whole or in front of the bound
+  pub seen_taken : (start old new : S) (left now then : Option (List ℕ)) (read taken room n m : ℕ) (block next : Option ImageBlock) (part last piece buffer : List ℕ) (first before after : Option (List ℕ))
+      → Seen performs start left now read old n block part first before → Consumes now then (take taken buffer) → piece ≡ take room buffer → room ≡ taken → taken ≤ length buffer
+      → Came performs old n block (part ++ piece) before new m next last after
+      → Seen performs start left then (read + taken) new m next last first after
+  seen_taken start old new left now then read taken room n m block next part last piece buffer first before after s c e same few d =
+      let whole : take taken buffer ≡ piece = ap (λ k. take k buffer) (sym same) ∙ sym e in
+      seen_piece start old new left now then read taken n m block next part last piece first before after s (subst (Consumes now then) whole c)
+      (ap length (sym whole) ∙ length-take-le taken buffer few) d
+
+  split_taken : (room taken : ℕ) (buffer : List ℕ) → room ≤ taken → taken ≤ length buffer → take taken buffer ≡ take room buffer ++ drop room (take taken buffer)
+  split_taken room taken buffer less few =
+      sym (take-append-drop room (take taken buffer)) ∙ ap (λ l. l ++ drop room (take taken buffer)) (grind (arith, common_steps))
+
+  pub ran_piece_stopped : (start old : S) (left now then : Option (List ℕ)) (failed : Bool) (read taken room n : ℕ) (block : Option ImageBlock) (part piece buffer : List ℕ) (fault : RunFault) (first before last : Option (List ℕ))
+      → Seen performs start left now read old n block part first before → Consumes now then (take taken buffer) → piece ≡ take room buffer → room ≤ taken → taken ≤ length buffer
+      → read + room ≤ 16777216 → failed ≡ false → Stopped performs old n block (part ++ piece) fault before last
+      → RanScript performs start left then failed (Err fault) first last
+  unfolding most_bytes
+  ran_piece_stopped start old left now then failed read taken room n block part piece buffer fault first before last s c e less few bound f d =
+      let extra = drop room (take taken buffer) in
+      let split : take taken buffer ≡ piece ++ extra = split_taken room taken buffer less few ∙ ap (λ l. l ++ extra) (sym e) in
+      let consumed = Consumes-trans left now then s.seen (take taken buffer) s.consumed c in
+      let all = subst (Consumes left then) (ap (λ l. s.seen ++ l) split ∙ sym (append_assoc s.seen piece extra)) consumed in
+      let len : length (s.seen ++ piece) ≡ read + room = length-append s.seen piece ∙ ap (λ k. k + length piece) s.len ∙ ap (λ k. read + k) (ap length e ∙ length-take-le room buffer (omega arith)) in
+      let stopped = came_stopped start old 0 n None block (s.seen ++ piece) (part ++ piece) fault first before last (came_more start old 0 n None block s.seen part piece first before s.came) d in
+      ran_stopped start left then (s.seen ++ piece) extra failed fault first last all (rw len bound) f stopped
+
+  past_reads : (most : ℕ) (left then : Option (List ℕ)) (judged extra : List ℕ) → Consumes left then (judged ++ extra) → length judged ≡ most → 0 < length extra → Reads most PastBound left then judged
+  past_reads most None then judged extra c len some = tt
+  past_reads most (Some input) None judged extra c len some = absurd c
+  past_reads most (Some input) (Some y) judged extra c len some =
+      let all : input ≡ judged ++ (extra ++ y) = c ∙ append_assoc judged extra y in
+      let total = length-append judged (extra ++ y) in
+      let more = length-append extra y in
+      (rw all (omega (arith, len, total, more, some)), ap (take most) all ∙ ap (λ k. take k (judged ++ (extra ++ y))) (sym len) ∙ take-append_seam judged (extra ++ y))
+
+  pub ran_past : (start old mid : S) (left now then : Option (List ℕ)) (failed : Bool) (read taken room n m : ℕ) (block next : Option ImageBlock) (part last piece buffer : List ℕ) (answer : Result Summary RunFault) (first before after end : Option (List ℕ))
+      → Seen performs start left now read old n block part first before → Consumes now then (take taken buffer) → piece ≡ take room buffer → room < taken → taken ≤ length buffer
+      → read + room ≡ 16777216 → failed ≡ false → Came performs old n block (part ++ piece) before mid m next last after
+      → Ends performs mid (script_from PastBound (m + 1) next (lines_met PastBound last)) (m + length (lines_met PastBound last)) answer after end
+      → RanScript performs start left then failed answer first end
+  unfolding most_bytes
+  ran_past start old mid left now then failed read taken room n m block next part last piece buffer answer first before after end s c e less few bound f d h =
+      let extra = drop room (take taken buffer) in
+      let split : take taken buffer ≡ piece ++ extra = split_taken room taken buffer (omega arith) few ∙ ap (λ l. l ++ extra) (sym e) in
+      let consumed = Consumes-trans left now then s.seen (take taken buffer) s.consumed c in
+      let all = subst (Consumes left then) (ap (λ l. s.seen ++ l) split ∙ sym (append_assoc s.seen piece extra)) consumed in
+      let len : length (s.seen ++ piece) ≡ read + room = length-append s.seen piece ∙ ap (λ k. k + length piece) s.len ∙ ap (λ k. read + k) (ap length e ∙ length-take-le room buffer (omega arith)) in
+      let some : 0 < length extra = let a = length-take-le taken buffer few in let b = length-drop room (take taken buffer) in omega (arith, a, b) in
+      let came = came_trans start old mid 0 n m None block next (s.seen ++ piece) (part ++ piece) last first before after (came_more start old 0 n None block s.seen part piece first before s.came) d in
+      ran_finished start mid left then failed (s.seen ++ piece) last PastBound m next answer first after end (past_reads 16777216 left then (s.seen ++ piece) extra all (len ∙ bound) some) (rw len (omega (arith, bound))) f came h
+
+  -- ---- lines of a piece: bytes that were kept, and those in front of an LF
+  ahead_of : (part rest bytes behind : List ℕ) → rest ≡ bytes ++ 10 ∷ behind → part ++ rest ≡ (part ++ bytes) ++ 10 ∷ behind
+  ahead_of part rest bytes behind e = ap (λ l. part ++ l) e ∙ sym (append_assoc part bytes (10 ∷ behind))
+
+  pub piece_line_stopped : (old mid new : S) (n m : ℕ) (block next last : Option ImageBlock) (ahead part rest bytes behind : List ℕ) (fault : RunFault) (first after end : Option (List ℕ))
+      → Came performs old n block ahead first mid m next (part ++ rest) after → rest ≡ bytes ++ 10 ∷ behind → IsUnbroken part → IsUnbroken bytes
+      → TakesLine performs (step_at (m + 1) next (strip_carriage_return (part ++ bytes))) (m + 1) mid after (Err fault) new end last
+      → Stopped performs old n block ahead fault first end
+  piece_line_stopped old mid new n m block next last ahead part rest bytes behind fault first after end c e u v t =
+      came_stopped old mid n m block next ahead ((part ++ bytes) ++ 10 ∷ behind) fault first after end
+      (subst (λ (l : List ℕ). Came performs old n block ahead first mid m next l after) (ahead_of part rest bytes behind e) c)
+      (line_stopped mid new m next last (part ++ bytes) behind fault after end (unbroken_append part bytes u v) t)
+
+  pub piece_line : (old mid new : S) (n m k : ℕ) (block next last : Option ImageBlock) (ahead part rest bytes behind empty : List ℕ) (first after end : Option (List ℕ))
+      → Came performs old n block ahead first mid m next (part ++ rest) after → rest ≡ bytes ++ 10 ∷ behind → IsUnbroken part → IsUnbroken bytes
+      → TakesLine performs (step_at (m + 1) next (strip_carriage_return (part ++ bytes))) (m + 1) mid after (Ok tt) new end last → k ≡ m + 1 → empty ≡ []
+      → Came performs old n block ahead first new k last (empty ++ behind) end
+  piece_line old mid new n m k block next last ahead part rest bytes behind empty first after end c e u v t lines none =
+      subst (λ (i : ℕ). Came performs old n block ahead first new i last (empty ++ behind) end) (sym lines)
+      (subst (λ (l : List ℕ). Came performs old n block ahead first new (m + 1) last (l ++ behind) end) (sym none)
+      (came_trans old mid new n m (m + 1) block next last ahead ((part ++ bytes) ++ 10 ∷ behind) behind first after end
+      (subst (λ (l : List ℕ). Came performs old n block ahead first mid m next l after) (ahead_of part rest bytes behind e) c)
+      (came_line mid new m next last (part ++ bytes) behind after end (unbroken_append part bytes u v) t)))
+
+  pub kept_stopped : (old mid : S) (n m : ℕ) (block next : Option ImageBlock) (ahead part rest : List ℕ) (r : Result (Unit {0}) RunFault) (first after : Option (List ℕ))
+      → Came performs old n block ahead first mid m next (part ++ rest) after → IsUnbroken part → IsUnbroken rest
+      → IfErr r (λ fault. fault ≡ BadLine (m + 1)) → OnErr r (is_too_long (strip_carriage_return (part ++ rest)) ≡ true)
+      → IfErr r (λ fault. Stopped performs old n block ahead fault first after)
+  kept_stopped old mid n m block next ahead part rest (Ok done) first after c u v e h = tt
+  kept_stopped old mid n m block next ahead part rest (Err fault) first after c u v e h =
+      came_stopped old mid n m block next ahead (part ++ rest) fault first after after c
+      (subst (λ (f : RunFault). Stopped performs mid m next (part ++ rest) f after after) (sym e) (long_stopped mid m next (part ++ rest) after (unbroken_append part rest u v) h))

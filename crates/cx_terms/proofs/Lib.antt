@@ -1,0 +1,13 @@
+mod NumberLemmas
+mod NameLemmas
+mod TableLemmas
+mod TermLemmas
+mod WeightLemmas
+mod FaultLemmas
+mod FieldLemmas
+mod KindLemmas
+mod ByteLemmas
+mod WeighLemmas
+mod WrittenLemmas
+mod DigitLemmas
+mod LowestLemmas

@@ -1,0 +1,77 @@
+-- What an expression is worth, or what is wrong with it (GC33-4010, "Expressions").
+use Rattle.std.specs.Prelude.{◌≡◌, ℕ, ℤ, pos, ◌+ℤ◌, ◌-ℤ◌, nat_le, unsigned_abs, if◌then◌else◌, Option, Some, None, Result, Ok, Err, List, [], ◌∷◌, map, option_map, option_and_then}
+use Rattle.std.specs.List.{filter_map}
+use Rattle.std.specs.Result.{result_ok, result_err}
+use Rattle.cx_terms.specs.Faults.{lowest}
+use Rattle.cx_terms.specs.Digits.{bound}
+use Rattle.cx_terms.specs.Terms.{Term, terms_of}
+use Rattle.cx_terms.specs.Worth.{term_worth}
+use Rattle.cx_terms.specs.Weights.{relocation}
+use Rattle.cx_terms.specs.declared.values.Value.{Value}
+use Rattle.cx_terms.specs.declared.terms.Sign.{Sign}
+use Rattle.cx_terms.specs.declared.terms.Sign.TheVariants.{Plus, Minus}
+use Rattle.cx_terms.specs.declared.expressions.Signed.{Signed}
+use Rattle.cx_terms.specs.declared.faults.FaultKind.{FaultKind}
+use Rattle.cx_terms.specs.declared.faults.FaultKind.TheVariants.{BadOperand, ValueOutOfRange, NotRelocatable}
+use Rattle.cx_terms.specs.declared.faults.TermFault.{TermFault}
+use Rattle.cx_terms.specs.declared.faults.TermFault.TheVariants.{Refused, Memory}
+
+-- the lowest fault of the terms
+abbrev pub lowest_fault : (List ℕ → Option Value) → Option Value → List Term → Option FaultKind
+lowest_fault find here terms = lowest (map (λ term. result_err (term_worth find here term)) terms)
+
+abbrev pub signed : Sign → Value → Signed
+signed sign value = record { sign = sign; value = value }
+
+abbrev pub signed_worth : (List ℕ → Option Value) → Option Value → Term → Option Signed
+signed_worth find here term = option_map (signed term.sign) (result_ok (term_worth find here term))
+
+-- what the terms are worth, each with its sign
+abbrev pub values_of : (List ℕ → Option Value) → Option Value → List Term → List Signed
+values_of find here terms = filter_map (signed_worth find here) terms
+
+-- one number more or less; None beyond the bound
+abbrev pub with_sign : Sign → ℤ → ℤ → ℤ
+with_sign Plus total number = total +ℤ number
+with_sign Minus total number = total -ℤ number
+
+abbrev pub within_bound : ℤ → Option ℤ
+within_bound total = if nat_le (unsigned_abs total) bound then Some total else None
+
+-- the sum, made from the left; None where it leaves the bound on the way
+abbrev pub sum_from : ℤ → List Signed → Option ℤ
+sum_from total [] = Some total
+sum_from total (value ∷ values) =
+    option_and_then (λ sum. sum_from sum values) (within_bound (with_sign value.sign total value.value.number))
+
+-- the length attribute of the leftmost term
+abbrev pub leading_length : List Signed → ℕ
+leading_length [] = 1
+leading_length (value ∷ values) = value.value.length
+
+abbrev pub located : Option ℤ → Option (Option (List ℕ)) → ℕ → Result Value FaultKind
+located None section length = Err ValueOutOfRange
+located (Some number) None length = Err NotRelocatable
+located (Some number) (Some section) length = Ok (record { section = section; number = number; length = length })
+
+-- a sum of values: its number, the section it is a place in, the length attribute of its leftmost term
+unfoldable pub summed : List Signed → Result Value FaultKind
+summed values = located (sum_from (pos 0) values) (relocation values) (leading_length values)
+
+abbrev pub unless : Option FaultKind → Result Value FaultKind → Result Value FaultKind
+unless None result = result
+unless (Some fault) result = Err fault
+
+abbrev pub valued : (List ℕ → Option Value) → Option Value → Option (List Term) → Result Value FaultKind
+valued find here None = Err BadOperand
+valued find here (Some terms) = unless (lowest_fault find here terms) (summed (values_of find here terms))
+
+-- What an expression is worth, where `find` knows the symbols and `here` is what the location counter stands at. A text that is no expression is BadOperand alone; else the lowest of its terms' faults; then a sum out of bounds; then one that is neither absolute nor a place.
+unfoldable pub value_of : (List ℕ → Option Value) → Option Value → List ℕ → Result Value FaultKind
+value_of find here text = valued find here (terms_of text)
+
+-- The answer is the one due, unless memory runs out.
+abbrev pub Answers : {T : Type 0} → Result T FaultKind → Result T TermFault → Type 0
+Answers due (Ok value) = due ≡ Ok value
+Answers due (Err (Refused fault)) = due ≡ Err fault
+Answers due (Err Memory) = Unit {0}

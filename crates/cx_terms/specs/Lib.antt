@@ -1,0 +1,16 @@
+pub mod Faults
+pub mod Digits
+pub mod Names
+pub mod Symbols
+pub mod Texts
+pub mod Terms
+pub mod Worth
+pub mod Weights
+pub mod Expressions
+pub mod Kinds
+pub mod Fields
+pub mod Items
+pub mod Bytes
+pub mod Laws
+pub use Rattle.cx_ebcdic.specs.Characters
+pub use Rattle.cx_ebcdic.specs.Names as NameBytes

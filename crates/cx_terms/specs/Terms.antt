@@ -1,0 +1,101 @@
+-- The terms of an expression (GC33-4010, "Terms" and "Expressions").
+use Rattle.std.specs.Prelude.{ℕ, Bool, not, ◌&&◌, ◌||◌, ◌==◌, nat_le, if◌then◌else◌, Option, Some, None, List, [], ◌∷◌, ◌++◌, length, map, drop, slice_index, option_and_then}
+use Rattle.cx_ebcdic.specs.Lookup.{each_some}
+use Rattle.cx_source.specs.Lines.{is_name}
+use Rattle.cx_source.specs.Marks.{outside}
+use Rattle.cx_terms.specs.Digits.{is_number}
+use Rattle.cx_terms.specs.Texts.{closed, is_paired, characters, has_codes}
+use Rattle.cx_terms.specs.declared.terms.Sign.{Sign}
+use Rattle.cx_terms.specs.declared.terms.Sign.TheVariants.{Plus, Minus}
+use Rattle.cx_terms.specs.declared.terms.TermKind.{TermKind}
+use Rattle.cx_terms.specs.declared.terms.TermKind.TheVariants.{Symbol, Decimal, Hexadecimal, Binary, Characters, Here, LengthOf}
+
+-- A part of an expression: what stands between signs, with the sign before it.
+pub record Part : Type 0 where
+  pub sign : Sign
+  pub text : List ℕ
+
+abbrev pub part_of : Sign → List ℕ → Part
+part_of sign text = record { sign = sign; text = text }
+
+-- A term: its sign, what it is, and what it is written with: a symbol, digits, or what stands between the apostrophes.
+pub record Term : Type 0 where
+  pub sign : Sign
+  pub kind : TermKind
+  pub text : List ℕ
+
+abbrev pub term_of : Sign → TermKind → List ℕ → Term
+term_of sign kind text = record { sign = sign; kind = kind; text = text }
+
+abbrev pub is_sign : ℕ → Bool
+is_sign c = c == 43 || c == 45
+
+abbrev pub sign_of : ℕ → Sign
+sign_of c = if c == 45 then Minus else Plus
+
+-- The parts between signs. With each character comes whether it lies outside apostrophes; `text` is what stands of the first part already.
+abbrev pub parts_from : Sign → List ℕ → List ℕ → List Bool → List Part
+parts_from sign text [] outs = part_of sign text ∷ []
+parts_from sign text (c ∷ behind) [] = parts_from sign (text ++ c ∷ []) behind []
+parts_from sign text (c ∷ behind) (out ∷ outs) =
+    if out && is_sign c then part_of sign text ∷ parts_from (sign_of c) [] behind outs
+    else parts_from sign (text ++ c ∷ []) behind outs
+
+-- the parts of an expression, cut at the signs that lie outside apostrophes; before the first stands a plus
+abbrev pub parts_of : List ℕ → List Part
+parts_of text = parts_from Plus [] text (outside text)
+
+-- a symbol or a decimal
+abbrev pub plain_term : Sign → List ℕ → Option Term
+plain_term sign text =
+    if is_name text then Some (term_of sign Symbol text)
+    else (if is_number 10 text then Some (term_of sign Decimal text) else None)
+
+-- 1 to so many digits of a base
+abbrev pub is_short_number : ℕ → ℕ → List ℕ → Bool
+is_short_number base most body = is_number base body && nat_le (length body) most
+
+-- 1 to 4 characters with codes
+abbrev pub is_short_text : List ℕ → Bool
+is_short_text body = is_paired body && has_codes body && not (length body == 0) && nat_le (length (characters body)) 4
+
+-- X'..', B'..' and C'..', of at most 4 bytes
+abbrev pub self_defining : Sign → ℕ → List ℕ → Option Term
+self_defining sign letter body =
+    if letter == 88 && is_short_number 16 8 body then Some (term_of sign Hexadecimal body)
+    else (if letter == 66 && is_short_number 2 32 body then Some (term_of sign Binary body)
+    else (if letter == 67 && is_short_text body then Some (term_of sign Characters body) else None))
+
+-- what a letter and an apostrophe begin
+abbrev pub quoted_term : Sign → ℕ → List ℕ → Option Term
+quoted_term sign letter behind =
+    if letter == 76 then (if is_name behind then Some (term_of sign LengthOf behind) else None)
+    else option_and_then (self_defining sign letter) (closed behind)
+
+-- the term that a part writes, if it writes one
+unfoldable pub read_term : Part → Option Term
+read_term part =
+    if slice_index part.text 1 == 39 then quoted_term part.sign (slice_index part.text 0) (drop 2 part.text)
+    else (if slice_index part.text 0 == 42 && length part.text == 1 then Some (term_of part.sign Here []) else plain_term part.sign part.text)
+
+-- the terms of an expression; None where a part writes none
+unfoldable pub terms_of : List ℕ → Option (List Term)
+terms_of text = each_some (map read_term (parts_of text))
+
+-- ---- writing terms
+abbrev pub written_sign : Sign → List ℕ
+written_sign Plus = 43 ∷ []
+written_sign Minus = 45 ∷ []
+
+abbrev pub written_kind : TermKind → List ℕ → List ℕ
+written_kind Symbol text = text
+written_kind Decimal text = text
+written_kind Hexadecimal text = 88 ∷ 39 ∷ (text ++ 39 ∷ [])
+written_kind Binary text = 66 ∷ 39 ∷ (text ++ 39 ∷ [])
+written_kind Characters text = 67 ∷ 39 ∷ (text ++ 39 ∷ [])
+written_kind Here text = 42 ∷ []
+written_kind LengthOf text = 76 ∷ 39 ∷ text
+
+-- a term behind its sign
+abbrev pub written : Term → List ℕ
+written term = written_sign term.sign ++ written_kind term.kind term.text

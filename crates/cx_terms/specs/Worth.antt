@@ -1,0 +1,42 @@
+-- What a term is worth (GC33-4010, "Terms").
+use Rattle.std.specs.Prelude.{ℕ, pos, nat_le, if◌then◌else◌, Option, Result, Ok, Err, List, option_and_then}
+use Rattle.std.specs.Option.{ok_or, option_map_or}
+use Rattle.cx_terms.specs.Digits.{bound, number_in}
+use Rattle.cx_terms.specs.Texts.{character_number}
+use Rattle.cx_terms.specs.Names.{symbol_name}
+use Rattle.cx_terms.specs.Symbols.{absolute}
+use Rattle.cx_terms.specs.Terms.{Term}
+use Rattle.cx_terms.specs.declared.values.Value.{Value}
+use Rattle.cx_terms.specs.declared.terms.TermKind.{TermKind}
+use Rattle.cx_terms.specs.declared.terms.TermKind.TheVariants.{Symbol, Decimal, Hexadecimal, Binary, Characters, Here, LengthOf}
+use Rattle.cx_terms.specs.declared.faults.FaultKind.{FaultKind}
+use Rattle.cx_terms.specs.declared.faults.FaultKind.TheVariants.{UndefinedSymbol, BadOperand, ValueOutOfRange}
+
+-- the greatest self-defining term
+abbrev pub greatest : ℕ
+greatest = 4294967295
+
+-- a self-defining term of this number
+abbrev pub self_defined : ℕ → Result Value FaultKind
+self_defined number = if nat_le number greatest then Ok (absolute (pos number)) else Err ValueOutOfRange
+
+-- what a symbol is worth, by what `find` knows of names
+abbrev pub look_up : (List ℕ → Option Value) → List ℕ → Option Value
+look_up find text = option_and_then find (symbol_name text)
+
+-- a length attribute as a term
+abbrev pub length_worth : Value → Result Value FaultKind
+length_worth value = if nat_le value.length bound then Ok (absolute (pos value.length)) else Err ValueOutOfRange
+
+-- What a term is worth by its kind: `find` knows the symbols, and `here` is what the location counter stands at, if anything.
+abbrev pub kind_worth : (List ℕ → Option Value) → Option Value → TermKind → List ℕ → Result Value FaultKind
+kind_worth find here Symbol text = ok_or (look_up find text) UndefinedSymbol
+kind_worth find here Decimal text = self_defined (number_in 10 text)
+kind_worth find here Hexadecimal text = self_defined (number_in 16 text)
+kind_worth find here Binary text = self_defined (number_in 2 text)
+kind_worth find here Characters text = self_defined (character_number text)
+kind_worth find here Here text = ok_or here BadOperand
+kind_worth find here LengthOf text = option_map_or length_worth (look_up find text) (Err UndefinedSymbol)
+
+unfoldable pub term_worth : (List ℕ → Option Value) → Option Value → Term → Result Value FaultKind
+term_worth find here term = kind_worth find here term.kind term.text

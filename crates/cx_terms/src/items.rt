@@ -1,0 +1,330 @@
+//! Reading one item of a DC, a DS or a literal.
+
+ghost use Rattle.std.specs.Prelude.{◌≡◌, ◌≤◌, ◌<◌, ◌^◌, is_some, slice_index, length, drop, Some, None};
+ghost use Rattle.std.specs.Option.{option_map};
+ghost use Rattle.cx_terms.specs.Digits.{bound, number_in};
+ghost use Rattle.cx_terms.specs.Kinds.{kind_of};
+ghost use Rattle.cx_terms.specs.Items.{at_most, behind_digits, body_in, constant, constant_in, digit_count, duplication_in, is_whole, judged, leading_digits, modifier_in, parenthesized_body, quoted_body, value_body, with_modifier, with_value, written_in, written_item};
+
+use crate::digits::{is_digit, number};
+use crate::faults::FaultKind;
+use crate::fields::are_decimals;
+use crate::kinds::{ConstantKind, Style};
+use crate::texts::{APOSTROPHE, closed, is_doubled, is_paired};
+use crate::worth::GREATEST;
+use cx_source::{Mark, first_mark};
+use std::marker::Model;
+
+/// An item as it is written.
+#[derive(Debug, Drop)]
+struct Written<'a> {
+    duplication: &'a [u8],
+    kind: ConstantKind,
+    modifier: Option<&'a [u8]>,
+    value: Option<&'a [u8]>,
+}
+
+impl<'a> Model for Written<'a> {
+    ghost use Rattle.std.specs.Option.{option_map};
+    ghost use Rattle.cx_terms.specs.Items.{Written as WrittenItem, written_item};
+
+    ghost Value = { WrittenItem };
+
+    ghost view = { λ item. written_item item.duplication.now item.kind (option_map (λ digits. digits.now) item.modifier)
+        (option_map (λ body. body.now) item.value) };
+}
+
+/// One item of a DC, a DS or a literal: its duplication factor, type, length modifier and nominal value.
+#[derive(Debug, Drop)]
+pub struct Constant<'a> {
+    duplication: u32,
+    kind: ConstantKind,
+    modifier: Option<u16>,
+    value: Option<&'a [u8]>,
+}
+
+impl<'a> Model for Constant<'a> {
+    ghost use Rattle.std.specs.Option.{option_map};
+    ghost use Rattle.cx_terms.specs.Items.{Constant as ConstantValue, constant};
+
+    ghost Value = { ConstantValue };
+
+    ghost view = { λ item. constant item.duplication item.kind item.modifier (option_map (λ body. body.now) item.value) };
+}
+
+/// How many digits a text begins with.
+fn digit_count(text: &[u8]) -> usize
+    ensures count { result ≡ digit_count text.now }
+    ensures bound { result ≤ length text.now }
+{
+    for (i, c) in text.iter().enumerate() {
+        if !is_digit(*c, 10) {
+            return i;
+        }
+    }
+    text.len()
+}
+
+/// The digits that a text begins with, and what is behind them.
+fn split_digits(text: &[u8]) -> (&[u8], &[u8])
+    ensures digits { result.0.now ≡ leading_digits text.now }
+    ensures behind { result.1.now ≡ behind_digits text.now }
+{
+    text.split_at(digit_count(text))
+}
+
+/// What stands in apostrophes.
+fn quoted_body(value: &[u8]) -> Option<&[u8]>
+    ensures { option_map (λ body. body.now) result ≡ quoted_body value.now }
+{
+    if value.is_empty() || value[0] != APOSTROPHE {
+        return None;
+    }
+    let (_, behind) = value.split_at(1);
+    closed(behind)
+}
+
+/// What stands in one pair of parentheses.
+fn parenthesized_body(value: &[u8]) -> Option<&[u8]>
+    ensures { option_map (λ body. body.now) result ≡ parenthesized_body value.now }
+{
+    if value.is_empty() || value[0] != b'(' {
+        return None;
+    }
+    let (_, behind) = value.split_at(1);
+    let (last, body) = behind.split_last()?;
+    if first_mark(behind, Mark::Parenthesis) == body.len() && *last == b')' {
+        Some(body)
+    } else {
+        None
+    }
+}
+
+/// What a value consists of, without what stands round it.
+fn body_in(style: Style, value: &[u8]) -> Option<&[u8]>
+    ensures { option_map (λ body. body.now) result ≡ body_in style value.now }
+{
+    match style {
+        Style::Text | Style::Values => quoted_body(value),
+        Style::Expression => parenthesized_body(value),
+        Style::Nothing => None,
+    }
+}
+
+/// Whether a value's text is whole.
+fn is_whole(kind: ConstantKind, modified: bool, body: &[u8]) -> bool
+    ensures { result ≡ is_whole kind modified body.now }
+{
+    match kind {
+        ConstantKind::Character => is_paired(body),
+        ConstantKind::Hexadecimal
+        | ConstantKind::Binary
+        | ConstantKind::Fullword
+        | ConstantKind::Halfword => is_doubled(APOSTROPHE, body),
+        ConstantKind::Packed => is_doubled(APOSTROPHE, body) && (modified || are_decimals(body)),
+        ConstantKind::Address | ConstantKind::External | ConstantKind::Doubleword => true,
+    }
+}
+
+/// The value of an item, where it is one and isn't empty.
+fn value_body(kind: ConstantKind, modified: bool, value: &[u8]) -> Option<&[u8]>
+    ensures { option_map (λ body. body.now) result ≡ value_body kind modified value.now }
+{
+    let body = body_in(kind.style(), value)?;
+    if !body.is_empty() && is_whole(kind, modified, body) {
+        Some(body)
+    } else {
+        None
+    }
+}
+
+/// A number that isn't greater than so much.
+#[tactic(auto, using(crate::proofs::NumberLemmas::bounded_number, crate::proofs::NumberLemmas::unbounded_number))]
+fn number_at_most(digits: &[u8], most: u128) -> Option<u128>
+    requires { most ≤ bound }
+    ensures number { result ≡ at_most most (number_in 10 digits.now) }
+{
+    match number(digits, 10) {
+        Some(number) if number <= most => Some(number),
+        _ => None,
+    }
+}
+
+/// The duplication factor.
+fn duplication_in(digits: &[u8]) -> Option<u32>
+    ensures { result ≡ duplication_in digits.now }
+{
+    if digits.is_empty() {
+        return Some(1);
+    }
+    let number = number_at_most(digits, GREATEST)?;
+    Some(number as u32)
+}
+
+/// A length modifier within its limits.
+fn modifier_number(is_ds: bool, kind: ConstantKind, digits: &[u8]) -> Option<u16>
+    ensures { option_map Some result ≡ modifier_in is_ds kind (Some digits.now) }
+{
+    let number = number_at_most(digits, kind.greatest_modifier(is_ds))?;
+    if number == 0 {
+        None
+    } else {
+        Some(number as u16)
+    }
+}
+
+/// The type that a text's first character stands for.
+#[tactic(auto, using(crate::proofs::KindLemmas::no_kind_in))]
+fn kind_at(rest: &[u8]) -> Option<ConstantKind>
+    ensures { result ≡ kind_of (slice_index rest.now 0) }
+{
+    if rest.is_empty() {
+        return None;
+    }
+    ConstantKind::from_letter(rest[0])
+}
+
+/// A text without its first character.
+fn behind_first(rest: &[u8]) -> &[u8]
+    ensures { result.now ≡ drop 1 rest.now }
+{
+    if rest.is_empty() {
+        return rest;
+    }
+    let (_, behind) = rest.split_at(1);
+    behind
+}
+
+impl<'a> Written<'a> {
+    /// An item with or without a value.
+    fn with_value(
+        is_ds: bool,
+        duplication: &'a [u8],
+        kind: ConstantKind,
+        modifier: Option<&'a [u8]>,
+        value: &'a [u8],
+    ) -> Option<Written<'a>>
+        ensures { result ≡ with_value is_ds duplication.now kind (option_map (λ digits. digits.now) modifier.entry) value.now }
+    {
+        if value.is_empty() {
+            if !is_ds {
+                return None;
+            }
+            return Some(Written {
+                duplication,
+                kind,
+                modifier,
+                value: None,
+            });
+        }
+        let body = value_body(kind, modifier.is_some(), value)?;
+        Some(Written {
+            duplication,
+            kind,
+            modifier,
+            value: Some(body),
+        })
+    }
+
+    /// An item with or without a length modifier.
+    fn with_modifier(
+        is_ds: bool,
+        duplication: &'a [u8],
+        kind: ConstantKind,
+        rest: &'a [u8],
+    ) -> Option<Written<'a>>
+        ensures { result ≡ with_modifier is_ds duplication.now kind rest.now }
+    {
+        if rest.is_empty() || rest[0] != b'L' {
+            return Written::with_value(is_ds, duplication, kind, None, rest);
+        }
+        let (_, behind) = rest.split_at(1);
+        let (digits, value) = split_digits(behind);
+        if !kind.takes_modifier() || digit_count(behind) == 0 {
+            return None;
+        }
+        Written::with_value(is_ds, duplication, kind, Some(digits), value)
+    }
+
+    /// The item that a text writes, if it writes one.
+    #[tactic(auto, unfolding(crate::specs::Items::written_in))]
+    fn read(text: &'a [u8], is_ds: bool) -> Option<Written<'a>>
+        ensures { result ≡ written_in is_ds text.now }
+    {
+        let (duplication, rest) = split_digits(text);
+        let kind = kind_at(rest)?;
+        Written::with_modifier(is_ds, duplication, kind, behind_first(rest))
+    }
+
+    /// The constant that an item is, where duplication and length modifier are within their limits.
+    fn judged(self, is_ds: bool) -> Result<Constant<'a>, FaultKind>
+        ensures { result ≡ judged is_ds self.entry }
+    {
+        let Some(duplication) = duplication_in(self.duplication) else {
+            return Err(FaultKind::ValueOutOfRange);
+        };
+        let Some(digits) = self.modifier else {
+            return Ok(Constant {
+                duplication,
+                kind: self.kind,
+                modifier: None,
+                value: self.value,
+            });
+        };
+        let Some(modifier) = modifier_number(is_ds, self.kind, digits) else {
+            return Err(FaultKind::ValueOutOfRange);
+        };
+        Ok(Constant {
+            duplication,
+            kind: self.kind,
+            modifier: Some(modifier),
+            value: self.value,
+        })
+    }
+}
+
+impl<'a> Constant<'a> {
+    /// Reads one item of a DS (`is_ds`), or of a DC or a literal. It takes no memory.
+    ///
+    /// BadOperand comes for a text that is no such item: an unknown type, `L` without digits or where the type takes no
+    /// modifier, no value in DC, a value that isn't one closed text or one pair of parentheses, or is empty, a single
+    /// apostrophe or ampersand in C, a value of P that is no decimal where no modifier gives the length, D with a value.
+    /// Else ValueOutOfRange comes for a duplication factor above 4,294,967,295 and a length modifier outside its limits.
+    #[tactic(auto, unfolding(crate::specs::Items::constant_in))]
+    pub fn read(text: &'a [u8], is_ds: bool) -> Result<Constant<'a>, FaultKind>
+        ensures { result ≡ constant_in is_ds text.now }
+    {
+        match Written::read(text, is_ds) {
+            Some(item) => item.judged(is_ds),
+            None => Err(FaultKind::BadOperand),
+        }
+    }
+
+    /// How many copies there are, perhaps none.
+    pub fn duplication(&self) -> u32
+        ensures { result ≡ self.now.duplication }
+    {
+        self.duplication
+    }
+
+    /// Its type.
+    pub fn kind(&self) -> ConstantKind
+        ensures { result ≡ self.now.kind }
+    {
+        self.kind
+    }
+
+    /// Its length modifier, if it has one.
+    pub fn modifier(&self) -> Option<u16>
+        ensures { result ≡ self.now.modifier }
+    {
+        self.modifier
+    }
+
+    /// Its nominal value without apostrophes or parentheses, if it has one.
+    pub fn value(&self) -> Option<&[u8]>
+        ensures { option_map (λ body. body.now) result ≡ self.now.value }
+    {
+        self.value
+    }
+}

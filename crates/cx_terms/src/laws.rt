@@ -1,0 +1,51 @@
+//! What follows from the definitions of terms and expressions.
+
+ghost use Rattle.std.specs.Prelude.{◌≡◌, ◌∷◌, ◌↔◌, ◌<◌, ◌^◌, ℕ, List, Option, Some, true, length};
+ghost use Rattle.std.specs.List.{flat_map};
+ghost use Rattle.cx_terms.specs.Digits.{is_number, number_in};
+ghost use Rattle.cx_terms.specs.Faults.{lowest};
+ghost use Rattle.cx_terms.specs.Kinds.{kind_of, row_of};
+ghost use Rattle.cx_terms.specs.Laws.FaultLaws.{IsLowest};
+ghost use Rattle.cx_terms.specs.declared.faults.FaultKind.{FaultKind};
+ghost use Rattle.cx_terms.specs.declared.kinds.ConstantKind.{ConstantKind};
+ghost use Rattle.cx_terms.specs.Terms.{Term, terms_of, written};
+ghost use Rattle.cx_terms.specs.Weights.{Weighs, relocation};
+ghost use Rattle.cx_terms.specs.declared.expressions.Signed.{Signed};
+
+/// The terms of an expression, written one behind the other, each with its sign, are a plus and the expression's text.
+#[tactic(auto, using(crate::proofs::WrittenLemmas::written_again))]
+pub fn terms_written_again_are_the_text()
+    ensures { (text : List ℕ) (terms : List Term) → terms_of text ≡ Some terms → flat_map written terms ≡ 43 ∷ text }
+{}
+
+/// A sum weighs in one way at most: it is absolute, or a place in one section.
+#[tactic(auto, using(crate::proofs::WeighLemmas::decides))]
+pub fn weighing_decides()
+    ensures { (values : List Signed) (one other : Option (List ℕ)) → Weighs values one → Weighs values other → one ≡ other }
+{}
+
+/// The section that is answered for a sum is the one that it weighs in, and none is answered exactly where it weighs in
+/// none.
+#[tactic(auto, using(crate::proofs::WeighLemmas::where_it_weighs))]
+pub fn a_sum_is_where_it_weighs()
+    ensures { (values : List Signed) (section : Option (List ℕ)) → (relocation values ≡ Some section) ↔ Weighs values section }
+{}
+
+/// The number that digits of a base write is below the base raised to their number: a self-defining term of n bytes is
+/// below 2^(8n), since two hexadecimal and eight binary digits make a byte.
+#[tactic(auto, using(crate::proofs::DigitLemmas::digits_fit))]
+pub fn digits_fit()
+    ensures { (base : ℕ) (text : List ℕ) → is_number base text ≡ true → number_in base text < base ^ length text }
+{}
+
+/// The lowest of several faults is one of them, and none of them has a lower number; where none is answered there is none.
+#[tactic(auto, using(crate::proofs::LowestLemmas::lowest_is_lowest))]
+pub fn the_lowest_fault_is_lowest()
+    ensures { (faults : List (Option FaultKind)) → IsLowest faults (lowest faults) }
+{}
+
+/// A letter stands for a type of constant exactly where it is that type's letter.
+#[tactic(auto, using(crate::proofs::KindLemmas::kind_by_letter))]
+pub fn types_are_known_by_their_letters()
+    ensures { (letter : ℕ) (kind : ConstantKind) → (kind_of letter ≡ Some kind) ↔ ((row_of kind).letter ≡ letter) }
+{}

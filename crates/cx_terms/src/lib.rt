@@ -1,0 +1,27 @@
+//! What an assembler operand is worth: terms, expressions and constants.
+#![tactic(auto)]
+
+mod bytes;
+mod digits;
+mod expressions;
+mod faults;
+mod fields;
+mod items;
+mod kinds;
+pub mod laws;
+mod lengths;
+mod symbols;
+mod terms;
+mod texts;
+mod values;
+mod weights;
+mod worth;
+
+pub use bytes::ConstantBytes;
+pub use expressions::{Signed, value_of};
+pub use faults::{FaultKind, TermFault, lower};
+pub use items::Constant;
+pub use kinds::{ConstantKind, Style};
+pub use symbols::{SymbolTable, symbol_name};
+pub use terms::{Sign, Term, TermKind, terms_of};
+pub use values::Value;

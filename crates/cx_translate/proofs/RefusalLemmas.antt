@@ -1,0 +1,57 @@
+-- Lemmas on statements without a fault.
+use Rattle.std.proofs.Common.{◌≡◌, ◌≢◌, ℕ, Bool, true, false, cond, List, Option, Some, None, Err, refl, take, drop, ◌||◌, not}
+use Rattle.std.specs.Option.{option_or}
+use Rattle.cx_source.specs.declared.source.Source.{Source}
+use Rattle.cx_command.specs.declared.commands.Command.{Command}
+use Rattle.cx_command.specs.Commands.{row_of}
+use Rattle.cx_command.specs.Legal.{is_legal}
+use Rattle.cx_translate.specs.declared.words.Word.{Word}
+use Rattle.cx_translate.specs.declared.faults.TransFault.{TransFault}
+use Rattle.cx_translate.specs.declared.faults.TransFault.TheVariants.{UnknownCommand, Memory, UnknownOption, BadArgument, TooManyConditions, Conflict, MissingOption}
+use Rattle.cx_translate.specs.Refusals.{IsDue, fault_in, first_byte, has_argument, has_excluded, has_too_many, has_twice, has_unknown, has_wrong, second_byte}
+use Rattle.cx_translate.specs.Translation.{AnswersAs, judged}
+
+chain : (a b c d e : Bool) (f g h i j : TransFault) → cond a (Some f) (cond b (Some g) (cond c (Some h) (cond d (Some i) (cond e None (Some j))))) ≡ None → c ≡ false
+chain false false false d e f g h i j p = refl
+chain true b c d e f g h i j p = absurd (cc)
+chain false true c d e f g h i j p = absurd (cc)
+chain false false true d e f g h i j p = absurd (cc)
+
+-- a statement without a fault lists no more conditions than it may
+pub few_conditions : (line : ℕ) (command : Command) (cics named words : List Word) → fault_in line command cics named words ≡ None
+    → has_too_many command words ≡ false
+unfolding fault_in
+few_conditions line command cics named words none = 
+    chain (has_unknown command words) (has_argument cics || has_argument named || has_wrong command words) (has_too_many command words)
+      (has_twice words || has_excluded (row_of command).rules (first_byte command words)) (is_legal command (first_byte command words) (second_byte words))
+      (UnknownOption line) (BadArgument line) (TooManyConditions line) (Conflict line) (MissingOption line) none
+
+-- the fault due may be answered
+pub due : (due : Option TransFault) (fault : TransFault) → due ≡ Some fault → IsDue due fault
+due d (UnknownCommand line) e = e
+due d (UnknownOption line) e = e
+due d (MissingOption line) e = e
+due d (Conflict line) e = e
+due d (TooManyConditions line) e = e
+due d (BadArgument line) e = e
+due d Memory e = tt
+
+-- the first statement's fault is the source's
+pub due_first : (first rest : Option TransFault) (fault : TransFault) → IsDue first fault → IsDue (option_or first rest) fault
+due_first first rest (UnknownCommand line) e = rw e refl
+due_first first rest (UnknownOption line) e = rw e refl
+due_first first rest (MissingOption line) e = rw e refl
+due_first first rest (Conflict line) e = rw e refl
+due_first first rest (TooManyConditions line) e = rw e refl
+due_first first rest (BadArgument line) e = rw e refl
+due_first first rest Memory e = tt
+
+-- and the answer
+pub answers_due : (due : Option TransFault) (source : Source) (fault : TransFault) → IsDue due fault → AnswersAs (judged due source) (Err fault)
+answers_due due source (UnknownCommand line) e = rw e refl
+answers_due due source (UnknownOption line) e = rw e refl
+answers_due due source (MissingOption line) e = rw e refl
+answers_due due source (Conflict line) e = rw e refl
+answers_due due source (TooManyConditions line) e = rw e refl
+answers_due due source (BadArgument line) e = rw e refl
+answers_due due source Memory e = tt

@@ -1,0 +1,2 @@
+-- What the laws state.
+pub mod Joined

@@ -1,0 +1,20 @@
+-- The definitions, in reading order, and then what the laws state.
+pub mod Pieces
+pub mod Words
+pub mod Names
+pub mod Due
+pub mod Refusals
+pub mod Call
+pub mod Made
+pub mod Sections
+pub mod Translation
+pub mod Laws
+pub use Rattle.cx_source.specs.Lines
+pub use Rattle.cx_source.specs.Marks
+pub use Rattle.cx_source.specs.Statements
+pub use Rattle.cx_command.specs.Conditions
+pub use Rattle.cx_command.specs.Options
+pub use Rattle.cx_command.specs.Commands
+pub use Rattle.cx_command.specs.Legal
+pub use Rattle.cx_command.specs.Eib
+pub use Rattle.cx_command.specs.Eistg

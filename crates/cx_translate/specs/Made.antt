@@ -1,0 +1,63 @@
+-- The statements made of one EXEC statement (this product's own; the columns are those of OS/VS-DOS/VSE-VM/370 Assembler
+-- Language, GC33-4010, "Assembler Language Coding Conventions").
+use Rattle.std.specs.Prelude.{ℕ, ◌+◌, ◌-◌, ◌*◌, ◌==◌, if◌then◌else◌, List, [], ◌∷◌, ◌++◌, Option, Some, None, codes, decimal, drop, length, map, replicate}
+use Rattle.cx_command.specs.declared.commands.Command.{Command}
+use Rattle.cx_command.specs.Commands.{row_of}
+use Rattle.cx_source.specs.declared.source.Item.{Item}
+use Rattle.cx_source.specs.declared.source.Stmt.{Stmt}
+use Rattle.cx_source.specs.Lines.{text_of}
+use Rattle.cx_translate.specs.declared.words.Word.{Word}
+use Rattle.cx_translate.specs.Refusals.{command_in}
+use Rattle.cx_translate.specs.Call.{list_of, pointers_of}
+
+abbrev pub stmt : List ℕ → List ℕ → List ℕ → Stmt
+stmt name operation operand = record { name = name; operation = operation; operand = operand }
+
+-- the address of an argument, stored as word k of the list
+abbrev pub store : ℕ → List ℕ → List Stmt
+store k argument =
+    stmt [] (codes "LA") (codes "0," ++ argument) ∷ stmt [] (codes "ST") (codes "0,DFHEIPL+" ++ decimal (4 * k)) ∷ []
+
+-- from word k on
+abbrev pub stores : ℕ → List (List ℕ) → List Stmt
+stores k [] = []
+stores k (argument ∷ rest) = store k argument ++ stores (k + 1) rest
+
+-- the list's address and the call
+abbrev pub branch : List Stmt
+branch =
+    stmt [] (codes "LA") (codes "1,DFHEIPL") ∷ stmt [] (codes "L") (codes "15,=V(DFHEI1)") ∷ stmt [] (codes "BALR") (codes "14,15") ∷ []
+
+-- word k is marked as the last, and the command is called
+abbrev pub call : ℕ → List Stmt
+call k = stmt [] (codes "OI") (codes "DFHEIPL+" ++ decimal (4 * k) ++ codes ",X'80'") ∷ branch
+
+-- a pointer loaded into a register
+abbrev pub load : List ℕ → Stmt
+load register = stmt [] (codes "L") (register ++ codes ",DFHEITP")
+
+-- the statement's name, where it has one
+abbrev pub label : List ℕ → List Stmt
+label name = if length name == 0 then [] else stmt name (codes "DS") (codes "0H") ∷ []
+
+unfoldable pub made_in : List ℕ → Command → List Word → List Stmt
+made_in name command words =
+    label name ++ stores 0 (list_of command words) ++ call (length (list_of command words) - 1)
+    ++ map load (pointers_of (row_of command).options words)
+
+abbrev pub made_by : List ℕ → List Word → Option (Command × ℕ) → List Stmt
+made_by name words None = []
+made_by name words (Some found) = made_in name found.0 (drop found.1 (drop 1 words))
+
+-- the statements made of the EXEC statement of this name, of which these are the words
+unfoldable pub made_of : List ℕ → List Word → List Stmt
+made_of name words = made_by name words (command_in words)
+
+-- a text filled with blanks up to a column
+abbrev pub filled : ℕ → List ℕ → List ℕ
+filled columns text = text ++ replicate (columns - length text) 32
+
+-- A made line: name, operation and operand in columns 1, 10 and 16, as far as column 72.
+unfoldable pub made_item : ℕ → Stmt → Item
+made_item line made =
+    record { line = line; text = text_of (filled 15 (filled 9 made.name ++ made.operation) ++ made.operand); stmt = Some made }

@@ -1,0 +1,126 @@
+-- Which EXEC statements are refused, and as what (Application Programmer's Reference Manual, SC33-0077, "EXEC CICS" command
+-- format and the syntax of each command; the faults and their order are this product's own).
+use Rattle.std.specs.Prelude.{ℕ, Bool, true, false, ◌&&◌, ◌||◌, not, nat_lt, if◌then◌else◌, List, [], ◌∷◌, Option, Some, None, option_map, is_none, is_some, unwrap_or, slice_get, take, drop, count_by, fold, codes, bit_or, ◌≡◌}
+use Rattle.std.specs.List.{list_any}
+use Rattle.std.specs.Str.{bytes_eq}
+use Rattle.cx_command.specs.declared.commands.Command.{Command}
+use Rattle.cx_command.specs.declared.options.CommandOption.{CommandOption}
+use Rattle.cx_command.specs.declared.options.CommonOption.TheVariants.{Nohandle, Resp}
+use Rattle.cx_command.specs.declared.options.Rule.{Rule}
+use Rattle.cx_command.specs.declared.options.Rule.TheVariants.{Together, NotBoth, Needs, OneOfTwo, OneOfThree}
+use Rattle.cx_command.specs.Options.{common_of, option_name}
+use Rattle.cx_command.specs.Commands.{row_of, command_named}
+use Rattle.cx_command.specs.Legal.{has_bit, is_legal, lists_conditions}
+use Rattle.cx_translate.specs.declared.words.Argument.{Argument}
+use Rattle.cx_translate.specs.declared.words.Argument.TheVariants.{Absent}
+use Rattle.cx_translate.specs.declared.words.Word.{Word}
+use Rattle.cx_translate.specs.declared.due.Due.{Due}
+use Rattle.cx_translate.specs.declared.faults.TransFault.{TransFault}
+use Rattle.cx_translate.specs.declared.faults.TransFault.TheVariants.{UnknownCommand, UnknownOption, MissingOption, Conflict, TooManyConditions, BadArgument, Memory}
+use Rattle.cx_translate.specs.Due.{condition_called, due_of, suits}
+
+-- a fault's name
+abbrev pub fault_name : TransFault → List ℕ
+fault_name (UnknownCommand line) = codes "UnknownCommand"
+fault_name (UnknownOption line) = codes "UnknownOption"
+fault_name (MissingOption line) = codes "MissingOption"
+fault_name (Conflict line) = codes "Conflict"
+fault_name (TooManyConditions line) = codes "TooManyConditions"
+fault_name (BadArgument line) = codes "BadArgument"
+fault_name Memory = codes "Memory"
+
+-- the word at a place, empty past the end
+abbrev pub word_at : List Word → ℕ → List ℕ
+word_at words k = unwrap_or (option_map (λ word. word.name) (slice_get words k)) []
+
+-- The command that the words give behind CICS, and how many words its name takes. TS may be left out.
+unfoldable pub command_in : List Word → Option (Command × ℕ)
+command_in words =
+    if bytes_eq (word_at words 0) (codes "CICS") then command_named (word_at words 1) (word_at words 2) else None
+
+-- some word has an argument behind it
+abbrev pub is_bare : Argument → Bool
+is_bare Absent = true
+is_bare argument = false
+
+unfoldable pub has_argument : List Word → Bool
+has_argument words = list_any (λ word. not (is_bare word.argument)) words
+
+-- some word is of this name
+unfoldable pub is_given : List Word → List ℕ → Bool
+is_given words name = list_any (λ word. bytes_eq word.name name) words
+
+-- some word is no option of the command, and no condition that it lists
+unfoldable pub has_unknown : Command → List Word → Bool
+has_unknown command words = list_any (λ word. is_none (due_of command word.name)) words
+
+abbrev pub is_wrong : Option Due → Argument → Bool
+is_wrong None argument = false
+is_wrong (Some due) argument = not (suits due argument)
+
+-- behind some word stands another argument than is due
+unfoldable pub has_wrong : Command → List Word → Bool
+has_wrong command words = list_any (λ word. is_wrong (due_of command word.name) word.argument) words
+
+-- how many conditions are listed
+unfoldable pub conditions_in : List Word → ℕ
+conditions_in words = count_by (λ word. is_some (condition_called word.name)) words
+
+unfoldable pub has_too_many : Command → List Word → Bool
+has_too_many command words = lists_conditions command && nat_lt 16 (conditions_in words)
+
+-- a word that stands twice
+abbrev pub has_twice : List Word → Bool
+has_twice [] = false
+has_twice (word ∷ rest) = is_given rest word.name || has_twice rest
+
+-- an option byte with the bit of an option, where that is given
+abbrev pub with_option : List Word → ℕ → CommandOption → ℕ
+with_option words byte option = if is_given words (option_name option.name) then bit_or byte option.bit else byte
+
+-- option byte 1: the bits of the options given, or the number of conditions listed
+unfoldable pub first_byte : Command → List Word → ℕ
+first_byte command words =
+    if lists_conditions command then conditions_in words else fold (with_option words) 0 (row_of command).options
+
+-- option byte 2: NOHANDLE and RESP
+unfoldable pub second_byte : List Word → ℕ
+second_byte words =
+    bit_or (if is_given words (common_of Nohandle).name then (common_of Nohandle).bit else 0)
+    (if is_given words (common_of Resp).name then (common_of Resp).bit else 0)
+
+-- more options stand together than a rule allows
+abbrev pub exceeds : (ℕ → Bool) → Rule → Bool
+exceeds present (Together a b) = false
+exceeds present (NotBoth a b) = present a && present b
+exceeds present (Needs a b) = false
+exceeds present (OneOfTwo a b) = present a && present b
+exceeds present (OneOfThree a b c) = (present a && present b) || (present a && present c) || (present b && present c)
+
+unfoldable pub has_excluded : List Rule → ℕ → Bool
+has_excluded rules byte = list_any (exceeds (has_bit byte)) rules
+
+-- The fault of a statement, the first of these that applies. `cics` and `named` are the words of CICS and of the command's
+-- name, `words` those behind. An option is missing where the options given are no legal set, though none excludes another.
+unfoldable pub fault_in : ℕ → Command → List Word → List Word → List Word → Option TransFault
+fault_in line command cics named words =
+    if has_unknown command words then Some (UnknownOption line)
+    else (if has_argument cics || has_argument named || has_wrong command words then Some (BadArgument line)
+    else (if has_too_many command words then Some (TooManyConditions line)
+    else (if has_twice words || has_excluded (row_of command).rules (first_byte command words) then Some (Conflict line)
+    else (if is_legal command (first_byte command words) (second_byte words) then None
+    else Some (MissingOption line)))))
+
+abbrev pub fault_of_command : ℕ → List Word → Option (Command × ℕ) → Option TransFault
+fault_of_command line words None = Some (UnknownCommand line)
+fault_of_command line words (Some found) =
+    fault_in line found.0 (take 1 words) (take found.1 (drop 1 words)) (drop found.1 (drop 1 words))
+
+-- the fault of the EXEC statement on this line, of which these are the words
+unfoldable pub fault_of : ℕ → List Word → Option TransFault
+fault_of line words = fault_of_command line words (command_in words)
+
+-- The fault is the one due, unless memory runs out.
+abbrev pub IsDue : Option TransFault → TransFault → Type 0
+IsDue due Memory = Unit {0}
+IsDue due fault = due ≡ Some fault

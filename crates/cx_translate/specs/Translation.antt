@@ -1,0 +1,68 @@
+-- A source translated (Application Programmer's Reference Manual, SC33-0077, "EXEC CICS" command format; what stands in place
+-- of an EXEC statement is this product's own).
+use Rattle.std.specs.Prelude.{ℕ, ◌≡◌, Bool, true, false, ◌&&◌, ◌||◌, if◌then◌else◌, List, [], ◌∷◌, ◌++◌, Option, Some, None, is_none, Result, Ok, Err}
+use Rattle.std.specs.List.{list_any}
+use Rattle.std.specs.Option.{option_or}
+use Rattle.cx_source.specs.declared.source.Item.{Item}
+use Rattle.cx_source.specs.declared.source.Source.{Source}
+use Rattle.cx_source.specs.declared.source.Stmt.{Stmt}
+use Rattle.cx_source.specs.Statements.{is_continued}
+use Rattle.cx_translate.specs.declared.faults.TransFault.{TransFault}
+use Rattle.cx_translate.specs.declared.faults.TransFault.TheVariants.{Memory}
+use Rattle.cx_translate.specs.Words.{words_of}
+use Rattle.cx_translate.specs.Refusals.{fault_of}
+use Rattle.cx_translate.specs.Made.{made_of}
+use Rattle.cx_translate.specs.Sections.{begins_exec, lines, with_bases, with_eib, with_storage}
+
+-- a line continues an EXEC statement: the EXEC's line before it, or its continuation, is continued, and no statement begins here
+abbrev pub is_dropped : Bool → Item → Bool
+is_dropped continues item = continues && is_none item.stmt
+
+abbrev pub made_lines : ℕ → Option Stmt → List Item
+made_lines line None = []
+made_lines line (Some exec) = lines line (made_of exec.name (words_of exec.operand))
+
+-- what stands for a line: of an EXEC statement the made lines for all of its lines, every other line itself
+unfoldable pub expansion : Bool → Item → List Item
+expansion continues item =
+    if is_dropped continues item then [] else (if begins_exec item then made_lines item.line item.stmt else item ∷ [])
+
+-- whether the next line continues an EXEC statement
+unfoldable pub continues_exec : Bool → Item → Bool
+continues_exec continues item = (is_dropped continues item || begins_exec item) && is_continued (is_dropped continues item) item.text
+
+abbrev pub expanded : Bool → List Item → List Item
+expanded continues [] = []
+expanded continues (item ∷ rest) = expansion continues item ++ expanded (continues_exec continues item) rest
+
+abbrev pub fault_in_stmt : ℕ → Option Stmt → Option TransFault
+fault_in_stmt line None = None
+fault_in_stmt line (Some exec) = fault_of line (words_of exec.operand)
+
+-- the fault of the EXEC statement that begins on a line, with the line's number
+unfoldable pub fault_at : Item → Option TransFault
+fault_at item = if begins_exec item then fault_in_stmt item.line item.stmt else None
+
+-- the first faulty statement's
+abbrev pub first_fault : List Item → Option TransFault
+first_fault [] = None
+first_fault (item ∷ rest) = option_or (fault_at item) (first_fault rest)
+
+-- the lines of a source that has an EXEC statement
+unfoldable pub translated : List Item → List Item
+translated items = with_eib (with_bases (with_storage (expanded false items)))
+
+abbrev pub judged : Option TransFault → Source → Result Source TransFault
+judged None source = Ok source
+judged (Some fault) source = Err fault
+
+-- The source translated, or its first fault. A source without EXEC stays as it is.
+unfoldable pub translation_of : Source → Result Source TransFault
+translation_of source =
+    if list_any begins_exec source.items then judged (first_fault source.items) (record { items = translated source.items }) else Ok source
+
+-- The answer is the one due, unless memory runs out.
+abbrev pub AnswersAs : Result Source TransFault → Result Source TransFault → Type 0
+AnswersAs due (Ok found) = due ≡ Ok found
+AnswersAs due (Err Memory) = Unit {0}
+AnswersAs due (Err fault) = due ≡ Err fault

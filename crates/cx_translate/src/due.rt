@@ -1,0 +1,134 @@
+//! Which argument is due with each word of a command.
+
+ghost use Rattle.std.specs.Prelude.{◌≡◌};
+ghost use Rattle.cx_translate.specs.Due.{
+  common_due,
+  condition_called,
+  condition_due,
+  due_of,
+  due_of_mark,
+  option_called,
+  suits,
+};
+
+use crate::names::{is_name_or_place, is_value};
+use crate::words::Argument;
+use cx_command::{Command, CommandOption, CommonOption, Condition, Mark};
+
+/// The argument that is due with a word.
+#[derive(Clone, Copy, Debug)]
+pub enum Due {
+    /// None.
+    Nothing,
+    /// A name of up to so many characters in apostrophes, or the place of one.
+    Name(u8),
+    /// A value, which is written as it stands.
+    Value,
+    /// A label, which is written as it stands, or none.
+    Label,
+}
+
+/// The conditions that a program can handle.
+const HANDLED: [Condition; 9] = [
+    Condition::Error,
+    Condition::Invreq,
+    Condition::Nospace,
+    Condition::Lengerr,
+    Condition::Itemerr,
+    Condition::Pgmiderr,
+    Condition::Nostg,
+    Condition::Qiderr,
+    Condition::Enqbusy,
+];
+
+/// The argument that is due with an option of this mark.
+fn due_of_mark(mark: Mark) -> Due
+    ensures { result ≡ due_of_mark mark }
+{
+    match mark {
+        Mark::Flag => Due::Nothing,
+        Mark::Name4 => Due::Name(4),
+        Mark::Name8 => Due::Name(8),
+        _ => Due::Value,
+    }
+}
+
+/// The option of a name among some.
+#[tactic(auto, unfolding(crate::specs::Due::option_called))]
+fn option_called(options: &[CommandOption], name: &[u8]) -> Option<CommandOption>
+    ensures { result ≡ option_called options.now name.now }
+{
+    options
+        .iter()
+        .copied()
+        .find(|option| option.name.name().as_bytes() == name)
+}
+
+/// The condition of a name, where a program can handle it.
+#[tactic(auto, unfolding(crate::specs::Due::condition_called))]
+pub(crate) fn condition_called(name: &[u8]) -> Option<Condition>
+    ensures { result ≡ condition_called name.now }
+{
+    HANDLED
+        .iter()
+        .copied()
+        .find(|condition| condition.name().as_bytes() == name)
+}
+
+/// What is due with NOHANDLE and RESP.
+#[tactic(auto, unfolding(crate::specs::Due::common_due))]
+fn common_due(name: &[u8]) -> Option<Due>
+    ensures { result ≡ common_due name.now }
+{
+    if CommonOption::Nohandle.name().as_bytes() == name {
+        Some(Due::Nothing)
+    } else if CommonOption::Resp.name().as_bytes() == name {
+        Some(Due::Value)
+    } else {
+        None
+    }
+}
+
+/// What is due with a condition that the command lists.
+#[tactic(auto, unfolding(crate::specs::Due::condition_due))]
+fn condition_due(command: Command, name: &[u8]) -> Option<Due>
+    ensures { result ≡ condition_due command name.now }
+{
+    if !command.lists_conditions() || condition_called(name).is_none() {
+        return None;
+    }
+    match command {
+        Command::HandleCondition => Some(Due::Label),
+        _ => Some(Due::Nothing),
+    }
+}
+
+/// What is due with a word of a command, or None where the command has no such option.
+#[tactic(auto, unfolding(crate::specs::Due::due_of))]
+pub(crate) fn due_of(command: Command, name: &[u8]) -> Option<Due>
+    ensures { result ≡ due_of command name.now }
+{
+    if let Some(option) = option_called(command.options(), name) {
+        return Some(due_of_mark(option.mark));
+    }
+    if let Some(due) = common_due(name) {
+        return Some(due);
+    }
+    condition_due(command, name)
+}
+
+/// Whether what stands behind a word is what is due.
+#[tactic(auto, unfolding(crate::specs::Due::suits))]
+pub(crate) fn suits(due: Due, argument: &Argument) -> bool
+    ensures { result ≡ suits due argument.now }
+{
+    match argument {
+        Argument::Absent => matches!(due, Due::Nothing | Due::Label),
+        Argument::Given(text) => match due {
+            Due::Nothing => false,
+            Due::Name(most) => is_name_or_place(text.as_slice(), most),
+            Due::Value | Due::Label => is_value(text.as_slice()),
+        },
+        Argument::Bad => false,
+    }
+}

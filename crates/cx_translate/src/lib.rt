@@ -1,0 +1,20 @@
+//! The translator: EXEC CICS statements made into assembler statements.
+#![tactic(auto)]
+
+mod call;
+mod due;
+mod faults;
+pub mod laws;
+mod made;
+mod names;
+mod pieces;
+mod refusals;
+mod sections;
+mod translation;
+mod words;
+
+pub use due::Due;
+pub use faults::TransFault;
+pub use pieces::Piece;
+pub use translation::translate;
+pub use words::{Argument, Word};

@@ -1,0 +1,124 @@
+//! Arguments as they may be written: values as they stand, and names in apostrophes.
+
+ghost use Rattle.std.specs.Prelude.{◌≡◌, false};
+ghost use Rattle.std.specs.List.{list_any};
+ghost use Rattle.cx_source.specs.Lines.{is_written};
+ghost use Rattle.cx_translate.specs.Names.{
+  bare,
+  begins_with_apostrophe,
+  characters_from,
+  closes_from,
+  is_doubled,
+  is_name_or_place,
+  is_name_text,
+  is_quoted,
+  is_value,
+};
+
+use cx_source::{skip_blanks, trimmed};
+
+/// An apostrophe.
+const APOSTROPHE: u8 = b'\'';
+
+/// An argument without the blanks round it.
+#[tactic(auto, unfolding(crate::specs::Names::bare))]
+pub(crate) fn bare(text: &[u8]) -> &[u8]
+    ensures { result.now ≡ bare text.now }
+{
+    trimmed(skip_blanks(text))
+}
+
+/// Whether a text begins with an apostrophe.
+fn begins_with_apostrophe(text: &[u8]) -> bool
+    ensures { result ≡ begins_with_apostrophe text.now }
+{
+    match text {
+        [] => false,
+        [first, ..] => *first == APOSTROPHE,
+    }
+}
+
+/// Whether an argument begins with an apostrophe.
+#[tactic(auto, unfolding(crate::specs::Names::is_quoted))]
+pub(crate) fn is_quoted(text: &[u8]) -> bool
+    ensures { result ≡ is_quoted text.now }
+{
+    begins_with_apostrophe(bare(text))
+}
+
+/// Whether the text behind an opening apostrophe ends with its last character, and not before.
+fn closes(text: &[u8]) -> bool
+    ensures { result ≡ closes_from false text.now }
+{
+    let mut pending = false;
+    for c in text {
+        if *c == APOSTROPHE {
+            pending = !pending;
+        } else if pending {
+            return false;
+        }
+    }
+    pending
+}
+
+/// Whether two of a character stand for one.
+fn is_doubled(c: u8) -> bool
+    ensures { result ≡ is_doubled c }
+{
+    c == APOSTROPHE || c == b'&'
+}
+
+/// How many characters a text stands for.
+fn characters(text: &[u8]) -> usize
+    ensures { result ≡ characters_from 0 text.now }
+{
+    let mut count = 0;
+    let mut held = 0;
+    for c in text {
+        if is_doubled(*c) && *c == held {
+            held = 0;
+        } else {
+            count += 1;
+            held = *c;
+        }
+    }
+    count
+}
+
+/// Whether a text is a name of 1 to `most` characters in apostrophes.
+#[tactic(auto, unfolding(crate::specs::Names::is_name_text))]
+fn is_name_text(text: &[u8], most: u8) -> bool
+    ensures { result ≡ is_name_text most text.now }
+{
+    let (_, behind) = text.split_at(text.len().min(1));
+    begins_with_apostrophe(text)
+        && closes(behind)
+        && (2..=usize::from(most) + 1).contains(&characters(behind))
+}
+
+/// Whether any character of a text isn't blank.
+fn has_written(text: &[u8]) -> bool
+    ensures { result ≡ list_any is_written text.now }
+{
+    text.iter().any(|c| *c != b' ')
+}
+
+/// Whether an argument is a value that is written as it stands.
+#[tactic(auto, unfolding(crate::specs::Names::is_value))]
+pub(crate) fn is_value(text: &[u8]) -> bool
+    ensures { result ≡ is_value text.now }
+{
+    has_written(text) && !is_quoted(text)
+}
+
+/// Whether an argument is a name of 1 to `most` characters in apostrophes, or a value that is written as it stands.
+#[tactic(auto, unfolding(crate::specs::Names::is_name_or_place))]
+pub(crate) fn is_name_or_place(text: &[u8], most: u8) -> bool
+    ensures { result ≡ is_name_or_place most text.now }
+{
+    if is_quoted(text) {
+        is_name_text(bare(text), most)
+    } else {
+        has_written(text)
+    }
+}

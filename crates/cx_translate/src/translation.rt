@@ -1,0 +1,131 @@
+//! A source translated.
+
+ghost use Rattle.std.specs.Prelude.{◌≡◌, ◌++◌, IfErr, IfOk, None, OnOk, false};
+ghost use Rattle.std.specs.List.{list_any};
+ghost use Rattle.cx_translate.specs.Refusals.{IsDue};
+ghost use Rattle.cx_translate.specs.Sections.{begins_exec, with_bases, with_eib, with_storage};
+ghost use Rattle.cx_translate.specs.Translation.{
+  AnswersAs,
+  continues_exec,
+  expanded,
+  expansion,
+  fault_at,
+  first_fault,
+  is_dropped,
+
+  translation_of,
+};
+
+use crate::faults::TransFault;
+use crate::made::statements_of;
+use crate::sections::{begins_exec, lines, put_bases, put_eib, put_storage};
+use cx_source::{Item, Items, Source, is_continued};
+use std::alloc::{AllocError, Global};
+
+/// Whether a line continues an EXEC statement, where such a line is expected.
+fn is_dropped(continues: bool, item: &Item) -> bool
+    ensures { result ≡ is_dropped continues item.now }
+{
+    continues && item.stmt.is_none()
+}
+
+/// Whether the line behind continues an EXEC statement.
+#[tactic(auto, unfolding(crate::specs::Translation::continues_exec))]
+fn continues_exec(continues: bool, item: &Item) -> bool
+    ensures { result ≡ continues_exec continues item.now }
+{
+    let is_dropped = is_dropped(continues, item);
+    (is_dropped || begins_exec(item)) && is_continued(is_dropped, item.text.as_slice())
+}
+
+/// What stands for a line that begins or continues an EXEC statement, or for any other.
+#[tactic(auto, unfolding(crate::specs::Translation::expansion, crate::specs::Translation::fault_at))]
+fn expansion(alloc: Global, continues: bool, item: &Item) -> Result<Vec<Item>, TransFault>
+    ensures sound { OnOk result (fault_at item.now ≡ None) }
+    ensures made { IfOk result (λ made. made.items ≡ expansion continues item.now) }
+    ensures fault { IfErr result (λ fault. IsDue (fault_at item.now) fault) }
+{
+    let mut made = Vec::new(alloc);
+    if is_dropped(continues, item) {
+        return Ok(made);
+    }
+    if !begins_exec(item) {
+        made.push(item.copied(alloc)?)?;
+        return Ok(made);
+    }
+    let Some(exec) = &item.stmt else {
+        return Ok(made);
+    };
+    let stmts = statements_of(alloc, item.line, exec)?;
+    Ok(lines(alloc, item.line, stmts.as_slice())?)
+}
+
+/// The lines of a source with made lines in place of its EXEC statements.
+fn expanded(alloc: Global, items: &[Item]) -> Result<Vec<Item>, TransFault>
+    ensures sound { OnOk result (first_fault items.now ≡ None) }
+    ensures made { IfOk result (λ made. made.items ≡ expanded false items.now) }
+    ensures fault { IfErr result (λ fault. IsDue (first_fault items.now) fault) }
+{
+    let mut made = Vec::new(alloc);
+    let mut continues = false;
+    for item in items {
+        let mut lines = expansion(alloc, continues, item)?;
+        made.append(&mut lines)?;
+        continues = continues_exec(continues, item);
+    }
+    Ok(made)
+}
+
+/// The same lines, with texts of their own.
+fn copied(alloc: Global, items: &[Item]) -> Result<Vec<Item>, AllocError>
+    ensures { IfOk result (λ copy. copy.items ≡ items.now) }
+{
+    let mut copy = Vec::new(alloc);
+    for item in items {
+        copy.push(item.copied(alloc)?)?;
+    }
+    Ok(copy)
+}
+
+/// Whether a source has an EXEC statement.
+fn has_exec(items: &[Item]) -> bool
+    ensures { result ≡ list_any begins_exec items.now }
+{
+    items.iter().any(|item| begins_exec(item))
+}
+
+/// Puts what a translated source gets beside its sections into it.
+fn put_sections(alloc: Global, items: &mut Vec<Item>) -> Result<(), AllocError>
+    ensures { OnOk result (items.new.items ≡ with_eib (with_bases (with_storage items.old.items))) }
+{
+    put_storage(alloc, items)?;
+    put_bases(alloc, items)?;
+    put_eib(alloc, items)
+}
+
+/// A source with its EXEC CICS statements made into assembler statements.
+///
+/// In place of each EXEC statement, with its continuation lines, stand the statements that build the command's argument list
+/// and call it, with the number of its first line. The fields of DFHEISTG come behind its first DSECT, or with one before the
+/// control section; the bases behind the control section's first CSECT or START; the EIB before END. A source without EXEC
+/// stays as it is. Statements are those of the list's items, in order, whatever their lines say.
+///
+/// The fault is that of the first faulty EXEC statement, with its line. Memory comes only where a growth was refused.
+///
+/// Application Programmer's Reference Manual, SC33-0077, "EXEC CICS" command format.
+#[tactic(auto, unfolding(crate::specs::Translation::translation_of, crate::specs::Translation::translated))]
+pub fn translate(alloc: Global, source: &Source) -> Result<Source, TransFault>
+    ensures { AnswersAs (translation_of source.now) result }
+{
+    let items = source.items.as_slice();
+    if !has_exec(items) {
+        return Ok(Source {
+            items: Items::from_vec(copied(alloc, items)?),
+        });
+    }
+    let mut made = expanded(alloc, items)?;
+    put_sections(alloc, &mut made)?;
+    Ok(Source {
+        items: Items::from_vec(made),
+    })
+}

@@ -1,0 +1,69 @@
+//! The words of an operand of EXEC.
+
+ghost use Rattle.std.specs.Prelude.{◌≡◌, IfOk};
+ghost use Rattle.cx_translate.specs.Words.{argument_behind, words_in, words_of};
+
+use crate::pieces::{Piece, pieces_of};
+use cx_source::Text;
+use std::alloc::{AllocError, Global};
+
+/// What stands behind a word as its argument.
+#[derive(Debug, Drop)]
+pub enum Argument {
+    /// Nothing.
+    Absent,
+    /// A text in parentheses.
+    Given(Text),
+    /// Anything else: two arguments, one that isn't closed, or a `)` that closes nothing.
+    Bad,
+}
+
+/// A word of an operand, with its argument.
+#[derive(Debug, Drop)]
+pub struct Word {
+    /// The word itself.
+    pub name: Text,
+    /// What stands behind it.
+    pub argument: Argument,
+}
+
+/// What stands at the front of some pieces, up to the first word.
+#[tactic(auto, unfolding(crate::specs::Words::argument_behind))]
+fn argument_behind(alloc: Global, pieces: &[Piece]) -> Result<Argument, AllocError>
+    ensures { IfOk result (λ argument. argument ≡ argument_behind pieces.now) }
+{
+    match pieces {
+        [] | [Piece::Word(_), ..] => Ok(Argument::Absent),
+        [Piece::Argument(text)] | [Piece::Argument(text), Piece::Word(_), ..] => {
+            Ok(Argument::Given(Text::from_slice(alloc, text.as_slice())?))
+        }
+        _ => Ok(Argument::Bad),
+    }
+}
+
+/// The words among some pieces.
+fn words_in(alloc: Global, pieces: &[Piece]) -> Result<Vec<Word>, AllocError>
+    ensures { IfOk result (λ words. words.items ≡ words_in pieces.now) }
+{
+    let mut words = Vec::new(alloc);
+    for (i, piece) in pieces.iter().enumerate() {
+        if let Piece::Word(name) = piece {
+            words.push(Word {
+                name: Text::from_slice(alloc, name.as_slice())?,
+                argument: argument_behind(alloc, &pieces[i + 1..])?,
+            })?;
+        }
+    }
+    Ok(words)
+}
+
+/// The words of an operand of EXEC, each with its argument.
+///
+/// An error comes only where a growth was refused.
+#[tactic(auto, unfolding(crate::specs::Words::words_of))]
+pub(crate) fn words_of(alloc: Global, operand: &[u8]) -> Result<Vec<Word>, AllocError>
+    ensures { IfOk result (λ words. words.items ≡ words_of operand.now) }
+{
+    let pieces = pieces_of(alloc, operand)?;
+    words_in(alloc, pieces.as_slice())
+}
