@@ -172,6 +172,7 @@ fn is_row(op: Op, code: u8, name: &str, format: Format) -> bool {
         && op.format() == format
         && Op::from_code(code) == Some(op)
         && Op::from_name(name) == Some(op)
+        && Op::from_name_bytes(name.as_bytes()) == Some(op)
 }
 
 #[test]
@@ -180,6 +181,7 @@ fn rows_of_the_table(rt: HostRuntime) {
     assert!(rt; Op::Trt.length() == 6 && !Op::Trt.is_shift());
     assert!(rt; Op::from_code(0x00).is_none());
     assert!(rt; Op::from_name("NOP").is_none());
+    assert!(rt; Op::from_name_bytes(b"trt").is_none());
     assert!(rt; Format::Ss2.length() == 6);
     for (code, length) in [(0x05, 2), (0x47, 4), (0xbf, 4), (0xd2, 6), (0xff, 6)] {
         assert!(rt; instruction_length(code) == length, "{code}");

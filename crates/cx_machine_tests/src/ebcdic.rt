@@ -1,5 +1,5 @@
 //! Characters, names and keys against the reference card GX20-1850 and GA27-2739.
-use cx_ebcdic::{Aid, Name4, Name8, TextFault, display, encode_line, to_ebcdic};
+use cx_ebcdic::{Aid, Name, Name4, Name8, TextFault, display, encode_line, to_ebcdic};
 use std::alloc::Global;
 use std::test::Fail;
 
@@ -68,6 +68,12 @@ fn eight(text: &str) -> Option<[u8; 8]> {
     Some(Name8::from_text(text)?.bytes())
 }
 
+/// The bytes of a name of five characters.
+fn five(text: &str) -> Option<[u8; 5]> {
+    let name: Name<5> = Name::from_text(text)?;
+    Some(name.bytes())
+}
+
 /// Whether bytes that are no characters make names too.
 fn are_kept() -> bool {
     Name4::from_bytes([1, 2, 3, 4]).bytes() == [1, 2, 3, 4]
@@ -80,6 +86,8 @@ fn names_are_their_padded_bytes(rt: HostRuntime) {
     assert!(rt; four("Z") == Some([0xE9, 0x40, 0x40, 0x40]));
     let program = [0x7C, 0x7B, 0x5B, 0xD5, 0xD6, 0xD7, 0xC7, 0xD4];
     assert!(rt; eight("@#$NOPGM") == Some(program));
+    assert!(rt; five("A9") == Some([0xC1, 0xF9, 0x40, 0x40, 0x40]));
+    assert!(rt; five("ABCDEF").is_none());
     for text in ["", "ABCDE", "AB C", "abcd", "A.B"] {
         assert!(rt; four(text).is_none(), "{text}");
     }

@@ -1,6 +1,6 @@
 //! Images with and without faults, and loads at several addresses.
 use cx_code::{Bytes, Image, Offsets};
-use cx_load::{CheckedImage, ImageFault, LoadFault, Loaded, check, load};
+use cx_load::{CheckedImage, ImageFault, LoadFault, Loaded, check, has_room, load, program_place};
 use cx_storage::{Area, FlatStore, Kind, Owner, Store};
 use std::alloc::{AllocError, Global};
 use std::test::Fail;
@@ -85,6 +85,14 @@ fn place_of(alloc: Global, image: &CheckedImage, store: &mut FlatStore) -> Optio
     load(alloc, image, store).ok().map(|loaded| loaded.at)
 }
 
+/// The place for a program of so many bytes, where there is one, and whether it has room.
+fn room(store: &FlatStore, len: u32) -> (Option<u32>, bool) {
+    if len == 0 {
+        return (None, false);
+    }
+    (program_place(store, len), has_room(store, len))
+}
+
 /// Whether storage holds these bytes from an address on.
 fn holds(store: &FlatStore, a: u32, bytes: &[u8; 12]) -> bool {
     a < 0x100_0000 && store.slice(a, 12) == Some(bytes.as_slice())
@@ -136,12 +144,15 @@ fn the_last_of_32_long_programs_has_no_room(rt: HostRuntime) -> Result<(), Fail>
     let text = bytes(rt.alloc(), 65_536)?;
     let image = checked(rt.alloc(), text.as_slice(), &[], 65_520)?;
     let mut store = FlatStore::new(rt.alloc());
+    assert!(rt; room(&store, 0x1F_0000) == (Some(0x01_0000), true));
+    assert!(rt; room(&store, 0x1F_0001) == (None, false));
     for k in 1u32..32 {
         let at = place_of(rt.alloc(), &image, &mut store);
         assert!(rt; at == Some(k * 0x01_0000));
     }
     let refused = loads(rt.alloc(), &image, &mut store).err();
     assert!(rt; refused == Some(LoadFault::NoRoom));
+    assert!(rt; room(&store, 1) == (None, false));
     assert!(rt; byte(&store, 0x1F_FFFF) == Some(0x07));
     assert!(rt; byte(&store, 0x20_0000).is_none());
     Ok(())

@@ -1,7 +1,9 @@
 //! Areas and their bytes, by rows worked by hand.
 ghost use Rattle.std.specs.Prelude.{◌<◌, ◌^◌, ◌≤◌, length};
 
-use cx_storage::{Area, FlatStore, Kind, Owner, Store, has_span, next_address};
+use cx_storage::{
+    Area, FlatStore, Kind, Owner, Store, address_in, along, halfword_at, next_address, word_at,
+};
 use std::alloc::{AllocError, Global};
 use std::test::Fail;
 
@@ -67,6 +69,20 @@ fn lends_some(store: &FlatStore, a: u32, n: usize) -> bool
     requires size { n ≤ 65536 }
 {
     store.slice(a, n).is_some()
+}
+
+/// Whether so many bytes from an address on are there.
+fn has(store: &FlatStore, a: u32, n: usize) -> bool
+    requires { a < 2 ^ 24 }
+{
+    store.has_span(a, n)
+}
+
+/// The word and the halfword at an address.
+fn words(store: &FlatStore, a: u32) -> (Option<u32>, Option<u16>)
+    requires { a < 2 ^ 24 }
+{
+    (word_at(store, a), halfword_at(store, a))
 }
 
 /// Four bytes from an address on, into a buffer of 09s, and whether they are there.
@@ -158,9 +174,28 @@ fn a_span_goes_on_at_address_0(rt: HostRuntime) -> Result<(), Fail> {
     assert!(rt; write(&mut store, 0xFF_FFFE, &[1, 2, 3, 4]));
     assert!(rt; four(&store, 0xFF_FFFE) == (true, [1, 2, 3, 4]));
     assert!(rt; byte(&store, 1) == Some(4));
-    assert!(rt; has_span(&store, 0xFF_FFFE, 4));
-    assert!(rt; !has_span(&store, 0xFF_FFFE, 5));
+    assert!(rt; has(&store, 0xFF_FFFE, 4));
+    assert!(rt; !has(&store, 0xFF_FFFE, 5));
     assert!(rt; !lends_some(&store, 0xFF_FFFE, 4));
+    Ok(())
+}
+
+#[test]
+fn addresses_go_on_at_0(rt: HostRuntime) {
+    assert!(rt; address_in(0x8012_3456) == 0x12_3456);
+    assert!(rt; along(0x12_3456, 4) == 0x12_345A);
+    assert!(rt; along(0xFF_FFFE, 4) == 2);
+    assert!(rt; along(5, 0xFF_FFFF) == 4);
+}
+
+// A word and a halfword need no boundary; their first byte is the highest.
+#[test]
+fn words_are_read(rt: HostRuntime) -> Result<(), Fail> {
+    let mut store = at_the_end(rt.alloc())?;
+    assert!(rt; write(&mut store, 0xFF_FFFB, &[0x81, 2, 3, 4, 5]));
+    assert!(rt; words(&store, 0xFF_FFFB) == (Some(0x8102_0304), Some(0x8102)));
+    assert!(rt; words(&store, 0xFF_FFFE) == (None, Some(0x0405)));
+    assert!(rt; words(&store, LAST) == (None, None));
     Ok(())
 }
 

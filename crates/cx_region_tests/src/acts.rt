@@ -118,7 +118,7 @@ fn empty(alloc: Global) -> Result<Region<FlatStore>, Fail> {
 }
 
 /// A region behind some calls, and what the last of them was answered.
-fn after(alloc: Global, acts: &[Act]) -> Result<(Region<FlatStore>, Option<Reply>), Fail> {
+pub fn after(alloc: Global, acts: &[Act]) -> Result<(Region<FlatStore>, Option<Reply>), Fail> {
     let mut region = empty(alloc)?;
     let mut reply = None;
     for act in acts {

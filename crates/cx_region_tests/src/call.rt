@@ -1,9 +1,10 @@
-//! Argument lists as they stand in storage.
+//! Argument lists and EIBs as they stand in storage.
 ghost use Rattle.std.specs.Prelude.{◌≤◌, ◌<◌, ◌^◌, length};
 
-use cx_command::{Command, ListedCondition};
+use cx_call::eib::put_calen;
 use cx_call::{Call, CallFault, read_call};
-use cx_storage::{FlatStore, Kind, Owner, Store};
+use cx_command::{Command, ListedCondition, OptionName};
+use cx_storage::{FlatStore, Kind, Owner, Store, halfword_at};
 use std::alloc::{AllocError, Global};
 use std::test::Fail;
 
@@ -54,8 +55,8 @@ fn is_call(call: &Call, command: Command, first: u8, places: &[u32], resp: Optio
 }
 
 /// Whether an option is in a call, and where its argument is.
-fn option(call: &Call, bit: u8) -> (bool, Option<u32>) {
-    (call.has(bit), call.place(bit))
+fn option(call: &Call, name: OptionName) -> (bool, Option<u32>) {
+    (call.has(name), call.place(name))
 }
 
 /// Whether a call lists these conditions.
@@ -73,7 +74,7 @@ fn return_without_options(rt: HostRuntime) -> Result<(), Fail> {
     );
     let call = read(&store, 0x01_0018)?;
     assert!(rt; is_call(&call, Command::Return, 0, &[], None));
-    assert!(rt; option(&call, 0x80) == (false, None));
+    assert!(rt; option(&call, OptionName::Transid) == (false, None));
     assert!(rt; !call.is_nohandle());
     assert!(rt; lists(&call, &[]));
     Ok(())
@@ -92,9 +93,9 @@ fn options_have_places_in_their_order(rt: HostRuntime) -> Result<(), Fail> {
     let resp = Some(0x20_0010);
     assert!(rt; is_call(&call, Command::Link, 0xE0, &places, resp));
     assert!(rt; call.is_nohandle());
-    assert!(rt; option(&call, 0x80) == (true, Some(0x01_0030)));
-    assert!(rt; option(&call, 0x40) == (true, Some(0x20_0000)));
-    assert!(rt; option(&call, 0x20) == (true, Some(0x20_0008)));
+    assert!(rt; option(&call, OptionName::Program) == (true, Some(0x01_0030)));
+    assert!(rt; option(&call, OptionName::Commarea) == (true, Some(0x20_0000)));
+    assert!(rt; option(&call, OptionName::Length) == (true, Some(0x20_0008)));
     Ok(())
 }
 
@@ -107,9 +108,9 @@ fn flags_have_no_place(rt: HostRuntime) -> Result<(), Fail> {
     ];
     let store = store_of(rt.alloc(), &list)?;
     let call = read(&store, 0x01_0000)?;
-    assert!(rt; option(&call, 0x08) == (true, None));
-    assert!(rt; option(&call, 0x10) == (false, None));
-    assert!(rt; option(&call, 0x20) == (true, Some(0x20_0020)));
+    assert!(rt; option(&call, OptionName::Next) == (true, None));
+    assert!(rt; option(&call, OptionName::Item) == (false, None));
+    assert!(rt; option(&call, OptionName::Length) == (true, Some(0x20_0020)));
     Ok(())
 }
 
@@ -231,5 +232,19 @@ fn the_list_goes_on_at_address_0(rt: HostRuntime) -> Result<(), Fail> {
     write(&mut store, 0xFF_FFF0, &[0x0A, 0x06, 0x80, 0x00]);
     let call = read(&store, 0xFF_FFFC)?;
     assert!(rt; is_call(&call, Command::DeleteqTs, 0x80, &[0x12_3456], None));
+    Ok(())
+}
+
+/// EIBCALEN in an EIB of zeros, once it was written.
+fn calen_of(alloc: Global, calen: Option<u16>) -> Result<Option<u16>, AllocError> {
+    let mut store = store_of(alloc, &[])?;
+    put_calen(&mut store, 0x01_0000, calen);
+    Ok(halfword_at(&store, 0x01_0018))
+}
+
+#[test]
+fn eibcalen_is_written_where_it_is_given(rt: HostRuntime) -> Result<(), Fail> {
+    assert!(rt; calen_of(rt.alloc(), Some(0x0102))? == Some(0x0102));
+    assert!(rt; calen_of(rt.alloc(), None)? == Some(0));
     Ok(())
 }

@@ -1,7 +1,10 @@
 //! Regions by rows worked by hand, and each call once.
+ghost use Rattle.cx_region.specs.Events.{IsAllowed};
+
 use crate::acts::{
-    Act, FIRST, bytes, checked, is_blank, program, reply, task, terminal, transaction,
+    Act, FIRST, after, bytes, checked, is_blank, program, reply, task, terminal, transaction,
 };
+use cx_code::Bytes;
 use cx_command::Condition;
 use cx_ebcdic::{Aid, Name4};
 use cx_load::Loaded;
@@ -93,7 +96,7 @@ fn whole_run(alloc: Global) -> Result<Vec<Reply>, Fail> {
     events.push(Event::Terminal(terminal(FIRST)))?;
     events.push(Event::Transaction(transaction(FIRST), program(FIRST)))?;
     events.push(Event::Clock(123_456, 98_365))?;
-    events.push(Event::Key(terminal(FIRST), Aid::Enter, bytes))?;
+    events.push(Event::Key(terminal(FIRST), Aid::Enter, Bytes::from_vec(bytes)))?;
     events.push(Event::Turn(terminal(FIRST)))?;
     events.push(Event::Turn(terminal(FIRST)))?;
     let mut region = Region::new(alloc, FlatStore::new(alloc))?;
@@ -118,6 +121,40 @@ fn a_task_returns(rt: HostRuntime) -> Result<(), Fail> {
         Reply::Turn(TurnReply::Ended),
     ];
     assert!(rt; whole_run(rt.alloc())?.as_slice() == expected.as_slice());
+    Ok(())
+}
+
+/// What an event is answered behind some calls.
+fn happen(alloc: Global, acts: &[Act], event: &Event) -> Result<Option<Reply>, Fail>
+    requires { IsAllowed event.now }
+{
+    let (mut region, _) = after(alloc, acts)?;
+    Ok(Some(region.happen(event)?))
+}
+
+/// Whether the first terminal's definition, as an event behind some calls, is answered so.
+fn terminal_happens(alloc: Global, acts: &[Act], expected: Reply) -> Result<bool, Fail> {
+    let event = Event::Terminal(terminal(FIRST));
+    Ok(happen(alloc, acts, &event)? == Some(expected))
+}
+
+/// Whether the first transaction's key, as an event behind some calls, is answered so.
+fn key_happens(alloc: Global, acts: &[Act], expected: Reply) -> Result<bool, Fail> {
+    let bytes = Vec::from_slice(alloc, &[0xD9, 0xC5, 0xE3, 0xF1])?;
+    let event = Event::Key(terminal(FIRST), Aid::Enter, Bytes::from_vec(bytes));
+    Ok(happen(alloc, acts, &event)? == Some(expected))
+}
+
+#[test]
+fn an_event_is_answered_as_its_call(rt: HostRuntime) -> Result<(), Fail> {
+    let alloc = rt.alloc();
+    let acts = acts_of(&ONE_COMMAND);
+    let duplicate = Reply::Terminal(Err(DefineFault::Duplicate));
+    assert!(rt; terminal_happens(alloc, &acts[..3], duplicate)?);
+    let attached = Reply::Key(KeyReply::Attached);
+    assert!(rt; key_happens(alloc, &acts[..3], attached)?);
+    let held = Reply::Key(KeyReply::AlreadyHeldInput);
+    assert!(rt; key_happens(alloc, &acts[..4], held)?);
     Ok(())
 }
 

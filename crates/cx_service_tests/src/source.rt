@@ -1,8 +1,9 @@
 //! Sources by worked rows and by each rule of lines; cutting; pieces.
 use cx_source::{
-    Item, Items, Mark, Source, SourceFault, SourceReader, Stmt, Text, begins_with_letter, cut,
-    first_mark, is_continued, is_letter, is_name, is_name_character, outside, read_source,
+    Items, Mark, Source, SourceFault, SourceReader, Stmt, begins_with_letter, cut, first_mark,
+    is_continued, is_letter, is_name, is_name_character, outside, read_source,
 };
+use cx_tables::List;
 use std::alloc::{AllocError, Global};
 use std::test::Fail;
 
@@ -412,20 +413,89 @@ fn comments_are_not_continued(rt: HostRuntime) {
     assert!(rt; !is_continued(true, b"A"));
 }
 
-/// Whether a text and a list of lines give back what they were made of.
-fn give_back(alloc: Global) -> Result<bool, AllocError> {
-    let text = Text::from_vec([b'A', b'B'].to_vec(alloc)?);
-    let item = Item {
-        line: 1,
-        text: Text::from_vec(Vec::new(alloc)),
-        stmt: None,
-    };
-    let items = Items::from_vec(vec![in alloc; item]?);
-    Ok(items.into_vec().len() == 1 && text.into_vec().as_slice() == [b'A', b'B'].as_slice())
+/// A source with copies of another's lines.
+fn copied(alloc: Global, source: &Source) -> Result<Source, SourceFault> {
+    let mut items = Vec::new(alloc);
+    for item in source.items.as_slice() {
+        items.push(item.copied(alloc)?)?;
+    }
+    Ok(Source {
+        items: Items::from_vec(items),
+    })
+}
+
+/// Whether a copy of a source's first statement is this.
+fn is_copied(
+    alloc: Global,
+    source: &Source,
+    expected: (&[u8], &[u8], &[u8]),
+) -> Result<bool, AllocError> {
+    match first_stmt(source) {
+        Some(stmt) => Ok(is_stmt(&stmt.copied(alloc)?, expected)),
+        None => Ok(false),
+    }
+}
+
+#[test]
+fn lines_and_statements_are_copied(rt: HostRuntime) -> Result<(), Fail> {
+    let source = read_source(rt.alloc(), PROGRAM)?;
+    assert!(rt; is_program(&copied(rt.alloc(), &source)?));
+    assert!(rt; is_copied(rt.alloc(), &source, STATEMENTS[0])?);
+    let source = copied(rt.alloc(), &source_of_four_lines(rt.alloc())?)?;
+    assert!(rt; kept(&source, 0) == Some((1, 3, false)));
+    assert!(rt; kept(&source, 1) == Some((2, 72, true)));
+    assert!(rt; kept(&source, 4).is_none());
+    Ok(())
+}
+
+/// Whether a fault has this name, and is shown so.
+fn is_shown(alloc: Global, fault: SourceFault, name: &str, text: &str) -> Result<bool, AllocError> {
+    let shown = format!(in alloc; "{fault}")?;
+    Ok(fault.name() == name && shown.as_str() == text)
+}
+
+#[test]
+fn faults_have_names(rt: HostRuntime) -> Result<(), Fail> {
+    for (fault, name, text) in [
+        (
+            SourceFault::BadCharacter(1),
+            "BadCharacter",
+            "line 1: BadCharacter",
+        ),
+        (SourceFault::BadName(20), "BadName", "line 20: BadName"),
+        (
+            SourceFault::BadContinuation(3),
+            "BadContinuation",
+            "line 3: BadContinuation",
+        ),
+        (
+            SourceFault::TooLong(10_001),
+            "TooLong",
+            "line 10001: TooLong",
+        ),
+        (SourceFault::NoEnd(8), "NoEnd", "line 8: NoEnd"),
+        (SourceFault::Memory, "Memory", "Memory"),
+    ] {
+        assert!(rt; is_shown(rt.alloc(), fault, name, text)?, "{name}");
+    }
+    Ok(())
+}
+
+/// Whether a list holds these bytes and gives them back.
+fn gives_back(list: List<u8>, bytes: &[u8]) -> bool {
+    let are_seen = list.as_slice() == bytes;
+    are_seen && list.into_vec().as_slice() == bytes
+}
+
+/// Whether a list of copies, and one of a `Vec`, give back what they were made of.
+fn give_back(alloc: Global, bytes: &[u8]) -> Result<bool, AllocError> {
+    let copies = List::from_slice(alloc, bytes)?;
+    let list = List::from_vec(bytes.to_vec(alloc)?);
+    Ok(gives_back(copies, bytes) && gives_back(list, bytes))
 }
 
 #[test]
 fn lists_give_back_what_they_hold(rt: HostRuntime) -> Result<(), Fail> {
-    assert!(rt; give_back(rt.alloc())?);
+    assert!(rt; give_back(rt.alloc(), b"AB")?);
     Ok(())
 }
