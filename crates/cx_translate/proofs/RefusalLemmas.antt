@@ -1,5 +1,5 @@
 -- Lemmas on statements without a fault.
-use Rattle.std.proofs.Common.{◌≡◌, ◌≢◌, ℕ, Bool, true, false, cond, List, Option, Some, None, Ok, Err, refl, take, drop, ◌||◌, not}
+use Rattle.std.proofs.Common.{◌≡◌, ℕ, Bool, true, false, cond, List, Option, Some, None, Ok, Err, refl, ◌||◌}
 use Rattle.std.specs.Option.{option_or}
 use Rattle.cx_source.specs.declared.source.Source.{Source}
 use Rattle.cx_command.specs.declared.commands.Command.{Command}
@@ -33,8 +33,8 @@ pub legal_bytes : (line : ℕ) (command : Command) (cics named words : List Word
 unfolding fault_in
 legal_bytes line command cics named words none =
     last (has_unknown command words) (has_argument cics || has_argument named || has_wrong command words) (has_too_many command words)
-      (has_twice words || has_excluded (row_of command).rules (first_byte command words)) (is_legal command (first_byte command words) (second_byte words))
-      (UnknownOption line) (BadArgument line) (TooManyConditions line) (Conflict line) (MissingOption line) none
+    (has_twice words || has_excluded (row_of command).rules (first_byte command words)) (is_legal command (first_byte command words) (second_byte words))
+    (UnknownOption line) (BadArgument line) (TooManyConditions line) (Conflict line) (MissingOption line) none
 
 -- a source without EXEC stays
 pub no_exec : (source : Source) → list_any begins_exec source.items ≡ false → translation_of source ≡ Ok source
@@ -45,10 +45,10 @@ no_exec source e = rw e refl
 pub few_conditions : (line : ℕ) (command : Command) (cics named words : List Word) → fault_in line command cics named words ≡ None
     → has_too_many command words ≡ false
 unfolding fault_in
-few_conditions line command cics named words none = 
+few_conditions line command cics named words none =
     chain (has_unknown command words) (has_argument cics || has_argument named || has_wrong command words) (has_too_many command words)
-      (has_twice words || has_excluded (row_of command).rules (first_byte command words)) (is_legal command (first_byte command words) (second_byte words))
-      (UnknownOption line) (BadArgument line) (TooManyConditions line) (Conflict line) (MissingOption line) none
+    (has_twice words || has_excluded (row_of command).rules (first_byte command words)) (is_legal command (first_byte command words) (second_byte words))
+    (UnknownOption line) (BadArgument line) (TooManyConditions line) (Conflict line) (MissingOption line) none
 
 -- the fault due may be answered
 pub due : (due : Option TransFault) (fault : TransFault) → due ≡ Some fault → IsDue due fault
