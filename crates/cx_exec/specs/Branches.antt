@@ -3,7 +3,8 @@
 -- 06 BCTR [RR], 46 BCT [RX]: R1 less one, modulo 2^32, where it isn't zero then.
 use Rattle.std.specs.Prelude.{ℕ, ◌+◌, ◌-◌, ◌*◌, ◌%◌, ◌^◌, List, Bool, ◌==◌, not, bit_and, slice_set, slice_index, if◌then◌else◌}
 use Rattle.cx_exec.specs.declared.machine.Updated.{Updated}
-use Rattle.cx_exec.specs.Machine.{Machine, reg, address}
+use Rattle.cx_exec.specs.Machine.{Machine, reg}
+use Rattle.cx_storage.specs.Address.{address_in}
 
 -- a mask's bit of each condition code: 8, 4, 2, 1 for codes 0 to 3 (GA22-7000, "Branch on Condition")
 abbrev pub mask_bit : ℕ → ℕ
@@ -23,7 +24,7 @@ linked r to updated m = record m { regs = slice_set m.regs r (link_word updated 
 
 -- where a branch to a register's address goes: register 0 is no branch
 abbrev pub branch_address : List ℕ → ℕ → Updated → ℕ
-branch_address regs r updated = if r == 0 then updated.address else address (slice_index regs r)
+branch_address regs r updated = if r == 0 then updated.address else address_in (slice_index regs r)
 
 -- the machine goes on elsewhere where the mask selects its condition code
 abbrev pub branched : ℕ → ℕ → Updated → Machine → Machine

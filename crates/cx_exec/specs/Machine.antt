@@ -1,5 +1,6 @@
 -- The machine (System/370 Principles of Operation, GA22-7000, "Program Status Word", "General Registers").
-use Rattle.std.specs.Prelude.{ℕ, ◌+◌, ◌%◌, ◌^◌, List, ◌==◌, slice_index, if◌then◌else◌}
+use Rattle.cx_storage.specs.Address.{address_in}
+use Rattle.std.specs.Prelude.{ℕ, ◌+◌, List, ◌==◌, slice_index, if◌then◌else◌}
 use Rattle.cx_storage.specs.Storage.{Storage}
 use Rattle.cx_exec.specs.declared.machine.Cpu.{Cpu}
 use Rattle.cx_exec.specs.declared.machine.Interruption.{Interruption}
@@ -20,17 +21,13 @@ machine cpu storage = record { regs = cpu.regs; cc = cpu.cc; next = cpu.next; st
 abbrev pub reg : Machine → ℕ → ℕ
 reg m r = slice_index m.regs r
 
--- an address has 24 bits (GA22-7000, "Address Generation")
-abbrev pub address : ℕ → ℕ
-address n = n % 2 ^ 24
-
 -- what a register gives to an address: register 0 gives zero
 abbrev pub given : List ℕ → ℕ → ℕ
 given regs r = if r == 0 then 0 else slice_index regs r
 
 -- the effective address: base, index and displacement
 unfoldable pub effective : List ℕ → ℕ → ℕ → ℕ → ℕ
-effective regs index base displacement = address (given regs base + given regs index + displacement)
+effective regs index base displacement = address_in (given regs base + given regs index + displacement)
 
 -- the codes of the interruptions (GA22-7000, "Program-Interruption Conditions")
 abbrev pub interruption_code : Interruption → ℕ

@@ -1,5 +1,6 @@
 -- One step (GA22-7000, "Instruction Execution", "Execute"; the entry is this project's own).
-use Rattle.std.specs.Prelude.{◌≡◌, ◌≢◌, ℕ, ◌+◌, ◌/◌, ◌%◌, List, [], ◌∷◌, length, Bool, true, false, ◌==◌, bit_or, Result, Ok, Err, MatchResult, if◌then◌else◌}
+use Rattle.cx_storage.specs.Address.{along}
+use Rattle.std.specs.Prelude.{◌≡◌, ◌≢◌, ℕ, ◌/◌, ◌%◌, List, [], ◌∷◌, length, Bool, true, false, ◌==◌, bit_or, Result, Ok, Err, MatchResult, if◌then◌else◌}
 use Rattle.cx_code.specs.declared.table.Op.{Op}
 use Rattle.cx_code.specs.declared.table.Op.TheVariants as op
 use Rattle.cx_code.specs.declared.instruction.Fields.{Fields}
@@ -11,7 +12,7 @@ use Rattle.cx_exec.specs.declared.machine.Step.{Step}
 use Rattle.cx_exec.specs.declared.machine.Step.TheVariants.{Done, AtEntry, Interrupt}
 use Rattle.cx_exec.specs.declared.machine.Updated.{Updated}
 use Rattle.cx_exec.specs.declared.stepping.Due.{Due}
-use Rattle.cx_exec.specs.Machine.{Machine, reg, address, effective}
+use Rattle.cx_exec.specs.Machine.{Machine, reg, effective}
 use Rattle.cx_exec.specs.Fetch.{code_at, read_as}
 use Rattle.cx_exec.specs.Outcome.{Outcome, Suppressed}
 use Rattle.cx_exec.specs.Rows.{Effect}
@@ -21,7 +22,7 @@ entry = 0x800
 
 -- where the machine goes on after so many bytes of an instruction
 abbrev pub updated_by : ℕ → ℕ → Updated
-updated_by place bytes = record { length_code = bytes / 2; address = address (place + bytes) }
+updated_by place bytes = record { length_code = bytes / 2; address = along place bytes }
 
 -- the copy of a target that EX changes: the second byte is joined by OR with bits 24 to 31 of R1, unless R1 is 0; no
 -- instruction has fewer than two bytes

@@ -12,7 +12,7 @@ use Rattle.cx_exec.specs.Sequence.{seen, stored_by}
 
 -- k bytes before an address; before the address 0 comes 2^24 - 1
 abbrev pub behind : ℕ → ℕ → ℕ
-behind a k = (a + (2 ^ 24 - k)) % 2 ^ 24
+behind a k = along a (2 ^ 24 - k)
 
 -- the i-th byte of the source, of n2 bytes, once some bytes before e1 are stored; a missing one is zero
 unfoldable pub source : Storage → ℕ → ℕ → ℕ → List ℕ → ℕ → ℕ

@@ -5,6 +5,7 @@ ghost use Rattle.cx_exec.specs.Branches.{less_one};
 ghost use Rattle.cx_exec.specs.Branches.{mask_bit, selects, link_word, branch_address};
 
 use crate::machine::{Cpu, Interruption, Updated};
+use cx_storage::address_in;
 
 /// Whether a mask has the bit of a condition code.
 #[tactic(auto, unfolding(crate::specs::Branches::selects))]
@@ -47,7 +48,7 @@ pub(crate) fn branch_address(regs: &[u32; 16], r: u8, updated: Updated) -> u32
     if r == 0 {
         updated.address
     } else {
-        regs[r as usize] % 0x100_0000
+        address_in(regs[r as usize])
     }
 }
 

@@ -9,7 +9,6 @@ ghost use Rattle.cx_exec.specs.Operands.{extended_at, Stores};
 
 use crate::machine::{Cpu, Interruption, Updated};
 use crate::numbers::extended;
-use byteorder::{BigEndian, ByteOrder};
 use cx_storage::Store;
 
 /// The byte at an address, or interruption 5.
@@ -21,29 +20,23 @@ pub(crate) fn byte_at<S: Store>(store: &S, a: u32) -> Result<u8, Interruption>
 }
 
 /// The halfword at an address, extended to a word by its sign, or interruption 5.
-#[tactic(auto, using(cx_storage::specs::Facts::Words::halfword_read, cx_storage::specs::Facts::Words::halfword_absent), unfolding(crate::specs::Operands::extended_at))]
+#[tactic(auto, unfolding(crate::specs::Operands::extended_at))]
 pub(crate) fn halfword_at<S: Store>(store: &S, a: u32) -> Result<u32, Interruption>
     requires { a < 2 ^ 24 }
     ensures { MatchResult result (λ x. extended_at (S.storage store.now) a ≡ Some x) (λ cause. (extended_at (S.storage store.now) a ≡ None) × (cause ≡ interruption.Addressing)) }
 {
-    let mut bytes = [0; 2];
-    if !store.read(a, &mut bytes) {
-        return Err(Interruption::Addressing);
+    match cx_storage::halfword_at(store, a) {
+        Some(halfword) => Ok(extended(halfword)),
+        None => Err(Interruption::Addressing),
     }
-    Ok(extended(BigEndian::read_u16(&bytes)))
 }
 
 /// The word at an address, or interruption 5.
-#[tactic(auto, using(cx_storage::specs::Facts::Words::word_read, cx_storage::specs::Facts::Words::word_absent))]
 pub(crate) fn word_at<S: Store>(store: &S, a: u32) -> Result<u32, Interruption>
     requires { a < 2 ^ 24 }
     ensures { MatchResult result (λ x. word_at (S.storage store.now) a ≡ Some x) (λ cause. (word_at (S.storage store.now) a ≡ None) × (cause ≡ interruption.Addressing)) }
 {
-    let mut bytes = [0; 4];
-    if !store.read(a, &mut bytes) {
-        return Err(Interruption::Addressing);
-    }
-    Ok(BigEndian::read_u32(&bytes))
+    cx_storage::word_at(store, a).ok_or(Interruption::Addressing)
 }
 
 /// The first register of a pair, which is even, or interruption 6.

@@ -8,9 +8,8 @@ ghost use Rattle.cx_exec.specs.Registers.{place_after, register_count, words_at,
 
 use crate::machine::{Cpu, Interruption, Updated};
 use crate::operands::{put_bytes, word_at};
-use crate::sequence::along;
 use byteorder::{BigEndian, ByteOrder};
-use cx_storage::Store;
+use cx_storage::{Store, along};
 
 /// How many registers after the first one another comes, 0 following 15.
 pub(crate) fn place_after(first: u8, r: u8) -> u8

@@ -1,20 +1,10 @@
 //! Bytes that are stored one after the other, and addresses that go on at 0 after the last.
 
 ghost use Rattle.std.specs.Prelude.{◌≡◌, ◌<◌, ◌≤◌, ◌^◌};
-ghost use Rattle.cx_storage.specs.Address.{along, distance};
+ghost use Rattle.cx_storage.specs.Address.{distance};
 ghost use Rattle.cx_exec.specs.Sequence.{content, seen};
 
-use cx_storage::Store;
-
-/// The address `k` bytes (at most 256) after `a` (below 2^24); after X'FFFFFF' comes 0.
-pub(crate) fn along(a: u32, k: u32) -> u32
-    requires address { a < 2 ^ 24 }
-    requires count { k ≤ 256 }
-    ensures value { result ≡ along a k }
-    ensures short { result < 2 ^ 24 }
-{
-    (a + k) % 0x100_0000
-}
+use cx_storage::{Store, address_in};
 
 /// How many bytes after `a` the address `x` comes (both below 2^24).
 pub(crate) fn distance(a: u32, x: u32) -> u32
@@ -22,7 +12,7 @@ pub(crate) fn distance(a: u32, x: u32) -> u32
     requires second { x < 2 ^ 24 }
     ensures { result ≡ distance a x }
 {
-    (x + (0x100_0000 - a)) % 0x100_0000
+    address_in(x + (0x100_0000 - a))
 }
 
 /// The byte at an address (below 2^24), or 0 where it is absent.

@@ -8,7 +8,7 @@ use crate::fetch::code_at;
 use crate::machine::{Cpu, ENTRY, Interruption, Step, Updated};
 use crate::rows::{effect, effective};
 use cx_code::{Fields, Inst, Op};
-use cx_storage::Store;
+use cx_storage::{Store, along};
 
 /// An instruction to be performed, and what comes after it.
 #[derive(Drop)]
@@ -46,7 +46,7 @@ fn performed<S: Store>(cpu: &Cpu, store: &S) -> Result<Due, Interruption>
     let inst = code.read()?;
     let updated = Updated {
         length_code: (code.len() / 2) as u8,
-        address: (cpu.next + code.len() as u32) % 0x100_0000,
+        address: along(cpu.next, code.len() as u32),
     };
     if inst.op() == Op::Ex {
         if let Fields::Rx { r1, x2, b2, d2 } = inst.fields() {

@@ -8,8 +8,8 @@ ghost use Rattle.cx_exec.specs.Strings.{moved, xored, MvcEffect, XcEffect};
 use crate::logic::string_code;
 use crate::machine::{Cpu, Interruption, Updated};
 use crate::operands::put_bytes;
-use crate::sequence::{along, content, distance, seen};
-use cx_storage::Store;
+use crate::sequence::{content, distance, seen};
+use cx_storage::{Store, along};
 
 /// Puts the bytes that MVC stores at the front of the buffer.
 #[tactic(auto, using(crate::proofs::SequenceLemmas::stored_none))]

@@ -8,8 +8,8 @@ ghost use Rattle.cx_exec.specs.Translation.{table_byte, HasTable, translated, fi
 
 use crate::loads::inserted;
 use crate::machine::{Cpu, Interruption, Updated};
-use crate::sequence::{along, content, distance, seen};
-use cx_storage::Store;
+use crate::sequence::{content, distance, seen};
+use cx_storage::{Store, along};
 
 /// The table's byte for the `k`-th argument byte (`k` is at most 256), where both are present.
 fn table_byte<S: Store>(store: &S, a1: u32, a2: u32, k: u32) -> Option<u8>

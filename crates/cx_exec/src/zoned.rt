@@ -7,8 +7,8 @@ ghost use Rattle.cx_exec.specs.Zoned.{behind, source, swapped, packed, unpacked,
 
 use crate::machine::{Cpu, Interruption, Updated};
 use crate::operands::put_bytes;
-use crate::sequence::{along, distance, seen};
-use cx_storage::Store;
+use crate::sequence::{distance, seen};
+use cx_storage::{Store, along};
 
 /// The address `k` bytes (at most 256) before `a` (below 2^24); before 0 comes X'FFFFFF'.
 fn behind(a: u32, k: u32) -> u32
@@ -17,7 +17,7 @@ fn behind(a: u32, k: u32) -> u32
     ensures value { result ≡ behind a k }
     ensures short { result < 2 ^ 24 }
 {
-    (a + (0x100_0000 - k)) % 0x100_0000
+    along(a, 0x100_0000 - k)
 }
 
 /// The `i`-th byte (`i` is at most 256) from the right of a source of `n2` bytes whose last one is at `e2`, once some

@@ -1,4 +1,6 @@
 -- What always holds of a region is kept by a key.
+use Rattle.cx_command.specs.declared.eistg.EistgField.TheVariants.{Eicap}
+use Rattle.cx_command.specs.Eistg.{eistg_field}
 use Rattle.std.proofs.Common.{◌≡◌, ℕ, zero, suc, ◌<◌, ◌≤◌, Bool, true, false, Option, Some, None, List, [], ◌∷◌, length, refl, sym, ◌∙◌, ap, subst, arith, inl, inr, is_some}
 use Rattle.std.specs.Prelude.{◌==◌, ◌||◌, if◌then◌else◌, unwrap_or, nat_eq}
 use Rattle.std.specs.Option.{option_map_or}
@@ -160,7 +162,7 @@ area_copy s (Some a) bytes x = area_written s a bytes x
 area_filled : (s : Storage) (places : Places) (begun : Begun) (commarea : List ℕ) (x : ℕ) → area_at (filled s places begun commarea) x ≡ area_at s x
 unfolding filled
 area_filled s places begun commarea x =
-    area_written (with_copy (with_fields s places.eib (fields_at_attach begun)) places.commarea commarea) (along places.stg 76) _ x
+    area_written (with_copy (with_fields s places.eib (fields_at_attach begun)) places.commarea commarea) (along places.stg (eistg_field Eicap).offset) _ x
     ∙ area_copy (with_fields s places.eib (fields_at_attach begun)) places.commarea commarea x
     ∙ area_fields s places.eib (fields_at_attach begun) x
 
@@ -177,7 +179,7 @@ owned_copy P s (Some a) bytes all = all_areas_written P s a bytes all
 owned_filled : (P : Area → Type 0) (s : Storage) (places : Places) (begun : Begun) (commarea : List ℕ) → AllByRecursion (λ h. P h.area) s → AllByRecursion (λ h. P h.area) (filled s places begun commarea)
 unfolding filled
 owned_filled P s places begun commarea all =
-    all_areas_written P (with_copy (with_fields s places.eib (fields_at_attach begun)) places.commarea commarea) (along places.stg 76) _
+    all_areas_written P (with_copy (with_fields s places.eib (fields_at_attach begun)) places.commarea commarea) (along places.stg (eistg_field Eicap).offset) _
     (owned_copy P (with_fields s places.eib (fields_at_attach begun)) places.commarea commarea
     (owned_fields P s places.eib (fields_at_attach begun) all))
 

@@ -10,7 +10,7 @@ use Rattle.cx_storage.specs.Address.{along}
 use Rattle.cx_storage.specs.Storage.{area_from}
 use Rattle.cx_storage.specs.Facts.Areas.{area_of_areas}
 use Rattle.cx_storage.specs.Facts.Sound.{sound_with_areas_kept}
-use Rattle.cx_exec.specs.Machine.{address}
+use Rattle.cx_storage.specs.Address.{address_in}
 use Rattle.cx_program.specs.declared.level.Level.{Level}
 use Rattle.cx_program.specs.Levels.{Levels}
 use Rattle.cx_region.specs.State.{TaskState}
@@ -65,12 +65,12 @@ start_below s x area ok e = start_below_in s x area ok.0 e
 
 -- an area that starts elsewhere than the one freed stays
 free_keeps : (s : Storage) (stg x : ℕ) (mine area : Area) → IsSoundStorage s → area_at s stg ≡ Some mine → area_at s x ≡ Some area → (x ≡ stg → ⊥)
-    → area_at (with_areas_kept (starts_elsewhere (address stg)) s) x ≡ Some area
+    → area_at (with_areas_kept (starts_elsewhere (address_in stg)) s) x ≡ Some area
 free_keeps s stg x mine area ok own stands apart =
     let below : stg < 2 ^ 24 = start_below s stg mine ok own in
-    let same : address stg ≡ stg = omega arith in
+    let same : address_in stg ≡ stg = omega arith in
     let at : area.start ≡ x = start_is s x area stands in
-    area_kept_free s (starts_elsewhere (address stg)) x area ok stands (rw (same, at, ne_eqb x stg apart) refl)
+    area_kept_free s (starts_elsewhere (address_in stg)) x area ok stands (rw (same, at, ne_eqb x stg apart) refl)
 
 -- areas of other slots stand where they stood
 abbrev pub OthersStay : ℕ → Storage → Storage → Type 0
@@ -121,7 +121,7 @@ differ : (a b : ℕ) → nat_eq a b ≡ false → a ≡ b → ⊥
 differ a b e is = let same : nat_eq a b ≡ true = eq-eqb a b is in cc
 
 levels_left : (s : Storage) (slot stg : ℕ) (mine : Area) (levels : List Level) → IsSoundStorage s → area_at s stg ≡ Some mine → AllByRecursion (λ x. nat_eq stg x ≡ false) (map (λ level. level.stg) levels)
-    → AllByRecursion (IsSoundLevel s slot) levels → AllByRecursion (IsSoundLevel (with_areas_kept (starts_elsewhere (address stg)) s) slot) levels
+    → AllByRecursion (IsSoundLevel s slot) levels → AllByRecursion (IsSoundLevel (with_areas_kept (starts_elsewhere (address_in stg)) s) slot) levels
 levels_left s slot stg mine [] ok own apart all = tt
 levels_left s slot stg mine (l ∷ ls) ok own apart all = (
   record { stg = free_keeps s stg l.stg mine _ ok own all.0.stg (λ e. differ stg l.stg apart.0 (sym e)); pushes = all.0.pushes },
@@ -162,8 +162,8 @@ unwound_left P slot zero s eib callers current ok each owns = record { others = 
 unwound_left P slot (suc n) s eib [] current ok each owns = record { others = λ x area stands other. stands; each = each; sound = ok; owns = owns }
 unwound_left P slot (suc n) s eib (caller ∷ callers) current ok each owns =
     let t = without_stg current s in
-    let sound : IsSoundStorage t = sound_with_areas_kept s (starts_elsewhere (address current.stg)) ok in
-    let rest = unwound_left P slot n t eib callers caller sound (all_areas_kept P s (starts_elsewhere (address current.stg)) each) (one_ends slot s eib caller callers current ok owns) in
+    let sound : IsSoundStorage t = sound_with_areas_kept s (starts_elsewhere (address_in current.stg)) ok in
+    let rest = unwound_left P slot n t eib callers caller sound (all_areas_kept P s (starts_elsewhere (address_in current.stg)) each) (one_ends slot s eib caller callers current ok owns) in
     record {
       others = λ x area stands other. rest.others x area (others_left slot s current ok owns.current_there x area stands other) other;
       each = rest.each;
@@ -198,7 +198,7 @@ unfolding unwound
 unwound_same zero callers current s t e = record { levels = refl; areas = e }
 unwound_same (suc n) [] current s t e = record { levels = refl; areas = e }
 unwound_same (suc n) (caller ∷ callers) current s t e =
-    unwound_same n callers caller (without_stg current s) (without_stg current t) (areas_filtered (starts_elsewhere (address current.stg)) s t e)
+    unwound_same n callers caller (without_stg current s) (without_stg current t) (areas_filtered (starts_elsewhere (address_in current.stg)) s t e)
 
 -- ---- an abend
 calen_areas : (s : Storage) (eib : ℕ) (calen : Option ℕ) → areas_of (with_calen s eib calen) ≡ areas_of s
@@ -309,11 +309,11 @@ carries_kept P slot LevelEnds call before after pass ok each own ends = by_calle
         let left = one_ends slot s task.eib caller callers current ok owns in
         let was = without_stg current s in
         let t = (returned before call (caller ∷ callers)).storage in
-        let areas : areas_of t ≡ areas_of was = areas_filtered (starts_elsewhere (address current.stg)) s (with_report s task.eib command.Link call Normal (Some caller.calen)) (report_areas s task.eib command.Link call Normal (Some caller.calen)) in
+        let areas : areas_of t ≡ areas_of was = areas_filtered (starts_elsewhere (address_in current.stg)) s (with_report s task.eib command.Link call Normal (Some caller.calen)) (report_areas s task.eib command.Link call Normal (Some caller.calen)) in
         let kept : Kept P slot s t (returned before call (caller ∷ callers)).task =
         record {
           others = λ x area stands other. area_of_areas t was x areas ∙ others_left slot s current ok owns.current_there x area stands other;
-          each = all_areas_same P was t (sym areas) (all_areas_kept P s (starts_elsewhere (address current.stg)) each);
+          each = all_areas_same P was t (sym areas) (all_areas_kept P s (starts_elsewhere (address_in current.stg)) each);
           task_sound = record {
             eib = area_of_areas t was task.eib areas ∙ left.eib_there;
             current = level_same was t slot areas caller left.current_there;

@@ -1,7 +1,7 @@
 -- An abend (Application Programmer's Reference Manual, SC33-0077, "HANDLE ABEND"): the nearest exit that is on takes
 -- it, from the current level upward; without one the task ends.
 use Rattle.std.specs.Prelude.{◌≡◌, ℕ, zero, suc, ◌-◌, false, List, [], ◌∷◌, length, slice_set, Option, Some, None, unwrap_or}
-use Rattle.cx_exec.specs.Machine.{address}
+use Rattle.cx_storage.specs.Address.{address_in}
 use Rattle.cx_storage.specs.Storage.{Storage, starts_elsewhere, with_areas_kept}
 use Rattle.cx_program.specs.declared.level.Level.{Level}
 use Rattle.cx_program.specs.Entries.{label_on, turned_off}
@@ -16,7 +16,7 @@ use Rattle.cx_region.specs.Reach.{Reach}
 
 -- the area of a level's DFHEISTG is freed
 abbrev pub without_stg : Level → Storage → Storage
-without_stg level storage = with_areas_kept (starts_elsewhere (address level.stg)) storage
+without_stg level storage = with_areas_kept (starts_elsewhere (address_in level.stg)) storage
 
 -- levels, with storage
 pub record Unwound : Type 0 where
@@ -50,7 +50,7 @@ at_exit task levels =
       levels = with_current levels (with_exit_off levels.current);
       regs = slice_set levels.current.regs 15 (exit_label levels.current);
       cc = levels.current.cc;
-      next = address (exit_label levels.current);
+      next = address_in (exit_label levels.current);
       due = false;
     }
 

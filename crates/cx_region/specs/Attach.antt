@@ -1,5 +1,7 @@
 -- A key of a terminal: a task is attached, or the input is held for the task that is there (Application Programmer's
 -- Reference Manual, SC33-0077, "Terminal Control", "EXEC Interface Block"). The rules are this product's own.
+use Rattle.cx_command.specs.declared.eistg.EistgField.TheVariants.{Eicap}
+use Rattle.cx_command.specs.Eistg.{eistg_field}
 use Rattle.std.specs.Prelude.{◌≡◌, ℕ, ◌+◌, ◌==◌, Bool, true, false, if◌then◌else◌, List, [], ◌∷◌, length, take, min, position, Option, Some, None, unwrap_or}
 use Rattle.std.specs.Option.{option_map_or}
 use Rattle.std.specs.Int.{w32, to_be_bytes}
@@ -132,11 +134,11 @@ unfoldable pub with_copy : Storage → Option ℕ → List ℕ → Storage
 with_copy storage None bytes = storage
 with_copy storage (Some place) bytes = written storage place bytes
 
--- storage with the EIB's fields, the copy of the COMMAREA, and DFHEICAP, the word at 76 of DFHEISTG, filled
+-- storage with the EIB's fields, the copy of the COMMAREA, and DFHEICAP of DFHEISTG filled
 unfoldable pub filled : Storage → Places → Begun → List ℕ → Storage
 filled storage places begun commarea =
     written (with_copy (with_fields storage places.eib (fields_at_attach begun)) places.commarea commarea)
-    (along places.stg 76) (to_be_bytes w32 (address_or_zero places.commarea))
+    (along places.stg (eistg_field Eicap).offset) (to_be_bytes w32 (address_or_zero places.commarea))
 
 -- entry to a program: R3 and R15 hold its entry address, R13 DFHEISTG, R11 the EIB, and all others zero
 unfoldable pub entry_registers : ℕ → ℕ → ℕ → List ℕ

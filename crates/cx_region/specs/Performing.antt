@@ -11,7 +11,7 @@ use Rattle.cx_command.specs.declared.conditions.Condition.TheVariants.{Normal}
 use Rattle.cx_command.specs.Commands.{row_of}
 use Rattle.cx_command.specs.Conditions.{entry_of}
 use Rattle.cx_command.specs.Legal.{has_bit}
-use Rattle.cx_exec.specs.Machine.{address}
+use Rattle.cx_storage.specs.Address.{address_in}
 use Rattle.cx_storage.specs.Storage.{Storage, span, written}
 use Rattle.cx_program.specs.declared.level.Level.{Level}
 use Rattle.cx_program.specs.Levels.{Levels}
@@ -71,7 +71,7 @@ with_report storage eib reporting call condition calen =
 
 -- the program goes on behind its command: next is the address in R14, and no command is due
 abbrev pub gone_on : TaskState → TaskState
-gone_on task = record task { next = address (slice_index task.regs 14); due = false }
+gone_on task = record task { next = address_in (slice_index task.regs 14); due = false }
 
 -- the task after the end of its current level: the linking level goes on with the registers and code that it kept
 abbrev pub with_caller : TaskState → Level → List Level → TaskState
@@ -122,7 +122,7 @@ fault_code Xfun = abend_code abend.Xfun
 
 -- the address of the argument list: bits 8 to 31 of R1
 abbrev pub list_of : TaskState → ℕ
-list_of task = address (slice_index task.regs 1)
+list_of task = address_in (slice_index task.regs 1)
 
 -- the command that is due is performed
 unfoldable pub Commanded : Reach → Pass → Reach → Type 0

@@ -16,11 +16,12 @@ use crate::asking::{Asked, Places, Start};
 use crate::replies::KeyReply;
 use crate::state::{Following, Input, Region, Task, Terminal};
 use cx_call::eib::{Begun, begin};
+use cx_command::EistgField;
 use cx_ebcdic::{Aid, Name4, Name8};
 use cx_exec::Cpu;
 use cx_load::Loaded;
 use cx_program::{ConditionCode, HandleTable, Level, LevelStack};
-use cx_storage::{Kind, Owner, Store};
+use cx_storage::{Kind, Owner, Store, along};
 use indexmap::IndexMap;
 use std::alloc::{AllocError, Global};
 
@@ -330,7 +331,7 @@ fn fill<S: Store>(store: &mut S, places: &Places, begun: &Begun, commarea: &[u8]
         store.write(place, commarea);
     }
     let address = places.commarea.unwrap_or(0);
-    store.write((places.stg + 76) % 0x100_0000, &address.to_be_bytes());
+    store.write(along(places.stg, EistgField::Eicap.offset()), &address.to_be_bytes());
 }
 
 /// Fills the areas of a terminal's task that begins, with the COMMAREA kept at the terminal.

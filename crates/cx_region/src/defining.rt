@@ -29,11 +29,6 @@ const MOST_TRANSACTIONS: usize = 64;
 
 const MOST_TERMINALS: usize = 16;
 
-/// The addresses between which programs stand.
-const FIRST_OF_PROGRAMS: u32 = 0x01_0000;
-
-const LAST_OF_PROGRAMS: u32 = 0x1F_FFFF;
-
 /// The address and the length of the common work area, and its last address.
 const CWA: u32 = 0x00_1000;
 
@@ -263,14 +258,11 @@ fn load_program<S: Store>(
 }
 
 /// Whether storage has a place for a program.
-#[tactic(auto, using(crate::proofs::FreshLemmas::room))]
 fn has_room<S: Store>(store: &S, image: &CheckedImage) -> bool
     ensures room { MatchBool result (IsProgramPlace (S.storage store.now) (length image.now.text) None → ⊥)
         (IsProgramPlace (S.storage store.now) (length image.now.text) None) }
     ensures fit { IsFit image.now }
 {
     let len = image.image().text.as_slice().len() as u32;
-    store
-        .place(FIRST_OF_PROGRAMS, LAST_OF_PROGRAMS, len)
-        .is_some()
+    cx_load::has_room(store, len)
 }

@@ -1,7 +1,7 @@
 //! Abends, and the end of program levels.
 ghost use Rattle.std.specs.Prelude.{◌≡◌, ◌-◌, ◌<◌, ◌≤◌, ◌^◌, None, Some, IfSome, OnSome, length, reverse, unwrap_or};
 ghost use Rattle.cx_storage.specs.Storage.{starts_elsewhere, with_areas_kept};
-ghost use Rattle.cx_exec.specs.Machine.{address};
+ghost use Rattle.cx_storage.specs.Address.{address_in};
 ghost use Rattle.cx_program.specs.Entries.{label_on};
 ghost use Rattle.cx_program.specs.Levels.{IsNearestExit, all_levels};
 ghost use Rattle.cx_region.specs.Reach.{Reach, with_parts};
@@ -14,21 +14,13 @@ use cx_call::eib::put_calen;
 use cx_ebcdic::Name4;
 use cx_exec::Cpu;
 use cx_program::{Level, LevelStack};
-use cx_storage::Store;
-
-/// Bits 8 to 31 of a word.
-pub(crate) fn address(word: u32) -> u32
-    ensures value { result ≡ address word }
-    ensures bound { result < 2 ^ 24 }
-{
-    word % 0x100_0000
-}
+use cx_storage::{Store, address_in};
 
 /// Frees the area of a level's DFHEISTG.
 pub(crate) fn free_stg<S: Store>(store: &mut S, stg: u32)
-    ensures { S.storage store.new ≡ with_areas_kept (starts_elsewhere (address stg)) (S.storage store.old) }
+    ensures { S.storage store.new ≡ with_areas_kept (starts_elsewhere (address_in stg)) (S.storage store.old) }
 {
-    store.free_area(address(stg));
+    store.free_area(address_in(stg));
 }
 
 /// Ends so many levels, the current one first, and frees each one's DFHEISTG.
@@ -63,7 +55,7 @@ fn take_exit<S: Store>(store: &mut S, task: &mut Task, index: usize)
     task.cpu = Cpu {
         regs,
         cc,
-        next: address(label),
+        next: address_in(label),
     };
     task.due = false;
     put_calen(store, task.eib, Some(calen));

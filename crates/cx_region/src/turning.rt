@@ -1,14 +1,14 @@
 //! One half-turn of a live task.
 ghost use Rattle.std.specs.Prelude.{◌≡◌, ◌<◌, ◌≤◌, ◌^◌, ◌&&◌, not, true, false, is_some, None, Some, MatchOption, MatchBool, length};
 ghost use Rattle.std.specs.Option.{option_map_or};
-ghost use Rattle.cx_exec.specs.Machine.{address};
+ghost use Rattle.cx_storage.specs.Address.{address_in};
 ghost use Rattle.cx_storage.specs.Storage.{span};
 ghost use Rattle.cx_region.specs.Reach.{Reach, with_parts};
 ghost use Rattle.cx_call.specs.Call.{call_of, resp_place};
 ghost use Rattle.cx_region.specs.Performing.{Called, Carries, Commanded, can_respond, fault_code, gone_on, is_written, judged, judged_by, level_or_task, list_of, responded, return_row, suspend_row, with_report, returned};
 ghost use Rattle.cx_region.specs.Turn.{HalfTurn, Halted, RunsOn, at_command_task};
 
-use crate::ending::{abend, address, free_stg};
+use crate::ending::{abend, free_stg};
 use crate::judging::Judgement;
 use crate::pass::Pass;
 use crate::replies::TurnReply;
@@ -19,7 +19,7 @@ use cx_command::{Abend, Command, Condition};
 use cx_ebcdic::Name4;
 use cx_exec::{Cpu, Halt, advance};
 use cx_program::{ConditionCode, LevelStack};
-use cx_storage::Store;
+use cx_storage::{Store, address_in};
 
 /// The most instructions of a half-turn.
 const MOST_STEPS: u32 = 65_536;
@@ -117,7 +117,7 @@ fn respond<S: Store>(
 fn go_on(task: &mut Task)
     ensures { task.new ≡ gone_on task.old }
 {
-    let next = address(task.cpu.regs[14]);
+    let next = address_in(task.cpu.regs[14]);
     task.cpu.next = next;
     task.due = false;
 }
@@ -226,7 +226,7 @@ fn perform<S: Store>(store: &mut S, task: &mut Task) -> Pass
     ensures { (reach : Reach) → Commanded (with_parts reach (S.storage store.old) task.old) result
         (with_parts reach (S.storage store.new) task.new) }
 {
-    let list = address(task.cpu.regs[1]);
+    let list = address_in(task.cpu.regs[1]);
     match read_call(store, list) {
         Ok(call) => {
             let judgement = judge(&call, &task.levels);
