@@ -1,8 +1,8 @@
 //! Sources by worked rows and by each rule of lines; cutting; pieces.
 use cx_source::{
     Items, Mark, Source, SourceFault, SourceReader, Stmt, begins_with_letter, cut, first_mark,
-    is_continued, is_letter, is_name, is_name_character, outside, read_source, skip_blanks, text_of,
-    trimmed,
+    is_continued, is_letter, is_name, is_name_character, outside, read_source, skip_blanks,
+    text_of, trimmed,
 };
 use cx_tables::List;
 use std::alloc::{AllocError, Global};
