@@ -52,6 +52,8 @@ pub run_stopped : (old mid new : RegionState) (events : List Event) (k : ℕ) (e
 run_stopped old mid new events k event replies within is run same grows =
     let there : slice_get events k ≡ Some event = slice_get-get_or events k event within ∙ ap Some (sym is) in
     record {
-      within = within; replies = replies; run = subst (λ (r : RegionState). Run old (take k events) replies r) (sym same) run;
+      within = within;
+      replies = replies;
+      run = subst (λ (r : RegionState). Run old (take k events) replies r) (sym same) run;
       due = inr (rw there (subst (λ (r : RegionState). MayTakeMemory r event) (sym same) grows));
     }

@@ -9,6 +9,7 @@ pub mod Abend
 pub mod Performing
 pub mod Turn
 pub mod Events
+pub mod Replies
 pub mod Looking
 pub mod Sound
 pub mod Laws

@@ -1,5 +1,6 @@
 //! Events of a region, and what each is answered.
-ghost use Rattle.std.specs.Prelude.{◌≡◌};
+ghost use Rattle.std.specs.Prelude.{◌≡◌, Some};
+ghost use Rattle.cx_region.specs.Replies.{define_fault_name, key_reply_name, turn_reply_name};
 ghost use Rattle.cx_region.specs.declared.replies.DefineFault.TheVariants.{Memory};
 
 use cx_code::Bytes;
@@ -8,26 +9,45 @@ use cx_ebcdic::{Aid, Name4, Name8};
 use cx_exec::Cpu;
 use cx_load::{CheckedImage, LoadFault, Loaded};
 use std::alloc::{AllocError, AllocFailed};
+use std::fmt::{Display, Formatter, Write};
 use thiserror::Error;
 
 /// Why a definition is refused. Where several apply, the first of this order is answered; the region is as before.
 #[derive(Clone, Copy, Debug, PartialEq, Eq, Error)]
 pub enum DefineFault {
     /// The name is defined already.
-    #[error("Duplicate")]
     Duplicate,
     /// As many as the region has room for are defined: 64 programs, 64 transactions, 16 terminals.
-    #[error("Full")]
     Full,
     /// The transaction's program isn't defined.
-    #[error("NoProgram")]
     NoProgram,
     /// Storage has no place for the program.
-    #[error("NoRoom")]
     NoRoom,
     /// A growth was refused.
-    #[error("Memory")]
     Memory,
+}
+
+impl DefineFault {
+    /// The fault's name, as `Duplicate`.
+    pub fn name(self) -> &'static str
+        ensures { result.now ≡ define_fault_name self }
+    {
+        match self {
+            DefineFault::Duplicate => "Duplicate",
+            DefineFault::Full => "Full",
+            DefineFault::NoProgram => "NoProgram",
+            DefineFault::NoRoom => "NoRoom",
+            DefineFault::Memory => "Memory",
+        }
+    }
+}
+
+impl Display for DefineFault {
+    ghost output = { λ fault. Some (define_fault_name fault) };
+
+    fn fmt<W: Write>(&self, f: &mut Formatter<W>) -> Result<(), std::fmt::Error> {
+        f.write_str(self.name())
+    }
 }
 
 impl From<AllocError> for DefineFault {
@@ -76,6 +96,22 @@ pub enum KeyReply {
     NoSuchTerminal,
 }
 
+impl KeyReply {
+    /// The reply's name, as `Attached`.
+    pub fn name(self) -> &'static str
+        ensures { result.now ≡ key_reply_name self }
+    {
+        match self {
+            KeyReply::Attached => "Attached",
+            KeyReply::Given => "Given",
+            KeyReply::AlreadyHeldInput => "AlreadyHeldInput",
+            KeyReply::NoSuchTransaction => "NoSuchTransaction",
+            KeyReply::NoStorage => "NoStorage",
+            KeyReply::NoSuchTerminal => "NoSuchTerminal",
+        }
+    }
+}
+
 /// What a turn is answered.
 #[derive(Clone, Copy, Debug, PartialEq, Eq)]
 pub enum TurnReply {
@@ -101,6 +137,27 @@ pub enum TurnReply {
     Abended(Name4),
     /// The task ended.
     Ended,
+}
+
+impl TurnReply {
+    /// The reply's name, as `AtCommand`, without the condition or the code that it has.
+    pub fn name(self) -> &'static str
+        ensures { result.now ≡ turn_reply_name self }
+    {
+        match self {
+            TurnReply::Idle => "Idle",
+            TurnReply::NoSuchTerminal => "NoSuchTerminal",
+            TurnReply::AtCommand => "AtCommand",
+            TurnReply::Performed(_) => "Performed",
+            TurnReply::Entered => "Entered",
+            TurnReply::Returned => "Returned",
+            TurnReply::Waiting => "Waiting",
+            TurnReply::TookLabel(_) => "TookLabel",
+            TurnReply::TookExit(_) => "TookExit",
+            TurnReply::Abended(_) => "Abended",
+            TurnReply::Ended => "Ended",
+        }
+    }
 }
 
 /// An event of a region: one call, with what it takes.

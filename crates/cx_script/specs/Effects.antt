@@ -2,7 +2,7 @@
 use Rattle.std.specs.Prelude.{◌≡◌, ℕ, List, codes, Option, Some, None}
 use Rattle.std.specs.Option.{option_map}
 use Rattle.cx_code.specs.declared.image.Image.{Image}
-use Rattle.cx_load.specs.Fault.{IsFit, IsLowestFault}
+use Rattle.cx_load.specs.Fault.{IsFit, IsLowestFault, fault_name}
 use Rattle.cx_load.specs.declared.fault.ImageFault.{ImageFault}
 use Rattle.cx_region.specs.State.{RegionState}
 use Rattle.cx_region.specs.Tables.{terminal_of}
@@ -10,7 +10,7 @@ use Rattle.cx_region.specs.Events.{Happens}
 use Rattle.cx_region.specs.declared.replies.Event.{Event}
 use Rattle.cx_region.specs.declared.replies.Event.TheVariants as event
 use Rattle.cx_region.specs.declared.replies.Reply.{Reply}
-use Rattle.cx_script.specs.Texts.{image_fault_name, refused_text, reply_text, screen_text}
+use Rattle.cx_script.specs.Texts.{refused_text, reply_text, screen_text}
 use Rattle.cx_script.specs.declared.actions.Action.{Action}
 use Rattle.cx_script.specs.declared.actions.Action.TheVariants as action
 
@@ -26,7 +26,7 @@ Finds image (Some fault) = IsLowestFault image fault
 -- an image without a fault is defined as a program; of another the fault is told
 abbrev pub ByFault : Option ImageFault → RegionState → List ℕ → Image → List ℕ → RegionState → Type 0
 ByFault None old name image text new = Replies old (event.Program name image) text new
-ByFault (Some fault) old name image text new = (text ≡ refused_text (codes "PROGRAM") name (image_fault_name fault)) × (new ≡ old)
+ByFault (Some fault) old name image text new = (text ≡ refused_text (codes "PROGRAM") name (fault_name fault)) × (new ≡ old)
 
 -- an image is checked before it is defined
 pub record Checks (old : RegionState) (name : List ℕ) (image : Image) (text : List ℕ) (new : RegionState) : Type 0 where

@@ -4,17 +4,14 @@ use Rattle.std.specs.Option.{option_to_list}
 use Rattle.std.specs.List.{flat_map, take_while, suffix_len}
 use Rattle.cx_ebcdic.specs.Characters.{shown_as}
 use Rattle.cx_command.specs.Conditions.{entry_of}
-use Rattle.cx_load.specs.declared.fault.ImageFault.{ImageFault}
-use Rattle.cx_load.specs.declared.fault.ImageFault.TheVariants as image
 use Rattle.cx_load.specs.declared.program.Loaded.{Loaded}
 use Rattle.cx_region.specs.declared.replies.DefineFault.{DefineFault}
-use Rattle.cx_region.specs.declared.replies.DefineFault.TheVariants as define
 use Rattle.cx_region.specs.declared.replies.Event.{Event}
 use Rattle.cx_region.specs.declared.replies.Event.TheVariants as event
 use Rattle.cx_region.specs.declared.replies.Reply.{Reply}
 use Rattle.cx_region.specs.declared.replies.Reply.TheVariants as reply
 use Rattle.cx_region.specs.declared.replies.KeyReply.{KeyReply}
-use Rattle.cx_region.specs.declared.replies.KeyReply.TheVariants as key
+use Rattle.cx_region.specs.Replies.{define_fault_name, key_reply_name, turn_reply_name}
 use Rattle.cx_region.specs.declared.replies.TurnReply.{TurnReply}
 use Rattle.cx_region.specs.declared.replies.TurnReply.TheVariants as turn
 
@@ -43,42 +40,7 @@ unfoldable pub six_digits : ℕ → List ℕ
 six_digits n =
     hex_digit n 0x100000 ∷ hex_digit n 0x10000 ∷ hex_digit n 0x1000 ∷ hex_digit n 0x100 ∷ hex_digit n 0x10 ∷ hex_digit n 1 ∷ []
 
--- ---- names of faults and replies
-abbrev pub image_fault_name : ImageFault → List ℕ
-image_fault_name image.BadLength = codes "BadLength"
-image_fault_name image.EntryOutside = codes "EntryOutside"
-image_fault_name image.RelocOutside = codes "RelocOutside"
-image_fault_name image.Overlap = codes "Overlap"
-image_fault_name image.StgLength = codes "StgLength"
-
-abbrev pub define_fault_name : DefineFault → List ℕ
-define_fault_name define.Duplicate = codes "Duplicate"
-define_fault_name define.Full = codes "Full"
-define_fault_name define.NoProgram = codes "NoProgram"
-define_fault_name define.NoRoom = codes "NoRoom"
-define_fault_name define.Memory = codes "Memory"
-
-abbrev pub key_reply_name : KeyReply → List ℕ
-key_reply_name key.Attached = codes "Attached"
-key_reply_name key.Given = codes "Given"
-key_reply_name key.AlreadyHeldInput = codes "AlreadyHeldInput"
-key_reply_name key.NoSuchTransaction = codes "NoSuchTransaction"
-key_reply_name key.NoStorage = codes "NoStorage"
-key_reply_name key.NoSuchTerminal = codes "NoSuchTerminal"
-
-abbrev pub turn_reply_name : TurnReply → List ℕ
-turn_reply_name turn.Idle = codes "Idle"
-turn_reply_name turn.NoSuchTerminal = codes "NoSuchTerminal"
-turn_reply_name turn.AtCommand = codes "AtCommand"
-turn_reply_name (turn.Performed condition) = codes "Performed"
-turn_reply_name turn.Entered = codes "Entered"
-turn_reply_name turn.Returned = codes "Returned"
-turn_reply_name turn.Waiting = codes "Waiting"
-turn_reply_name (turn.TookLabel condition) = codes "TookLabel"
-turn_reply_name (turn.TookExit code) = codes "TookExit"
-turn_reply_name (turn.Abended code) = codes "Abended"
-turn_reply_name turn.Ended = codes "Ended"
-
+-- ---- replies
 -- the condition's name, or the code's four bytes, where a turn's reply has one
 abbrev pub turn_reply_detail : TurnReply → Option (List ℕ)
 turn_reply_detail (turn.Performed condition) = Some (entry_of condition).name

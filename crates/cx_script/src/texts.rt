@@ -3,7 +3,8 @@
 ghost use Rattle.std.specs.Prelude.{◌≡◌, ◌<◌, ◌≤◌, ◌+◌, ◌++◌, IfOk, OnOk, [], ◌∷◌, codes, length, map, take, take_while, slice_index};
 ghost use Rattle.std.specs.Option.{option_copied, option_map};
 ghost use Rattle.cx_ebcdic.specs.Characters.{shown_as};
-ghost use Rattle.cx_script.specs.Texts.{clock_text, define_fault_name, defined_text, hex_digit, image_fault_name, is_filled, key_reply_name, key_text, page_from, page_line, program_text, refused_text, reply_text, screen_text, shown, shown_name, six_digits, trimmed, turn_reply_detail, turn_reply_name, turn_text, two_digits, written_line};
+ghost use Rattle.cx_load.specs.Fault.{fault_name};
+ghost use Rattle.cx_script.specs.Texts.{clock_text, defined_text, hex_digit, is_filled, key_text, page_from, page_line, program_text, refused_text, reply_text, screen_text, shown, shown_name, six_digits, trimmed, turn_reply_detail, turn_text, two_digits, written_line};
 
 use cx_ebcdic::{Name4, Name8, display};
 use cx_load::{ImageFault, Loaded};
@@ -95,46 +96,6 @@ fn six_digits(n: u32) -> [u8; 6]
     ]
 }
 
-/// The name of an image's fault.
-fn image_fault_name(fault: ImageFault) -> &'static [u8]
-    ensures { result.now ≡ image_fault_name fault }
-{
-    match fault {
-        ImageFault::BadLength => b"BadLength",
-        ImageFault::EntryOutside => b"EntryOutside",
-        ImageFault::RelocOutside => b"RelocOutside",
-        ImageFault::Overlap => b"Overlap",
-        ImageFault::StgLength => b"StgLength",
-    }
-}
-
-/// The name of a definition's fault.
-fn define_fault_name(fault: DefineFault) -> &'static [u8]
-    ensures { result.now ≡ define_fault_name fault }
-{
-    match fault {
-        DefineFault::Duplicate => b"Duplicate",
-        DefineFault::Full => b"Full",
-        DefineFault::NoProgram => b"NoProgram",
-        DefineFault::NoRoom => b"NoRoom",
-        DefineFault::Memory => b"Memory",
-    }
-}
-
-/// The name of a key's reply.
-fn key_reply_name(reply: KeyReply) -> &'static [u8]
-    ensures { result.now ≡ key_reply_name reply }
-{
-    match reply {
-        KeyReply::Attached => b"Attached",
-        KeyReply::Given => b"Given",
-        KeyReply::AlreadyHeldInput => b"AlreadyHeldInput",
-        KeyReply::NoSuchTransaction => b"NoSuchTransaction",
-        KeyReply::NoStorage => b"NoStorage",
-        KeyReply::NoSuchTerminal => b"NoSuchTerminal",
-    }
-}
-
 /// The line of a refused definition.
 fn refused_text(
     alloc: Global,
@@ -150,10 +111,10 @@ fn refused_text(
 /// The line of an image that was refused before its definition.
 #[tactic(auto, unfolding(crate::specs::Texts::refused_text))]
 pub fn refused_image(alloc: Global, name: Name8, fault: ImageFault) -> Result<Vec<u8>, AllocError>
-    ensures { IfOk result (λ text. text.items ≡ refused_text (codes "PROGRAM") name (image_fault_name fault)) }
+    ensures { IfOk result (λ text. text.items ≡ refused_text (codes "PROGRAM") name (fault_name fault)) }
 {
     let name = shown_name8(alloc, name)?;
-    refused_text(alloc, b"PROGRAM", &name, image_fault_name(fault))
+    refused_text(alloc, b"PROGRAM", &name, fault.name().as_bytes())
 }
 
 /// The line of a program's definition.
@@ -172,7 +133,7 @@ fn program_text(
             let len = six_digits(loaded.len);
             written_line(alloc, b"PROGRAM", &[&name, b"AT", &at, b"LENGTH", &len])
         }
-        Err(fault) => refused_text(alloc, b"PROGRAM", &name, define_fault_name(fault)),
+        Err(fault) => refused_text(alloc, b"PROGRAM", &name, fault.name().as_bytes()),
     }
 }
 
@@ -189,7 +150,7 @@ fn defined_text(
     let name = shown_name4(alloc, name)?;
     match answer {
         Ok(()) => written_line(alloc, verb, &[&name, b"DEFINED"]),
-        Err(fault) => refused_text(alloc, verb, &name, define_fault_name(fault)),
+        Err(fault) => refused_text(alloc, verb, &name, fault.name().as_bytes()),
     }
 }
 
@@ -235,26 +196,7 @@ fn key_text(alloc: Global, name: Name4, reply: KeyReply) -> Result<Vec<u8>, Allo
     ensures { IfOk result (λ text. text.items ≡ key_text name reply) }
 {
     let name = shown_name4(alloc, name)?;
-    reply_line(alloc, b"KEY", &name, key_reply_name(reply))
-}
-
-/// The name of a turn's reply.
-fn turn_reply_name(reply: &TurnReply) -> &'static [u8]
-    ensures { result.now ≡ turn_reply_name reply.now }
-{
-    match reply {
-        TurnReply::Idle => b"Idle",
-        TurnReply::NoSuchTerminal => b"NoSuchTerminal",
-        TurnReply::AtCommand => b"AtCommand",
-        TurnReply::Performed(_) => b"Performed",
-        TurnReply::Entered => b"Entered",
-        TurnReply::Returned => b"Returned",
-        TurnReply::Waiting => b"Waiting",
-        TurnReply::TookLabel(_) => b"TookLabel",
-        TurnReply::TookExit(_) => b"TookExit",
-        TurnReply::Abended(_) => b"Abended",
-        TurnReply::Ended => b"Ended",
-    }
+    reply_line(alloc, b"KEY", &name, reply.name().as_bytes())
 }
 
 /// The condition's name or the code of a turn's reply, where it has one.
@@ -290,7 +232,7 @@ fn turn_text(alloc: Global, name: Name4, reply: TurnReply) -> Result<Vec<u8>, Al
     ensures { IfOk result (λ text. text.items ≡ turn_text name reply) }
 {
     let name = shown_name4(alloc, name)?;
-    let answer = turn_reply_name(&reply);
+    let answer = reply.name().as_bytes();
     match turn_reply_detail(alloc, &reply)? {
         Some(detail) => detailed_line(alloc, &name, answer, &detail),
         None => reply_line(alloc, b"TURN", &name, answer),

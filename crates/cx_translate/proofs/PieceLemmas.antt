@@ -1,14 +1,14 @@
 -- Lemmas on the pieces of an operand.
-use Rattle.std.proofs.Common.{◌≡◌, ◌<◌, ◌≤◌, ℕ, ◌+◌, ◌-◌, Bool, true, false, cond, List, [], ◌∷◌, ◌++◌, length, suc, zero, drop, refl, ap, sym, ◌∙◌, ◌⊎◌, inl, inr, arith, append_assoc, get_or, drop-cons, add-one, ◌&&◌, nat_eq, ◌≢◌, take, length-drop}
+use Rattle.std.proofs.Common.{◌≡◌, ◌<◌, ◌≤◌, ℕ, ◌+◌, ◌-◌, Bool, true, false, cond, List, [], ◌∷◌, ◌++◌, length, suc, drop, refl, ap, sym, ◌∙◌, ◌⊎◌, inl, inr, arith, append_assoc, get_or, drop-cons, add-one, ◌&&◌, nat_eq, ◌≢◌, take, length-drop}
 use Rattle.std.proofs.lemmas.Grind.{common_steps, flat_map-append}
 use Rattle.std.proofs.lemmas.List.{append-nil, take_more, get_or-drop}
-use Rattle.std.proofs.lemmas.Bool.Decides.{nat_tests, eqb_tells}
+use Rattle.std.proofs.lemmas.Bool.Decides.{eqb_tells}
 use Rattle.std.proofs.Math.Dec.{eqb}
 use Rattle.std.specs.List.{slice_range}
 use Rattle.cx_source.specs.declared.marks.Scan.{Scan}
 use Rattle.cx_source.specs.Marks.{outside, outside_from, passed, at_start}
 use Rattle.cx_translate.specs.declared.pieces.Piece.{Piece}
-use Rattle.cx_translate.specs.declared.pieces.Piece.TheVariants.{Word, Argument, Broken}
+use Rattle.cx_translate.specs.declared.pieces.Piece.TheVariants.{Broken}
 use Rattle.cx_translate.specs.Pieces.{pieces_of, pieces_from, depth_behind, is_cut, ended, last_of, word}
 use Rattle.cx_translate.specs.Laws.Joined.{joined, written, unblanked_from}
 
@@ -95,17 +95,17 @@ written_last depth part = go (nat_eq depth 0)
 -- where a piece ends nothing is lost but a blank
 pub kept_cut : (depth : ℕ) (part rest : List ℕ) (o : Bool) (c : ℕ) → is_cut depth o c ≡ true
     → joined (ended depth part c) ++ (front (depth_behind depth o c) [] ++ rest)
-      ≡ front depth part ++ unblanked (o && nat_eq depth 0 && nat_eq c 32) c rest
+    ≡ front depth part ++ unblanked (o && nat_eq depth 0 && nat_eq c 32) c rest
 unfolding is_cut depth_behind ended
 kept_cut depth part rest false c e = absurd (cc)
 kept_cut depth part rest true c e = at (eqb_tells depth 0) (eqb_tells depth 1) (eqb_tells c 32) (eqb_tells c 40) (eqb_tells c 41)
   where
     at : ((eqb depth 0 ≡ true) × (depth ≡ 0)) ⊎ ((eqb depth 0 ≡ false) × (depth ≢ 0))
-       → ((eqb depth 1 ≡ true) × (depth ≡ 1)) ⊎ ((eqb depth 1 ≡ false) × (depth ≢ 1))
-       → ((eqb c 32 ≡ true) × (c ≡ 32)) ⊎ ((eqb c 32 ≡ false) × (c ≢ 32))
-       → ((eqb c 40 ≡ true) × (c ≡ 40)) ⊎ ((eqb c 40 ≡ false) × (c ≢ 40))
-       → ((eqb c 41 ≡ true) × (c ≡ 41)) ⊎ ((eqb c 41 ≡ false) × (c ≢ 41))
-       → joined (ended depth part c) ++ (front (depth_behind depth true c) [] ++ rest) ≡ front depth part ++ unblanked (true && nat_eq depth 0 && nat_eq c 32) c rest
+        → ((eqb depth 1 ≡ true) × (depth ≡ 1)) ⊎ ((eqb depth 1 ≡ false) × (depth ≢ 1))
+        → ((eqb c 32 ≡ true) × (c ≡ 32)) ⊎ ((eqb c 32 ≡ false) × (c ≢ 32))
+        → ((eqb c 40 ≡ true) × (c ≡ 40)) ⊎ ((eqb c 40 ≡ false) × (c ≢ 40))
+        → ((eqb c 41 ≡ true) × (c ≡ 41)) ⊎ ((eqb c 41 ≡ false) × (c ≢ 41))
+        → joined (ended depth part c) ++ (front (depth_behind depth true c) [] ++ rest) ≡ front depth part ++ unblanked (true && nat_eq depth 0 && nat_eq c 32) c rest
     at (inl d) _ (inl b) _ _ = rw (d.1, b.1) (simp (append-nil, written_word part))
     at (inl d) _ (inr _) (inl b) _ = rw (d.1, b.1) (simp (append-nil, written_word part))
     at (inl d) _ (inr _) (inr _) (inl b) = rw (d.1, b.1) (simp (flat_map-append, append-nil, written_word part, append_assoc))
@@ -120,36 +120,36 @@ in_parentheses : (d depth : ℕ) (part rest : List ℕ) (o : Bool) (c : ℕ) →
 in_parentheses d depth part rest false c x y = at (eqb_tells d 0) (eqb_tells depth 0)
   where
     at : ((eqb d 0 ≡ true) × (d ≡ 0)) ⊎ ((eqb d 0 ≡ false) × (d ≢ 0)) → ((eqb depth 0 ≡ true) × (depth ≡ 0)) ⊎ ((eqb depth 0 ≡ false) × (depth ≢ 0))
-       → front d (part ++ c ∷ []) ++ rest ≡ front depth part ++ unblanked false c rest
+        → front d (part ++ c ∷ []) ++ rest ≡ front depth part ++ unblanked false c rest
     at (inl a) _ = absurd (x a.1)
     at (inr _) (inl b) = absurd (y b.1)
     at (inr a) (inr b) = simp (a.0, b.0) (ap (λ xs. 40 ∷ xs) (append_assoc part (c ∷ []) rest))
 in_parentheses d depth part rest true c x y = at (eqb_tells d 0) (eqb_tells depth 0)
   where
     at : ((eqb d 0 ≡ true) × (d ≡ 0)) ⊎ ((eqb d 0 ≡ false) × (d ≢ 0)) → ((eqb depth 0 ≡ true) × (depth ≡ 0)) ⊎ ((eqb depth 0 ≡ false) × (depth ≢ 0))
-       → front d (part ++ c ∷ []) ++ rest ≡ front depth part ++ unblanked (true && nat_eq depth 0 && nat_eq c 32) c rest
+        → front d (part ++ c ∷ []) ++ rest ≡ front depth part ++ unblanked (true && nat_eq depth 0 && nat_eq c 32) c rest
     at (inl a) _ = absurd (x a.1)
     at (inr _) (inl b) = absurd (y b.1)
     at (inr a) (inr b) = simp (a.0, b.0) (ap (λ xs. 40 ∷ xs) (append_assoc part (c ∷ []) rest))
 
 pub kept_on : (depth : ℕ) (part rest : List ℕ) (o : Bool) (c : ℕ) → is_cut depth o c ≡ false
     → front (depth_behind depth o c) (part ++ c ∷ []) ++ rest
-      ≡ front depth part ++ unblanked (o && nat_eq depth 0 && nat_eq c 32) c rest
+    ≡ front depth part ++ unblanked (o && nat_eq depth 0 && nat_eq c 32) c rest
 unfolding is_cut depth_behind
 kept_on depth part rest false c e = at (eqb_tells depth 0)
   where
     at : ((eqb depth 0 ≡ true) × (depth ≡ 0)) ⊎ ((eqb depth 0 ≡ false) × (depth ≢ 0))
-       → front depth (part ++ c ∷ []) ++ rest ≡ front depth part ++ unblanked false c rest
+        → front depth (part ++ c ∷ []) ++ rest ≡ front depth part ++ unblanked false c rest
     at (inl a) = rw a.1 (append_assoc part (c ∷ []) rest)
     at (inr a) = in_parentheses depth depth part rest false c a.1 a.1
 kept_on depth part rest true c e = at (eqb_tells depth 0) (eqb_tells depth 1) (eqb_tells c 32) (eqb_tells c 40) (eqb_tells c 41)
   where
     at : ((eqb depth 0 ≡ true) × (depth ≡ 0)) ⊎ ((eqb depth 0 ≡ false) × (depth ≢ 0))
-       → ((eqb depth 1 ≡ true) × (depth ≡ 1)) ⊎ ((eqb depth 1 ≡ false) × (depth ≢ 1))
-       → ((eqb c 32 ≡ true) × (c ≡ 32)) ⊎ ((eqb c 32 ≡ false) × (c ≢ 32))
-       → ((eqb c 40 ≡ true) × (c ≡ 40)) ⊎ ((eqb c 40 ≡ false) × (c ≢ 40))
-       → ((eqb c 41 ≡ true) × (c ≡ 41)) ⊎ ((eqb c 41 ≡ false) × (c ≢ 41))
-       → front (depth_behind depth true c) (part ++ c ∷ []) ++ rest ≡ front depth part ++ unblanked (true && nat_eq depth 0 && nat_eq c 32) c rest
+        → ((eqb depth 1 ≡ true) × (depth ≡ 1)) ⊎ ((eqb depth 1 ≡ false) × (depth ≢ 1))
+        → ((eqb c 32 ≡ true) × (c ≡ 32)) ⊎ ((eqb c 32 ≡ false) × (c ≢ 32))
+        → ((eqb c 40 ≡ true) × (c ≡ 40)) ⊎ ((eqb c 40 ≡ false) × (c ≢ 40))
+        → ((eqb c 41 ≡ true) × (c ≡ 41)) ⊎ ((eqb c 41 ≡ false) × (c ≢ 41))
+        → front (depth_behind depth true c) (part ++ c ∷ []) ++ rest ≡ front depth part ++ unblanked (true && nat_eq depth 0 && nat_eq c 32) c rest
     at (inl d) _ (inl b) _ _ = let f = (rw (d.1, b.1) at e) in absurd (cc)
     at (inl d) _ (inr _) (inl b) _ = let f = (rw (d.1, b.1) at e) in absurd (cc)
     at (inl d) _ (inr _) (inr _) (inl b) = let f = (rw (d.1, b.1) at e) in absurd (cc)
@@ -166,9 +166,9 @@ joined_from depth part (o ∷ marks) (c ∷ cs) =
     go (is_cut depth o c) refl (joined_from (depth_behind depth o c) [] marks cs) (joined_from (depth_behind depth o c) (part ++ c ∷ []) marks cs)
   where
     go : (b : Bool) → is_cut depth o c ≡ b
-       → joined (pieces_from (depth_behind depth o c) [] marks cs) ≡ front (depth_behind depth o c) [] ++ unblanked_from (depth_behind depth o c) marks cs
-       → joined (pieces_from (depth_behind depth o c) (part ++ c ∷ []) marks cs) ≡ front (depth_behind depth o c) (part ++ c ∷ []) ++ unblanked_from (depth_behind depth o c) marks cs
-       → joined (cond b (ended depth part c ++ pieces_from (depth_behind depth o c) [] marks cs) (pieces_from (depth_behind depth o c) (part ++ c ∷ []) marks cs)) ≡ front depth part ++ unblanked (o && nat_eq depth 0 && nat_eq c 32) c (unblanked_from (depth_behind depth o c) marks cs)
+        → joined (pieces_from (depth_behind depth o c) [] marks cs) ≡ front (depth_behind depth o c) [] ++ unblanked_from (depth_behind depth o c) marks cs
+        → joined (pieces_from (depth_behind depth o c) (part ++ c ∷ []) marks cs) ≡ front (depth_behind depth o c) (part ++ c ∷ []) ++ unblanked_from (depth_behind depth o c) marks cs
+        → joined (cond b (ended depth part c ++ pieces_from (depth_behind depth o c) [] marks cs) (pieces_from (depth_behind depth o c) (part ++ c ∷ []) marks cs)) ≡ front depth part ++ unblanked (o && nat_eq depth 0 && nat_eq c 32) c (unblanked_from (depth_behind depth o c) marks cs)
     go true e cut on = flat_map-append written (ended depth part c) (pieces_from (depth_behind depth o c) [] marks cs) ∙ (ap (λ xs. joined (ended depth part c) ++ xs) cut ∙ kept_cut depth part (unblanked_from (depth_behind depth o c) marks cs) o c e)
     go false e cut on = on ∙ kept_on depth part (unblanked_from (depth_behind depth o c) marks cs) o c e
 

@@ -1,5 +1,5 @@
 -- Lemmas on statements without a fault.
-use Rattle.std.proofs.Common.{◌≡◌, ◌≢◌, ℕ, Bool, true, false, cond, List, Option, Some, None, Err, refl, take, drop, ◌||◌, not}
+use Rattle.std.proofs.Common.{◌≡◌, ℕ, Bool, true, false, cond, List, Option, Some, None, Ok, Err, refl, ◌||◌}
 use Rattle.std.specs.Option.{option_or}
 use Rattle.cx_source.specs.declared.source.Source.{Source}
 use Rattle.cx_command.specs.declared.commands.Command.{Command}
@@ -9,7 +9,9 @@ use Rattle.cx_translate.specs.declared.words.Word.{Word}
 use Rattle.cx_translate.specs.declared.faults.TransFault.{TransFault}
 use Rattle.cx_translate.specs.declared.faults.TransFault.TheVariants.{UnknownCommand, Memory, UnknownOption, BadArgument, TooManyConditions, Conflict, MissingOption}
 use Rattle.cx_translate.specs.Refusals.{IsDue, fault_in, first_byte, has_argument, has_excluded, has_too_many, has_twice, has_unknown, has_wrong, second_byte}
-use Rattle.cx_translate.specs.Translation.{AnswersAs, judged}
+use Rattle.cx_translate.specs.Translation.{AnswersAs, judged, translation_of}
+use Rattle.cx_translate.specs.Sections.{begins_exec}
+use Rattle.std.specs.List.{list_any}
 
 chain : (a b c d e : Bool) (f g h i j : TransFault) → cond a (Some f) (cond b (Some g) (cond c (Some h) (cond d (Some i) (cond e None (Some j))))) ≡ None → c ≡ false
 chain false false false d e f g h i j p = refl
@@ -17,14 +19,36 @@ chain true b c d e f g h i j p = absurd (cc)
 chain false true c d e f g h i j p = absurd (cc)
 chain false false true d e f g h i j p = absurd (cc)
 
+last : (a b c d e : Bool) (f g h i j : TransFault) → cond a (Some f) (cond b (Some g) (cond c (Some h) (cond d (Some i) (cond e None (Some j))))) ≡ None → e ≡ true
+last false false false false true f g h i j p = refl
+last false false false false false f g h i j p = absurd (cc)
+last true b c d e f g h i j p = absurd (cc)
+last false true c d e f g h i j p = absurd (cc)
+last false false true d e f g h i j p = absurd (cc)
+last false false false true e f g h i j p = absurd (cc)
+
+-- the option bytes of a statement without a fault are legal
+pub legal_bytes : (line : ℕ) (command : Command) (cics named words : List Word) → fault_in line command cics named words ≡ None
+    → is_legal command (first_byte command words) (second_byte words) ≡ true
+unfolding fault_in
+legal_bytes line command cics named words none =
+    last (has_unknown command words) (has_argument cics || has_argument named || has_wrong command words) (has_too_many command words)
+    (has_twice words || has_excluded (row_of command).rules (first_byte command words)) (is_legal command (first_byte command words) (second_byte words))
+    (UnknownOption line) (BadArgument line) (TooManyConditions line) (Conflict line) (MissingOption line) none
+
+-- a source without EXEC stays
+pub no_exec : (source : Source) → list_any begins_exec source.items ≡ false → translation_of source ≡ Ok source
+unfolding translation_of
+no_exec source e = rw e refl
+
 -- a statement without a fault lists no more conditions than it may
 pub few_conditions : (line : ℕ) (command : Command) (cics named words : List Word) → fault_in line command cics named words ≡ None
     → has_too_many command words ≡ false
 unfolding fault_in
-few_conditions line command cics named words none = 
+few_conditions line command cics named words none =
     chain (has_unknown command words) (has_argument cics || has_argument named || has_wrong command words) (has_too_many command words)
-      (has_twice words || has_excluded (row_of command).rules (first_byte command words)) (is_legal command (first_byte command words) (second_byte words))
-      (UnknownOption line) (BadArgument line) (TooManyConditions line) (Conflict line) (MissingOption line) none
+    (has_twice words || has_excluded (row_of command).rules (first_byte command words)) (is_legal command (first_byte command words) (second_byte words))
+    (UnknownOption line) (BadArgument line) (TooManyConditions line) (Conflict line) (MissingOption line) none
 
 -- the fault due may be answered
 pub due : (due : Option TransFault) (fault : TransFault) → due ≡ Some fault → IsDue due fault

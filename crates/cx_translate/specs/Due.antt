@@ -17,7 +17,7 @@ use Rattle.cx_command.specs.Legal.{handled, is_handle, lists_conditions}
 use Rattle.cx_translate.specs.declared.due.Due.{Due}
 use Rattle.cx_translate.specs.declared.due.Due.TheVariants.{Nothing, Name, Value, Label}
 use Rattle.cx_translate.specs.declared.words.Argument.{Argument}
-use Rattle.cx_translate.specs.declared.words.Argument.TheVariants.{Absent, Given, Bad}
+use Rattle.cx_translate.specs.declared.words.Argument.TheVariants.{Absent, Given}
 use Rattle.cx_translate.specs.Names.{is_name_or_place, is_value}
 
 abbrev pub due_of_mark : Mark → Due

@@ -1,6 +1,6 @@
 -- Arguments as they may be written: values as they stand, and names in apostrophes (Application Programmer's Reference
 -- Manual, SC33-0077, "Argument values"; GC33-4010, "Character Constant").
-use Rattle.std.specs.Prelude.{ℕ, ◌+◌, Bool, true, false, ◌&&◌, ◌||◌, not, ◌==◌, nat_le, if◌then◌else◌, List, [], ◌∷◌, drop}
+use Rattle.std.specs.Prelude.{ℕ, ◌+◌, Bool, false, ◌&&◌, ◌||◌, not, ◌==◌, nat_le, if◌then◌else◌, List, [], ◌∷◌, drop}
 use Rattle.std.specs.List.{list_any}
 use Rattle.cx_source.specs.Lines.{is_written, skip_blanks, trimmed}
 

@@ -150,7 +150,11 @@ fn push_listed(bytes: &mut Vec<u8>, word: &Word) -> Result<(), AllocError>
 {
     if let Some(condition) = condition_called(word.name.as_slice()) {
         bytes.push(condition.number())?;
-        bytes.push(if text_in(&word.argument).is_some() { 0x80 } else { 0 })?;
+        bytes.push(if text_in(&word.argument).is_some() {
+            0x80
+        } else {
+            0
+        })?;
     }
     Ok(())
 }

@@ -1,12 +1,33 @@
 //! What follows from the definitions of a translation.
 
-ghost use Rattle.std.specs.Prelude.{◌≡◌, ℕ, List};
+ghost use Rattle.std.specs.Prelude.{◌≡◌, ℕ, List, None, Ok, false, true};
+ghost use Rattle.std.specs.List.{list_any};
+ghost use Rattle.cx_command.specs.Legal.{is_legal};
+ghost use Rattle.cx_command.specs.declared.commands.Command.{Command};
 ghost use Rattle.cx_source.specs.Marks.{outside};
+ghost use Rattle.cx_source.specs.declared.source.Source.{Source};
 ghost use Rattle.cx_translate.specs.Pieces.{pieces_of};
+ghost use Rattle.cx_translate.specs.Refusals.{fault_in, first_byte, second_byte};
+ghost use Rattle.cx_translate.specs.Sections.{begins_exec};
+ghost use Rattle.cx_translate.specs.Translation.{translation_of};
 ghost use Rattle.cx_translate.specs.Laws.Joined.{joined, unblanked_from};
+ghost use Rattle.cx_translate.specs.declared.words.Word.{Word};
 
 /// An operand's words and arguments, joined again, are the operand without the blanks between them.
 #[tactic(auto, using(crate::proofs::PieceLemmas::joined_again))]
 pub fn pieces_are_the_operand()
     ensures { (operand : List ℕ) → joined (pieces_of operand) ≡ unblanked_from 0 (outside operand) operand }
+{}
+
+/// The option bytes of an accepted statement are legal for its command.
+#[tactic(auto, using(crate::proofs::RefusalLemmas::legal_bytes))]
+pub fn accepted_bytes_are_legal()
+    ensures { (line : ℕ) (command : Command) (cics named words : List Word) → fault_in line command cics named words ≡ None
+        → is_legal command (first_byte command words) (second_byte words) ≡ true }
+{}
+
+/// A source without an EXEC statement stays as it is.
+#[tactic(auto, using(crate::proofs::RefusalLemmas::no_exec))]
+pub fn a_source_without_exec_stays()
+    ensures { (source : Source) → list_any begins_exec source.items ≡ false → translation_of source ≡ Ok source }
 {}

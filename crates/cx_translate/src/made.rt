@@ -48,7 +48,12 @@ fn joined(alloc: Global, first: &[u8], second: &[u8]) -> Result<Vec<u8>, AllocEr
 }
 
 /// A word of the argument list as an operand, with what stands before and behind it.
-fn word_of_list(alloc: Global, before: &str, place: usize, behind: &str) -> Result<String, AllocError>
+fn word_of_list(
+    alloc: Global,
+    before: &str,
+    place: usize,
+    behind: &str,
+) -> Result<String, AllocError>
     ensures { IfOk result (λ text. string_bytes text ≡ before.now ++ codes "DFHEIPL+" ++ decimal (4 * place) ++ behind.now) }
 {
     let offset = 4 * place as u128;

@@ -4,28 +4,22 @@ ghost use Rattle.std.specs.Prelude.{◌≡◌, ◌≤◌, ◌<◌, ◌+◌, ◌+
 ghost use Rattle.std.specs.List.{position};
 ghost use Rattle.cx_translate.specs.Sections.{
   bases,
-
   begins_exec,
   begins_section,
   begins_storage,
   behind,
-
   continuing,
-
   eib_section,
   field,
   field_name,
   has_name,
   has_operation,
   is_end,
-
   lines,
   name_in,
-
   put,
   put_before,
   put_behind,
-
   storage_fields,
   storage_section,
   with_bases,

@@ -12,7 +12,6 @@ ghost use Rattle.cx_translate.specs.Translation.{
   fault_at,
   first_fault,
   is_dropped,
-
   translation_of,
 };
 

@@ -90,7 +90,7 @@ fn without_a_section_none_is_put(rt: HostRuntime) -> Result<(), Fail> {
 fn long_source(alloc: Global, fives: usize) -> Result<Vec<u8>, AllocError> {
     let mut source = Vec::from_slice(alloc, b"P        CSECT\n")?;
     for _ in 0..fives {
-        source.extend_from_slice(b"         EXEC  CICS WRITEQ TS QUEUE('Q') FROM(A)                        X\n               LENGTH(B) MAIN RESP(C)\n         L     1,A\n* NOTE\n         ST    1,B\n")?;
+        source.extend_from_slice(b"         EXEC  CICS WRITEQ TS QUEUE('Q') FROM(A)                       X\n               LENGTH(B) MAIN RESP(C)\n         L     1,A\n* NOTE\n         ST    1,B\n")?;
     }
     source.extend_from_slice(b"         END\n")?;
     Ok(source)

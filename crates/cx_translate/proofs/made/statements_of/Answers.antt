@@ -1,4 +1,4 @@
-use Rattle.std.proofs.Common.{rules, ◌≡◌}
+use Rattle.std.proofs.Common.{rules}
 use Rattle.cx_command.specs.Commands as X2
 use Rattle.cx_translate.specs.Pieces.{pieces_of}
 use Rattle.cx_translate.specs.Words.{words_of}
