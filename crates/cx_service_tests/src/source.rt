@@ -1,7 +1,8 @@
 //! Sources by worked rows and by each rule of lines; cutting; pieces.
 use cx_source::{
     Items, Mark, Source, SourceFault, SourceReader, Stmt, begins_with_letter, cut, first_mark,
-    is_continued, is_letter, is_name, is_name_character, outside, read_source,
+    is_continued, is_letter, is_name, is_name_character, outside, read_source, skip_blanks,
+    text_of, trimmed,
 };
 use cx_tables::List;
 use std::alloc::{AllocError, Global};
@@ -395,6 +396,26 @@ fn names_begin_with_a_letter(rt: HostRuntime) {
     assert!(rt; is_name_character(b'7') && !is_name_character(b'.'));
     assert!(rt; begins_with_letter(b"@.") && !begins_with_letter(b""));
     assert!(rt; is_name(b"#2345678") && !is_name(b"#23456789"));
+}
+
+/// Whether a text without the blanks at its beginning is the one, and without those at its end the other.
+fn is_stripped(text: &[u8], behind: &[u8], before: &[u8]) -> bool {
+    skip_blanks(text) == behind && trimmed(text) == before
+}
+
+/// Whether the text of a line of 80 columns ends with column 72.
+fn ends_at_column_72() -> bool {
+    let mut line = [b'9'; 80];
+    line[71] = b'X';
+    let text = text_of(&line);
+    text.len() == 72 && text.last().copied() == Some(b'X')
+}
+
+#[test]
+fn blanks_are_left_out(rt: HostRuntime) {
+    assert!(rt; is_stripped(b"  A B ", b"A B ", b"  A B"));
+    assert!(rt; is_stripped(b"  ", b"", b""));
+    assert!(rt; ends_at_column_72());
 }
 
 /// Whether a comment, or a line, with a mark in column 72 goes on.
