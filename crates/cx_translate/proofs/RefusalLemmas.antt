@@ -27,6 +27,15 @@ last false true c d e f g h i j p = absurd (cc)
 last false false true d e f g h i j p = absurd (cc)
 last false false false true e f g h i j p = absurd (cc)
 
+head : (a : Bool) (f : TransFault) (o : Option TransFault) → cond a (Some f) o ≡ None → a ≡ false
+head false f o p = refl
+head true f o p = absurd (cc)
+
+-- a statement without a fault has no unknown word
+pub known : (line : ℕ) (command : Command) (cics named words : List Word) → fault_in line command cics named words ≡ None → has_unknown command words ≡ false
+unfolding fault_in
+known line command cics named words none = head (has_unknown command words) (UnknownOption line) _ none
+
 -- the option bytes of a statement without a fault are legal
 pub legal_bytes : (line : ℕ) (command : Command) (cics named words : List Word) → fault_in line command cics named words ≡ None
     → is_legal command (first_byte command words) (second_byte words) ≡ true

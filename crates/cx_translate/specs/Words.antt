@@ -1,5 +1,5 @@
 -- The words of an EXEC's operand, each with what stands behind it as its argument (SC33-0077, "EXEC CICS" command format).
-use Rattle.std.specs.Prelude.{ℕ, List, [], ◌∷◌}
+use Rattle.std.specs.Prelude.{ℕ, List, [], ◌∷◌, ◌++◌}
 use Rattle.cx_translate.specs.declared.pieces.Piece.{Piece}
 use Rattle.cx_translate.specs.declared.pieces.Piece.TheVariants as piece
 use Rattle.cx_translate.specs.declared.words.Argument.{Argument}
@@ -27,5 +27,13 @@ words_in (piece.Word name ∷ rest) = record { name = name; argument = argument_
 words_in (piece.Argument text ∷ rest) = words_in rest
 words_in (piece.Broken text ∷ rest) = words_in rest
 
+-- what stands before the first word stands behind an empty one
+abbrev pub nameless : List Piece → List Word
+nameless [] = []
+nameless (piece.Word name ∷ rest) = []
+nameless (piece.Argument text ∷ rest) = record { name = []; argument = Bad } ∷ []
+nameless (piece.Broken text ∷ rest) = record { name = []; argument = Bad } ∷ []
+
+-- the words of an operand, in order
 unfoldable pub words_of : List ℕ → List Word
-words_of operand = words_in (pieces_of operand)
+words_of operand = nameless (pieces_of operand) ++ words_in (pieces_of operand)

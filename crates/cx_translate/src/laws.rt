@@ -1,11 +1,12 @@
 //! What follows from the definitions of a translation.
 
-ghost use Rattle.std.specs.Prelude.{◌≡◌, ℕ, List, None, Ok, false, true};
+ghost use Rattle.std.specs.Prelude.{◌≡◌, ◌≤◌, ℕ, List, None, Ok, false, length, true};
 ghost use Rattle.std.specs.List.{list_any};
 ghost use Rattle.cx_command.specs.Legal.{is_legal};
 ghost use Rattle.cx_command.specs.declared.commands.Command.{Command};
 ghost use Rattle.cx_source.specs.Marks.{outside};
 ghost use Rattle.cx_source.specs.declared.source.Source.{Source};
+ghost use Rattle.cx_translate.specs.Call.{list_of};
 ghost use Rattle.cx_translate.specs.Pieces.{pieces_of};
 ghost use Rattle.cx_translate.specs.Refusals.{fault_in, first_byte, second_byte};
 ghost use Rattle.cx_translate.specs.Sections.{begins_exec};
@@ -24,6 +25,13 @@ pub fn pieces_are_the_operand()
 pub fn accepted_bytes_are_legal()
     ensures { (line : ℕ) (command : Command) (cics named words : List Word) → fault_in line command cics named words ≡ None
         → is_legal command (first_byte command words) (second_byte words) ≡ true }
+{}
+
+/// And its argument list has at most the eighteen words that DFHEIPL has.
+#[tactic(auto, using(crate::proofs::CountLemmas::at_most_18))]
+pub fn accepted_lists_have_room()
+    ensures { (line : ℕ) (command : Command) (cics named words : List Word) → fault_in line command cics named words ≡ None
+        → length (list_of command words) ≤ 18 }
 {}
 
 /// A source without an EXEC statement stays as it is.

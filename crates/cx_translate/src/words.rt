@@ -1,7 +1,7 @@
 //! The words of an operand of EXEC.
 
 ghost use Rattle.std.specs.Prelude.{◌≡◌, IfOk};
-ghost use Rattle.cx_translate.specs.Words.{argument_behind, words_in, words_of};
+ghost use Rattle.cx_translate.specs.Words.{argument_behind, nameless, words_in, words_of};
 
 use crate::pieces::{Piece, pieces_of};
 use cx_source::Text;
@@ -57,6 +57,21 @@ fn words_in(alloc: Global, pieces: &[Piece]) -> Result<Vec<Word>, AllocError>
     Ok(words)
 }
 
+/// An empty word, where anything stands before the first.
+fn nameless(alloc: Global, pieces: &[Piece]) -> Result<Vec<Word>, AllocError>
+    ensures { IfOk result (λ words. words.items ≡ nameless pieces.now) }
+{
+    let mut words = Vec::new(alloc);
+    match pieces {
+        [] | [Piece::Word(_), ..] => {}
+        _ => words.push(Word {
+            name: Text::from_slice(alloc, b"")?,
+            argument: Argument::Bad,
+        })?,
+    }
+    Ok(words)
+}
+
 /// The words of an operand of EXEC, each with its argument.
 ///
 /// An error comes only where a growth was refused.
@@ -65,5 +80,7 @@ pub(crate) fn words_of(alloc: Global, operand: &[u8]) -> Result<Vec<Word>, Alloc
     ensures { IfOk result (λ words. words.items ≡ words_of operand.now) }
 {
     let pieces = pieces_of(alloc, operand)?;
-    words_in(alloc, pieces.as_slice())
+    let mut words = nameless(alloc, pieces.as_slice())?;
+    words.append(&mut words_in(alloc, pieces.as_slice())?)?;
+    Ok(words)
 }

@@ -9,7 +9,10 @@ fn is_refused(alloc: Global, operand: &[u8], fault: &[u8]) -> Result<bool, Alloc
 }
 
 #[rattlefmt::skip]
-const REFUSALS: [(&[u8], &[u8]); 68] = [
+const REFUSALS: [(&[u8], &[u8]); 71] = [
+    (b"(X) CICS RETURN", b"UnknownCommand"),
+    (b") CICS RETURN", b"UnknownCommand"),
+    (b"'CICS' RETURN", b"UnknownCommand"),
     (b"", b"UnknownCommand"),
     (b"CICS", b"UnknownCommand"),
     (b"SQL COMMIT", b"UnknownCommand"),
