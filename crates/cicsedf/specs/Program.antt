@@ -1,4 +1,4 @@
--- What the program does, and its status.
+-- What the program does, and its status (own).
 use Rattle.std.specs.Prelude.{ℕ, Bool, List, Option, Result, Ok, Err}
 use Rattle.cx_region.specs.Defining.{fresh_region}
 use Rattle.cx_script.specs.Effects.{Performs}

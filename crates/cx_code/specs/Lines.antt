@@ -1,4 +1,4 @@
--- Disassembly: what the spans of a text hold.
+-- Disassembly: what the spans of a text hold (this product's own).
 use Rattle.std.specs.Prelude.{ℕ, List, take, drop, map, Option, Some, None}
 use Rattle.cx_code.specs.declared.image.Span.{Span}
 use Rattle.cx_code.specs.declared.image.SpanKind.{SpanKind}

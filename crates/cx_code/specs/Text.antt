@@ -1,4 +1,4 @@
--- The text of a line of a disassembly.
+-- The text of a line of a disassembly (this product's own; operands as GC33-4010 writes them).
 use Rattle.std.specs.Prelude.{ℕ, ◌+◌, ◌/◌, ◌%◌, List, [], ◌∷◌, ◌++◌, Bool, true, false, codes, decimal, flat_map}
 use Rattle.std.specs.Fmt.{digit_glyph}
 use Rattle.cx_code.specs.declared.instruction.Fields.{Fields}

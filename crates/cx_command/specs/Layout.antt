@@ -1,4 +1,4 @@
--- Blocks of storage as fields: each with its name, its offset and its length in bytes.
+-- Blocks of storage as fields: each with its name, its offset and its length in bytes (this product's own form).
 use Rattle.std.specs.Prelude.{ℕ, ◌+◌, List}
 
 pub record Field : Type 0 where

@@ -1,4 +1,5 @@
--- The characters that the product knows, with their EBCDIC codes.
+-- The characters that the product knows, with their EBCDIC codes (System/370 Reference Summary, GX20-1850, "Code
+-- Assignments").
 use Rattle.std.specs.Prelude.{ℕ, ◌+◌, Option, List, [], ◌∷◌, ◌++◌, ◌==◌, codes, option_map, unwrap_or}
 use Rattle.std.specs.List.{find}
 

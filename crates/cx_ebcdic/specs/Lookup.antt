@@ -1,4 +1,4 @@
--- A list whose parts may be missing.
+-- A list whose parts may be missing (this product's own word for tables).
 use Rattle.std.specs.Prelude.{Option, Some, List, [], ◌∷◌, option_map, option_and_then}
 
 -- every part of the list, where each is there; None where one is missing

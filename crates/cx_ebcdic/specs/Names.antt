@@ -1,4 +1,5 @@
--- Names of programs, transactions, terminals and queues, as the bytes that stand for them in storage.
+-- Names of programs, transactions, terminals and queues, as the bytes that stand for them in storage
+-- (Application Programmer's Reference Manual, SC33-0077, "Names").
 use Rattle.std.specs.Prelude.{ℕ, ◌-◌, Bool, ◌&&◌, ◌||◌, ◌==◌, nat_le, if◌then◌else◌, Option, None, List, ◌++◌, length, map, replicate, option_map}
 use Rattle.std.specs.Str.{bytes_eq}
 use Rattle.cx_ebcdic.specs.Lookup.{each_some}

@@ -1,4 +1,5 @@
--- What completed instructions leave that go on at the updated address: each definition says all that changes.
+-- What completed instructions leave that go on at the updated address (GA22-7000, "General Instructions"): each definition
+-- says all that changes.
 use Rattle.std.specs.Prelude.{ℕ, ◌+◌, ◌*◌, ◌/◌, ◌%◌, ◌^◌, List, slice_index, slice_set}
 use Rattle.cx_exec.specs.declared.machine.Updated.{Updated}
 use Rattle.cx_exec.specs.Machine.{Machine}

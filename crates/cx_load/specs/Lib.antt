@@ -9,4 +9,5 @@ pub use Rattle.cx_storage.specs.Place
 pub mod Laws
 -- Lemmas for the crates above.
 pub mod Facts
+
 -- Words of private functions.

@@ -1,4 +1,4 @@
--- What becomes of the levels where the current one was lent for writing (a borrow of the language, in no manual).
+-- What becomes of the levels where the current one was lent for writing (a borrow of the language; own).
 use Rattle.std.specs.Borrow.{Fml, Lends, MutBor}
 use Rattle.cx_program.specs.declared.level.Level.{Level}
 use Rattle.cx_program.specs.contracts.level.Level.{the_row as level_row}

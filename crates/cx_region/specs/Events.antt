@@ -1,4 +1,4 @@
--- Events of a region, and runs of them.
+-- Events of a region, and runs of them (this product's own).
 use Rattle.std.specs.Prelude.{◌≡◌, ℕ, ◌<◌, ◌≤◌, ◌⊎◌, true, None, IsSomeAnd, List, [], ◌∷◌, length, take, slice_get}
 use Rattle.std.specs.List.{AllByRecursion}
 use Rattle.cx_region.specs.declared.replies.Event.{Event}

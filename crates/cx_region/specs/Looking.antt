@@ -1,4 +1,4 @@
--- What can be seen of a region.
+-- What can be seen of a region (this product's own).
 use Rattle.std.specs.Prelude.{◌≡◌, suc, length}
 use Rattle.cx_region.specs.State.{TaskState}
 use Rattle.cx_region.specs.declared.replies.TaskInfo.{TaskInfo}

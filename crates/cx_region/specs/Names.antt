@@ -1,4 +1,4 @@
--- Names of four characters, as tables are searched by them.
+-- Names, as the region's tables are searched by them (this product's own).
 use Rattle.std.specs.Prelude.{ℕ, Bool, List}
 use Rattle.cx_ebcdic.specs.Names.{is_name}
 

@@ -1,4 +1,4 @@
--- What a half-turn of one terminal's task can reach, and how a half-turn ends.
+-- What a half-turn of one terminal's task can reach, and how a half-turn ends (this product's own).
 use Rattle.std.specs.Prelude.{ℕ, List, Some, None}
 use Rattle.cx_load.specs.declared.program.Loaded.{Loaded}
 use Rattle.cx_storage.specs.Storage.{Storage, is_of_other_slot, with_areas_kept}

@@ -1,4 +1,4 @@
--- What holds of a region in every state that its events reach: areas are disjoint, each task has its areas, a terminal
+-- What holds of a region in every state that its events reach (this product's own): areas are disjoint, each task has its areas, a terminal
 -- without a task owns nothing, names are distinct, and the limits are kept.
 use Rattle.std.specs.Prelude.{◌≡◌, ℕ, suc, ◌^◌, ◌<◌, ◌≤◌, Bool, true, ◌&&◌, ◌||◌, ◌==◌, List, [], ◌∷◌, length, map, nat_eq, Some, is_some, ⊤, MatchOption}
 use Rattle.std.specs.List.{AllByRecursion, IsDistinct, list_any}

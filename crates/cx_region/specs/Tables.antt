@@ -1,4 +1,4 @@
--- What is found in a region by name.
+-- What is found in a region by name (this product's own).
 use Rattle.std.specs.Prelude.{ℕ, List, Option, None, unwrap_or}
 use Rattle.std.specs.Option.{option_and_then}
 use Rattle.std.specs.Map.{lookup, set_value}

@@ -1,4 +1,4 @@
--- What a line of a script asks where it is not in a block.
+-- What a line of a script asks where it is not in a block (own).
 use Rattle.std.specs.Prelude.{ℕ, Bool, true, ◌==◌, if◌then◌else◌, Option, Some, unwrap_or, List, [], ◌∷◌, codes}
 use Rattle.std.specs.Option.{option_and_then, option_map}
 use Rattle.std.specs.List.{find}

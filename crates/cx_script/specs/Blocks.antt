@@ -1,4 +1,4 @@
--- Lines and blocks: what each line of a script leads to.
+-- Lines and blocks: what each line of a script leads to (own).
 use Rattle.std.specs.Prelude.{ℕ, ◌++◌, if◌then◌else◌, Option, Some, None, List, [], take, codes}
 use Rattle.std.specs.Option.{option_map}
 use Rattle.std.specs.Str.{bytes_eq}

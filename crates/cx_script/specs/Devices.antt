@@ -1,4 +1,4 @@
--- What becomes of a device.
+-- What becomes of a device (this product's own, as all of scripts and transcripts).
 use Rattle.std.specs.Prelude.{ℕ, Bool, true, ◌&&◌, ◌==◌, nat_lt, List, length, take, Result, Ok, Err, Option}
 use Rattle.std.specs.Io.KnownBytes.{Appends}
 

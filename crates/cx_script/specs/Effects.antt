@@ -1,4 +1,4 @@
--- What an action does to the region, and what is written for it.
+-- What an action does to the region, and what is written for it (own).
 use Rattle.std.specs.Prelude.{◌≡◌, ℕ, List, codes, Option, Some, None}
 use Rattle.std.specs.Option.{option_map}
 use Rattle.cx_code.specs.declared.image.Image.{Image}

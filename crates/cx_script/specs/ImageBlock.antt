@@ -1,4 +1,4 @@
--- The block of an image.
+-- The block of an image (own).
 use Rattle.std.specs.Prelude.{ℕ, List}
 
 -- The number of the line that begins it, the program's name, the length of its working storage, and

@@ -1,4 +1,4 @@
--- What is read of a script.
+-- What is read of a script (own).
 use Rattle.std.specs.Prelude.{◌≡◌, ℕ, ◌<◌, Bool, true, false, List, length, take, Option, IfSome}
 use Rattle.std.specs.Io.KnownBytes.{Consumes}
 use Rattle.cx_script.specs.declared.input.Ending.{Ending}

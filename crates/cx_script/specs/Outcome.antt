@@ -1,4 +1,4 @@
--- What a run of a script answers, by the bytes that its devices tell.
+-- What a run of a script answers, by the bytes that its devices tell (own).
 use Rattle.std.specs.Prelude.{◌≡◌, ℕ, ◌≤◌, Bool, ◌++◌, List, length, Option, Result, Err, IfSome}
 use Rattle.cx_script.specs.Input.{Reads, is_failure, most_bytes}
 use Rattle.cx_script.specs.Script.{script_of, line_count}

@@ -1,4 +1,4 @@
--- What a script asks: its actions in order, up to its first fault.
+-- What a script asks: its actions in order, up to its first fault (own).
 use Rattle.std.specs.Prelude.{ℕ, ◌+◌, Option, Some, None, List, [], ◌∷◌, length}
 use Rattle.cx_script.specs.declared.actions.Action.{Action}
 use Rattle.cx_script.specs.declared.faults.RunFault.{RunFault}

@@ -1,4 +1,4 @@
--- The program's status.
+-- The program's status (own).
 use Rattle.std.specs.Prelude.{ℕ, Result, Ok, Err}
 use Rattle.cx_script.specs.declared.faults.RunFault.{RunFault}
 use Rattle.cx_script.specs.declared.faults.RunFault.TheVariants.{BadLine, Read, Write, Memory, ReadBound}

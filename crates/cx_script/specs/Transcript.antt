@@ -1,4 +1,4 @@
--- A run of a script: what its actions did in order, and the transcript.
+-- A run of a script: what its actions did in order, and the transcript (own).
 use Rattle.std.specs.Prelude.{◌≡◌, ℕ, Bool, true, false, Option, Some, None, Result, Ok, Err, List, [], ◌∷◌, ◌++◌, take}
 use Rattle.std.specs.Io.KnownBytes.{Appends}
 use Rattle.cx_script.specs.Devices.{WroteFront}

@@ -1,4 +1,4 @@
--- The words of a line, which are separated by one blank, and what they spell.
+-- The words of a line, which are separated by one blank, and what they spell (own).
 use Rattle.std.specs.Prelude.{ℕ, ◌+◌, ◌-◌, ◌*◌, ◌&&◌, ◌==◌, Bool, nat_le, if◌then◌else◌, Option, Some, None, is_some, Result, Ok, Err, List, length, take, drop, fold, position}
 use Rattle.std.specs.List.{filter_map, list_all}
 use Rattle.std.specs.Char.{is_ascii_digit}

@@ -9,6 +9,7 @@ ghost use Rattle.cx_terms.specs.Laws.FaultLaws.{IsLowest};
 ghost use Rattle.cx_terms.specs.declared.faults.FaultKind.{FaultKind};
 ghost use Rattle.cx_terms.specs.declared.kinds.ConstantKind.{ConstantKind};
 ghost use Rattle.cx_terms.specs.Terms.{Term, terms_of, written};
+ghost use Rattle.cx_terms.specs.Texts.{character_number, characters};
 ghost use Rattle.cx_terms.specs.Weights.{Weighs, relocation};
 ghost use Rattle.cx_terms.specs.declared.expressions.Signed.{Signed};
 
@@ -31,11 +32,12 @@ pub fn a_sum_is_where_it_weighs()
     ensures { (values : List Signed) (section : Option (List ℕ)) → (relocation values ≡ Some section) ↔ Weighs values section }
 {}
 
-/// The number that digits of a base write is below the base raised to their number: a self-defining term of n bytes is
-/// below 2^(8n), since two hexadecimal and eight binary digits make a byte.
-#[tactic(auto, using(crate::proofs::DigitLemmas::digits_fit))]
-pub fn digits_fit()
-    ensures { (base : ℕ) (text : List ℕ) → is_number base text ≡ true → number_in base text < base ^ length text }
+/// The number that digits of a base write is below the base raised to their number, and the number of characters is below
+/// 256 raised to theirs: so a self-defining term of n bytes is below 2^(8n), since two hexadecimal or eight binary digits,
+/// or one character, make a byte.
+pub fn self_defining_terms_fit()
+    ensures digits { (base : ℕ) (text : List ℕ) → is_number base text ≡ true → number_in base text < base ^ length text }
+    ensures characters { (body : List ℕ) → character_number body < 256 ^ length (characters body) }
 {}
 
 /// The lowest of several faults is one of them, and none of them has a lower number; where none is answered there is none.

@@ -194,5 +194,6 @@ fn a_long_text_has_its_own_length(rt: HostRuntime) -> Result<(), Fail> {
     let copy = item.bytes(alloc, &symbols, None, None)?;
     assert_eq!(rt; copy.as_slice().len(), 300);
     assert!(rt; copy.as_slice().iter().all(|c| *c == 0xC1));
+    assert_eq!(rt; copy.into_vec().len(), 300);
     Ok(())
 }

@@ -61,19 +61,25 @@ fn a_source_without_exec_stays(rt: HostRuntime) -> Result<(), Fail> {
 
 #[test]
 fn a_name_and_continuations_and_comments(rt: HostRuntime) -> Result<(), Fail> {
-    let source: &[u8] = b"P        START 0                                                       X\n               REMARK\nGO       EXEC  CICS                                                    X\n               RETURN                                                  X\n               NOHANDLE\n* NOTE\n         END\n";
-    let front: &[u8] = b"01 DFHEISTG DSECT\n01 DFHEIPL  DS    18F\n01 DFHEITP  DS    F\n01 DFHEICAP DS    A\n01 P        START 0                                                       X\n02                REMARK\n01          USING P,3\n01          USING DFHEISTG,13\n01          USING DFHEIBLK,11\n03 GO       DS    0H\n03          LA    0,=X'0E080080'\n03          ST    0,DFHEIPL+0\n03          OI    DFHEIPL+0,X'80'\n03          LA    1,DFHEIPL\n03          L     15,=V(DFHEI1)\n03          BALR  14,15\n06 * NOTE\n07 DFHEIBLK DSECT\n";
+    let source: &[u8] =
+        b"P        START 0                                                       X\n               REMARK\nGO       EXEC  CICS                                                    X\n               RETURN                                                  X\n               NOHANDLE\n* NOTE\n         END\n";
+    let front: &[u8] =
+        b"01 DFHEISTG DSECT\n01 DFHEIPL  DS    18F\n01 DFHEITP  DS    F\n01 DFHEICAP DS    A\n01 P        START 0                                                       X\n02                REMARK\n01          USING P,3\n01          USING DFHEISTG,13\n01          USING DFHEIBLK,11\n03 GO       DS    0H\n03          LA    0,=X'0E080080'\n03          ST    0,DFHEIPL+0\n03          OI    DFHEIPL+0,X'80'\n03          LA    1,DFHEIPL\n03          L     15,=V(DFHEI1)\n03          BALR  14,15\n06 * NOTE\n07 DFHEIBLK DSECT\n";
     assert!(rt; begins(rt.alloc(), source, front)?);
     Ok(())
 }
 
 #[test]
 fn fields_stand_behind_the_first_dfheistg(rt: HostRuntime) -> Result<(), Fail> {
-    let source: &[u8] = b"DFHEISTG DSECT\nX        DS    F\nP        CSECT\nDFHEISTG DSECT\nP        CSECT\n         EXEC  CICS SUSPEND\n         END\n";
-    let front: &[u8] = b"01 DFHEISTG DSECT\n01 DFHEIPL  DS    18F\n01 DFHEITP  DS    F\n01 DFHEICAP DS    A\n02 X        DS    F\n03 P        CSECT\n03          USING P,3\n03          USING DFHEISTG,13\n03          USING DFHEIBLK,11\n04 DFHEISTG DSECT\n05 P        CSECT\n06          LA    0,=X'12080000'\n";
+    let source: &[u8] =
+        b"DFHEISTG DSECT\nX        DS    F\nP        CSECT\nDFHEISTG DSECT\nP        CSECT\n         EXEC  CICS SUSPEND\n         END\n";
+    let front: &[u8] =
+        b"01 DFHEISTG DSECT\n01 DFHEIPL  DS    18F\n01 DFHEITP  DS    F\n01 DFHEICAP DS    A\n02 X        DS    F\n03 P        CSECT\n03          USING P,3\n03          USING DFHEISTG,13\n03          USING DFHEIBLK,11\n04 DFHEISTG DSECT\n05 P        CSECT\n06          LA    0,=X'12080000'\n";
     assert!(rt; begins(rt.alloc(), source, front)?);
-    let behind: &[u8] = b"P        CSECT\nDFHEISTG DSECT\nP        CSECT\n         EXEC  CICS SUSPEND\n         END\n";
-    let front: &[u8] = b"01 P        CSECT\n01          USING P,3\n01          USING DFHEISTG,13\n01          USING DFHEIBLK,11\n02 DFHEISTG DSECT\n02 DFHEIPL  DS    18F\n02 DFHEITP  DS    F\n02 DFHEICAP DS    A\n03 P        CSECT\n04          LA    0,";
+    let behind: &[u8] =
+        b"P        CSECT\nDFHEISTG DSECT\nP        CSECT\n         EXEC  CICS SUSPEND\n         END\n";
+    let front: &[u8] =
+        b"01 P        CSECT\n01          USING P,3\n01          USING DFHEISTG,13\n01          USING DFHEIBLK,11\n02 DFHEISTG DSECT\n02 DFHEIPL  DS    18F\n02 DFHEITP  DS    F\n02 DFHEICAP DS    A\n03 P        CSECT\n04          LA    0,";
     assert!(rt; begins(rt.alloc(), behind, front)?);
     Ok(())
 }
@@ -81,7 +87,8 @@ fn fields_stand_behind_the_first_dfheistg(rt: HostRuntime) -> Result<(), Fail> {
 #[test]
 fn without_a_section_none_is_put(rt: HostRuntime) -> Result<(), Fail> {
     let source: &[u8] = b"         EXEC  CICS SUSPEND\n         END\n";
-    let front: &[u8] = b"01          LA    0,=X'12080000'\n01          ST    0,DFHEIPL+0\n01          OI    DFHEIPL+0,X'80'\n01          LA    1,DFHEIPL\n01          L     15,=V(DFHEI1)\n01          BALR  14,15\n02 DFHEIBLK DSECT\n";
+    let front: &[u8] =
+        b"01          LA    0,=X'12080000'\n01          ST    0,DFHEIPL+0\n01          OI    DFHEIPL+0,X'80'\n01          LA    1,DFHEIPL\n01          L     15,=V(DFHEI1)\n01          BALR  14,15\n02 DFHEIBLK DSECT\n";
     assert!(rt; begins(rt.alloc(), source, front)?);
     Ok(())
 }
@@ -90,7 +97,9 @@ fn without_a_section_none_is_put(rt: HostRuntime) -> Result<(), Fail> {
 fn long_source(alloc: Global, fives: usize) -> Result<Vec<u8>, AllocError> {
     let mut source = Vec::from_slice(alloc, b"P        CSECT\n")?;
     for _ in 0..fives {
-        source.extend_from_slice(b"         EXEC  CICS WRITEQ TS QUEUE('Q') FROM(A)                       X\n               LENGTH(B) MAIN RESP(C)\n         L     1,A\n* NOTE\n         ST    1,B\n")?;
+        source.extend_from_slice(
+            b"         EXEC  CICS WRITEQ TS QUEUE('Q') FROM(A)                       X\n               LENGTH(B) MAIN RESP(C)\n         L     1,A\n* NOTE\n         ST    1,B\n",
+        )?;
     }
     source.extend_from_slice(b"         END\n")?;
     Ok(source)
