@@ -331,7 +331,10 @@ fn fill<S: Store>(store: &mut S, places: &Places, begun: &Begun, commarea: &[u8]
         store.write(place, commarea);
     }
     let address = places.commarea.unwrap_or(0);
-    store.write(along(places.stg, EistgField::Eicap.offset()), &address.to_be_bytes());
+    store.write(
+        along(places.stg, EistgField::Eicap.offset()),
+        &address.to_be_bytes(),
+    );
 }
 
 /// Fills the areas of a terminal's task that begins, with the COMMAREA kept at the terminal.
