@@ -6,6 +6,8 @@ mod constants;
 #[cfg(test)]
 mod expressions;
 #[cfg(test)]
+mod long;
+#[cfg(test)]
 mod memory;
 #[cfg(test)]
 mod symbols;
