@@ -24,7 +24,7 @@ use Rattle.cx_command.specs.declared.options.CommonOption.TheVariants.{Resp}
 use Rattle.cx_translate.specs.Call.{argument_of, label_by, labels_of, list_of, operand_by, operands_of, text_in}
 
 -- what a look-up finds passes its test, and every test that all pass
-found : (q p : Condition → Bool) (xs : List Condition) (x : Condition) → find p xs ≡ Some x → list_all q xs ≡ true → (p x ≡ true) × (q x ≡ true)
+pub found : (q p : Condition → Bool) (xs : List Condition) (x : Condition) → find p xs ≡ Some x → list_all q xs ≡ true → (p x ≡ true) × (q x ≡ true)
 found q p [] x e h = absurd (cc)
 found q p (y ∷ ys) x e h = go (p y) (q y) refl refl (λ f g. found q p ys x f g) e h
   where
@@ -36,11 +36,11 @@ found q p (y ∷ ys) x e h = go (p y) (q y) refl refl (λ f g. found q p ys x f 
     go false false d e rest f g = absurd (cc)
 
 -- no condition has the name of an option
-abbrev clear : Command → Condition → Bool
+abbrev pub clear : Command → Condition → Bool
 clear command condition =
     is_none (option_called (row_of command).options (entry_of condition).name) && is_none (common_due (entry_of condition).name)
 
-all_clear : (c : Command) → list_all (clear c) handled ≡ true
+pub all_clear : (c : Command) → list_all (clear c) handled ≡ true
 unfolding option_called common_due
 all_clear command.Address = refl
 all_clear command.HandleCondition = refl

@@ -1,3 +1,4 @@
 pub mod CountLemmas
+pub mod ListedLemmas
 pub mod PieceLemmas
 pub mod RefusalLemmas

@@ -36,6 +36,34 @@ pub known : (line : ℕ) (command : Command) (cics named words : List Word) → 
 unfolding fault_in
 known line command cics named words none = head (has_unknown command words) (UnknownOption line) _ none
 
+second : (a b c d : Bool) (f g : TransFault) (o : Option TransFault) → cond a (Some f) (cond (b || c || d) (Some g) o) ≡ None → d ≡ false
+second false false false false f g o p = refl
+second false false false true f g o p = absurd (cc)
+second false false true d f g o p = absurd (cc)
+second false true c d f g o p = absurd (cc)
+second true b c d f g o p = absurd (cc)
+
+-- nor another argument than is due
+pub right : (line : ℕ) (command : Command) (cics named words : List Word) → fault_in line command cics named words ≡ None → has_wrong command words ≡ false
+unfolding fault_in
+right line command cics named words none =
+    second (has_unknown command words) (has_argument cics) (has_argument named) (has_wrong command words) (UnknownOption line) (BadArgument line) _ none
+
+fourth : (a b c d e : Bool) (f g h i : TransFault) (o : Option TransFault) → cond a (Some f) (cond b (Some g) (cond c (Some h) (cond (d || e) (Some i) o))) ≡ None → d ≡ false
+fourth false false false false e f g h i o p = refl
+fourth false false false true e f g h i o p = absurd (cc)
+fourth false false true d e f g h i o p = absurd (cc)
+fourth false true c d e f g h i o p = absurd (cc)
+fourth true b c d e f g h i o p = absurd (cc)
+
+-- nor a word twice
+pub once : (line : ℕ) (command : Command) (cics named words : List Word) → fault_in line command cics named words ≡ None → has_twice words ≡ false
+unfolding fault_in
+once line command cics named words none =
+    fourth (has_unknown command words) (has_argument cics || has_argument named || has_wrong command words) (has_too_many command words)
+    (has_twice words) (has_excluded (row_of command).rules (first_byte command words))
+    (UnknownOption line) (BadArgument line) (TooManyConditions line) (Conflict line) _ none
+
 -- the option bytes of a statement without a fault are legal
 pub legal_bytes : (line : ℕ) (command : Command) (cics named words : List Word) → fault_in line command cics named words ≡ None
     → is_legal command (first_byte command words) (second_byte words) ≡ true

@@ -2,11 +2,11 @@
 
 ghost use Rattle.std.specs.Prelude.{◌≡◌, ◌≤◌, ℕ, List, None, Ok, false, length, true};
 ghost use Rattle.std.specs.List.{list_any};
-ghost use Rattle.cx_command.specs.Legal.{is_legal};
+ghost use Rattle.cx_command.specs.Legal.{is_legal, is_legal_list, lists_conditions};
 ghost use Rattle.cx_command.specs.declared.commands.Command.{Command};
 ghost use Rattle.cx_source.specs.Marks.{outside};
 ghost use Rattle.cx_source.specs.declared.source.Source.{Source};
-ghost use Rattle.cx_translate.specs.Call.{list_of};
+ghost use Rattle.cx_translate.specs.Call.{list_of, listed_of};
 ghost use Rattle.cx_translate.specs.Pieces.{pieces_of};
 ghost use Rattle.cx_translate.specs.Refusals.{fault_in, first_byte, second_byte};
 ghost use Rattle.cx_translate.specs.Sections.{begins_exec};
@@ -25,6 +25,13 @@ pub fn pieces_are_the_operand()
 pub fn accepted_bytes_are_legal()
     ensures { (line : ℕ) (command : Command) (cics named words : List Word) → fault_in line command cics named words ≡ None
         → is_legal command (first_byte command words) (second_byte words) ≡ true }
+{}
+
+/// So are the conditions that it lists.
+#[tactic(auto, using(crate::proofs::ListedLemmas::accepted_list))]
+pub fn accepted_conditions_are_legal()
+    ensures { (line : ℕ) (command : Command) (cics named words : List Word) → lists_conditions command ≡ true
+        → fault_in line command cics named words ≡ None → is_legal_list command (listed_of words) ≡ true }
 {}
 
 /// And its argument list has at most the eighteen words that DFHEIPL has.
