@@ -1,2 +1,3 @@
 -- What the laws state.
 pub mod Joined
+pub mod Read

@@ -12,6 +12,7 @@ ghost use Rattle.cx_translate.specs.Refusals.{fault_in, first_byte, second_byte}
 ghost use Rattle.cx_translate.specs.Sections.{begins_exec};
 ghost use Rattle.cx_translate.specs.Translation.{translation_of};
 ghost use Rattle.cx_translate.specs.Laws.Joined.{joined, unblanked_from};
+ghost use Rattle.cx_translate.specs.Laws.Read.{words_read};
 ghost use Rattle.cx_translate.specs.declared.words.Word.{Word};
 
 /// An operand's words and arguments, joined again, are the operand without the blanks between them.
@@ -39,6 +40,13 @@ pub fn accepted_conditions_are_legal()
 pub fn accepted_lists_have_room()
     ensures { (line : ℕ) (command : Command) (cics named words : List Word) → fault_in line command cics named words ≡ None
         → length (list_of command words) ≤ 18 }
+{}
+
+/// It has exactly the words that the command reads of it.
+#[tactic(auto, using(crate::proofs::ReadLemmas::all_read))]
+pub fn accepted_lists_are_read()
+    ensures { (line : ℕ) (command : Command) (cics named words : List Word) → fault_in line command cics named words ≡ None
+        → length (list_of command words) ≡ words_read command (first_byte command words) (second_byte words) (listed_of words) }
 {}
 
 /// A source without an EXEC statement stays as it is.
