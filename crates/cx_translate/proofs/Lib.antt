@@ -1,4 +1,5 @@
 pub mod CountLemmas
+pub mod KeptLemmas
 pub mod ListedLemmas
 pub mod PieceLemmas
 pub mod ReadLemmas

@@ -1,3 +1,4 @@
 -- What the laws state.
 pub mod Joined
 pub mod Read
+pub mod Kept

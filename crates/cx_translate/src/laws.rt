@@ -12,6 +12,7 @@ ghost use Rattle.cx_translate.specs.Refusals.{fault_in, first_byte, second_byte}
 ghost use Rattle.cx_translate.specs.Sections.{begins_exec};
 ghost use Rattle.cx_translate.specs.Translation.{translation_of};
 ghost use Rattle.cx_translate.specs.Laws.Joined.{joined, unblanked_from};
+ghost use Rattle.cx_translate.specs.Laws.Kept.{AreAmong, kept};
 ghost use Rattle.cx_translate.specs.Laws.Read.{words_read};
 ghost use Rattle.cx_translate.specs.declared.words.Word.{Word};
 
@@ -53,4 +54,10 @@ pub fn accepted_lists_are_read()
 #[tactic(auto, using(crate::proofs::RefusalLemmas::no_exec))]
 pub fn a_source_without_exec_stays()
     ensures { (source : Source) → list_any begins_exec source.items ≡ false → translation_of source ≡ Ok source }
+{}
+
+/// Each line that is no part of an EXEC statement is in the translation, in the same order.
+#[tactic(auto, using(crate::proofs::KeptLemmas::lines_stay))]
+pub fn other_lines_stay()
+    ensures { (source made : Source) → translation_of source ≡ Ok made → AreAmong (kept false source.items) made.items }
 {}
