@@ -78,7 +78,7 @@ all_kept (item ∷ rest) e = go (begins_exec item) e (λ f. all_kept rest f)
     go true e f = absurd (cc)
     go false e f = inl (refl, f e)
 
-answered : (due : Option TransFault) (source made : Source) → judged due source ≡ Ok made → source ≡ made
+pub answered : (due : Option TransFault) (source made : Source) → judged due source ≡ Ok made → source ≡ made
 answered None source made e = cc
 answered (Some fault) source made e = absurd (cc)
 

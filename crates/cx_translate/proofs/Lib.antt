@@ -1,3 +1,4 @@
+pub mod AscentLemmas
 pub mod CountLemmas
 pub mod KeptLemmas
 pub mod ListedLemmas

@@ -2,3 +2,4 @@
 pub mod Joined
 pub mod Read
 pub mod Kept
+pub mod Ascent

@@ -12,6 +12,7 @@ ghost use Rattle.cx_translate.specs.Refusals.{fault_in, first_byte, second_byte}
 ghost use Rattle.cx_translate.specs.Sections.{begins_exec};
 ghost use Rattle.cx_translate.specs.Translation.{translation_of};
 ghost use Rattle.cx_translate.specs.Laws.Joined.{joined, unblanked_from};
+ghost use Rattle.cx_translate.specs.Laws.Ascent.{AscendFrom, statement_lines};
 ghost use Rattle.cx_translate.specs.Laws.Kept.{AreAmong, kept};
 ghost use Rattle.cx_translate.specs.Laws.Read.{words_read};
 ghost use Rattle.cx_translate.specs.declared.words.Word.{Word};
@@ -60,4 +61,11 @@ pub fn a_source_without_exec_stays()
 #[tactic(auto, using(crate::proofs::KeptLemmas::lines_stay))]
 pub fn other_lines_stay()
     ensures { (source made : Source) → translation_of source ≡ Ok made → AreAmong (kept false source.items) made.items }
+{}
+
+/// The lines on which statements begin ascend where they did in the source.
+#[tactic(auto, using(crate::proofs::AscentLemmas::lines_ascend))]
+pub fn lines_ascend_where_they_did()
+    ensures { (source made : Source) → AscendFrom 0 (statement_lines source.items) → translation_of source ≡ Ok made
+        → AscendFrom 0 (statement_lines made.items) }
 {}
