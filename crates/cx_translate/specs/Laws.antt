@@ -1,2 +1,5 @@
 -- What the laws state.
 pub mod Joined
+pub mod Read
+pub mod Kept
+pub mod Ascent

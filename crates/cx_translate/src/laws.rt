@@ -12,6 +12,9 @@ ghost use Rattle.cx_translate.specs.Refusals.{fault_in, first_byte, second_byte}
 ghost use Rattle.cx_translate.specs.Sections.{begins_exec};
 ghost use Rattle.cx_translate.specs.Translation.{translation_of};
 ghost use Rattle.cx_translate.specs.Laws.Joined.{joined, unblanked_from};
+ghost use Rattle.cx_translate.specs.Laws.Ascent.{AscendFrom, statement_lines};
+ghost use Rattle.cx_translate.specs.Laws.Kept.{AreAmong, kept};
+ghost use Rattle.cx_translate.specs.Laws.Read.{words_read};
 ghost use Rattle.cx_translate.specs.declared.words.Word.{Word};
 
 /// An operand's words and arguments, joined again, are the operand without the blanks between them.
@@ -41,8 +44,28 @@ pub fn accepted_lists_have_room()
         → length (list_of command words) ≤ 18 }
 {}
 
+/// It has exactly the words that the command reads of it.
+#[tactic(auto, using(crate::proofs::ReadLemmas::all_read))]
+pub fn accepted_lists_are_read()
+    ensures { (line : ℕ) (command : Command) (cics named words : List Word) → fault_in line command cics named words ≡ None
+        → length (list_of command words) ≡ words_read command (first_byte command words) (second_byte words) (listed_of words) }
+{}
+
 /// A source without an EXEC statement stays as it is.
 #[tactic(auto, using(crate::proofs::RefusalLemmas::no_exec))]
 pub fn a_source_without_exec_stays()
     ensures { (source : Source) → list_any begins_exec source.items ≡ false → translation_of source ≡ Ok source }
+{}
+
+/// Each line that is no part of an EXEC statement is in the translation, in the same order.
+#[tactic(auto, using(crate::proofs::KeptLemmas::lines_stay))]
+pub fn other_lines_stay()
+    ensures { (source made : Source) → translation_of source ≡ Ok made → AreAmong (kept false source.items) made.items }
+{}
+
+/// The lines on which statements begin ascend where they did in the source.
+#[tactic(auto, using(crate::proofs::AscentLemmas::lines_ascend))]
+pub fn lines_ascend_where_they_did()
+    ensures { (source made : Source) → AscendFrom 0 (statement_lines source.items) → translation_of source ≡ Ok made
+        → AscendFrom 0 (statement_lines made.items) }
 {}

@@ -1,5 +1,5 @@
 //! Whole sources translated.
-use crate::texts::translated;
+use crate::texts::{suspended, translated};
 use std::alloc::{AllocError, Global};
 use std::test::Fail;
 
@@ -89,6 +89,67 @@ fn without_a_section_none_is_put(rt: HostRuntime) -> Result<(), Fail> {
     let source: &[u8] = b"         EXEC  CICS SUSPEND\n         END\n";
     let front: &[u8] =
         b"01          LA    0,=X'12080000'\n01          ST    0,DFHEIPL+0\n01          OI    DFHEIPL+0,X'80'\n01          LA    1,DFHEIPL\n01          L     15,=V(DFHEI1)\n01          BALR  14,15\n02 DFHEIBLK DSECT\n";
+    assert!(rt; begins(rt.alloc(), source, front)?);
+    Ok(())
+}
+
+/// The lines that a control section with SUSPEND on line 2 becomes, up to its END.
+const SUSPENDED: &[u8] = b"01 DFHEISTG DSECT
+01 DFHEIPL  DS    18F
+01 DFHEITP  DS    F
+01 DFHEICAP DS    A
+01 
+01          USING P,3
+01          USING DFHEISTG,13
+01          USING DFHEIBLK,11
+02          LA    0,=X'12080000'
+02          ST    0,DFHEIPL+0
+02          OI    DFHEIPL+0,X'80'
+02          LA    1,DFHEIPL
+02          L     15,=V(DFHEI1)
+02          BALR  14,15
+";
+
+/// What is put before an END on line 3, and that line and one more.
+const TWO_ENDS: &[u8] = b"03 DFHEIBLK DSECT
+03 EIBTIME  DS    XL4
+03 EIBDATE  DS    XL4
+03 EIBTRNID DS    XL4
+03 EIBTASKN DS    XL4
+03 EIBTRMID DS    XL4
+03          DS    XL4
+03 EIBCALEN DS    XL2
+03 EIBAID   DS    XL1
+03 EIBFN    DS    XL2
+03 EIBRCODE DS    XL6
+03          DS    XL16
+03 EIBRSRCE DS    XL8
+03          DS    XL17
+03 EIBRESP  DS    XL4
+03          DS    XL8
+03 
+04 
+";
+
+#[test]
+fn without_end_nothing_is_put_before_it(rt: HostRuntime) -> Result<(), Fail> {
+    assert!(rt; suspended(rt.alloc(), &[])?.as_slice() == SUSPENDED);
+    Ok(())
+}
+
+#[test]
+fn the_eib_stands_before_the_first_end(rt: HostRuntime) -> Result<(), Fail> {
+    let made = suspended(rt.alloc(), &[3, 4])?;
+    assert!(rt; made.strip_prefix(SUSPENDED) == Some(TWO_ENDS));
+    Ok(())
+}
+
+#[test]
+fn conditions_over_three_lines(rt: HostRuntime) -> Result<(), Fail> {
+    let source: &[u8] =
+        b"P        CSECT\n         EXEC  CICS HANDLE CONDITION ERROR(L1)                         X\n               PGMIDERR                                                X\n               QIDERR(L2) RESP(R)\n         END\n";
+    let front: &[u8] =
+        b"01 DFHEISTG DSECT\n01 DFHEIPL  DS    18F\n01 DFHEITP  DS    F\n01 DFHEICAP DS    A\n01 P        CSECT\n01          USING P,3\n01          USING DFHEISTG,13\n01          USING DFHEIBLK,11\n02          LA    0,=X'0204034001801B002C80'\n02          ST    0,DFHEIPL+0\n02          LA    0,L1\n02          ST    0,DFHEIPL+4\n02          LA    0,L2\n02          ST    0,DFHEIPL+8\n02          LA    0,R\n02          ST    0,DFHEIPL+12\n02          OI    DFHEIPL+12,X'80'\n02          LA    1,DFHEIPL\n02          L     15,=V(DFHEI1)\n02          BALR  14,15\n05 DFHEIBLK DSECT\n";
     assert!(rt; begins(rt.alloc(), source, front)?);
     Ok(())
 }

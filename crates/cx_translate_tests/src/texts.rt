@@ -21,15 +21,22 @@ fn item(
     })
 }
 
-/// A control section with one EXEC statement of this operand, on line 2.
-fn section_with(alloc: Global, operand: &[u8]) -> Result<Source, AllocError> {
+/// A control section with one EXEC statement of this operand, on line 2, and with END on each of these lines.
+fn section_with_ends(alloc: Global, operand: &[u8], ends: &[usize]) -> Result<Source, AllocError> {
     let mut items = Vec::new(alloc);
     items.push(item(alloc, 1, b"P", b"CSECT", b"")?)?;
     items.push(item(alloc, 2, b"", b"EXEC", operand)?)?;
-    items.push(item(alloc, 3, b"", b"END", b"")?)?;
+    for line in ends {
+        items.push(item(alloc, *line, b"", b"END", b"")?)?;
+    }
     Ok(Source {
         items: Items::from_vec(items),
     })
+}
+
+/// A control section with one EXEC statement of this operand, on line 2.
+fn section_with(alloc: Global, operand: &[u8]) -> Result<Source, AllocError> {
+    section_with_ends(alloc, operand, &[3])
 }
 
 /// The statements on line 2, one a line: operation, a blank, operand.
@@ -86,6 +93,14 @@ pub(crate) fn translated(alloc: Global, bytes: &[u8]) -> Result<Vec<u8>, SourceF
     match translate(alloc, &source) {
         Ok(made) => Ok(numbered(alloc, &made)?),
         Err(fault) => Ok(told(alloc, fault)?),
+    }
+}
+
+/// The lines that a control section with SUSPEND, and with END on each of these lines, becomes. Those that it has itself are empty.
+pub(crate) fn suspended(alloc: Global, ends: &[usize]) -> Result<Vec<u8>, AllocError> {
+    match translate(alloc, &section_with_ends(alloc, b"CICS SUSPEND", ends)?) {
+        Ok(made) => numbered(alloc, &made),
+        Err(fault) => told(alloc, fault),
     }
 }
 
