@@ -1,5 +1,5 @@
 -- How many words the argument list of an accepted statement has.
-use Rattle.std.proofs.Common.{◌≡◌, ◌≤◌, ℕ, ◌+◌, Bool, true, false, cond, ◌&&◌, ◌||◌, List, [], ◌∷◌, ◌++◌, length, Option, Some, None, refl, ◌∙◌, arith, nat_lt, nat_le, nat_eq, length-append}
+use Rattle.std.proofs.Common.{◌≡◌, ◌≤◌, ℕ, ◌+◌, Bool, true, false, cond, ◌&&◌, ◌||◌, List, [], ◌∷◌, ◌++◌, length, Option, Some, None, refl, sym, ◌∙◌, arith, nat_lt, nat_le, nat_eq, length-append}
 use Rattle.std.specs.Prelude.{is_none, is_some, option_map}
 use Rattle.std.specs.List.{find, list_all, list_any, sum_by}
 use Rattle.std.specs.Option.{option_or, option_to_list}
@@ -18,10 +18,10 @@ use Rattle.cx_command.specs.Legal.{handled, lists_conditions}
 use Rattle.cx_translate.specs.declared.due.Due.{Due}
 use Rattle.cx_translate.specs.declared.words.Word.{Word}
 use Rattle.cx_translate.specs.Due.{common_due, condition_called, condition_due, due_of, due_of_mark, option_called}
-use Rattle.cx_translate.specs.Refusals.{conditions_in, fault_in, has_too_many, has_unknown}
+use Rattle.cx_translate.specs.Refusals.{conditions_in, fault_in, first_byte, has_too_many, has_unknown}
 use Rattle.cx_translate.proofs.RefusalLemmas.{few_conditions, known}
 use Rattle.cx_command.specs.declared.options.CommonOption.TheVariants.{Resp}
-use Rattle.cx_translate.specs.Call.{argument_of, label_by, labels_of, list_of, operand_by, operands_of, text_in}
+use Rattle.cx_translate.specs.Call.{argument_of, label_by, labels_of, list_of, listed_by, listed_of, operand_by, operands_of, text_in}
 
 -- what a look-up finds passes its test, and every test that all pass
 pub found : (q p : Condition → Bool) (xs : List Condition) (x : Condition) → find p xs ≡ Some x → list_all q xs ≡ true → (p x ≡ true) × (q x ≡ true)
@@ -109,7 +109,7 @@ unlisted c name l s = go (find (λ condition. bytes_eq (entry_of condition).name
         gone (option_called (row_of c).options name) (common_due name) (lists_conditions c) _ _ (rw same at free) l
 
 -- so none is listed
-none_listed : (c : Command) (words : List Word) → lists_conditions c ≡ false → has_unknown c words ≡ false → conditions_in words ≡ 0
+pub none_listed : (c : Command) (words : List Word) → lists_conditions c ≡ false → has_unknown c words ≡ false → conditions_in words ≡ 0
 unfolding has_unknown conditions_in
 none_listed c [] l u = refl
 none_listed c (word ∷ rest) l u =
@@ -194,3 +194,25 @@ at_most_18 line c cics named words none =
     let l = length-append (operands_of (row_of c).options words ++ labels_of words) (option_to_list (argument_of words (common_of Resp).name)) in
     let m = length-append (operands_of (row_of c).options words) (labels_of words) in
     omega (arith, k, r, l, m)
+
+-- as many conditions are listed as are counted
+listed_number : (words : List Word) → length (listed_of words) ≡ conditions_in words
+unfolding conditions_in
+listed_number [] = refl
+listed_number (word ∷ rest) =
+    sym (sum_by-cons (λ w. cond (is_some (condition_called w.name)) 1 0) word rest ∙ go (condition_called word.name) (listed_number rest))
+  where
+    go : (o : Option Condition) → length (listed_of rest) ≡ sum_by (λ w. cond (is_some (condition_called w.name)) 1 0) rest
+        → cond (is_some o) 1 0 + sum_by (λ w. cond (is_some (condition_called w.name)) 1 0) rest ≡ length (listed_by o word.argument ++ listed_of rest)
+    go None e = omega (arith, e)
+    go (Some x) e = omega (arith, e)
+
+-- option byte 1 is their number, where they are listed
+pub counted : (c : Command) (words : List Word) → lists_conditions c ≡ true → first_byte c words ≡ length (listed_of words)
+unfolding first_byte
+counted c words l = rw l (sym (listed_number words))
+
+-- where they aren't, there is none
+pub none_there : (line : ℕ) (c : Command) (cics named words : List Word) → lists_conditions c ≡ false → fault_in line c cics named words ≡ None
+    → length (listed_of words) ≡ 0
+none_there line c cics named words l none = listed_number words ∙ none_listed c words l (known line c cics named words none)

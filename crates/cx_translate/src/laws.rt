@@ -37,7 +37,16 @@ pub fn accepted_conditions_are_legal()
         → fault_in line command cics named words ≡ None → is_legal_list command (listed_of words) ≡ true }
 {}
 
-/// And its argument list has at most the eighteen words that DFHEIPL has.
+/// Option byte 1 is their number; a command that lists none has none.
+#[tactic(auto, using(crate::proofs::CountLemmas::counted, crate::proofs::CountLemmas::none_there))]
+pub fn accepted_conditions_are_counted()
+    ensures number { (command : Command) (words : List Word) → lists_conditions command ≡ true
+        → first_byte command words ≡ length (listed_of words) }
+    ensures others { (line : ℕ) (command : Command) (cics named words : List Word) → lists_conditions command ≡ false
+        → fault_in line command cics named words ≡ None → length (listed_of words) ≡ 0 }
+{}
+
+/// The argument list of an accepted statement has at most the eighteen words that DFHEIPL has.
 #[tactic(auto, using(crate::proofs::CountLemmas::at_most_18))]
 pub fn accepted_lists_have_room()
     ensures { (line : ℕ) (command : Command) (cics named words : List Word) → fault_in line command cics named words ≡ None
