@@ -19,6 +19,7 @@ abbrev pub row : ℕ → ℕ → ℕ → ℕ → ℕ → Style → Row
 row letter alignment own_length greatest_in_dc greatest_in_ds style =
     record { letter = letter; alignment = alignment; own_length = own_length; greatest_in_dc = greatest_in_dc; greatest_in_ds = greatest_in_ds; style = style }
 
+-- the table; letters by their character codes: C 67, X 88, B 66, F 70, H 72, P 80, A 65, V 86, D 68
 abbrev pub row_of : ConstantKind → Row
 row_of Character = row 67 1 1 256 65535 Text
 row_of Hexadecimal = row 88 1 1 256 65535 Text
