@@ -1,5 +1,5 @@
 -- Runs of steps, one more at their end.
-use Rattle.std.proofs.Common.{◌≡◌, ℕ, zero, suc, ◌+◌, ◌≤◌, refl, sym, ◌∙◌, ap, add-one, subst, arith}
+use Rattle.std.proofs.Common.{◌-◌, ◌≢◌, Some, ◌≡◌, ℕ, zero, suc, ◌+◌, ◌≤◌, refl, sym, ◌∙◌, ap, add-one, subst, arith}
 use Rattle.cx_exec.specs.declared.machine.Step.TheVariants.{Done, AtEntry}
 use Rattle.cx_exec.specs.declared.machine.Halt.{Halt}
 use Rattle.cx_exec.specs.declared.machine.Halt.TheVariants as halt
@@ -42,3 +42,25 @@ runs_join n k m mid after halt.AtEntry first (j, small, run, e) =
 runs_join n k m mid after (halt.Interrupt cause place) first (j, small, before, run, last, e) =
     (n + j, omega (arith, small), before, steps_join n j m mid before first run, last, e)
 runs_join n k m mid after halt.Limit first (all, apart) = (steps_join n k m mid after first all, apart)
+
+-- a run that ended within a limit ended within each higher one
+pub runs_within : (n limit : ℕ) (m after : Machine) (end : Halt) → n ≤ limit → (Some end ≢ Some halt.Limit) → Advances n m end after → Advances limit m end after
+unfolding Advances
+runs_within n limit m after halt.AtEntry within ended (j, small, run, e) = (j, omega (arith, small), run, e)
+runs_within n limit m after (halt.Interrupt cause place) within ended (j, small, before, run, last, e) = (j, omega (arith, small), before, run, last, e)
+runs_within n limit m after halt.Limit within ended run = absurd (ended refl)
+
+-- a round that ended, behind rounds that were done
+pub round_ends : (limit left n : ℕ) (m mid after : Machine) (end : Halt) → left ≤ limit → n ≤ left → Passes (limit - left) m mid → (Some end ≢ Some halt.Limit) → Advances n mid end after → Advances limit m end after
+round_ends limit left n m mid after end within fits first ended run =
+    let all : limit - left + n ≤ limit = omega arith in
+    runs_within (limit - left + n) limit m after end all ended (runs_join (limit - left) n m mid after end first run)
+
+pub round_passes : (limit left n : ℕ) (m mid after : Machine) → left ≤ limit → n ≤ left → Passes (limit - left) m mid → Passes n mid after → Passes (limit - (left - n)) m after
+round_passes limit left n m mid after within fits first run =
+    let all : limit - (left - n) ≡ limit - left + n = omega arith in
+    rw all (steps_join (limit - left) n m mid after first run)
+
+pub passes_start : (limit : ℕ) (m : Machine) → Passes (limit - limit) m m
+unfolding Passes
+passes_start limit m = let none : limit - limit ≡ 0 = omega arith in rw none refl

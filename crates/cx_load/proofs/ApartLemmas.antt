@@ -4,7 +4,7 @@ use Rattle.std.specs.Prelude.{nat_le, nat_lt, slice_index}
 use Rattle.std.specs.List.{list_all}
 use Rattle.std.proofs.lemmas.Bool.{and_from, cases_Bool, le-leb, leb-true, leb-false, le-ltb, lt-leb, lt-ltb, ltb-true, false≢true}
 use Rattle.cx_load.specs.Fault.{are_inside, are_apart, is_apart, all_apart}
-use Rattle.cx_load.specs.Laws.Words.{is_of_word, SharesNoByte}
+use Rattle.cx_load.specs.Laws.Words.{is_of_word, are_in_order, SharesNoByte}
 
 pub both : (a b : Bool) → (a && b) ≡ true → (a ≡ true) × (b ≡ true)
 both true b e = (refl, e)
@@ -110,3 +110,18 @@ apart_of_none r q none = elim (cases_Bool (nat_le (r + 4) q)) [
         absurd (none (max r q) first second)
   ]
 ]
+
+-- words in order share no byte
+behind_apart : (r from : ℕ) (relocs : List ℕ) → r + 4 ≤ from → are_in_order from relocs ≡ true → is_apart r relocs ≡ true
+unfolding is_apart are_apart
+behind_apart r from [] h ordered = refl
+behind_apart r from (q ∷ relocs) h ordered =
+    let parts = both (nat_le from q) (are_in_order (q + 4) relocs) ordered in
+    let low = leb-true from q parts.0 in
+    and_from _ _ (ap (λ b. b || nat_le (q + 4) r) (le-leb (r + 4) q (omega arith))) (behind_apart r (q + 4) relocs (omega arith) parts.1)
+
+pub apart_of_order : (from : ℕ) (relocs : List ℕ) → are_in_order from relocs ≡ true → all_apart relocs ≡ true
+apart_of_order from [] ordered = refl
+apart_of_order from (r ∷ relocs) ordered =
+    let parts = both (nat_le from r) (are_in_order (r + 4) relocs) ordered in
+    and_from _ _ (behind_apart r (r + 4) relocs (omega arith) parts.1) (apart_of_order (r + 4) relocs parts.1)

@@ -3,6 +3,7 @@
 ghost use Rattle.std.specs.Prelude.{◌≡◌, MatchOption, MatchResult, Some};
 ghost use Rattle.cx_load.specs.Fault.{IsFit, IsLowestFault, all_apart, are_apart, are_inside, fault_name, is_apart};
 ghost use Rattle.cx_load.specs.Facts.Cascade.{fault_of};
+ghost use Rattle.cx_load.specs.Laws.Words.{are_in_order};
 
 use cx_code::Image;
 use std::fmt::{Display, Formatter, Write};
@@ -141,8 +142,22 @@ fn is_apart(r: u32, relocs: &[u32]) -> bool
     relocs.iter().all(|q| are_apart(r, *q))
 }
 
-/// Whether no two of the words share a byte.
-fn all_apart(relocs: &[u32]) -> bool
+/// Whether each of the words begins at or behind the end of the one before it, as an assembler lists them.
+fn are_in_order(relocs: &[u32]) -> bool
+    ensures { result ≡ are_in_order 0 relocs.now }
+{
+    let mut end = 0;
+    for r in relocs {
+        if u64::from(*r) < end {
+            return false;
+        }
+        end = u64::from(*r) + 4;
+    }
+    true
+}
+
+/// Whether no two of the words share a byte, each compared with all behind it.
+fn no_pair_overlaps(relocs: &[u32]) -> bool
     ensures { result ≡ all_apart relocs.now }
 {
     for (i, r) in relocs.iter().enumerate() {
@@ -151,4 +166,12 @@ fn all_apart(relocs: &[u32]) -> bool
         }
     }
     true
+}
+
+/// Whether no two of the words share a byte. Words in order are compared with their neighbours alone.
+#[tactic(auto, using(crate::proofs::ApartLemmas::apart_of_order))]
+fn all_apart(relocs: &[u32]) -> bool
+    ensures { result ≡ all_apart relocs.now }
+{
+    are_in_order(relocs) || no_pair_overlaps(relocs)
 }

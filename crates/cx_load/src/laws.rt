@@ -1,13 +1,14 @@
 //! What the facts of a checked image, relocation and loading mean, on functions that do nothing.
 
-ghost use Rattle.std.specs.Prelude.{◌≡◌, ◌+◌, ◌%◌, ◌^◌, ◌<◌, ◌≤◌, ◌↔◌, ℕ, List, IsTrue, false, length, slice_index};
+ghost use Rattle.std.specs.Prelude.{◌≡◌, ◌≢◌, ◌+◌, ◌%◌, ◌^◌, ◌<◌, ◌≤◌, ◌↔◌, ℕ, List, IsTrue, false, length, slice_index};
 ghost use Rattle.std.specs.List.{list_any};
 ghost use Rattle.cx_code.specs.declared.image.Image.{Image};
 ghost use Rattle.cx_storage.specs.Storage.{Storage};
 ghost use Rattle.cx_load.specs.declared.fault.ImageFault.{ImageFault};
+ghost use Rattle.cx_load.specs.declared.fault.ImageFault.TheVariants.{Overlap, RelocOutside};
 ghost use Rattle.cx_load.specs.declared.program.Loaded.{Loaded};
 ghost use Rattle.cx_load.specs.Fault.{IsFit, IsLowestFault, all_apart, applies, are_inside};
-ghost use Rattle.cx_load.specs.Laws.Words.{SharesNoByte, is_of_word};
+ghost use Rattle.cx_load.specs.Laws.Words.{SharesNoByte, are_in_order, is_of_word};
 ghost use Rattle.cx_load.specs.Program.{IsLoaded};
 ghost use Rattle.cx_load.specs.Relocation.{relocated, word_in};
 
@@ -25,6 +26,15 @@ pub fn facts_of_checked()
         ↔ ((i : ℕ) → i < length relocs → slice_index relocs i + 4 ≤ size) }
     ensures apart { (relocs : List ℕ) → IsTrue (all_apart relocs)
         ↔ ((i j : ℕ) → i < j → j < length relocs → SharesNoByte (slice_index relocs i) (slice_index relocs j)) }
+{}
+
+/// Words in ascending order, each at or behind the end of the one before it, share no byte; and an image whose words are so,
+/// and end in its text, is refused for its length, its entry or its working storage alone.
+pub fn words_in_order()
+    ensures apart { (relocs : List ℕ) → IsTrue (are_in_order 0 relocs) → IsTrue (all_apart relocs) }
+    ensures refused { (image : Image) (fault : ImageFault) → IsTrue (are_in_order 0 image.relocs)
+        → IsTrue (are_inside (length image.text) image.relocs) → IsLowestFault image fault
+        → (fault ≢ RelocOutside) × (fault ≢ Overlap) }
 {}
 
 /// Each relocated word is raised by the load address modulo 2^32, every byte of no such word stays, and

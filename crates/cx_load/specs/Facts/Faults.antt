@@ -1,6 +1,6 @@
 -- A fit image has no fault, and the fault answered is the lowest.
 use Rattle.std.proofs.Common.{◌≡◌, ℕ, ◌<◌, ◌≤◌, Bool, true, false, cond, Option, Some, None, length, refl, sym, ◌∙◌, arith}
-use Rattle.std.specs.Prelude.{not, nat_le, ◌&&◌}
+use Rattle.std.specs.Prelude.{◌≢◌, not, nat_le, ◌&&◌}
 use Rattle.std.proofs.lemmas.Bool.{and_from, le-leb, leb-true, lt-ltb, ltb-true, not-true, not-false}
 use Rattle.cx_code.specs.declared.image.Image.{Image}
 use Rattle.cx_load.specs.declared.fault.ImageFault.{ImageFault}
@@ -168,3 +168,14 @@ none_of_fit image fit EntryOutside = rw (has_entry_of image fit) refl
 none_of_fit image fit RelocOutside = rw fit.inside refl
 none_of_fit image fit Overlap = rw fit.apart refl
 none_of_fit image fit StgLength = rw (has_stg_of image fit) refl
+
+-- words that end in the text and share no byte are no fault
+pub words_not_at_fault : (image : Image) (fault : ImageFault) → are_inside (length image.text) image.relocs ≡ true → all_apart image.relocs ≡ true → IsLowestFault image fault
+    → (fault ≢ RelocOutside) × (fault ≢ Overlap)
+words_not_at_fault image fault inside apart lowest = (λ e. outside (rw e at lowest.met), λ e. over (rw e at lowest.met))
+  where
+    outside : applies RelocOutside image ≡ true → ⊥
+    outside met = (let out = rw inside at met in cc)
+
+    over : applies Overlap image ≡ true → ⊥
+    over met = (let out = rw apart at met in cc)

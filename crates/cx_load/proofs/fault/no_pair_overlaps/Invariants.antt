@@ -1,6 +1,6 @@
 use Rattle.std.proofs.Common.{◌≡◌, drop}
 use Rattle.cx_load.specs.Fault.{all_apart}
-use Rattle.cx_load.proofs.fault.all_apart.Given as goal
+use Rattle.cx_load.proofs.fault.no_pair_overlaps.Given as goal
 
 -- the words looked at so far are apart from all behind them
 abbrev pub invariant-loop-i : goal.invariant-loop-i

@@ -1,0 +1,255 @@
+-- What a directory has after one of its pages changed.
+use Rattle.std.proofs.Common.{◌≡◌, ◌≢◌, ℕ, zero, suc, ◌+◌, ◌-◌, ◌*◌, ◌/◌, ◌%◌, ◌<◌, ◌≤◌, ◌==◌, true, false, refl, sym, ap, ◌∙◌, arith, inl, inr, List, [], ◌∷◌, ◌++◌, length, slice_set, slice_get, Option, Some, None, nat_le, nat_lt, ◌&&◌, if◌then◌else◌, get_or, min, ◌⊎◌}
+use Rattle.std.specs.Prelude.{IfSome}
+use Rattle.std.proofs.lemmas.Option.{slice_get_read}
+use Rattle.std.proofs.lemmas.Bool.{cases_Bool, cases_eq, eq-eqb, ne_eqb, le-ltb, lt-ltb, le-leb, lt-leb, cases_lt, and_from}
+use Rattle.cx_pages.specs.declared.page.Page.{Page}
+use Rattle.cx_pages.specs.Parts.Frame.{HasAll, Skips}
+use Rattle.cx_pages.specs.Parts.Page.{found, is_made}
+use Rattle.cx_pages.specs.Parts.Directory.{there, has_page}
+
+get_set_same : (ps : List Page) (i : ℕ) (p : Page) → i < length ps → slice_get (slice_set ps i p) i ≡ Some p
+get_set_same [] i p h = absurd (omega arith)
+get_set_same (q ∷ qs) zero p h = refl
+get_set_same (q ∷ qs) (suc i) p h = get_set_same qs i p (omega arith)
+
+get_set_other : (ps : List Page) (i j : ℕ) (p : Page) → j ≢ i → slice_get (slice_set ps i p) j ≡ slice_get ps j
+get_set_other [] i j p ne = refl
+get_set_other (q ∷ qs) zero zero p ne = absurd (ne refl)
+get_set_other (q ∷ qs) zero (suc j) p ne = refl
+get_set_other (q ∷ qs) (suc i) zero p ne = refl
+get_set_other (q ∷ qs) (suc i) (suc j) p ne = get_set_other qs i j p (λ e. ne (ap suc e))
+
+get_past : (ps : List Page) (j : ℕ) → length ps ≤ j → slice_get ps j ≡ None
+get_past [] j h = refl
+get_past (q ∷ qs) zero h = absurd (omega arith)
+get_past (q ∷ qs) (suc j) h = get_past qs j (omega arith)
+
+get_push_before : (ps : List Page) (p : Page) (j : ℕ) → j < length ps → slice_get (ps ++ p ∷ []) j ≡ slice_get ps j
+get_push_before [] p j h = absurd (omega arith)
+get_push_before (q ∷ qs) p zero h = refl
+get_push_before (q ∷ qs) p (suc j) h = get_push_before qs p j (omega arith)
+
+get_push_last : (ps : List Page) (p : Page) → slice_get (ps ++ p ∷ []) (length ps) ≡ Some p
+get_push_last [] p = refl
+get_push_last (q ∷ qs) p = get_push_last qs p
+
+-- a page set
+pub there_set : (ps : List Page) (i : ℕ) (p : Page) (x : ℕ) → i < length ps → there (slice_set ps i p) x ≡ (if x / 4096 == i then found p (x % 4096) else there ps x)
+unfolding there
+there_set ps i p x h = elim (cases_eq (x / 4096) i) [
+  | inl e ↦ rw (e, eq-eqb i i refl, get_set_same ps i p h) refl
+  | inr ne ↦ rw (ne_eqb (x / 4096) i ne, get_set_other ps i (x / 4096) p ne) refl
+]
+
+pub has_set : (ps : List Page) (i : ℕ) (p : Page) (j : ℕ) → i < length ps → has_page (slice_set ps i p) j ≡ (if j == i then is_made p else has_page ps j)
+unfolding has_page
+has_set ps i p j h = elim (cases_eq j i) [
+  | inl e ↦ rw (e, eq-eqb i i refl, get_set_same ps i p h) refl
+  | inr ne ↦ rw (ne_eqb j i ne, get_set_other ps i j p ne) refl
+]
+
+pub there_at : (ps : List Page) (i : ℕ) (p : Page) (x : ℕ) → slice_get ps i ≡ Some p → x / 4096 ≡ i → there ps x ≡ found p (x % 4096)
+unfolding there
+there_at ps i p x e same = rw (same, e) refl
+
+pub there_past : (ps : List Page) (x : ℕ) → length ps ≤ x / 4096 → there ps x ≡ None
+unfolding there
+there_past ps x h = rw (get_past ps (x / 4096) h) refl
+
+pub has_at : (ps : List Page) (i : ℕ) (p : Page) → slice_get ps i ≡ Some p → has_page ps i ≡ is_made p
+unfolding has_page
+has_at ps i p e = rw e refl
+
+pub has_past : (ps : List Page) (i : ℕ) → length ps ≤ i → has_page ps i ≡ false
+unfolding has_page
+has_past ps i h = rw (get_past ps i h) refl
+
+-- a page pushed that has no byte
+pub there_push : (ps : List Page) (p : Page) (x : ℕ) → ((k : ℕ) → found p k ≡ None) → there (ps ++ p ∷ []) x ≡ there ps x
+unfolding there
+there_push ps p x none = elim (cases_lt (x / 4096) (length ps)) [
+  | inl lt ↦ rw (get_push_before ps p (x / 4096) lt) refl
+  | inr ge ↦ elim (cases_eq (x / 4096) (length ps)) [
+    | inl e ↦ rw (e, get_push_last ps p, get_past ps (length ps) (omega arith)) (none (x % 4096))
+    | inr ne ↦ rw (get_past (ps ++ p ∷ []) (x / 4096) (pushed ps p (x / 4096) (omega arith)), get_past ps (x / 4096) ge) refl
+  ]
+]
+  where
+    pushed : (qs : List Page) (q : Page) (j : ℕ) → length qs + 1 ≤ j → length (qs ++ q ∷ []) ≤ j
+    pushed [] q j h = omega arith
+    pushed (r ∷ rs) q zero h = absurd (omega arith)
+    pushed (r ∷ rs) q (suc j) h = let rest = pushed rs q j (omega arith) in omega (arith, rest)
+
+-- a page of the directory
+at_index : (ps : List Page) (i : ℕ) (p : Page) → i < length ps → p ≡ get_or ps i p → slice_get ps i ≡ Some p
+at_index ps i p h e = slice_get_read ps (length ps) i p refl h e
+
+-- a granule set, as the rule F says of its places
+pub granule_set : (ps : List Page) (g : ℕ) (p q : Page) (F : ℕ → Option ℕ) → g / 256 < length ps → p ≡ get_or ps (g / 256) p
+    → ((j : ℕ) → found q j ≡ (if j / 16 == g % 256 then F (j % 16) else found p j))
+    → (x : ℕ) → there (slice_set ps (g / 256) q) x ≡ (if x / 16 == g then F (x % 16) else there ps x)
+granule_set ps g p q F h e each x = there_set ps (g / 256) q x h ∙ elim (cases_eq (x / 4096) (g / 256)) [
+  | inl same ↦
+      let inner : x % 4096 % 16 ≡ x % 16 = omega arith in
+      rw (eq-eqb (x / 4096) (g / 256) same, each (x % 4096), inner) (elim (cases_eq (x / 16) g) [
+        | inl here ↦ rw (eq-eqb (x % 4096 / 16) (g % 256) (omega arith), eq-eqb (x / 16) g here) refl
+        | inr other ↦ rw (ne_eqb (x % 4096 / 16) (g % 256) (λ d. other (omega arith)), ne_eqb (x / 16) g other) (sym (there_at ps (g / 256) p x (at_index ps (g / 256) p h e) same))
+      ])
+  | inr ne ↦ rw (ne_eqb (x / 4096) (g / 256) ne, ne_eqb (x / 16) g (λ d. ne (omega arith))) refl
+]
+
+-- one beyond the pages
+pub granule_past : (ps : List Page) (g : ℕ) → length ps ≤ g / 256 → (x : ℕ) → there ps x ≡ (if x / 16 == g then None else there ps x)
+granule_past ps g h x = elim (cases_eq (x / 16) g) [
+  | inl e ↦ rw (eq-eqb (x / 16) g e) (there_past ps x (omega arith))
+  | inr ne ↦ rw (ne_eqb (x / 16) g ne) refl
+]
+
+pub has_set_same : (ps : List Page) (i : ℕ) (p q : Page) → i < length ps → p ≡ get_or ps i p → is_made q ≡ is_made p → (j : ℕ) → has_page (slice_set ps i q) j ≡ has_page ps j
+has_set_same ps i p q h e same j = has_set ps i q j h ∙ elim (cases_eq j i) [
+  | inl here ↦ rw (here, eq-eqb i i refl, has_at ps i p (at_index ps i p h e)) same
+  | inr ne ↦ rw (ne_eqb j i ne) refl
+]
+
+pub made_at : (ps : List Page) (i : ℕ) (p : Page) → i < length ps → p ≡ get_or ps i p → has_page ps i ≡ is_made p
+made_at ps i p h e = has_at ps i p (at_index ps i p h e)
+
+-- a page set that has the bytes of the one before
+pub there_set_same : (ps : List Page) (i : ℕ) (p q : Page) → i < length ps → p ≡ get_or ps i p → ((k : ℕ) → found q k ≡ found p k) → (x : ℕ) → there (slice_set ps i q) x ≡ there ps x
+there_set_same ps i p q h e same x = there_set ps i q x h ∙ elim (cases_eq (x / 4096) i) [
+  | inl here ↦ rw (eq-eqb (x / 4096) i here, same (x % 4096)) (sym (there_at ps i p x (at_index ps i p h e) here))
+  | inr ne ↦ rw (ne_eqb (x / 4096) i ne) refl
+]
+
+-- a span of one page, in the page and in the directory
+pub has_all_in : (ps : List Page) (a end : ℕ) (p : Page) → a < end → a % 4096 + (end - a) ≤ 4096 → a / 4096 < length ps → p ≡ get_or ps (a / 4096) p
+    → HasAll (there ps) a end → HasAll (found p) (a % 4096) (a % 4096 + (end - a))
+has_all_in ps a end p order fits h e all = λ k low high.
+    let x : ℕ = a / 4096 * 4096 + k in
+    let page : x / 4096 ≡ a / 4096 = omega arith in
+    let place : x % 4096 ≡ k = omega arith in
+    let here = all x (omega arith) (omega arith) in
+    rw (there_at ps (a / 4096) p x (at_index ps (a / 4096) p h e) page, place) at here
+
+pub has_all_out : (ps : List Page) (a end : ℕ) (p : Page) → a < end → a % 4096 + (end - a) ≤ 4096 → a / 4096 < length ps → p ≡ get_or ps (a / 4096) p
+    → HasAll (found p) (a % 4096) (a % 4096 + (end - a)) → HasAll (there ps) a end
+has_all_out ps a end p order fits h e all = λ x low high.
+    let page : x / 4096 ≡ a / 4096 = omega arith in
+    let here = all (x % 4096) (omega arith) (omega arith) in
+    rw (there_at ps (a / 4096) p x (at_index ps (a / 4096) p h e) page) here
+
+pub has_none : (ps : List Page) (a end : ℕ) → a < end → length ps ≤ a / 4096 → HasAll (there ps) a end → false ≡ true
+has_none ps a end order h all = let here = rw (there_past ps a h) at (all a (omega arith) order) in here
+
+pub made_more : (ps : List Page) (first i : ℕ) (q : Page) → i < length ps → is_made q ≡ true → ((j : ℕ) → first ≤ j → j < i → has_page ps j ≡ true)
+    → (j : ℕ) → first ≤ j → j < i + 1 → has_page (slice_set ps i q) j ≡ true
+made_more ps first i q h made before j low high = has_set ps i q j h ∙ elim (cases_eq j i) [
+  | inl here ↦ rw (eq-eqb j i here) made
+  | inr ne ↦ rw (ne_eqb j i ne) (before j low (omega arith))
+]
+
+-- the granules of a span, one more
+granules_more : (start g x : ℕ) → start % 16 ≡ 0 → start / 16 ≤ g → nat_le start x && nat_lt (x / 16) (g + 1) ≡ (if x / 16 == g then true else (nat_le start x && nat_lt (x / 16) g))
+granules_more start g x even low = elim (cases_eq (x / 16) g) [
+  | inl e ↦ rw (eq-eqb (x / 16) g e) (and_from _ _ (le-leb start x (omega arith)) (lt-ltb (x / 16) (g + 1) (omega arith)))
+  | inr ne ↦ rw (ne_eqb (x / 16) g ne) (elim (cases_lt (x / 16) g) [
+    | inl lt ↦ rw (lt-ltb (x / 16) (g + 1) (omega arith), lt-ltb (x / 16) g lt) refl
+    | inr ge ↦ rw (le-ltb (x / 16) (g + 1) (omega arith), le-ltb (x / 16) g ge) refl
+  ])
+]
+
+-- what the rule F gives in the granules from start to before g
+unfoldable pub ruled : ℕ → ℕ → (ℕ → Option ℕ) → (ℕ → Option ℕ) → ℕ → Option ℕ
+ruled start g F old x = if nat_le start x && nat_lt (x / 16) g then F x else old x
+
+pub ruled_more : (start g : ℕ) (F old at new : ℕ → Option ℕ) (x : ℕ) → start % 16 ≡ 0 → start / 16 ≤ g → at x ≡ ruled start g F old x
+    → new x ≡ (if x / 16 == g then F x else at x) → new x ≡ ruled start (g + 1) F old x
+unfolding ruled
+ruled_more start g F old at new x even low before step = step ∙ rw (granules_more start g x even low) (elim (cases_eq (x / 16) g) [
+  | inl e ↦ rw (eq-eqb (x / 16) g e) refl
+  | inr ne ↦ rw (ne_eqb (x / 16) g ne) before
+])
+
+pub ruled_none : (start g : ℕ) (F old : ℕ → Option ℕ) (x : ℕ) → start % 16 ≡ 0 → g ≤ start / 16 → ruled start g F old x ≡ old x
+unfolding ruled
+ruled_none start g F old x even low = elim (cases_lt x start) [
+  | inl lt ↦ rw (lt-leb start x lt) refl
+  | inr ge ↦ rw (le-ltb (x / 16) g (omega arith)) (elim (cases_Bool (nat_le start x)) [ inl e ↦ rw e refl | inr e ↦ rw e refl ])
+]
+
+-- a granule made, of which the bytes before the end are present
+pub zero_step : (g end count x : ℕ) (o : Option ℕ) → count ≡ min (end - g * 16) 16
+    → (if x / 16 == g then (if nat_lt (x % 16) count then Some 0 else None) else o) ≡ (if x / 16 == g then (if nat_lt x end then Some 0 else None) else o)
+zero_step g end count x o e = elim (cases_eq (x / 16) g) [
+  | inl here ↦ rw (eq-eqb (x / 16) g here) (elim (cases_lt x end) [
+    | inl lt ↦ rw (lt-ltb x end lt, lt-ltb (x % 16) count (omega arith)) refl
+    | inr ge ↦ rw (le-ltb x end ge, le-ltb (x % 16) count (omega arith)) refl
+  ])
+  | inr ne ↦ rw (ne_eqb (x / 16) g ne) refl
+]
+
+-- what one fact of a value gives
+pub some_gives : {X : Type 0} (r : Option X) (P Q : X → Type 0) → ((x : X) → P x → Q x) → IfSome r P → IfSome r Q
+some_gives None P Q step h = tt
+some_gives (Some x) P Q step h = step x h
+
+-- a span of one page that is lent
+pub has_all_part : (ps : List Page) (a n : ℕ) (p : Page) → 0 < n → a % 4096 + n ≤ 4096 → a / 4096 < length ps → p ≡ get_or ps (a / 4096) p
+    → HasAll (there ps) a (a + n) → HasAll (found p) (a % 4096) (a % 4096 + n)
+has_all_part ps a n p some fits h e all =
+    let same : a + n - a ≡ n = omega arith in
+    rw same at (has_all_in ps a (a + n) p (omega arith) (omega arith) h e all)
+
+pub has_all_whole : (ps : List Page) (a n : ℕ) (p : Page) → a % 4096 + n ≤ 4096 → a / 4096 < length ps → p ≡ get_or ps (a / 4096) p
+    → HasAll (found p) (a % 4096) (a % 4096 + n) → HasAll (there ps) a (a + n)
+has_all_whole ps a n p fits h e all = λ x low high.
+    let page : x / 4096 ≡ a / 4096 = omega arith in
+    let here = all (x % 4096) (omega arith) (omega arith) in
+    rw (there_at ps (a / 4096) p x (at_index ps (a / 4096) p h e) page) here
+
+pub part_there : (ps : List Page) (a n : ℕ) (p : Page) (bytes : List ℕ) → a % 4096 + n ≤ 4096 → a / 4096 < length ps → p ≡ get_or ps (a / 4096) p
+    → ((k : ℕ) → a % 4096 ≤ k → k < a % 4096 + n → found p k ≡ slice_get bytes (k - a % 4096)) → (x : ℕ) → a ≤ x → x < a + n → there ps x ≡ slice_get bytes (x - a)
+part_there ps a n p bytes fits h e each x low high =
+    let page : x / 4096 ≡ a / 4096 = omega arith in
+    let place : x % 4096 - a % 4096 ≡ x - a = omega arith in
+    let here = each (x % 4096) (omega arith) (omega arith) in
+    there_at ps (a / 4096) p x (at_index ps (a / 4096) p h e) page ∙ rw place at here
+
+pub part_none : (ps : List Page) (a n : ℕ) → 0 < n → length ps ≤ a / 4096 → HasAll (there ps) a (a + n) → false ≡ true
+part_none ps a n some h all = let here = rw (there_past ps a h) at (all a (omega arith) (omega arith)) in here
+
+-- a page that was written to
+pub write_there : (ps : List Page) (a n : ℕ) (q : Page) (bytes : List ℕ) → a % 4096 + n ≤ 4096 → a / 4096 < length ps
+    → ((k : ℕ) → a % 4096 ≤ k → k < a % 4096 + n → found q k ≡ slice_get bytes (k - a % 4096)) → (x : ℕ) → a ≤ x → x < a + n → there (slice_set ps (a / 4096) q) x ≡ slice_get bytes (x - a)
+write_there ps a n q bytes fits h each x low high =
+    let page : x / 4096 ≡ a / 4096 = omega arith in
+    let place : x % 4096 - a % 4096 ≡ x - a = omega arith in
+    let here = each (x % 4096) (omega arith) (omega arith) in
+    there_set ps (a / 4096) q x h ∙ rw (eq-eqb (x / 4096) (a / 4096) page) (rw place at here)
+
+pub write_others : (ps : List Page) (a n : ℕ) (p q : Page) → a % 4096 + n ≤ 4096 → a / 4096 < length ps → p ≡ get_or ps (a / 4096) p
+    → ((k : ℕ) → (k < a % 4096) ⊎ (a % 4096 + n ≤ k) → found q k ≡ found p k) → (x : ℕ) → (x < a) ⊎ (a + n ≤ x) → there (slice_set ps (a / 4096) q) x ≡ there ps x
+write_others ps a n p q fits h e each x out = there_set ps (a / 4096) q x h ∙ elim (cases_eq (x / 4096) (a / 4096)) [
+  | inl same ↦
+      let beside : (x % 4096 < a % 4096) ⊎ (a % 4096 + n ≤ x % 4096) = elim out [ inl before ↦ inl (omega arith) | inr behind ↦ inr (omega arith) ] in
+      rw (eq-eqb (x / 4096) (a / 4096) same) (each (x % 4096) beside ∙ sym (there_at ps (a / 4096) p x (at_index ps (a / 4096) p h e) same))
+  | inr ne ↦ rw (ne_eqb (x / 4096) (a / 4096) ne) refl
+]
+
+-- what is known of a page's free granules, by addresses
+pub skips_in : (ps : List Page) (i need tail : ℕ) (p : Page) → i < length ps → p ≡ get_or ps i p → Skips (found p) need tail → Skips (λ k. there ps (i * 4096 + k)) need tail
+skips_in ps i need tail p h e skips = record {
+  within = skips.within;
+  small = skips.small;
+  free = λ k behind high.
+      let place : (i * 4096 + k) % 4096 ≡ k = omega (arith, high) in
+      let page : (i * 4096 + k) / 4096 ≡ i = omega (arith, high) in
+      there_at ps i p (i * 4096 + k) (at_index ps i p h e) page ∙ rw place (skips.free k behind high);
+  none = λ c within all. skips.none c within (λ j low near high.
+      let place : (i * 4096 + j * 16) % 4096 ≡ j * 16 = omega (arith, high) in
+      let page : (i * 4096 + j * 16) / 4096 ≡ i = omega (arith, high) in
+      let here = there_at ps i p (i * 4096 + j * 16) (at_index ps i p h e) page in
+      let same = rw place at here in
+      sym same ∙ all j low near high);
+}

@@ -1,0 +1,136 @@
+-- What a frame has.
+use Rattle.std.proofs.Common.{Option, Some, None, List, max, ◌≢◌, ◌≡◌, ℕ, zero, suc, ◌+◌, ◌-◌, ◌*◌, ◌/◌, ◌%◌, ◌<◌, ◌≤◌, min, true, false, refl, arith, inl, inr, replicate, length, slice_index, slice_get, is_some, lt-ltb, le-ltb}
+use Rattle.std.proofs.lemmas.Bool.{cases_lt}
+use Rattle.std.proofs.lemmas.Option.{slice_get-get_or}
+use Rattle.cx_pages.specs.Parts.Frame.{HasAll, seen, Skips}
+use Rattle.cx_pages.specs.Parts.Runs.{AllFree, IsRunsTo, IsRuns}
+use Rattle.cx_pages.specs.declared.frame.Frame.{Frame}
+
+pub zero_index : (n k : ℕ) → slice_index (replicate {A = ℕ} n 0) k ≡ 0
+zero_index zero k = refl
+zero_index (suc n) zero = refl
+zero_index (suc n) (suc k) = zero_index n k
+
+-- a place is present exactly where its granule counts it
+pub seen_some : (frame : Frame) (k : ℕ) → k < length frame.bytes → k % 16 < slice_index frame.counts (k / 16) → is_some (seen frame k) ≡ true
+unfolding seen
+seen_some frame k l h = rw (lt-ltb _ _ h, slice_get-get_or frame.bytes k 0 l) refl
+
+pub seen_counted : (frame : Frame) (k : ℕ) → is_some (seen frame k) ≡ true → k % 16 < slice_index frame.counts (k / 16)
+unfolding seen
+seen_counted frame k h = elim (cases_lt (k % 16) (slice_index frame.counts (k / 16))) [
+  | inl lt ↦ lt
+  | inr ge ↦ let gone = rw (le-ltb _ _ ge) at h in cc
+]
+
+pub seen_byte : (frame : Frame) (k : ℕ) → is_some (seen frame k) ≡ true → seen frame k ≡ slice_get frame.bytes k
+unfolding seen
+seen_byte frame k h = let lt = seen_counted frame k h in rw (lt-ltb _ _ lt) refl
+
+-- up to the last place of a granule that is counted, and no farther
+pub has_more : (frame : Frame) (from to at last : ℕ) → to ≤ length frame.bytes → at < to → last ≡ min (at / 16 * 16 + 15) (to - 1)
+    → last % 16 < slice_index frame.counts (last / 16) → HasAll (seen frame) from at → HasAll (seen frame) from (last + 1)
+has_more frame from to at last within more is counted all = λ k low high. elim (cases_lt k at) [
+  | inl before ↦ all k low before
+  | inr behind ↦
+      let same : k / 16 ≡ last / 16 = omega arith in
+      let le : k % 16 ≤ last % 16 = omega arith in
+      seen_some frame k (omega arith) (rw same (omega (arith, le, counted)))
+]
+
+pub has_gap : (frame : Frame) (from to at last : ℕ) → at < to → from ≤ at → last ≡ min (at / 16 * 16 + 15) (to - 1)
+    → slice_index frame.counts (last / 16) ≤ last % 16 → HasAll (seen frame) from to → false ≡ true
+has_gap frame from to at last more low is short all =
+    let lt = seen_counted frame last (all last (omega arith) (omega arith)) in absurd (omega (arith, lt, short))
+
+-- the runs of free granules, one granule more
+pub runs_none : (counts : List ℕ) → IsRunsTo counts 0 0 0
+runs_none counts = record {
+  bound = λ k n within all. omega arith;
+  order = omega arith;
+  within = omega arith;
+  short = omega arith;
+  free = λ j low high. absurd (omega arith);
+  most = λ k within all. omega arith;
+}
+
+pub runs_free : (counts : List ℕ) (m longest tail more : ℕ) → IsRunsTo counts m longest tail → slice_index counts m ≡ 0 → more ≡ max longest (tail + 1) → IsRunsTo counts (m + 1) more (tail + 1)
+runs_free counts m longest tail more runs none is = record {
+  bound = λ k n within all. elim (cases_lt m (k + n)) [
+    | inr le ↦ let short = runs.bound k n le all in omega (arith, short, is)
+    | inl last ↦ elim (cases_lt m k) [
+      | inl past ↦ omega (arith, within, past)
+      | inr low ↦
+          let behind = runs.most k low (λ j from to. all j from (omega (arith, to, last))) in
+          omega (arith, behind, within, is)
+    ]
+  ];
+  order = omega (arith, is);
+  within = omega (arith, runs.within);
+  short = let short = runs.short in let within = runs.within in omega (arith, is, short, within);
+  free = λ j low high. elim (cases_lt j m) [
+    | inl before ↦ runs.free j (omega (arith, low, runs.within)) before
+    | inr here ↦ let same : j ≡ m = omega arith in rw same none
+  ];
+  most = λ k within all. elim (cases_lt m k) [
+    | inl past ↦ omega (arith, past)
+    | inr low ↦
+        let behind = runs.most k low (λ j from to. all j from (omega (arith, to))) in
+        omega (arith, behind)
+  ];
+}
+
+pub runs_taken : (counts : List ℕ) (m longest tail : ℕ) → IsRunsTo counts m longest tail → (slice_index counts m ≢ 0) → IsRunsTo counts (m + 1) longest 0
+runs_taken counts m longest tail runs taken = record {
+  bound = λ k n within all. elim (cases_lt m (k + n)) [
+    | inr le ↦ runs.bound k n le all
+    | inl last ↦ elim (cases_lt m k) [
+      | inl past ↦ omega (arith, within, past)
+      | inr low ↦ absurd (taken (all m low last))
+    ]
+  ];
+  order = omega arith;
+  within = omega arith;
+  short = let short = runs.short in omega (arith, short);
+  free = λ j low high. absurd (omega arith);
+  most = λ k within all. elim (cases_lt m k) [
+    | inl past ↦ omega (arith, past)
+    | inr low ↦ absurd (taken (all m low (omega arith)))
+  ];
+}
+
+zero_count : (frame : Frame) (j : ℕ) → length frame.bytes ≡ 4096 → j < 256 → seen frame (j * 16) ≡ None → slice_index frame.counts j ≡ 0
+zero_count frame j whole within gone = elim (cases_lt 0 (slice_index frame.counts j)) [
+  | inr none ↦ omega (arith, none)
+  | inl some ↦
+      let place : j * 16 / 16 ≡ j = omega arith in
+      let front : j * 16 % 16 ≡ 0 = omega arith in
+      let here = seen_some frame (j * 16) (omega (arith, whole, within)) (rw (place, front) some) in
+      absurd (none-not-some (seen frame (j * 16)) here gone)
+]
+  where
+    none-not-some : (o : Option ℕ) → is_some o ≡ true → o ≡ None → ⊥
+    none-not-some None e g = cc
+    none-not-some (Some x) e g = cc
+
+-- what the runs of a frame say of its places
+pub runs_skip : (frame : Frame) (need longest tail : ℕ) → length frame.bytes ≡ 4096 → IsRuns frame.counts longest tail → longest < need → Skips (seen frame) need tail
+unfolding seen
+runs_skip frame need longest tail whole runs small = record {
+  within = runs.within;
+  small = omega (arith, small, runs.order);
+  free = λ k behind high.
+      let none = runs.free (k / 16) (omega (arith, behind)) (omega (arith, high)) in
+      rw (none, le-ltb (k % 16) 0 (omega arith)) refl;
+  none = λ c within all.
+      let counted : AllFree frame.counts c (min (c + need) 256) = λ j low high. zero_count frame j whole (omega (arith, high)) (all j low (omega (arith, high)) (omega (arith, high))) in
+      elim (cases_lt 256 (c + need)) [
+        | inl past ↦
+            let whole : AllFree frame.counts c 256 = λ j low high. counted j low (omega (arith, high, past)) in
+            runs.most c within whole
+        | inr fits ↦
+            let run : AllFree frame.counts c (c + need) = λ j low high. counted j low (omega (arith, high, fits)) in
+            let short = runs.bound c need fits run in
+            absurd (omega (arith, short, small))
+      ];
+}

@@ -1,0 +1,7 @@
+pub mod FrameLemmas
+pub mod DirectoryLemmas
+pub mod ShownLemmas
+pub mod ChangeLemmas
+pub mod TableLemmas
+pub mod ScanLemmas
+pub mod SpanLemmas

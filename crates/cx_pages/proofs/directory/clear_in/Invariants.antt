@@ -1,0 +1,8 @@
+use Rattle.std.proofs.Common.{◌≡◌, ℕ, None}
+use Rattle.cx_pages.specs.Parts.Directory.{there}
+use Rattle.cx_pages.proofs.DirectoryLemmas.{ruled}
+use Rattle.cx_pages.proofs.directory.clear_in.Given as goal
+
+-- the granules so far are done
+abbrev pub invariant-loop-g : goal.invariant-loop-g
+invariant-loop-g l = ((x : ℕ) → there l.pages.items x ≡ ruled l.start l.g (λ x. None) (there l.initial.pages.items) x)

@@ -1,0 +1,15 @@
+use Rattle.std.proofs.Common.{◌≡◌, ◌≤◌, ◌<◌, ◌-◌, ◌+◌, ℕ, true, vec_len}
+use Rattle.cx_pages.specs.Parts.Directory.{there, has_page}
+use Rattle.cx_pages.proofs.directory.make_in.Given as goal
+
+-- no byte has changed
+abbrev pub invariant-loop-pages : goal.invariant-loop-pages
+invariant-loop-pages l = (x : ℕ) → there l.pages.items x ≡ there l.initial.pages.items x
+
+abbrev pub decreases-loop-pages : goal.decreases-loop-pages
+decreases-loop-pages l = l.last + 1 - vec_len l.pages
+
+-- the pages so far are made, and no byte has changed
+abbrev pub invariant-loop-i : goal.invariant-loop-i
+invariant-loop-i l =
+    (l.last < vec_len l.pages) × ((x : ℕ) → there l.pages.items x ≡ there l.fn.pages.items x) × ((i : ℕ) → l.first ≤ i → i < l.i → has_page l.pages.items i ≡ true)

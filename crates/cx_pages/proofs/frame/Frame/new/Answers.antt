@@ -1,0 +1,8 @@
+use Rattle.std.proofs.Common.{◌/◌, ◌%◌, refl, le-ltb, arith}
+use Rattle.cx_pages.specs.Parts.Frame.{seen}
+use Rattle.cx_pages.proofs.FrameLemmas.{zero_index}
+use Rattle.cx_pages.proofs.frame.Frame.new.Goals as goal
+
+pub returns : goal.returns
+unfolding seen
+returns c = λ k. rw (zero_index 256 (k / 16), le-ltb (k % 16) 0 (omega arith)) refl

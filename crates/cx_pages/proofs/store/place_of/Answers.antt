@@ -1,0 +1,52 @@
+use Rattle.std.proofs.Common.{◌≡◌, ◌+◌, ◌*◌, ◌<◌, ◌/◌, is_some, true, false, arith, ◌-◌, ◌⊎◌, inl, inr, ◌≤◌}
+use Rattle.std.proofs.lemmas.Bool.{cases_lt}
+use Rattle.cx_pages.specs.Parts.Directory.{there}
+use Rattle.cx_pages.specs.Parts.Shown.{storage_of}
+use Rattle.cx_pages.proofs.ScanLemmas.{scan_start, scan_free, scan_taken, scan_found, scan_none, scan_skip, is_none}
+use Rattle.cx_pages.proofs.store.place_of.Goals as goal
+use Rattle.cx_pages.proofs.store.place_of.Goals.{then-is_some, else-is_some}
+
+pub loop-from-init : goal.loop-from-init
+loop-from-init c = (omega arith, scan_start (storage_of c.args.areas.now.items c.args.pages.now.items) c.args.first c.args.last c.args.len)
+
+pub returns-then-need-g : goal.returns-then-need-g
+returns-then-need-g c =
+    let scan = c.loop-from.invariant.1 in
+    scan_found c.args.areas.now.items c.args.pages.now.items c.args.first c.args.last c.args.len c.loop-from.from c.loop-from.g c.requires.shown c.place_is_free.ensures c.requires.len scan
+    (omega (arith, scan.order)) (omega arith)
+
+pub loop-from-preserved : goal.loop-from-preserved
+loop-from-preserved c =
+    let scan = c.loop-from.invariant.1 in
+    let areas = c.args.areas.now.items in
+    let pages = c.args.pages.now.items in
+    let more : c.loop-from.g < c.loop-from.from + (c.args.len + 15) / 16 = omega (arith, scan.order) in
+    elim c.if-is_some.branch [
+      | then-is_some w ↦
+          let taken : is_some (there pages (c.loop-from.g * 16)) ≡ true = cc in
+          rw w.from-is (omega (arith, more), scan_taken areas pages c.args.first c.args.last c.args.len c.loop-from.from c.loop-from.g c.requires.shown c.place_is_free.ensures c.requires.len scan more taken)
+      | else-is_some w ↦
+          let free : is_some (there pages (c.loop-from.g * 16)) ≡ false = cc in
+          rw w.from-is (omega arith, scan_free areas pages c.args.first c.args.last c.args.len c.loop-from.from c.loop-from.g c.requires.shown scan more (is_none (there pages (c.loop-from.g * 16)) free))
+    ]
+
+pub returns : goal.returns
+returns c =
+    scan_none (storage_of c.args.areas.now.items c.args.pages.now.items) c.args.first c.args.last c.args.len c.loop-from.from c.loop-from.g c.loop-from.invariant.1 (omega arith)
+
+pub loop-from-preserved-in-Some : goal.loop-from-preserved-in-Some
+loop-from-preserved-in-Some c =
+    let scan = c.loop-from.invariant.1 in
+    let skips = c.in-Some.ensures in
+    let from = c.loop-from.from in
+    let end = c.loop-from.g / 256 * 256 + 256 in
+    let more : from ≤ c.max-from.result = omega (arith, c.max-from.ensures) in
+    let high : end ≤ c.max-from.result + c.in-Some.tail = omega (arith, c.max-from.ensures, skips.within) in
+    let which : (c.max-from.result ≡ from) ⊎ (c.max-from.result + c.in-Some.tail ≡ end) = elim (cases_lt from (end - c.in-Some.tail)) [
+      | inl lt ↦ inr (omega (arith, c.max-from.ensures, skips.within, lt))
+      | inr ge ↦ inl (omega (arith, c.max-from.ensures, skips.within, ge))
+    ] in (
+      elim which [ inl e ↦ omega (arith, e, c.loop-from.invariant.0) | inr e ↦ omega (arith, e, scan.short, c.requires.last) ],
+      scan_skip c.args.areas.now.items c.args.pages.now.items c.args.first c.args.last c.args.len from c.loop-from.g c.in-Some.tail c.max-from.result c.requires.shown c.place_is_free.ensures c.requires.len scan
+          (omega arith) skips more high which,
+    )

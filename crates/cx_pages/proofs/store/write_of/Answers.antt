@@ -1,0 +1,72 @@
+use Rattle.std.proofs.Common.{◌≡◌, is_some, true, false, length, sym, ◌∙◌, arith}
+use Rattle.cx_storage.specs.Storage.{span}
+use Rattle.cx_storage.specs.Facts.Writes.{written_whole, written_none}
+use Rattle.cx_pages.specs.Parts.Shown.{storage_of, IsShown}
+use Rattle.cx_pages.proofs.ChangeLemmas.{same_is, same_shown}
+use Rattle.cx_pages.proofs.SpanLemmas.{span_there, write_is, write_shown}
+use Rattle.cx_pages.proofs.store.write_of.Goals as goal
+use Rattle.cx_pages.proofs.store.write_of.Goals.{Then-write_in, Else-write_in}
+
+-- the span written at once was there
+there_whole : (c : Then-write_in) → is_some (span (storage_of c.args.areas.now.items c.args.pages.now.items) c.args.a (length c.args.bytes.now)) ≡ true
+there_whole c =
+    let fits = c.write_in.ensures.together c.if-write_in.true in
+    span_there c.args.areas.now.items c.args.pages.now.items c.args.a (length c.args.bytes.now) c.requires.shown (omega (arith, fits, c.requires.address)) (c.write_in.ensures.present c.if-write_in.true)
+
+pub returns-then-write_in-clause-present : goal.returns-then-write_in-clause-present
+returns-then-write_in-clause-present c = sym (there_whole (goal.at.returns-then-write_in-clause-present c).Then-write_in)
+
+pub returns-then-write_in-clause-after : goal.returns-then-write_in-clause-after
+returns-then-write_in-clause-after c =
+    let fits = c.write_in.ensures.together c.if-write_in.true in
+    write_is c.args.areas.now.items c.args.pages.now.items c.write_in.new.pages.items c.args.a c.args.bytes.now c.requires.shown (λ k h. (c.type_inv.bytes k).fits) c.requires.address (omega (arith, fits, c.requires.address))
+    (there_whole (goal.at.returns-then-write_in-clause-after c).Then-write_in) (c.write_in.ensures.there c.if-write_in.true) c.write_in.ensures.others
+
+pub returns-then-write_in-clause-shown : goal.returns-then-write_in-clause-shown
+returns-then-write_in-clause-shown c =
+    let fits = c.write_in.ensures.together c.if-write_in.true in
+    write_shown c.args.areas.now.items c.args.pages.now.items c.write_in.new.pages.items c.args.a c.args.bytes.now c.requires.shown (λ k h. (c.type_inv.bytes k).fits) c.requires.address (omega (arith, fits, c.requires.address))
+    (there_whole (goal.at.returns-then-write_in-clause-shown c).Then-write_in) (c.write_in.ensures.there c.if-write_in.true) c.write_in.ensures.others
+
+-- where it wasn't written at once, nothing has changed
+still_shown : (c : Else-write_in) → IsShown c.args.areas.now.items c.write_in.new.pages.items
+still_shown c = same_shown c.args.areas.now.items c.args.pages.now.items c.write_in.new.pages.items c.requires.shown (c.write_in.ensures.gap c.if-write_in.false)
+
+still_is : (c : Else-write_in) → storage_of c.args.areas.now.items c.write_in.new.pages.items ≡ storage_of c.args.areas.now.items c.args.pages.now.items
+still_is c = same_is c.args.areas.now.items c.args.pages.now.items c.write_in.new.pages.items c.requires.shown (c.write_in.ensures.gap c.if-write_in.false)
+
+pub has_span_of-requires-clause-shown : goal.has_span_of-requires-clause-shown
+has_span_of-requires-clause-shown c = still_shown (goal.at.has_span_of-requires-clause-shown c).Else-write_in
+
+pub returns-then-not-has_span_of-clause-present : goal.returns-then-not-has_span_of-clause-present
+returns-then-not-has_span_of-clause-present c =
+    let is = still_is (goal.at.returns-then-not-has_span_of-clause-present c).Else-write_in in
+    let absent : c.has_span_of.result ≡ false = cc in
+    rw (← is) (sym absent ∙ c.has_span_of.ensures)
+
+pub returns-then-not-has_span_of-clause-after : goal.returns-then-not-has_span_of-clause-after
+returns-then-not-has_span_of-clause-after c =
+    let is = still_is (goal.at.returns-then-not-has_span_of-clause-after c).Else-write_in in
+    let absent : c.has_span_of.result ≡ false = cc in
+    let gone = rw is at (sym c.has_span_of.ensures ∙ absent) in
+    is ∙ sym (written_none (storage_of c.args.areas.now.items c.args.pages.now.items) c.args.a c.args.bytes.now gone)
+
+pub returns-then-not-has_span_of-clause-shown : goal.returns-then-not-has_span_of-clause-shown
+returns-then-not-has_span_of-clause-shown c = still_shown (goal.at.returns-then-not-has_span_of-clause-shown c).Else-write_in
+
+pub write_each-requires-clause-shown : goal.write_each-requires-clause-shown
+write_each-requires-clause-shown c = still_shown (goal.at.write_each-requires-clause-shown c).Else-write_in
+
+pub returns-clause-present : goal.returns-clause-present
+returns-clause-present c =
+    let is = still_is (goal.at.returns-clause-present c).Else-write_in in
+    let there : c.has_span_of.result ≡ true = cc in
+    rw (← is) (sym there ∙ c.has_span_of.ensures)
+
+pub returns-clause-after : goal.returns-clause-after
+returns-clause-after c =
+    let is = still_is (goal.at.returns-clause-after c).Else-write_in in
+    let there : c.has_span_of.result ≡ true = cc in
+    let present = rw is at (sym c.has_span_of.ensures ∙ there) in
+    let after = rw is at c.write_each.ensures.after in
+    after ∙ sym (written_whole (storage_of c.args.areas.now.items c.args.pages.now.items) c.args.a c.args.bytes.now present)

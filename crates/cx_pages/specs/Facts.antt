@@ -1,0 +1,3 @@
+-- Proved facts of the words of private functions.
+pub mod Runs
+pub mod Shown

@@ -1,0 +1,6 @@
+-- The vocabulary of private functions.
+pub mod Runs
+pub mod Frame
+pub mod Page
+pub mod Directory
+pub mod Shown

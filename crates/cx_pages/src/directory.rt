@@ -1,0 +1,175 @@
+//! The directory: the pages, by their addresses divided by 4,096.
+
+ghost use Rattle.std.specs.Prelude.{◌≡◌, ◌≢◌, ℕ, ◌+◌, ◌-◌, ◌*◌, ◌/◌, ◌%◌, ◌<◌, ◌≤◌, ◌^◌, ◌==◌, ◌⊎◌, true, false, length, Some, None, is_some, nat_lt, slice_get, if◌then◌else◌, IsSome, IfSome, OnSome, OnOk};
+ghost use Rattle.std.specs.Option.{option_map};
+ghost use Rattle.cx_pages.specs.Parts.Frame.{HasAll, Skips};
+ghost use Rattle.cx_pages.specs.Parts.Directory.{there, has_page, in_granules};
+
+use crate::page::Page;
+use std::alloc::{AllocError, Global};
+
+/// The byte at an address, where it is present.
+#[tactic(auto, unfolding(crate::specs::Parts::Directory::there))]
+pub(crate) fn byte_in(pages: &Vec<Page>, a: u32) -> Option<u8>
+    ensures { result ≡ there pages.now.items a }
+{
+    match pages.get(a as usize / 4096) {
+        Some(page) => page.byte(a as usize % 4096),
+        None => None,
+    }
+}
+
+/// Writes a byte. False, and no change, where it isn't present.
+#[tactic(auto, unfolding(crate::specs::Parts::Directory::there))]
+pub(crate) fn set_in(pages: &mut Vec<Page>, a: u32, value: u8) -> bool
+    ensures present { result ≡ is_some (there pages.old.items a) }
+    ensures after { (x : ℕ) → there pages.new.items x ≡ (if x == a then option_map (λ (_ : ℕ). value) (there pages.old.items a) else there pages.old.items x) }
+{
+    let i = a as usize / 4096;
+    if i < pages.len() {
+        let page = &mut pages[i];
+        page.set(a as usize % 4096, value)
+    } else {
+        false
+    }
+}
+
+/// Makes the granule `g` zero, of which the first `count` bytes are present then, where its page is made.
+#[tactic(auto, unfolding(crate::specs::Parts::Directory::there, crate::specs::Parts::Directory::has_page))]
+pub(crate) fn mark_in(pages: &mut Vec<Page>, g: usize, count: u8)
+    ensures made { has_page pages.old.items (g / 256) ≡ true → (x : ℕ) → there pages.new.items x ≡ (if x / 16 == g then (if nat_lt (x % 16) count then Some 0 else None) else there pages.old.items x) }
+    ensures gone { count ≡ 0 → (x : ℕ) → there pages.new.items x ≡ (if x / 16 == g then None else there pages.old.items x) }
+    ensures pages { (i : ℕ) → has_page pages.new.items i ≡ has_page pages.old.items i }
+{
+    let i = g / 256;
+    if i < pages.len() {
+        let page = &mut pages[i];
+        page.mark(g % 256, count);
+    }
+}
+
+/// Whether the bytes from `a` to before `end`, all of one page, are present.
+#[tactic(auto, unfolding(crate::specs::Parts::Directory::there))]
+pub(crate) fn has_in(pages: &Vec<Page>, a: usize, end: usize) -> bool
+    requires order { a < end }
+    requires together { a % 4096 + (end - a) ≤ 4096 }
+    ensures all { result ≡ true → HasAll (there pages.now.items) a end }
+    ensures gap { HasAll (there pages.now.items) a end → result ≡ true }
+{
+    let i = a / 4096;
+    if i < pages.len() {
+        let from = a % 4096;
+        pages[i].has(from, from + (end - a))
+    } else {
+        false
+    }
+}
+
+/// Makes the pages from `first` to `last`. It changes no byte.
+pub(crate) fn make_in(
+    pages: &mut Vec<Page>,
+    alloc: Global,
+    first: usize,
+    last: usize,
+) -> Result<(), AllocError>
+    requires { last < 2 ^ 32 }
+    ensures made { OnOk result ((i : ℕ) → first ≤ i → i ≤ last → has_page pages.new.items i ≡ true) }
+    ensures same { (x : ℕ) → there pages.new.items x ≡ there pages.old.items x }
+{
+    while pages.len() <= last {
+        pages.push(Page::new())?;
+    }
+    for i in first..last + 1 {
+        let page = &mut pages[i];
+        page.make(alloc)?;
+    }
+    Ok(())
+}
+
+/// The `n` bytes from `a` on, where all of them are in one page and present.
+pub(crate) fn part_in(pages: &Vec<Page>, a: u32, n: usize) -> Option<&[u8]>
+    ensures there { IfSome result (λ part. (x : ℕ) → a ≤ x → x < a + n → there pages.now.items x ≡ slice_get part.now (x - a)) }
+    ensures len { IfSome result (λ part. length part.now ≡ n) }
+    ensures together { OnSome result (a % 4096 + n ≤ 4096) }
+    ensures gap { 0 < n → a % 4096 + n ≤ 4096 → HasAll (there pages.now.items) a (a + n) → IsSome result }
+{
+    let i = a as usize / 4096;
+    let from = a as usize % 4096;
+    if n == 0 || 4096 - from < n {
+        return None;
+    }
+    if i < pages.len() {
+        pages[i].part(from, from + n)
+    } else {
+        None
+    }
+}
+
+/// Writes bytes from `a` on, where all of the addresses are in one page and present; else it changes nothing.
+pub(crate) fn write_in(pages: &mut Vec<Page>, a: u32, source: &[u8]) -> bool
+    ensures gap { result ≡ false → (x : ℕ) → there pages.new.items x ≡ there pages.old.items x }
+    ensures there { result ≡ true → (x : ℕ) → a ≤ x → x < a + length source.now → there pages.new.items x ≡ slice_get source.now (x - a) }
+    ensures others { (x : ℕ) → (x < a) ⊎ (a + length source.now ≤ x) → there pages.new.items x ≡ there pages.old.items x }
+    ensures present { result ≡ true → HasAll (there pages.old.items) a (a + length source.now) }
+    ensures together { result ≡ true → a % 4096 + length source.now ≤ 4096 }
+{
+    let i = a as usize / 4096;
+    let from = a as usize % 4096;
+    if i < pages.len() && source.len() <= 4096 - from {
+        let page = &mut pages[i];
+        page.write(from, source)
+    } else {
+        false
+    }
+}
+
+/// Makes the bytes from `start` (a multiple of 16) to before `end` zero and present, in pages that are made.
+pub(crate) fn zero_in(pages: &mut Vec<Page>, start: usize, end: usize)
+    requires granule { start % 16 ≡ 0 }
+    requires order { start < end }
+    requires low { end ≤ 2 ^ 24 }
+    requires made { (i : ℕ) → start / 4096 ≤ i → i ≤ (end - 1) / 4096 → has_page pages.old.items i ≡ true }
+    ensures { (x : ℕ) → there pages.new.items x ≡ (if in_granules start end x then (if nat_lt x end then Some 0 else None) else there pages.old.items x) }
+{
+    for g in start / 16..(end + 15) / 16 {
+        mark_in(pages, g, (end - g * 16).min(16) as u8);
+    }
+    sum_in(pages, start / 4096, (end - 1) / 4096 + 1);
+}
+
+/// Makes the bytes of the granules from `start` (a multiple of 16) to before `end` absent.
+pub(crate) fn clear_in(pages: &mut Vec<Page>, start: usize, end: usize)
+    requires granule { start % 16 ≡ 0 }
+    requires order { start < end }
+    requires low { end ≤ 2 ^ 24 }
+    ensures { (x : ℕ) → there pages.new.items x ≡ (if in_granules start end x then None else there pages.old.items x) }
+{
+    for g in start / 16..(end + 15) / 16 {
+        mark_in(pages, g, 0);
+    }
+}
+
+/// Looks for the runs of free granules of the pages from `first` to before `end`, where they aren't known. It
+/// changes no byte.
+pub(crate) fn sum_in(pages: &mut Vec<Page>, first: usize, end: usize)
+    ensures { (x : ℕ) → there pages.new.items x ≡ there pages.old.items x }
+{
+    for i in first..end {
+        if i < pages.len() {
+            let page = &mut pages[i];
+            page.sum_up();
+        }
+    }
+}
+
+/// How many free granules are at the end of the page `i`, where it is known that `need` of them in a row don't
+/// begin before.
+pub(crate) fn tail_in(pages: &Vec<Page>, i: usize, need: usize) -> Option<usize>
+    ensures { IfSome result (λ tail. Skips (λ k. there pages.now.items (i * 4096 + k)) need tail) }
+{
+    if i < pages.len() {
+        pages[i].tail(need)
+    } else {
+        None
+    }
+}

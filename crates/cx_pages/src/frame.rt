@@ -1,0 +1,184 @@
+//! Frames: the 4,096 bytes of a page, in granules of 16 bytes. Areas start at multiples
+//! of 16, so the bytes of a granule that are present are its first ones, and their number says which.
+
+ghost use Rattle.std.specs.Prelude.{◌≡◌, ℕ, ◌+◌, ◌-◌, ◌*◌, ◌/◌, ◌%◌, ◌<◌, ◌≤◌, ◌==◌, ◌&&◌, ◌⊎◌, true, false, length, Some, None, is_some, nat_le, nat_lt, slice_get, slice_index, slice_range, if◌then◌else◌, MatchOption, IsSome, IfSome};
+ghost use Rattle.std.specs.Option.{option_map};
+ghost use Rattle.cx_pages.specs.Facts.Runs.{RunsAre-prop};
+ghost use Rattle.cx_pages.specs.Parts.Runs.{IsRuns, RunsAre};
+
+/// The bytes of a page that was made, for each granule how many of its first bytes are present, and the runs
+/// of free granules, where they were looked for since a granule changed.
+#[derive(Drop)]
+pub struct Frame {
+    bytes: [u8; 4096],
+    counts: [u8; 256],
+    runs: Option<Runs>,
+    ghost summed: { RunsAre runs counts } by { RunsAre-prop runs counts },
+}
+
+/// The runs of granules of which no byte is present: how many granules the longest has, and how many stand
+/// at the end of the page.
+#[derive(Clone, Copy)]
+pub struct Runs {
+    pub longest: u16,
+    pub tail: u16,
+}
+
+/// The runs of the granules that are counted as zero.
+fn runs_of(counts: &[u8; 256]) -> Runs
+    ensures { IsRuns counts.now result.longest result.tail }
+{
+    let mut longest: u16 = 0;
+    let mut run: u16 = 0;
+    for g in 0..256 {
+        if counts[g] == 0 {
+            run += 1;
+            longest = longest.max(run);
+        } else {
+            run = 0;
+        }
+    }
+    Runs { longest, tail: run }
+}
+
+/// Makes the 16 bytes from `from` on zero.
+fn zero_granule(bytes: &mut [u8], from: usize)
+    requires { from + 16 ≤ length bytes.old }
+    ensures { (j : ℕ) → slice_get bytes.new j ≡ (if nat_le from j && nat_lt j (from + 16) then Some 0 else slice_get bytes.old j) }
+{
+    for k in from..from + 16 {
+        bytes[k] = 0;
+    }
+}
+
+/// Copies `source` into the bytes from `from` on.
+fn copy_bytes(bytes: &mut [u8], from: usize, source: &[u8])
+    requires { from + length source.now ≤ length bytes.old }
+    ensures { (j : ℕ) → slice_get bytes.new j ≡ (if nat_le from j && nat_lt j (from + length source.now) then slice_get source.now (j - from) else slice_get bytes.old j) }
+{
+    bytes[from..from + source.len()].copy_from_slice(source);
+}
+
+impl Frame {
+    ghost use Rattle.cx_pages.specs.Parts.Frame.{HasAll, seen, Skips};
+
+    /// A page without a byte that is present.
+    pub(crate) fn new() -> Self
+        ensures { (k : ℕ) → seen result k ≡ None }
+    {
+        Frame {
+            bytes: [0; 4096],
+            counts: [0; 256],
+            runs: None,
+        }
+    }
+
+    /// The byte at the place `k`, where it is present.
+    #[tactic(auto, unfolding(crate::specs::Parts::Frame::seen))]
+    pub(crate) fn byte(&self, k: usize) -> Option<u8>
+        requires { k < 4096 }
+        ensures { result ≡ seen self.now k }
+    {
+        if k % 16 < self.counts[k / 16] as usize {
+            Some(self.bytes[k])
+        } else {
+            None
+        }
+    }
+
+    /// Writes a byte at the place `k`. False, and no change, where it isn't present.
+    #[tactic(auto, unfolding(crate::specs::Parts::Frame::seen))]
+    pub(crate) fn set(&mut self, k: usize, value: u8) -> bool
+        requires { k < 4096 }
+        ensures present { result ≡ is_some (seen self.old k) }
+        ensures counts { self.new.counts ≡ self.old.counts }
+        ensures after { (j : ℕ) → seen self.new j ≡ (if j == k then option_map (λ (_ : ℕ). value) (seen self.old k) else seen self.old j) }
+    {
+        let there = k % 16 < self.counts[k / 16] as usize;
+        if there {
+            self.bytes[k] = value;
+        }
+        there
+    }
+
+    /// Makes the granule `g` zero, of which the first `count` bytes are present then.
+    #[tactic(auto, unfolding(crate::specs::Parts::Frame::seen))]
+    pub(crate) fn mark(&mut self, g: usize, count: u8)
+        requires { g < 256 }
+        ensures { (j : ℕ) → seen self.new j ≡ (if j / 16 == g then (if nat_lt (j % 16) count then Some 0 else None) else seen self.old j) }
+    {
+        self.runs = None;
+        zero_granule(&mut self.bytes, g * 16);
+        self.counts[g] = count;
+    }
+
+    /// Whether the bytes from `from` to before `to` are present.
+    #[tactic(auto, unfolding(crate::specs::Parts::Frame::seen))]
+    pub(crate) fn has(&self, from: usize, to: usize) -> bool
+        requires { to ≤ 4096 }
+        ensures all { result ≡ true → HasAll (seen self.now) from to }
+        ensures gap { HasAll (seen self.now) from to → result ≡ true }
+    {
+        let mut at = from;
+        while at < to {
+            let last = (at / 16 * 16 + 15).min(to - 1);
+            if self.counts[last / 16] as usize <= last % 16 {
+                return false;
+            }
+            at = last + 1;
+        }
+        true
+    }
+
+    /// The bytes from `from` to before `to`, where all of them are present.
+    pub(crate) fn part(&self, from: usize, to: usize) -> Option<&[u8]>
+        requires order { from ≤ to }
+        requires within { to ≤ 4096 }
+        ensures there { IfSome result (λ part. (k : ℕ) → from ≤ k → k < to → seen self.now k ≡ slice_get part.now (k - from)) }
+        ensures len { IfSome result (λ part. length part.now ≡ to - from) }
+        ensures gap { HasAll (seen self.now) from to → IsSome result }
+    {
+        if self.has(from, to) {
+            Some(&self.bytes[from..to])
+        } else {
+            None
+        }
+    }
+
+    /// Writes bytes from the place `from` on. False, and no change, where one of the places isn't present.
+    #[tactic(auto, unfolding(crate::specs::Parts::Frame::seen))]
+    pub(crate) fn write(&mut self, from: usize, source: &[u8]) -> bool
+        requires { from + length source.now ≤ 4096 }
+        ensures gap { result ≡ false → self.new ≡ self.old }
+        ensures counts { self.new.counts ≡ self.old.counts }
+        ensures there { result ≡ true → (k : ℕ) → from ≤ k → k < from + length source.now → seen self.new k ≡ slice_get source.now (k - from) }
+        ensures others { (k : ℕ) → (k < from) ⊎ (from + length source.now ≤ k) → seen self.new k ≡ seen self.old k }
+        ensures present { result ≡ true → HasAll (seen self.old) from (from + length source.now) }
+    {
+        if !self.has(from, from + source.len()) {
+            return false;
+        }
+        copy_bytes(&mut self.bytes, from, source);
+        true
+    }
+
+    /// Looks for the runs of free granules, unless they are known.
+    #[tactic(auto, unfolding(crate::specs::Parts::Frame::seen))]
+    pub(crate) fn sum_up(&mut self)
+        ensures { (k : ℕ) → seen self.new k ≡ seen self.old k }
+    {
+        if self.runs.is_none() {
+            self.runs = Some(runs_of(&self.counts));
+        }
+    }
+
+    /// How many free granules are at the end, where it is known that `need` of them in a row don't begin before.
+    pub(crate) fn tail(&self, need: usize) -> Option<usize>
+        ensures { IfSome result (λ tail. Skips (seen self.now) need tail) }
+    {
+        match self.runs {
+            Some(runs) if (runs.longest as usize) < need => Some(runs.tail as usize),
+            _ => None,
+        }
+    }
+}

@@ -1,0 +1,140 @@
+//! Pages: each has its frame from the first area on that touches it.
+
+ghost use Rattle.std.specs.Prelude.{◌≡◌, ℕ, ◌+◌, ◌-◌, ◌/◌, ◌%◌, ◌<◌, ◌≤◌, ◌==◌, ◌⊎◌, true, false, length, Some, None, is_some, nat_lt, slice_get, if◌then◌else◌, IsSome, IfSome, OnOk, OnErr};
+ghost use Rattle.std.specs.Option.{option_map};
+ghost use Rattle.cx_pages.specs.Parts.Frame.{HasAll, Skips};
+ghost use Rattle.cx_pages.specs.Parts.Page.{found, is_made};
+
+use crate::frame::Frame;
+use std::alloc::{AllocError, Global};
+
+/// A block of 4,096 bytes that starts at a multiple of 4,096. Without a frame none of them is present.
+#[derive(Drop)]
+pub struct Page {
+    frame: Option<Box<Frame>>,
+}
+
+impl Page {
+    /// A page that isn't made.
+    #[tactic(auto, unfolding(crate::specs::Parts::Page::found))]
+    pub(crate) fn new() -> Self
+        ensures { (k : ℕ) → found result k ≡ None }
+    {
+        Page { frame: None }
+    }
+
+    /// Makes the page where it isn't. It changes no byte.
+    #[tactic(auto, unfolding(crate::specs::Parts::Page::found))]
+    pub(crate) fn make(&mut self, alloc: Global) -> Result<(), AllocError>
+        ensures made { OnOk result (is_made self.new ≡ true) }
+        ensures same { (k : ℕ) → found self.new k ≡ found self.old k }
+    {
+        if self.frame.is_none() {
+            self.frame = Some(Box::new(alloc, Frame::new())?);
+        }
+        Ok(())
+    }
+
+    /// The byte at the place `k`, where it is present.
+    #[tactic(auto, unfolding(crate::specs::Parts::Page::found))]
+    pub(crate) fn byte(&self, k: usize) -> Option<u8>
+        requires { k < 4096 }
+        ensures { result ≡ found self.now k }
+    {
+        match &self.frame {
+            Some(frame) => frame.byte(k),
+            None => None,
+        }
+    }
+
+    /// Writes a byte at the place `k`. False, and no change, where it isn't present.
+    #[tactic(auto, unfolding(crate::specs::Parts::Page::found))]
+    pub(crate) fn set(&mut self, k: usize, value: u8) -> bool
+        requires { k < 4096 }
+        ensures present { result ≡ is_some (found self.old k) }
+        ensures after { (j : ℕ) → found self.new j ≡ (if j == k then option_map (λ (_ : ℕ). value) (found self.old k) else found self.old j) }
+    {
+        match &mut self.frame {
+            Some(frame) => frame.set(k, value),
+            None => false,
+        }
+    }
+
+    /// Makes the granule `g` zero, of which the first `count` bytes are present then, where the page is made.
+    #[tactic(auto, unfolding(crate::specs::Parts::Page::found))]
+    pub(crate) fn mark(&mut self, g: usize, count: u8)
+        requires { g < 256 }
+        ensures granule { is_made self.old ≡ true → (j : ℕ) → found self.new j ≡ (if j / 16 == g then (if nat_lt (j % 16) count then Some 0 else None) else found self.old j) }
+        ensures gone { count ≡ 0 → (j : ℕ) → found self.new j ≡ (if j / 16 == g then None else found self.old j) }
+        ensures same { is_made self.new ≡ is_made self.old }
+    {
+        if let Some(frame) = &mut self.frame {
+            frame.mark(g, count);
+        }
+    }
+
+    /// Whether the bytes from `from` to before `to` are present.
+    #[tactic(auto, unfolding(crate::specs::Parts::Page::found))]
+    pub(crate) fn has(&self, from: usize, to: usize) -> bool
+        requires order { from < to }
+        requires within { to ≤ 4096 }
+        ensures all { result ≡ true → HasAll (found self.now) from to }
+        ensures gap { HasAll (found self.now) from to → result ≡ true }
+    {
+        match &self.frame {
+            Some(frame) => frame.has(from, to),
+            None => false,
+        }
+    }
+
+    /// The bytes from `from` to before `to`, where all of them are present.
+    #[tactic(auto, unfolding(crate::specs::Parts::Page::found))]
+    pub(crate) fn part(&self, from: usize, to: usize) -> Option<&[u8]>
+        requires order { from < to }
+        requires within { to ≤ 4096 }
+        ensures there { IfSome result (λ part. (k : ℕ) → from ≤ k → k < to → found self.now k ≡ slice_get part.now (k - from)) }
+        ensures len { IfSome result (λ part. length part.now ≡ to - from) }
+        ensures gap { HasAll (found self.now) from to → IsSome result }
+    {
+        match &self.frame {
+            Some(frame) => frame.part(from, to),
+            None => None,
+        }
+    }
+
+    /// Writes bytes from the place `from` on. False, and no change, where one of the places isn't present.
+    #[tactic(auto, unfolding(crate::specs::Parts::Page::found))]
+    pub(crate) fn write(&mut self, from: usize, source: &[u8]) -> bool
+        requires { from + length source.now ≤ 4096 }
+        ensures gap { result ≡ false → (k : ℕ) → found self.new k ≡ found self.old k }
+        ensures there { result ≡ true → (k : ℕ) → from ≤ k → k < from + length source.now → found self.new k ≡ slice_get source.now (k - from) }
+        ensures others { (k : ℕ) → (k < from) ⊎ (from + length source.now ≤ k) → found self.new k ≡ found self.old k }
+        ensures present { result ≡ true → HasAll (found self.old) from (from + length source.now) }
+    {
+        match &mut self.frame {
+            Some(frame) => frame.write(from, source),
+            None => false,
+        }
+    }
+
+    /// Looks for the runs of free granules.
+    #[tactic(auto, unfolding(crate::specs::Parts::Page::found))]
+    pub(crate) fn sum_up(&mut self)
+        ensures { (k : ℕ) → found self.new k ≡ found self.old k }
+    {
+        if let Some(frame) = &mut self.frame {
+            frame.sum_up();
+        }
+    }
+
+    /// How many free granules are at the end, where it is known that `need` of them in a row don't begin before.
+    #[tactic(auto, unfolding(crate::specs::Parts::Page::found))]
+    pub(crate) fn tail(&self, need: usize) -> Option<usize>
+        ensures { IfSome result (λ tail. Skips (found self.now) need tail) }
+    {
+        match &self.frame {
+            Some(frame) => frame.tail(need),
+            None => None,
+        }
+    }
+}

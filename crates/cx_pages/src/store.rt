@@ -1,0 +1,231 @@
+//! What each call does to the table of areas and the pages, which show one storage.
+
+ghost use Rattle.std.specs.Prelude.{◌≡◌, ℕ, ◌+◌, ◌%◌, ◌^◌, ◌<◌, ◌≤◌, [], length, Ok, Some, None, is_some, unwrap_or, IfSome, IsSome, OnSome, IfOk, OnErr};
+ghost use Rattle.cx_storage.specs.Storage.{byte_at, span, with_byte, with_bytes, written, area_at, with_area, with_areas_kept, starts_elsewhere, is_of_other_slot, IsTogether};
+ghost use Rattle.cx_storage.specs.Place.{IsLeastPlace};
+ghost use Rattle.cx_pages.specs.Parts.Shown.{storage_of, IsShown};
+
+use crate::directory::{
+    byte_in, clear_in, has_in, make_in, part_in, set_in, sum_in, tail_in, write_in, zero_in,
+};
+use crate::page::Page;
+use crate::table::spot_of;
+use cx_storage::laws::place_is_free;
+use cx_storage::{Area, Owner, along, next_address};
+use std::alloc::{AllocError, Global};
+
+/// The byte at an address, where an area has it.
+pub(crate) fn byte_of(areas: &Vec<Area>, pages: &Vec<Page>, a: u32) -> Option<u8>
+    requires { IsShown areas.now.items pages.now.items }
+    ensures { result ≡ byte_at (storage_of areas.now.items pages.now.items) a }
+{
+    byte_in(pages, a)
+}
+
+/// Writes a byte where an area has the address.
+pub(crate) fn set_of(areas: &Vec<Area>, pages: &mut Vec<Page>, a: u32, value: u8) -> bool
+    requires { IsShown areas.now.items pages.old.items }
+    ensures present { result ≡ is_some (byte_at (storage_of areas.now.items pages.old.items) a) }
+    ensures after { storage_of areas.now.items pages.new.items ≡ with_byte (storage_of areas.now.items pages.old.items) a value }
+    ensures shown { IsShown areas.now.items pages.new.items }
+{
+    set_in(pages, a, value)
+}
+
+/// The least place in a range.
+pub(crate) fn place_of(
+    areas: &Vec<Area>,
+    pages: &Vec<Page>,
+    first: u32,
+    last: u32,
+    len: u32,
+) -> Option<u32>
+    requires shown { IsShown areas.now.items pages.now.items }
+    requires last { last < 2 ^ 24 }
+    requires len { 0 < len }
+    ensures { IsLeastPlace (storage_of areas.now.items pages.now.items) first last len result }
+{
+    place_is_free();
+    let need = (len as usize + 15) / 16;
+    let mut from = (first as usize + 15) / 16;
+    let mut g = from;
+    while from * 16 + len as usize <= last as usize + 1 {
+        if need <= g - from {
+            return Some((from * 16) as u32);
+        }
+        let i = g / 256;
+        if i * 256 <= from {
+            if let Some(tail) = tail_in(pages, i, need) {
+                g = i * 256 + 256;
+                from = from.max(g - tail);
+                continue;
+            }
+        }
+        if byte_in(pages, (g * 16) as u32).is_some() {
+            from = g + 1;
+        }
+        g += 1;
+    }
+    None
+}
+
+/// Makes an area of zero bytes at the least place in a range.
+pub(crate) fn get_of(
+    areas: &mut Vec<Area>,
+    pages: &mut Vec<Page>,
+    alloc: Global,
+    first: u32,
+    last: u32,
+    len: u32,
+    owner: Owner,
+) -> Result<Option<u32>, AllocError>
+    requires shown { IsShown areas.old.items pages.old.items }
+    requires last { last < 2 ^ 24 }
+    requires len { 0 < len }
+    ensures placed { IfOk result (IsLeastPlace (storage_of areas.old.items pages.old.items) first last len) }
+    ensures after { IfOk result (λ start. storage_of areas.new.items pages.new.items ≡ with_area (storage_of areas.old.items pages.old.items) start len owner) }
+    ensures no_place { IsLeastPlace (storage_of areas.old.items pages.old.items) first last len None → result ≡ Ok None }
+    ensures err { OnErr result (storage_of areas.new.items pages.new.items ≡ storage_of areas.old.items pages.old.items) }
+    ensures shown { IsShown areas.new.items pages.new.items }
+{
+    let Some(start) = place_of(areas, pages, first, last, len) else {
+        return Ok(None);
+    };
+    let end = start as usize + len as usize;
+    let i = spot_of(areas, pages, start);
+    make_in(pages, alloc, start as usize / 4096, (end - 1) / 4096)?;
+    areas.insert(i, Area { start, len, owner })?;
+    zero_in(pages, start as usize, end);
+    Ok(Some(start))
+}
+
+/// Frees the area that starts at an address.
+pub(crate) fn free_area_of(areas: &mut Vec<Area>, pages: &mut Vec<Page>, start: u32) -> bool
+    requires { IsShown areas.old.items pages.old.items }
+    ensures found { result ≡ is_some (area_at (storage_of areas.old.items pages.old.items) start) }
+    ensures after { storage_of areas.new.items pages.new.items ≡ with_areas_kept (starts_elsewhere start) (storage_of areas.old.items pages.old.items) }
+    ensures shown { IsShown areas.new.items pages.new.items }
+{
+    let i = spot_of(areas, pages, start);
+    if i < areas.len() {
+        let area = areas[i];
+        if area.start == start {
+            let end = start as usize + area.len as usize;
+            clear_in(pages, start as usize, end);
+            sum_in(pages, start as usize / 4096, end / 4096 + 1);
+            areas.remove(i);
+            return true;
+        }
+    }
+    false
+}
+
+/// Frees the areas of a slot.
+pub(crate) fn free_slot_of(areas: &mut Vec<Area>, pages: &mut Vec<Page>, slot: u8)
+    requires { IsShown areas.old.items pages.old.items }
+    ensures after { storage_of areas.new.items pages.new.items ≡ with_areas_kept (is_of_other_slot slot) (storage_of areas.old.items pages.old.items) }
+    ensures shown { IsShown areas.new.items pages.new.items }
+{
+    for i in 0..areas.len() {
+        let area = areas[i];
+        if area.owner.slot == slot {
+            clear_in(
+                pages,
+                area.start as usize,
+                area.start as usize + area.len as usize,
+            );
+        }
+    }
+    sum_in(pages, 0, pages.len());
+    areas.retain(|area| area.owner.slot != slot);
+}
+
+/// The bytes of a span, where one page has all of them.
+pub(crate) fn slice_of<'a>(
+    areas: &Vec<Area>,
+    pages: &'a Vec<Page>,
+    a: u32,
+    n: usize,
+) -> Option<&'a [u8]>
+    requires shown { IsShown areas.now.items pages.now.items }
+    requires address { a < 2 ^ 24 }
+    ensures bytes { IfSome result (λ part. span (storage_of areas.now.items pages.now.items) a n ≡ Some part.now) }
+    ensures no_wrap { OnSome result (a + n ≤ 2 ^ 24) }
+    ensures together { IsTogether (storage_of areas.now.items pages.now.items) a n → IsSome result }
+{
+    part_in(pages, a, n)
+}
+
+/// Whether each byte of a span is in an area.
+pub(crate) fn has_span_of(areas: &Vec<Area>, pages: &Vec<Page>, a: u32, n: usize) -> bool
+    requires shown { IsShown areas.now.items pages.now.items }
+    requires address { a < 2 ^ 24 }
+    ensures { result ≡ is_some (span (storage_of areas.now.items pages.now.items) a n) }
+{
+    let mut at = a;
+    let mut left = n;
+    while left > 0 {
+        let step = left.min(4096 - at as usize % 4096);
+        if !has_in(pages, at as usize, at as usize + step) {
+            return false;
+        }
+        at = along(at, step as u32);
+        left -= step;
+    }
+    true
+}
+
+/// Fills a buffer from a span.
+pub(crate) fn read_of(areas: &Vec<Area>, pages: &Vec<Page>, a: u32, buffer: &mut [u8]) -> bool
+    requires shown { IsShown areas.now.items pages.now.items }
+    requires address { a < 2 ^ 24 }
+    requires size { length buffer.old ≤ 65536 }
+    ensures present { result ≡ is_some (span (storage_of areas.now.items pages.now.items) a (length buffer.old)) }
+    ensures after { buffer.new ≡ unwrap_or (span (storage_of areas.now.items pages.now.items) a (length buffer.old)) buffer.old }
+{
+    if let Some(part) = slice_of(areas, pages, a, buffer.len()) {
+        buffer.copy_from_slice(part);
+        return true;
+    }
+    if !has_span_of(areas, pages, a, buffer.len()) {
+        return false;
+    }
+    for k in 0..buffer.len() {
+        // Each of the bytes is there by now.
+        buffer[k] = byte_of(areas, pages, along(a, k as u32)).unwrap_or(0);
+    }
+    true
+}
+
+/// Writes bytes one after the other, each of which is present.
+fn write_each(areas: &Vec<Area>, pages: &mut Vec<Page>, a: u32, bytes: &[u8])
+    requires shown { IsShown areas.now.items pages.old.items }
+    requires address { a < 2 ^ 24 }
+    ensures after { storage_of areas.now.items pages.new.items ≡ with_bytes (storage_of areas.now.items pages.old.items) a bytes.now }
+    ensures shown { IsShown areas.now.items pages.new.items }
+{
+    let mut at = a;
+    'written: for value in bytes {
+        set_of(areas, pages, at, *value);
+        at = next_address(at);
+    }
+}
+
+/// Writes a span.
+pub(crate) fn write_of(areas: &Vec<Area>, pages: &mut Vec<Page>, a: u32, bytes: &[u8]) -> bool
+    requires shown { IsShown areas.now.items pages.old.items }
+    requires address { a < 2 ^ 24 }
+    requires size { length bytes.now ≤ 65536 }
+    ensures present { result ≡ is_some (span (storage_of areas.now.items pages.old.items) a (length bytes.now)) }
+    ensures after { storage_of areas.now.items pages.new.items ≡ written (storage_of areas.now.items pages.old.items) a bytes.now }
+    ensures shown { IsShown areas.now.items pages.new.items }
+{
+    if write_in(pages, a, bytes) {
+        return true;
+    }
+    if !has_span_of(areas, pages, a, bytes.len()) {
+        return false;
+    }
+    write_each(areas, pages, a, bytes);
+    true
+}

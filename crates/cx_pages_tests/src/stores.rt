@@ -1,0 +1,68 @@
+//! The rows over the plain store and over the store in pages.
+
+use crate::rows;
+use cx_pages::PagedStore;
+use cx_storage::FlatStore;
+use std::test::Fail;
+
+#[test]
+fn places_by_sixteens(rt: HostRuntime) -> Result<(), Fail> {
+    assert!(rt; rows::places_by_sixteens(&mut FlatStore::new(rt.alloc()))?);
+    assert!(rt; rows::places_by_sixteens(&mut PagedStore::new(rt.alloc()))?);
+    Ok(())
+}
+
+#[test]
+fn frees_all_areas_of_an_owner(rt: HostRuntime) -> Result<(), Fail> {
+    assert!(rt; rows::frees_all_areas_of_an_owner(&mut FlatStore::new(rt.alloc()))?);
+    assert!(rt; rows::frees_all_areas_of_an_owner(&mut PagedStore::new(rt.alloc()))?);
+    Ok(())
+}
+
+#[test]
+fn finds_no_place(rt: HostRuntime) -> Result<(), Fail> {
+    assert!(rt; rows::finds_no_place(&mut FlatStore::new(rt.alloc()))?);
+    assert!(rt; rows::finds_no_place(&mut PagedStore::new(rt.alloc()))?);
+    Ok(())
+}
+
+#[test]
+fn a_span_goes_on_at_address_0(rt: HostRuntime) -> Result<(), Fail> {
+    assert!(rt; rows::a_span_goes_on_at_address_0(&mut FlatStore::new(rt.alloc()))?);
+    assert!(rt; rows::a_span_goes_on_at_address_0(&mut PagedStore::new(rt.alloc()))?);
+    Ok(())
+}
+
+#[test]
+fn lends_inside_a_block(rt: HostRuntime) -> Result<(), Fail> {
+    assert!(rt; rows::lends_inside_a_block(&mut FlatStore::new(rt.alloc()))?);
+    assert!(rt; rows::lends_inside_a_block(&mut PagedStore::new(rt.alloc()))?);
+    Ok(())
+}
+
+#[test]
+fn keeps_the_others_bytes(rt: HostRuntime) -> Result<(), Fail> {
+    assert!(rt; rows::keeps_the_others_bytes(&mut FlatStore::new(rt.alloc()))?);
+    assert!(rt; rows::keeps_the_others_bytes(&mut PagedStore::new(rt.alloc()))?);
+    Ok(())
+}
+
+#[test]
+fn a_block_comes_again(rt: HostRuntime) -> Result<(), Fail> {
+    assert!(rt; rows::a_block_comes_again(&mut FlatStore::new(rt.alloc()))?);
+    assert!(rt; rows::a_block_comes_again(&mut PagedStore::new(rt.alloc()))?);
+    Ok(())
+}
+
+#[test]
+fn a_place_over_a_border(rt: HostRuntime) -> Result<(), Fail> {
+    assert!(rt; rows::a_place_over_a_border(&mut FlatStore::new(rt.alloc()))?);
+    assert!(rt; rows::a_place_over_a_border(&mut PagedStore::new(rt.alloc()))?);
+    Ok(())
+}
+
+#[test]
+fn a_large_area(rt: HostRuntime) {
+    assert!(rt; rows::a_large_area(&mut FlatStore::new(rt.alloc())));
+    assert!(rt; rows::a_large_area(&mut PagedStore::new(rt.alloc())));
+}
