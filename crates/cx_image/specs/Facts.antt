@@ -1,0 +1,2 @@
+-- Facts for the crates above.
+pub mod Apart

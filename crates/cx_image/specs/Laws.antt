@@ -1,0 +1,2 @@
+-- Words of laws.
+pub mod Cover

@@ -1,0 +1,35 @@
+-- What is known of a text: which line stands where, and where no line stands.
+use Rattle.std.specs.Prelude.{◌≡◌, ℕ, Bool, true, false, ◌&&◌, nat_le, nat_lt, List, length, take, drop, slice_index}
+use Rattle.std.specs.List.{list_any, AllByRecursion}
+use Rattle.cx_code.specs.declared.disassembly.Line.{Line}
+use Rattle.cx_code.specs.declared.disassembly.What.{What}
+use Rattle.cx_code.specs.declared.disassembly.What.TheVariants.{Code}
+use Rattle.cx_code.specs.declared.image.Span.{Span}
+use Rattle.cx_code.specs.declared.image.SpanKind.TheVariants as kinds
+use Rattle.cx_image.specs.Resolved.{bytes_of, size_of, end_of}
+
+-- a byte at an offset is one of a line's
+abbrev pub covers : ℕ → Line → Bool
+covers k line = nat_le line.at k && nat_lt k (end_of line)
+
+-- the bytes of a line stand at its place
+abbrev pub StandsIn : List ℕ → Line → Type 0
+StandsIn text line = take (size_of line.what) (drop line.at text) ≡ bytes_of line.what
+
+-- The text has the section's size, each line's bytes stand at its place, and every byte that no line covers is zero.
+pub record IsTextOf (resolved : List Line) (size : ℕ) (text : List ℕ) : Type 0 where
+  pub long : length text ≡ size
+  pub stand : AllByRecursion (StandsIn text) resolved
+  pub gaps : (k : ℕ) → list_any (covers k) resolved ≡ false → slice_index text k ≡ 0
+
+-- a span called data
+abbrev pub as_data : Span → Span
+as_data span = record span { kind = kinds.Data }
+
+-- whether a line is an instruction
+abbrev pub is_code : Line → Bool
+is_code line = is_code_what line.what
+  where
+    is_code_what : What → Bool
+    is_code_what (Code i) = true
+    is_code_what _ = false

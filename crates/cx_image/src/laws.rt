@@ -1,0 +1,46 @@
+//! What the definitions of an assembled section mean, on functions that do nothing.
+
+ghost use Rattle.std.specs.Prelude.{◌≡◌, ◌+◌, ◌*◌, ◌<◌, ◌≤◌, ◌≢◌, ℕ, List, map, get_or, length, slice_index, true};
+ghost use Rattle.std.specs.List.{list_any};
+ghost use Rattle.cx_code.specs.declared.disassembly.Line.{Line};
+ghost use Rattle.cx_code.specs.Lines.{lines};
+ghost use Rattle.cx_image.specs.Assembled.{AssembledParts, IsAssembled};
+ghost use Rattle.cx_image.specs.Laws.Cover.{IsTextOf, as_data, is_code};
+ghost use Rattle.cx_image.specs.Relocated.{words_at};
+ghost use Rattle.cx_image.specs.Resolved.{AreApart, end_of};
+ghost use Rattle.cx_image.specs.Text.{text_of};
+
+/// Lines that stand apart in a section ascend: each ends at or before the place of every later one, and in the section.
+pub fn lines_ascend()
+    ensures ascend { (resolved : List Line) (size i j : ℕ) (any : Line) → AreApart 0 resolved size → i < j → j < length resolved
+        → end_of (get_or resolved i any) ≤ (get_or resolved j any).at }
+    ensures within { (resolved : List Line) (size i : ℕ) (any : Line) → AreApart 0 resolved size → i < length resolved
+        → end_of (get_or resolved i any) ≤ size }
+{}
+
+/// The text of lines that stand apart has the section's size, each line's bytes stand at its place, and every byte that no
+/// line covers is zero; and no other text is so.
+pub fn the_text_is_told_by_its_bytes()
+    ensures is { (resolved : List Line) (size : ℕ) → AreApart 0 resolved size → IsTextOf resolved size (text_of resolved size) }
+    ensures decides { (resolved : List Line) (size : ℕ) (one other : List ℕ) → IsTextOf resolved size one
+        → IsTextOf resolved size other → one ≡ other }
+{}
+
+/// Words one behind the other are as many as asked for, and each stands 4 bytes behind the one before it.
+pub fn words_stand_one_behind_the_other()
+    ensures count { (at n : ℕ) → length (words_at at n) ≡ n }
+    ensures places { (at n k : ℕ) → k < n → slice_index (words_at at n) k ≡ at + 4 * k }
+{}
+
+/// Sections of one text and the same spans have the same resolved lines.
+#[tactic(auto, using(crate::proofs::LawLemmas::one_section))]
+pub fn text_and_spans_decide()
+    ensures { (one other : AssembledParts) → IsAssembled one → IsAssembled other → one.image.text ≡ other.image.text
+        → one.spans ≡ other.spans → one.resolved ≡ other.resolved }
+{}
+
+/// With all spans called data, the disassembly of a section with an instruction isn't its resolved lines.
+pub fn kinds_are_needed()
+    ensures { (parts : AssembledParts) → IsAssembled parts → list_any is_code parts.resolved ≡ true
+        → lines parts.image.text (map as_data parts.spans) ≢ parts.resolved }
+{}

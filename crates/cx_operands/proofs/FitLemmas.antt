@@ -1,0 +1,43 @@
+-- What is read fits its field.
+use Rattle.std.proofs.Common.{◌≡◌, ℕ, ℤ, ◌≤◌, Option, Some, None, List, [], ◌∷◌, Ok, Err, arith}
+use Rattle.std.specs.Prelude.{Result}
+use Rattle.std.proofs.lemmas.Bool.Decides.{nat_tests}
+use Rattle.cx_terms.specs.declared.values.Value.{Value}
+use Rattle.cx_terms.specs.declared.faults.FaultKind.{FaultKind}
+use Rattle.cx_operands.specs.Judging.{both, judged}
+use Rattle.cx_operands.specs.Storage.{addressed, counted_by, implied_length}
+use Rattle.cx_operands.specs.declared.addresses.Address.{Address}
+use Rattle.cx_operands.specs.Context.{Context, worth, number_to, number_at_most, number_in}
+
+pub number_to_fits : (most : ℕ) (section : Option (List ℕ)) (number : ℤ) (n : ℕ) → number_to most section number ≡ Ok n → n ≤ most
+number_to_fits most None number n e = grind (arith, nat_tests)
+number_to_fits most (Some section) number n e = cc
+
+judged_fits : (most : ℕ) (value : Result Value FaultKind) (n : ℕ) → judged (number_at_most most) value ≡ Ok n → n ≤ most
+judged_fits most (Ok value) n e = number_to_fits most value.section value.number n e
+judged_fits most (Err fault) n e = cc
+
+pub number_fits : (most : ℕ) (c : Context) (text : List ℕ) (n : ℕ) → number_in most c text ≡ Ok n → n ≤ most
+unfolding number_in
+number_fits most c text n e = judged_fits most (worth c text) n e
+
+length_fits : (most : ℕ) (place : Result Value FaultKind) (n : ℕ) → judged (implied_length most) place ≡ Ok n → n ≤ most
+length_fits most (Ok value) n e = grind (arith, nat_tests)
+length_fits most (Err fault) n e = cc
+
+-- the first of two that are judged
+pub both_first : {A B : Type 0} (one : Result A FaultKind) (other : Result B FaultKind) (v : A × B) → both one other ≡ Ok v → one ≡ Ok v.0
+both_first (Ok a) (Ok b) v e = grind arith
+both_first (Ok a) (Err f) v e = cc
+both_first (Err f) (Ok b) v e = cc
+both_first (Err f) (Err g) v e = cc
+
+pub both_second : {A B : Type 0} (one : Result A FaultKind) (other : Result B FaultKind) (v : A × B) → both one other ≡ Ok v → other ≡ Ok v.1
+both_second (Ok a) (Ok b) v e = grind arith
+both_second (Ok a) (Err f) v e = cc
+both_second (Err f) (Ok b) v e = cc
+both_second (Err f) (Err g) v e = cc
+
+pub counted_fits : (most : ℕ) (c : Context) (place : Result Value FaultKind) (texts : List (List ℕ)) (v : ℕ × Address) → counted_by most c place texts ≡ Ok v → v.0 ≤ most
+counted_fits most c place [] v e = length_fits most place v.0 (both_first (judged (implied_length most) place) (addressed c place []) v e)
+counted_fits most c place (t ∷ ts) v e = number_fits most c t v.0 (both_first (number_in most c t) (addressed c place ts) v e)

@@ -1,0 +1,65 @@
+-- What an expression is worth stays within the bound of all numbers.
+use Rattle.std.proofs.Common.{◌≡◌, ℕ, ℤ, pos, ◌≤◌, ◌^◌, Option, Some, None, List, [], ◌∷◌, Ok, Err, refl, arith}
+use Rattle.std.specs.Prelude.{Result, unsigned_abs, option_and_then}
+use Rattle.std.proofs.lemmas.Bool.Decides.{nat_tests}
+use Rattle.cx_terms.specs.Digits.{bound}
+use Rattle.cx_terms.specs.Terms.{Term, terms_of}
+use Rattle.cx_terms.specs.Symbols.{find_in}
+use Rattle.cx_terms.specs.Weights.{relocation}
+use Rattle.cx_terms.specs.Expressions.{within_bound, with_sign, sum_from, located, leading_length, summed, unless, lowest_fault, values_of, valued, value_of}
+use Rattle.cx_terms.specs.declared.values.Value.{Value}
+use Rattle.cx_terms.specs.declared.expressions.Signed.{Signed}
+use Rattle.cx_terms.specs.declared.faults.FaultKind.{FaultKind}
+use Rattle.cx_operands.specs.Judging.{judged}
+use Rattle.cx_operands.specs.Directives.{place_at, place_in}
+use Rattle.cx_operands.specs.Context.{Context, worth}
+
+within_small : (t n : ℤ) → within_bound t ≡ Some n → unsigned_abs n ≤ bound
+within_small t n e = grind (arith, nat_tests)
+
+sum_step : (w : Option ℤ) (vs : List Signed) (n : ℤ) → ((t : ℤ) → w ≡ Some t → unsigned_abs t ≤ bound)
+    → ((t m : ℤ) → unsigned_abs t ≤ bound → sum_from t vs ≡ Some m → unsigned_abs m ≤ bound)
+    → option_and_then (λ sum. sum_from sum vs) w ≡ Some n → unsigned_abs n ≤ bound
+sum_step None vs n small behind e = cc
+sum_step (Some t) vs n small behind e = behind t n (small t refl) e
+
+sum_small : (vs : List Signed) (t n : ℤ) → unsigned_abs t ≤ bound → sum_from t vs ≡ Some n → unsigned_abs n ≤ bound
+sum_small [] t n small e = grind arith
+sum_small (v ∷ vs) t n small e =
+    sum_step (within_bound (with_sign v.sign t v.value.number)) vs n (λ s i. within_small (with_sign v.sign t v.value.number) s i) (sum_small vs) e
+
+located_number : (sum : Option ℤ) (section : Option (Option (List ℕ))) (length : ℕ) (v : Value) → located sum section length ≡ Ok v → sum ≡ Some v.number
+located_number None section length v e = cc
+located_number (Some n) None length v e = cc
+located_number (Some n) (Some s) length v e = grind arith
+
+summed_small : (vs : List Signed) (v : Value) → summed vs ≡ Ok v → unsigned_abs v.number ≤ bound
+unfolding summed
+summed_small vs v e =
+    sum_small vs (pos 0) v.number (grind arith) (located_number (sum_from (pos 0) vs) (relocation vs) (leading_length vs) v e)
+
+unless_small : (fault : Option FaultKind) (vs : List Signed) (v : Value) → unless fault (summed vs) ≡ Ok v → unsigned_abs v.number ≤ bound
+unless_small None vs v e = summed_small vs v e
+unless_small (Some fault) vs v e = cc
+
+valued_small : (find : List ℕ → Option Value) (here : Option Value) (terms : Option (List Term)) (v : Value) → valued find here terms ≡ Ok v → unsigned_abs v.number ≤ bound
+valued_small find here None v e = cc
+valued_small find here (Some terms) v e = unless_small (lowest_fault find here terms) (values_of find here terms) v e
+
+pub worth_small : (c : Context) (text : List ℕ) (v : Value) → worth c text ≡ Ok v → unsigned_abs v.number ≤ bound
+unfolding value_of
+worth_small c text v e = valued_small (find_in c.symbols) c.here (terms_of text) v e
+
+place_number : (section : Option (List ℕ)) (number : ℤ) (p : List ℕ × ℤ) → place_at section number ≡ Ok p → number ≡ p.1
+place_number None number p e = cc
+place_number (Some s) number p e = grind arith
+
+judged_place : (w : Result Value FaultKind) (p : List ℕ × ℤ) → ((v : Value) → w ≡ Ok v → unsigned_abs v.number ≤ bound) → judged place_in w ≡ Ok p → unsigned_abs p.1 ≤ bound
+judged_place (Ok v) p small e =
+    let low = small v refl in
+    let same = place_number v.section v.number p e in
+    rw same at low
+judged_place (Err fault) p small e = cc
+
+pub place_small : (c : Context) (text : List ℕ) (p : List ℕ × ℤ) → judged place_in (worth c text) ≡ Ok p → unsigned_abs p.1 ≤ 2 ^ 100
+place_small c text p e = judged_place (worth c text) p (worth_small c text) e

@@ -1,0 +1,52 @@
+-- The base register and displacement that stand for a place (GC33-4010, "USING -- Use Base Address Register", "Addressing").
+use Rattle.std.specs.Prelude.{ℕ, ℤ, pos, ◌-ℤ◌, ◌+◌, int_le, unsigned_abs, ◌&&◌, nat_lt, if◌then◌else◌, Option, Some, None, Result, List, [], ◌∷◌, option_map}
+use Rattle.std.specs.Option.{ok_or}
+use Rattle.cx_terms.specs.Names.{is_same}
+use Rattle.cx_terms.specs.declared.values.Value.{Value}
+use Rattle.cx_terms.specs.declared.faults.FaultKind.{FaultKind}
+use Rattle.cx_terms.specs.declared.faults.FaultKind.TheVariants.{NoAddressability, ValueOutOfRange}
+use Rattle.cx_operands.specs.Bases.{Bases}
+use Rattle.cx_operands.specs.declared.bases.Base.{Base}
+use Rattle.cx_operands.specs.declared.addresses.Address.{Address}
+
+abbrev pub address : ℕ → ℕ → Address
+address register displacement = record { base = register; displacement = displacement }
+
+-- a displacement is 0 to 4,095
+abbrev pub displacement_of : ℤ → Option ℕ
+displacement_of distance =
+    if int_le (pos 0) distance && int_le distance (pos 4095) then Some (unsigned_abs distance) else None
+
+-- the address of a place by one register, where it is in use for the place's section and near enough before the place
+abbrev pub reached : List ℕ → ℤ → ℕ → Option Base → Option Address
+reached section number register None = None
+reached section number register (Some base) =
+    if is_same base.section section then option_map (address register) (displacement_of (number -ℤ base.number)) else None
+
+-- Of two addresses the one with the smaller displacement; of equal ones the second, whose register is higher.
+abbrev pub nearer : Option Address → Option Address → Option Address
+nearer None other = other
+nearer (Some one) None = Some one
+nearer (Some one) (Some other) = if nat_lt one.displacement other.displacement then Some one else Some other
+
+-- the nearest by the registers from this one on, and by what was found before
+abbrev pub nearest_from : Option Address → ℕ → List ℕ → ℤ → Bases → Option Address
+nearest_from found register section number [] = found
+nearest_from found register section number (base ∷ bases) =
+    nearest_from (nearer found (reached section number register base)) (register + 1) section number bases
+
+-- The address of a place: of the registers in use for its section that reach it, the one with the smallest displacement, and of those the highest. The law `an_implied_address_is_nearest` says it without a walk.
+unfoldable pub nearest : Bases → List ℕ → ℤ → Option Address
+nearest bases section number = nearest_from None 0 section number bases
+
+-- An absolute number stands for itself, with register 0 as base, whatever is in use.
+abbrev pub absolute_address : ℤ → Result Address FaultKind
+absolute_address number = ok_or (option_map (address 0) (displacement_of number)) ValueOutOfRange
+
+abbrev pub address_in : Bases → Option (List ℕ) → ℤ → Result Address FaultKind
+address_in bases None number = absolute_address number
+address_in bases (Some section) number = ok_or (nearest bases section number) NoAddressability
+
+-- the implied address of a value
+abbrev pub implied_address : Bases → Value → Result Address FaultKind
+implied_address bases value = address_in bases value.section value.number

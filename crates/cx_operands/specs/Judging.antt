@@ -1,0 +1,30 @@
+-- Several operands judged together: of all their faults the lowest is told (own).
+use Rattle.std.specs.Prelude.{nat_le, if◌then◌else◌, Option, Some, None, Result, Ok, Err}
+use Rattle.cx_terms.specs.Faults.{number_of}
+use Rattle.cx_terms.specs.declared.faults.FaultKind.{FaultKind}
+
+-- the one of two faults with the lower number
+abbrev pub lower_of : FaultKind → FaultKind → FaultKind
+lower_of one other = if nat_le (number_of one) (number_of other) then one else other
+
+-- both values, or the lower of the faults
+abbrev pub both : {A B : Type 0} → Result A FaultKind → Result B FaultKind → Result (A × B) FaultKind
+both (Ok one) (Ok other) = Ok (one, other)
+both (Ok one) (Err fault) = Err fault
+both (Err fault) (Ok other) = Err fault
+both (Err one) (Err other) = Err (lower_of one other)
+
+-- what is made of a value, where there is one
+abbrev pub made_of : {A B : Type 0} → (A → B) → Result A FaultKind → Result B FaultKind
+made_of make (Ok value) = Ok (make value)
+made_of make (Err fault) = Err fault
+
+-- what is judged of a value, where there is one
+abbrev pub judged : {A B : Type 0} → (A → Result B FaultKind) → Result A FaultKind → Result B FaultKind
+judged judge (Ok value) = judge value
+judged judge (Err fault) = Err fault
+
+-- a value, unless there is a fault
+abbrev pub unless : {A : Type 0} → Option FaultKind → A → Result A FaultKind
+unless None value = Ok value
+unless (Some fault) value = Err fault

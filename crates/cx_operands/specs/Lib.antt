@@ -1,0 +1,18 @@
+-- The definitions, in reading order.
+pub mod Judging
+pub mod Bases
+pub mod Addresses
+pub mod Context
+pub mod Storage
+pub mod Forms
+pub mod Directives
+pub mod Values
+pub mod Laws
+pub use Rattle.cx_terms.specs.Faults
+pub use Rattle.cx_terms.specs.Symbols
+pub use Rattle.cx_terms.specs.Expressions
+pub use Rattle.cx_terms.specs.Items
+pub use Rattle.cx_terms.specs.Bytes
+pub use Rattle.cx_code.specs.Table
+pub use Rattle.cx_code.specs.Spelling
+pub use Rattle.cx_operations.specs.Operations

@@ -1,0 +1,105 @@
+-- Storage operands (GC33-4010, "Operand Fields and Subfields"; GA22-7000 gives the formats).
+use Rattle.std.specs.Prelude.{ℕ, ◌-◌, Bool, true, ◌==◌, nat_le, if◌then◌else◌, Option, Some, None, Result, Ok, Err, List, [], ◌∷◌, length, map, take, drop, slice_index, option_map}
+use Rattle.std.specs.Option.{ok_or, option_map_or}
+use Rattle.std.specs.Result.{result_err}
+use Rattle.cx_source.specs.Marks.{first_mark, parts}
+use Rattle.cx_source.specs.declared.marks.Mark.TheVariants.{Comma, Parenthesis}
+use Rattle.cx_terms.specs.Faults.{lower, lowest}
+use Rattle.cx_terms.specs.Items.{parenthesized_body}
+use Rattle.cx_terms.specs.declared.values.Value.{Value}
+use Rattle.cx_terms.specs.declared.faults.FaultKind.{FaultKind}
+use Rattle.cx_terms.specs.declared.faults.FaultKind.TheVariants.{BadOperand, ValueOutOfRange}
+use Rattle.cx_operands.specs.Judging.{both, judged, made_of, lower_of}
+use Rattle.cx_operands.specs.Addresses.{address, implied_address}
+use Rattle.cx_operands.specs.Context.{Context, worth, number_in, number_at_most, register_in}
+use Rattle.cx_operands.specs.declared.addresses.Address.{Address}
+
+-- A storage operand as it is written: what stands before the parentheses is worth this, or has a fault; and the parts in the parentheses, none without them.
+pub record Operand : Type 0 where
+  pub place : Result Value FaultKind
+  pub subfields : List (List ℕ)
+
+abbrev pub operand : Result Value FaultKind → List (List ℕ) → Operand
+operand place subfields = record { place = place; subfields = subfields }
+
+-- an expression, and perhaps one list in parentheses behind it, which ends the text
+abbrev pub expression_and_list : List ℕ → Option (List ℕ × Option (List ℕ))
+expression_and_list text =
+    let at = first_mark Parenthesis text in
+    if at == length text then Some (text, None)
+    else option_map (λ body. (take at text, Some body)) (parenthesized_body (drop at text))
+
+abbrev pub subfields_of : Option (List ℕ) → List (List ℕ)
+subfields_of None = []
+subfields_of (Some body) = parts Comma body
+
+abbrev pub written_operand : Context → List ℕ × Option (List ℕ) → Operand
+written_operand c written = operand (worth c written.0) (subfields_of written.1)
+
+abbrev pub is_literal : List ℕ → Bool
+is_literal text = slice_index text 0 == 61
+
+-- A literal stands for its place, where one may stand here. None where the text is no storage operand.
+unfoldable pub operand_in : Bool → Context → List ℕ → Option Operand
+operand_in takes_literal c text =
+    if is_literal text then (if takes_literal then Some (operand (ok_or c.literal BadOperand) []) else None)
+    else option_map (written_operand c) (expression_and_list text)
+
+-- ---- base and displacement
+-- with a base written, the expression is a displacement
+abbrev pub explicit_address : Context → Result Value FaultKind → List ℕ → Result Address FaultKind
+explicit_address c place base =
+    made_of (λ v. address v.1 v.0) (both (judged (number_at_most 4095) place) (register_in c base))
+
+-- the lowest fault of expressions
+abbrev pub worths_fault : Context → List (List ℕ) → Option FaultKind
+worths_fault c texts = lowest (map (λ text. result_err (worth c text)) texts)
+
+-- subfields that the operand has no room for: BadOperand, beside their own faults and those of the rest
+abbrev pub crowded : Context → Result Address FaultKind → List (List ℕ) → Result Address FaultKind
+crowded c addressed more =
+    Err (option_map_or (lower_of BadOperand) (lower (result_err addressed) (worths_fault c more)) BadOperand)
+
+-- by what stands in the parentheses at the place of a base: nothing, a base, or too much
+abbrev pub addressed : Context → Result Value FaultKind → List (List ℕ) → Result Address FaultKind
+addressed c place [] = judged (implied_address c.bases) place
+addressed c place (base ∷ []) = explicit_address c place base
+addressed c place (base ∷ other ∷ more) = crowded c (explicit_address c place base) (other ∷ more)
+
+-- ---- S, D(B)
+abbrev pub plain : Context → Operand → Result Address FaultKind
+plain c operand = addressed c operand.place operand.subfields
+
+-- ---- S, S(X), D(X,B)
+abbrev pub indexed_by : Context → Result Value FaultKind → List (List ℕ) → Result (ℕ × Address) FaultKind
+indexed_by c place [] = both (Ok 0) (addressed c place [])
+indexed_by c place (index ∷ base) = both (register_in c index) (addressed c place base)
+
+abbrev pub indexed : Context → Operand → Result (ℕ × Address) FaultKind
+indexed c operand = indexed_by c operand.place operand.subfields
+
+-- ---- S, S(L), D(L,B)
+-- the field of a length: one less, where it isn't 0
+abbrev pub length_field : ℕ → ℕ
+length_field count = count - 1
+
+-- the length attribute of what stands before the parentheses
+abbrev pub implied_length : ℕ → Value → Result ℕ FaultKind
+implied_length most value = if nat_le value.length most then Ok value.length else Err ValueOutOfRange
+
+abbrev pub counted_by : ℕ → Context → Result Value FaultKind → List (List ℕ) → Result (ℕ × Address) FaultKind
+counted_by most c place [] = both (judged (implied_length most) place) (addressed c place [])
+counted_by most c place (count ∷ base) = both (number_in most c count) (addressed c place base)
+
+abbrev pub counted : ℕ → Context → Operand → Result (ℕ × Address) FaultKind
+counted most c operand = made_of (λ v. (length_field v.0, v.1)) (counted_by most c operand.place operand.subfields)
+
+-- ---- the text of a storage operand of each kind; one that can't be read is BadOperand alone
+unfoldable pub plain_in : Bool → Context → List ℕ → Result Address FaultKind
+plain_in takes_literal c text = option_map_or (plain c) (operand_in takes_literal c text) (Err BadOperand)
+
+unfoldable pub indexed_in : Context → List ℕ → Result (ℕ × Address) FaultKind
+indexed_in c text = option_map_or (indexed c) (operand_in true c text) (Err BadOperand)
+
+unfoldable pub counted_in : ℕ → Bool → Context → List ℕ → Result (ℕ × Address) FaultKind
+counted_in most takes_literal c text = option_map_or (counted most c) (operand_in takes_literal c text) (Err BadOperand)

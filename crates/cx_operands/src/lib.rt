@@ -1,0 +1,19 @@
+//! What one assembler statement's operands make: instructions, bases, values.
+#![tactic(auto)]
+
+mod addresses;
+mod bases;
+mod context;
+mod directives;
+mod forms;
+mod judging;
+pub mod laws;
+mod storage;
+mod values;
+
+pub use addresses::Address;
+pub use bases::{Base, Bases, Dropped, Using};
+pub use context::Context;
+pub use directives::{copy_fault, read_drop, read_entry, read_using};
+pub use forms::{literal_in, resolve};
+pub use values::item_bytes;

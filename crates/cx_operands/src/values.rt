@@ -1,0 +1,32 @@
+//! The values of items of DC, DS and literals.
+
+ghost use Rattle.std.specs.Option.{option_copied};
+ghost use Rattle.cx_terms.specs.Expressions.{Answers};
+ghost use Rattle.cx_operands.specs.Values.{item_in};
+
+use cx_ebcdic::Name8;
+use cx_terms::{Constant, ConstantBytes, SymbolTable, TermFault, Value};
+use std::alloc::Global;
+
+/// The bytes of one copy of an item of a DS (`is_ds`), or of a DC or a literal without its equals sign, and whether they are
+/// a word to which the load address is added: `here` is what the location counter stands at for the item, and `control`
+/// the control section, if there is one (GC33-4010, "DC -- Define Constant").
+///
+/// The faults are those of reading the item (`Constant::read`), and else the lowest of its values' (`Constant::bytes`).
+/// Memory comes only where a growth was refused.
+#[tactic(auto, unfolding(crate::specs::Values::item_in))]
+pub fn item_bytes(
+    alloc: Global,
+    text: &[u8],
+    is_ds: bool,
+    symbols: &SymbolTable,
+    here: Option<&Value>,
+    control: Option<Name8>,
+) -> Result<ConstantBytes, TermFault>
+    ensures { Answers (item_in is_ds symbols.now (option_copied here.entry) control text.now) result }
+{
+    match Constant::read(text, is_ds) {
+        Ok(item) => item.bytes(alloc, symbols, here, control),
+        Err(fault) => Err(TermFault::Refused(fault)),
+    }
+}

@@ -1,0 +1,98 @@
+//! Implied addresses by the USINGs and DROPs before a statement.
+use crate::world::{assembled, end_use, is_refused, makes, put_in_use, table};
+use cx_code::CodeBytes;
+use cx_operands::Bases;
+use cx_terms::{FaultKind, SymbolTable, TermFault};
+use std::alloc::Global;
+use std::test::Fail;
+
+/// Two USINGs, the second perhaps left out, and the bytes of an LA of an operand.
+const REACHED: [(&[u8], &[u8], &[u8], &[u8]); 10] = [
+    (b"P,5", b"P+4,6", b"1,X", b"\x41\x10\x60\x04"),
+    (b"P+4,5", b"P+4,6", b"1,X", b"\x41\x10\x60\x04"),
+    (b"P+4,6", b"P+4,5", b"1,X", b"\x41\x10\x60\x04"),
+    (b"X,5,6", b"", b"1,X+5000", b"\x41\x10\x63\x88"),
+    (b"X,5,6", b"", b"1,X+4095", b"\x41\x10\x5F\xFF"),
+    (b"P,5", b"P+4,5", b"1,X", b"\x41\x10\x50\x04"),
+    (b"P,0", b"", b"1,X", b"\x41\x10\x00\x08"),
+    (b"P,5,5", b"", b"1,FAR", b"\x41\x10\x50\x00"),
+    (b"Q,7", b"P,5", b"1,X", b"\x41\x10\x50\x08"),
+    (b"P,5", b"", b"1,8(0)", b"\x41\x10\x00\x08"),
+];
+
+/// Two USINGs, and an operand of an LA that no register reaches.
+const NOT_REACHED: [(&[u8], &[u8], &[u8]); 5] = [
+    (b"P,5", b"", b"1,FAR"),
+    (b"P+12,5", b"", b"1,X"),
+    (b"P,5,5", b"", b"1,X"),
+    (b"Q,5", b"", b"1,X"),
+    (b"P,5", b"P+4,5", b"1,P"),
+];
+
+fn behind_two(
+    alloc: Global,
+    symbols: &SymbolTable,
+    first: &[u8],
+    second: &[u8],
+    operand: &[u8],
+) -> Result<CodeBytes, TermFault> {
+    let mut bases = Bases::new();
+    put_in_use(alloc, symbols, &mut bases, first)?;
+    put_in_use(alloc, symbols, &mut bases, second)?;
+    assembled(alloc, symbols, &bases, b"LA", operand)
+}
+
+#[test]
+fn a_place_has_the_nearest_address(rt: HostRuntime) -> Result<(), Fail> {
+    let alloc = rt.alloc();
+    let Some(symbols) = table(alloc) else {
+        return Ok(());
+    };
+    for (first, second, operand, bytes) in REACHED {
+        assert!(rt; makes(behind_two(alloc, &symbols, first, second, operand), bytes));
+    }
+    for (first, second, operand) in NOT_REACHED {
+        let made = behind_two(alloc, &symbols, first, second, operand);
+        assert!(rt; is_refused(made, FaultKind::NoAddressability));
+    }
+    Ok(())
+}
+
+#[test]
+fn a_dropped_register_is_no_base(rt: HostRuntime) -> Result<(), Fail> {
+    let alloc = rt.alloc();
+    let Some(symbols) = table(alloc) else {
+        return Ok(());
+    };
+    let mut bases = Bases::new();
+    put_in_use(alloc, &symbols, &mut bases, b"P,5,7")?;
+    put_in_use(alloc, &symbols, &mut bases, b"P+4,6")?;
+    assert!(rt; end_use(alloc, &symbols, &mut bases, b"6,9")?.is_none());
+    assert!(rt;
+        makes(
+            assembled(alloc, &symbols, &bases, b"LA", b"1,X"),
+            b"\x41\x10\x50\x08"
+        )
+    );
+    let faulty = end_use(alloc, &symbols, &mut bases, b"5,16")?;
+    assert!(rt; faulty == Some(FaultKind::ValueOutOfRange));
+    assert!(rt;
+        makes(
+            assembled(alloc, &symbols, &bases, b"LA", b"1,X"),
+            b"\x41\x10\x50\x08"
+        )
+    );
+    assert!(rt; end_use(alloc, &symbols, &mut bases, b"5")?.is_none());
+    let near = assembled(alloc, &symbols, &bases, b"LA", b"1,X");
+    assert!(rt; is_refused(near, FaultKind::NoAddressability));
+    assert!(rt;
+        makes(
+            assembled(alloc, &symbols, &bases, b"LA", b"1,FAR"),
+            b"\x41\x10\x70\x00"
+        )
+    );
+    assert!(rt; end_use(alloc, &symbols, &mut bases, b"")?.is_none());
+    let far = assembled(alloc, &symbols, &bases, b"LA", b"1,FAR");
+    assert!(rt; is_refused(far, FaultKind::NoAddressability));
+    Ok(())
+}

@@ -1,0 +1,2 @@
+pub mod Operations
+pub use Rattle.cx_code.specs.Table

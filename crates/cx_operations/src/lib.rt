@@ -1,0 +1,7 @@
+//! The operations of assembler statements.
+#![tactic(auto)]
+
+pub mod laws;
+mod operations;
+
+pub use operations::{Branch, Directive, Operation, RegisterBranch};

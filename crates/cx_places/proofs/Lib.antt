@@ -1,0 +1,6 @@
+pub mod LayoutLemmas
+pub mod FaultLemmas
+pub mod SymbolLemmas
+pub mod LengthLemmas
+pub mod TakeLemmas
+pub mod FirstLemmas

@@ -1,0 +1,80 @@
+-- Symbols that keep their first values.
+use Rattle.std.proofs.Common.{◌≡◌, ℕ, Bool, true, false, cond, Option, Some, None, List, [], ◌∷◌, refl, sym, ◌∙◌, ap}
+use Rattle.std.specs.Prelude.{◌||◌, is_some}
+use Rattle.std.specs.List.{cons_option}
+use Rattle.std.specs.Option.{option_or}
+use Rattle.cx_ebcdic.specs.Facts.Names.{is_name-decides, is_name-laws}
+use Rattle.cx_terms.specs.Names.{is_same}
+use Rattle.cx_terms.specs.Symbols.{Symbols, Defines, find_in}
+use Rattle.cx_terms.specs.declared.values.Value.{Value}
+use Rattle.cx_places.specs.Given.{NumberRow, is_any_known, row_symbol, row_symbols}
+
+absent : (a : Option Value) → is_some a ≡ false → a ≡ None
+absent None e = refl
+absent (Some x) e = let f : true ≡ false = e in cc
+
+first_false : (a b : Bool) → (a || false) ≡ false → (a || b) ≡ b
+first_false true b e = cc
+first_false false b e = refl
+
+first_true : (a b : Bool) → (a || false) ≡ true → (a || b) ≡ true
+first_true true b e = refl
+first_true false b e = cc
+
+or_none : (a : Option Value) → a ≡ option_or a None
+or_none None = refl
+or_none (Some x) = refl
+
+or_other : (b : Bool) (a : Option Value) (v : Value) → (b ≡ true → a ≡ None) → cond b (Some v) a ≡ option_or a (cond b (Some v) None)
+or_other true a v none = rw (none refl) refl
+or_other false a v none = or_none a
+
+or_same : (b : Bool) (a : Option Value) (v : Value) → (b ≡ true → is_some a ≡ true) → a ≡ option_or a (cond b (Some v) None)
+or_same false a v some = or_none a
+or_same true None v some = let e : false ≡ true = some refl in cc
+or_same true (Some x) v some = refl
+
+-- a name that has a value keeps it
+pub kept : (old : Symbols) (name : List ℕ) (value : Value) (other : List ℕ) → is_some (find_in old name) ≡ true
+    → find_in old other ≡ option_or (find_in old other) (find_in ((name, value) ∷ []) other)
+kept old name value other some =
+    or_same (is_same other name) (find_in old other) value (λ e. ap (λ n. is_some (find_in old n)) ((is_name-decides other name).0 e) ∙ some)
+
+-- one that has none gets it
+pub defined : (old new : Symbols) (name : List ℕ) (value : Value) (other : List ℕ) → is_some (find_in old name) ≡ false → Defines old name value new
+    → find_in new other ≡ option_or (find_in old other) (find_in ((name, value) ∷ []) other)
+defined old new name value other none defines =
+    defines other ∙ ap (λ b. cond b (Some value) (find_in old other)) (is_name-laws.symm name other)
+    ∙ or_other (is_same other name) (find_in old other) value (λ e. absent (find_in old other) (ap (λ n. is_some (find_in old n)) ((is_name-decides other name).0 e) ∙ none))
+
+found_more : (b : Bool) (a : Option Value) (v : Value) (rest : Option Value) → option_or (option_or a (cond b (Some v) None)) rest ≡ option_or a (cond b (Some v) rest)
+found_more b (Some x) v rest = refl
+found_more true None v rest = refl
+found_more false None v rest = refl
+
+one_more : (a : Option Value) (one : Option (List ℕ × Value)) (rest : Symbols) (other : List ℕ)
+    → option_or (option_or a (find_in (cons_option one []) other)) (find_in rest other) ≡ option_or a (find_in (cons_option one rest) other)
+one_more a None rest other = ap (λ x. option_or x (find_in rest other)) (sym (or_none a))
+one_more a (Some d) rest other = found_more (is_same other d.0) a d.1 (find_in rest other)
+
+pub row_more : (a : Option Value) (row : NumberRow) (rows : List NumberRow) (other : List ℕ)
+    → option_or (option_or a (find_in (row_symbols (row ∷ [])) other)) (find_in (row_symbols rows) other) ≡ option_or a (find_in (row_symbols (row ∷ rows)) other)
+row_more a row rows other = one_more a (row_symbol row) (row_symbols rows) other
+
+known_more : (find : List ℕ → Option Value) (one : Option (List ℕ × Value)) (rest : Symbols) → is_any_known find (cons_option one []) ≡ false
+    → is_any_known find (cons_option one rest) ≡ is_any_known find rest
+known_more find None rest e = refl
+known_more find (Some d) rest e = first_false (is_some (find d.0)) (is_any_known find rest) e
+
+pub row_unknown : (find : List ℕ → Option Value) (row : NumberRow) (rows : List NumberRow) → is_any_known find (row_symbols (row ∷ [])) ≡ false
+    → is_any_known find (row_symbols (row ∷ rows)) ≡ is_any_known find (row_symbols rows)
+row_unknown find row rows e = known_more find (row_symbol row) (row_symbols rows) e
+
+known_first : (find : List ℕ → Option Value) (one : Option (List ℕ × Value)) (rest : Symbols) → is_any_known find (cons_option one []) ≡ true
+    → is_any_known find (cons_option one rest) ≡ true
+known_first find None rest e = cc
+known_first find (Some d) rest e = first_true (is_some (find d.0)) (is_any_known find rest) e
+
+pub row_known : (find : List ℕ → Option Value) (row : NumberRow) (rows : List NumberRow) → is_any_known find (row_symbols (row ∷ [])) ≡ true
+    → is_any_known find (row_symbols (row ∷ rows)) ≡ true
+row_known find row rows e = known_first find (row_symbol row) (row_symbols rows) e

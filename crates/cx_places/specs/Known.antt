@@ -1,0 +1,207 @@
+-- What the statements behind one tell of it, the latest first (GC33-4010, "CSECT", "DSECT", "EQU", "LTORG" and "Literal Pool"; the faults are
+-- this product's own).
+use Rattle.std.specs.Prelude.{ℕ, Bool, false, not, ◌==◌, nat_le, if◌then◌else◌, Option, Some, None, option_map, Result, List, [], ◌∷◌, ◌++◌, length, is_some}
+use Rattle.std.specs.Option.{option_or}
+use Rattle.std.specs.Result.{result_err}
+use Rattle.cx_operations.specs.Operations.{operation_named}
+use Rattle.cx_source.specs.Marks.{parts}
+use Rattle.cx_source.specs.declared.marks.Mark.TheVariants.{TopComma}
+use Rattle.cx_source.specs.declared.source.Stmt.{Stmt}
+use Rattle.cx_source.specs.declared.source.Item.{Item}
+use Rattle.cx_terms.specs.Faults.{lower, lowest, number_of}
+use Rattle.cx_terms.specs.Names.{is_same, symbol_name}
+use Rattle.cx_terms.specs.Symbols.{Symbols, find_in}
+use Rattle.cx_terms.specs.Weights.{stands_in}
+use Rattle.cx_terms.specs.declared.faults.FaultKind.{FaultKind}
+use Rattle.cx_terms.specs.declared.faults.FaultKind.TheVariants.{UnknownOperation, BadOperand}
+use Rattle.cx_terms.specs.declared.values.Value.{Value}
+use Rattle.cx_pools.specs.Pools.{Pooled, Placed, capped, lowest_part, placed, pool_extent, with_parts}
+use Rattle.cx_places.specs.Roles.{role_of}
+use Rattle.cx_places.specs.Layout.{beyond, laid}
+use Rattle.cx_places.specs.Given.{definitions, duplicate, value_given, value_in}
+use Rattle.cx_places.specs.declared.layout.Laid.{Laid}
+use Rattle.cx_places.specs.declared.place.Place.{Place}
+use Rattle.cx_places.specs.declared.place.LineFault.{LineFault}
+use Rattle.cx_places.specs.declared.roles.Role.{Role}
+use Rattle.cx_places.specs.declared.roles.Role.TheVariants.{Unknown, Instruction, Control, Dummy, Equate, Storage, Pool}
+
+-- What statements tell of the one behind them.
+pub record Known : Type 0 where
+  -- the section that it stands in, and the control section
+  pub section : Option (List ℕ)
+  pub control : Option (List ℕ)
+  -- the length of each section so far
+  pub lengths : List ℕ → ℕ
+  -- the value of each symbol so far
+  pub symbols : List ℕ → Option Value
+  -- the literals of the open pool, and the pools that are closed
+  pub pool : Pooled
+  pub pools : List Placed
+  -- where each of them stands
+  pub places : List Place
+  -- the first fault so far
+  pub fault : Option LineFault
+
+-- without a statement
+abbrev pub at_start : Known
+at_start =
+    record { section = None; control = None; lengths = λ name. 0; symbols = λ name. None; pool = []; pools = []; places = []; fault = None }
+
+-- ---- a statement
+abbrev pub role_in : Stmt → Role
+role_in stmt = role_of (operation_named stmt.operation)
+
+abbrev pub name_in : Stmt → Option (List ℕ)
+name_in stmt = symbol_name stmt.name
+
+abbrev pub parts_in : Stmt → List (List ℕ)
+parts_in stmt = parts TopComma stmt.operand
+
+-- the length of a section so far; 0 where there is none
+abbrev pub length_of_section : Option (List ℕ) → (List ℕ → ℕ) → ℕ
+length_of_section None lengths = 0
+length_of_section (Some name) lengths = lengths name
+
+-- the next offset in the section
+abbrev pub next_in : Known → ℕ
+next_in known = capped (length_of_section known.section known.lengths)
+
+abbrev pub laid_in : Stmt → Known → Laid
+laid_in stmt known = laid (role_in stmt) (parts_in stmt) (pool_extent known.pool) (next_in known)
+
+abbrev pub given_in : Stmt → Known → Result (Option Value) FaultKind
+given_in stmt known = value_given (role_in stmt) (name_in stmt) known.symbols known.section stmt.operand (laid_in stmt known)
+
+abbrev pub definitions_in : Stmt → Known → Symbols
+definitions_in stmt known =
+    definitions (role_in stmt) (name_in stmt) known.control known.symbols stmt.operand (value_in (given_in stmt known))
+
+-- ---- what is wrong with it
+abbrev pub operation_fault : Role → Option FaultKind
+operation_fault Unknown = Some UnknownOperation
+operation_fault _ = None
+
+-- a name that must be one, and one that may be left out
+abbrev pub bad_name : List ℕ → Option FaultKind
+bad_name text = if is_some (symbol_name text) then None else Some BadOperand
+
+abbrev pub bad_label : List ℕ → Option FaultKind
+bad_label text = if length text == 0 then None else bad_name text
+
+abbrev pub name_fault : Role → List ℕ → Option FaultKind
+name_fault Control text = bad_name text
+name_fault Dummy text = bad_name text
+name_fault Equate text = bad_name text
+name_fault (Instruction size) text = bad_label text
+name_fault (Storage is_ds) text = bad_label text
+name_fault Pool text = bad_label text
+name_fault _ text = None
+
+abbrev pub is_control : Option (List ℕ) → Option (List ℕ) → Bool
+is_control None control = false
+is_control (Some section) control = stands_in section control
+
+-- the control section has another name
+abbrev pub is_second : Option (List ℕ) → Option (List ℕ) → Bool
+is_second (Some name) (Some control) = not (is_same name control)
+is_second name control = false
+
+-- An instruction and LTORG outside the control section, DS and DC before the first section, and a second control section
+abbrev pub section_fault : Role → Option (List ℕ) → Option (List ℕ) → Option (List ℕ) → Option FaultKind
+section_fault (Instruction size) name section control = if is_control section control then None else Some BadOperand
+section_fault Pool name section control = if is_control section control then None else Some BadOperand
+section_fault (Storage is_ds) name section control = if is_some section then None else Some BadOperand
+section_fault Control name section control = if is_second name control then Some BadOperand else None
+section_fault _ name section control = None
+
+-- the literals of an instruction, among them that the pool would go beyond the bound
+abbrev pub extent_fault : Option ℕ → Option FaultKind
+extent_fault None = None
+extent_fault (Some size) = beyond size
+
+abbrev pub literal_fault : Role → ℕ → List (List ℕ) → Pooled → Option FaultKind
+literal_fault (Instruction size) user parts pool = lower (lowest_part parts) (extent_fault (pool_extent (with_parts user pool parts)))
+literal_fault _ user parts pool = None
+
+-- all but the literals
+abbrev pub own_fault : Stmt → Known → Option FaultKind
+own_fault stmt known =
+    lowest (operation_fault (role_in stmt) ∷ name_fault (role_in stmt) stmt.name
+    ∷ section_fault (role_in stmt) (name_in stmt) known.section known.control ∷ (laid_in stmt known).fault ∷ result_err (given_in stmt known)
+    ∷ duplicate known.symbols (definitions_in stmt known) ∷ [])
+
+-- the lowest fault of the statement
+abbrev pub fault_in : Stmt → Known → Option FaultKind
+fault_in stmt known =
+    lower (own_fault stmt known) (literal_fault (role_in stmt) (length known.places) (parts_in stmt) known.pool)
+
+abbrev pub line_fault : ℕ → FaultKind → LineFault
+line_fault line kind = record { line = line; kind = kind }
+
+abbrev pub lower_kind : FaultKind → Option FaultKind → FaultKind
+lower_kind kind None = kind
+lower_kind kind (Some other) = if nat_le (number_of kind) (number_of other) then kind else other
+
+-- The first fault stays; of several on its line it is the lowest.
+abbrev pub met : ℕ → Option FaultKind → Option LineFault → Option LineFault
+met line fault None = option_map (line_fault line) fault
+met line fault (Some first) = Some (if line == first.line then line_fault first.line (lower_kind first.kind fault) else first)
+
+-- ---- what the statement behind it is told besides
+-- CSECT, START and DSECT begin or resume the section of their name.
+abbrev pub section_after : Role → Option (List ℕ) → Option (List ℕ) → Option (List ℕ)
+section_after Control (Some name) section = Some name
+section_after Dummy (Some name) section = Some name
+section_after _ name section = section
+
+-- The first CSECT or START names the control section.
+abbrev pub control_after : Role → Option (List ℕ) → Option (List ℕ) → Option (List ℕ)
+control_after Control name None = name
+control_after _ name control = control
+
+-- An instruction uses its literals, and LTORG closes the pool.
+abbrev pub pool_after : Role → ℕ → List (List ℕ) → Pooled → Pooled
+pool_after (Instruction size) user parts pool = with_parts user pool parts
+pool_after Pool user parts pool = []
+pool_after _ user parts pool = pool
+
+abbrev pub pools_after : Role → ℕ → Pooled → List Placed → List Placed
+pools_after Pool offset pool pools = pools ++ placed (capped offset) pool ∷ []
+pools_after _ offset pool pools = pools
+
+-- where it stands: its section, offset, its items' offsets, and the number of its pool
+abbrev pub place_in : Stmt → Known → Place
+place_in stmt known =
+    record { section = known.section; offset = (laid_in stmt known).offset; items = (laid_in stmt known).items; pool = length known.pools }
+
+-- The statement lengthens its own section alone.
+abbrev pub length_after : Option (List ℕ) → ℕ → (List ℕ → ℕ) → List ℕ → ℕ
+length_after section end lengths name = if stands_in name section then end else lengths name
+
+-- A symbol has the value that the first statement gives it.
+abbrev pub symbol_after : Symbols → (List ℕ → Option Value) → List ℕ → Option Value
+symbol_after symbols find name = option_or (find name) (find_in symbols name)
+
+-- what is known behind a statement of a line
+unfoldable pub after : ℕ → Stmt → Known → Known
+after line stmt known =
+    record {
+      section = section_after (role_in stmt) (name_in stmt) known.section;
+      control = control_after (role_in stmt) (name_in stmt) known.control;
+      lengths = length_after known.section (laid_in stmt known).end known.lengths;
+      symbols = symbol_after (definitions_in stmt known) known.symbols;
+      pool = pool_after (role_in stmt) (length known.places) (parts_in stmt) known.pool;
+      pools = pools_after (role_in stmt) (laid_in stmt known).offset known.pool known.pools;
+      places = known.places ++ place_in stmt known ∷ [];
+      fault = met line (fault_in stmt known) known.fault;
+    }
+
+-- a comment, and a line that continues a statement, tell nothing
+abbrev pub after_line : ℕ → Option Stmt → Known → Known
+after_line line None known = known
+after_line line (Some stmt) known = after line stmt known
+
+-- what lines tell, the latest first
+abbrev pub known_behind : List Item → Known
+known_behind [] = at_start
+known_behind (item ∷ before) = after_line item.line item.stmt (known_behind before)

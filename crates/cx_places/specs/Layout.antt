@@ -1,0 +1,97 @@
+-- Where a statement stands in its section, and what it takes there (GC33-4010, "Location Counter Reference", "DC -- Define Constant",
+-- "DS -- Define Storage" and "Literal Pool").
+use Rattle.std.specs.Prelude.{ℕ, ◌+◌, ◌-◌, ◌*◌, ◌/◌, nat_le, if◌then◌else◌, Bool, Option, Some, None, Result, Ok, Err, List, [], ◌∷◌, map}
+use Rattle.std.specs.Result.{result_err}
+use Rattle.cx_terms.specs.Digits.{bound}
+use Rattle.cx_terms.specs.Faults.{lower, lowest}
+use Rattle.cx_terms.specs.Items.{Constant, constant_in, alignment_of, length_of, size_of}
+use Rattle.cx_terms.specs.declared.faults.FaultKind.{FaultKind}
+use Rattle.cx_terms.specs.declared.faults.FaultKind.TheVariants.{ValueOutOfRange}
+use Rattle.cx_pools.specs.Pools.{capped}
+use Rattle.cx_places.specs.declared.layout.Laid.{Laid}
+use Rattle.cx_places.specs.declared.roles.Role.{Role}
+use Rattle.cx_places.specs.declared.roles.Role.TheVariants.{Unknown, Instruction, Control, Dummy, Equate, Storage, Pool, Registers, Member, Nothing}
+
+-- the next offset on a boundary
+abbrev pub aligned : ℕ → ℕ → ℕ
+aligned boundary at = (at + (boundary - 1)) / boundary * boundary
+
+-- an offset beyond the bound of all numbers is out of range
+abbrev pub beyond : ℕ → Option FaultKind
+beyond at = if nat_le at bound then None else Some ValueOutOfRange
+
+-- an item of a DS or a DC: a constant, or what is wrong with it
+abbrev pub Item : Type 0
+Item = Result Constant FaultKind
+
+abbrev pub items_in : Bool → List (List ℕ) → List Item
+items_in is_ds parts = map (constant_in is_ds) parts
+
+-- An item begins on its boundary, and takes what all its copies have. A faulty one takes nothing.
+abbrev pub item_start : Item → ℕ → ℕ
+item_start (Ok item) at = aligned (alignment_of item) (capped at)
+item_start (Err fault) at = at
+
+abbrev pub item_end : Item → ℕ → ℕ
+item_end (Ok item) at = item_start (Ok item) at + capped (size_of item)
+item_end (Err fault) at = at
+
+-- where the items begin, one behind the other from an offset on, and where the last ends
+abbrev pub offsets_from : List Item → ℕ → List ℕ
+offsets_from [] at = []
+offsets_from (item ∷ items) at = item_start item at ∷ offsets_from items (item_end item at)
+
+abbrev pub end_from : List Item → ℕ → ℕ
+end_from [] at = at
+end_from (item ∷ items) at = end_from items (item_end item at)
+
+-- the first item's place, and its length without duplication
+abbrev pub first_start : List Item → ℕ → ℕ
+first_start [] at = at
+first_start (item ∷ items) at = item_start item at
+
+abbrev pub item_length : Item → ℕ
+item_length (Ok item) = length_of item
+item_length (Err fault) = 1
+
+abbrev pub first_length : List Item → ℕ
+first_length [] = 1
+first_length (item ∷ items) = item_length item
+
+abbrev pub items_fault : List Item → Option FaultKind
+items_fault items = lowest (map result_err items)
+
+abbrev pub laid_at : ℕ → List ℕ → ℕ → ℕ → Option FaultKind → Laid
+laid_at offset items end length fault = record { offset = offset; items = items; end = end; length = length; fault = fault }
+
+-- nothing, at an offset
+abbrev pub nothing_at : ℕ → Laid
+nothing_at at = laid_at at [] at 1 None
+
+-- so many bytes on a boundary, with a length attribute
+abbrev pub bytes_at : ℕ → ℕ → ℕ → ℕ → Laid
+bytes_at boundary size length at =
+    laid_at (aligned boundary at) [] (aligned boundary at + size) length (beyond (aligned boundary at + size))
+
+-- items; the length attribute is the first's
+abbrev pub items_at : List Item → ℕ → Laid
+items_at items at =
+    laid_at (first_start items at) (offsets_from items at) (end_from items at) (first_length items) (lower (items_fault items) (beyond (end_from items at)))
+
+-- a literal pool of so many bytes, on a boundary of eight; without a literal nothing
+abbrev pub pool_at : Option ℕ → ℕ → Laid
+pool_at None at = nothing_at at
+pool_at (Some size) at = bytes_at 8 size 1 at
+
+-- what a statement takes from the next offset on, by what its operation does, the parts of its operand, and how many bytes the open pool has
+unfoldable pub laid : Role → List (List ℕ) → Option ℕ → ℕ → Laid
+laid (Instruction size) parts extent at = bytes_at 2 (capped size) size at
+laid (Storage is_ds) parts extent at = items_at (items_in is_ds parts) at
+laid Pool parts extent at = pool_at extent at
+laid Unknown parts extent at = nothing_at at
+laid Control parts extent at = nothing_at at
+laid Dummy parts extent at = nothing_at at
+laid Equate parts extent at = nothing_at at
+laid Registers parts extent at = nothing_at at
+laid Member parts extent at = nothing_at at
+laid Nothing parts extent at = nothing_at at

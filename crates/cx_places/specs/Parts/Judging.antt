@@ -1,0 +1,13 @@
+-- What is told of a statement before anything changes (own).
+use Rattle.cx_source.specs.declared.source.Stmt.{Stmt}
+use Rattle.cx_places.specs.Given.{value_in}
+use Rattle.cx_places.specs.Known.{Known, given_in, laid_in, name_in, own_fault, role_in}
+use Rattle.cx_places.specs.declared.faults.Heading.{Heading}
+use Rattle.cx_places.specs.declared.judged.Judged.{Judged}
+
+abbrev pub heading_in : Stmt → Known → Heading
+heading_in stmt known = record { role = role_in stmt; name = name_in stmt; section = known.section; control = known.control }
+
+unfoldable pub judged_in : Stmt → Known → Judged
+judged_in stmt known =
+    record { laid = laid_in stmt known; value = value_in (given_in stmt known); fault = own_fault stmt known }

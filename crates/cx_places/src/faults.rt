@@ -1,0 +1,156 @@
+//! What may be wrong with a statement in the first pass.
+
+ghost use Rattle.std.specs.Prelude.{◌≡◌};
+ghost use Rattle.cx_terms.specs.Faults.{lower};
+ghost use Rattle.cx_places.specs.Known.{bad_label, bad_name, extent_fault, is_control, is_second, lower_kind, met, name_fault, operation_fault, section_fault};
+
+use crate::given::stands_in;
+use crate::layout::beyond;
+use crate::place::LineFault;
+use crate::roles::Role;
+use cx_ebcdic::Name8;
+use cx_terms::{FaultKind, lower, symbol_name};
+
+/// How a statement begins.
+#[derive(Clone, Copy, Debug, PartialEq, Eq)]
+pub(crate) struct Heading {
+    /// What its operation does.
+    pub(crate) role: Role,
+    /// Its name, where it has one.
+    pub(crate) name: Option<Name8>,
+    /// The section that it stands in.
+    pub(crate) section: Option<Name8>,
+    /// The control section.
+    pub(crate) control: Option<Name8>,
+}
+
+/// Whether there is no such operation.
+fn operation_fault(role: Role) -> Option<FaultKind>
+    ensures { result ≡ operation_fault role }
+{
+    match role {
+        Role::Unknown => Some(FaultKind::UnknownOperation),
+        _ => None,
+    }
+}
+
+/// Whether a name that must be one isn't.
+fn bad_name(text: &[u8]) -> Option<FaultKind>
+    ensures { result ≡ bad_name text.now }
+{
+    if symbol_name(text).is_some() {
+        None
+    } else {
+        Some(FaultKind::BadOperand)
+    }
+}
+
+/// Whether a name that may be left out is none.
+fn bad_label(text: &[u8]) -> Option<FaultKind>
+    ensures { result ≡ bad_label text.now }
+{
+    if text.is_empty() {
+        None
+    } else {
+        bad_name(text)
+    }
+}
+
+/// What is wrong with a statement's name.
+fn name_fault(role: Role, text: &[u8]) -> Option<FaultKind>
+    ensures { result ≡ name_fault role text.now }
+{
+    match role {
+        Role::Control | Role::Dummy | Role::Equate => bad_name(text),
+        Role::Instruction(_) | Role::Storage { is_ds: _ } | Role::Pool => bad_label(text),
+        _ => None,
+    }
+}
+
+/// Whether a section is the control section.
+fn is_control(section: Option<Name8>, control: Option<Name8>) -> bool
+    ensures { result ≡ is_control section control }
+{
+    match section {
+        Some(section) => stands_in(section, control),
+        None => false,
+    }
+}
+
+/// Whether the control section has another name.
+fn is_second(name: Option<Name8>, control: Option<Name8>) -> bool
+    ensures { result ≡ is_second name control }
+{
+    match (name, control) {
+        (Some(name), Some(control)) => name != control,
+        _ => false,
+    }
+}
+
+/// Whether a statement stands where it mustn't, or begins a second control section.
+fn section_fault(heading: &Heading) -> Option<FaultKind>
+    ensures { result ≡ section_fault heading.now.role heading.now.name heading.now.section heading.now.control }
+{
+    let is_well_placed = match heading.role {
+        Role::Instruction(_) | Role::Pool => is_control(heading.section, heading.control),
+        Role::Storage { is_ds: _ } => heading.section.is_some(),
+        Role::Control => !is_second(heading.name, heading.control),
+        _ => true,
+    };
+    if is_well_placed {
+        None
+    } else {
+        Some(FaultKind::BadOperand)
+    }
+}
+
+/// The lowest fault of a statement's operation, its name and its section, or another.
+pub(crate) fn lowest_fault(
+    heading: &Heading,
+    text: &[u8],
+    other: Option<FaultKind>,
+) -> Option<FaultKind>
+    ensures { result ≡ lower (operation_fault heading.now.role) (lower (name_fault heading.now.role text.now)
+        (lower (section_fault heading.now.role heading.now.name heading.now.section heading.now.control) other)) }
+{
+    let placed = lower(section_fault(heading), other);
+    lower(
+        operation_fault(heading.role),
+        lower(name_fault(heading.role, text), placed),
+    )
+}
+
+/// Whether a pool goes beyond the bound.
+pub(crate) fn extent_fault(extent: Option<u128>) -> Option<FaultKind>
+    ensures { result ≡ extent_fault extent }
+{
+    beyond(extent?)
+}
+
+/// The first fault so far, behind a statement of a line: the first stays, and of several on its line it is the lowest. It takes
+/// no memory.
+pub fn met(line: usize, fault: Option<FaultKind>, first: Option<LineFault>) -> Option<LineFault>
+    ensures { result ≡ met line fault first }
+{
+    let Some(first) = first else {
+        let kind = fault?;
+        return Some(LineFault { line, kind });
+    };
+    if line != first.line {
+        return Some(first);
+    }
+    Some(LineFault {
+        line: first.line,
+        kind: lower_kind(first.kind, fault),
+    })
+}
+
+/// The lower of two faults, where there is another.
+fn lower_kind(kind: FaultKind, other: Option<FaultKind>) -> FaultKind
+    ensures { result ≡ lower_kind kind other }
+{
+    match other {
+        Some(other) if other.number() < kind.number() => other,
+        _ => kind,
+    }
+}

@@ -1,0 +1,135 @@
+//! Where everything stands.
+
+ghost use Rattle.std.specs.Prelude.{◌≡◌, IfOk, List as Elements, ℕ, reverse};
+ghost use Rattle.cx_places.specs.Known.{at_start, known_behind};
+ghost use Rattle.cx_places.specs.Parts.Passing.{known_to};
+ghost use Rattle.cx_places.specs.Placed.{IsPlaced, PlacesAs, closing, known_of, storage_length};
+
+use crate::layout::Laid;
+use crate::pass::{Pass, length_of_section};
+use crate::place::{ControlSection, LineFault, Place};
+use crate::roles::Role;
+use cx_pools::{Pool, capped};
+use cx_source::{Item, Source};
+use cx_tables::List;
+use cx_terms::{SymbolTable, symbol_name};
+use std::alloc::{AllocError, AllocFailed, Global};
+use thiserror::Error;
+
+/// Where everything of a source stands.
+#[derive(Drop)]
+pub struct Places<'a> {
+    /// Where each statement stands, in the source's order.
+    pub statements: List<Place>,
+    /// The symbols.
+    pub symbols: SymbolTable,
+    /// The literal pools, in order: one for each LTORG, and that at the control section's end; each perhaps without a literal.
+    pub pools: List<Pool<'a>>,
+    /// The control section; None where there is none.
+    pub control: Option<ControlSection>,
+    /// The length of the dummy section DFHEISTG; 0 without it.
+    pub stg_length: u128,
+}
+
+/// Why there are no places.
+#[derive(Clone, Copy, Debug, PartialEq, Eq, Error)]
+pub enum PlaceFault {
+    /// A statement is at fault.
+    #[error("line {}: {}", .0.line, .0.kind)]
+    Refused(LineFault),
+    /// A growth was refused.
+    #[error("out of memory")]
+    Memory,
+}
+
+impl From<AllocError> for PlaceFault {
+    ghost use Rattle.cx_places.specs.declared.places.PlaceFault.TheVariants.{Memory};
+
+    ghost from_gives = { λ _ fault. fault ≡ Memory };
+
+    fn from(_error: AllocError) -> PlaceFault {
+        PlaceFault::Memory
+    }
+}
+
+impl<T: Drop> From<AllocFailed<T>> for PlaceFault {
+    ghost use Rattle.cx_places.specs.declared.places.PlaceFault.TheVariants.{Memory};
+
+    ghost from_gives = { λ _ fault. fault ≡ Memory };
+
+    fn from(_failed: AllocFailed<T>) -> PlaceFault {
+        PlaceFault::Memory
+    }
+}
+
+/// The pass over lines.
+fn pass_over<'a>(alloc: Global, items: &'a [Item]) -> Result<Pass<'a>, AllocError>
+    ensures { IfOk result (λ pass. known_to pass ≡ known_behind (reverse items.now)) }
+{
+    let mut pass = Pass::start(alloc);
+    for item in items {
+        pass.take_line(alloc, item)?;
+    }
+    Ok(pass)
+}
+
+/// The length of the dummy section DFHEISTG; 0 without it.
+fn storage_length(pass: &Pass<'_>) -> u128
+    ensures { result ≡ storage_length (known_to pass.now) }
+{
+    let Some(name) = symbol_name(b"DFHEISTG") else {
+        return 0;
+    };
+    if crate::given::stands_in(name, pass.control) {
+        return 0;
+    }
+    length_of_section(Some(name), &pass.lengths)
+}
+
+/// The places behind the last statement.
+#[tactic(auto, unfolding(crate::specs::Layout::laid))]
+fn finished<'a>(alloc: Global, pass: Pass<'a>) -> Result<Places<'a>, AllocError>
+    ensures { IfOk result (λ places. IsPlaced (known_to pass.entry) places) }
+{
+    let stg_length = storage_length(&pass);
+    let next = capped(length_of_section(pass.control, &pass.lengths));
+    let closing = Laid::out(alloc, Role::Pool, &[], pass.pool.extent(), next)?;
+    let last = Pool::placed(alloc, &pass.pool, capped(closing.offset))?;
+    let Pass {
+        control,
+        symbols,
+        mut pools,
+        places,
+        ..
+    } = pass;
+    pools.push(last)?;
+    let control = match control {
+        Some(name) => Some(ControlSection {
+            name,
+            length: closing.end,
+        }),
+        None => None,
+    };
+    Ok(Places {
+        statements: List::from_vec(places),
+        symbols,
+        pools: List::from_vec(pools),
+        control,
+        stg_length,
+    })
+}
+
+/// Where everything of a source stands: its sections, symbols, literal pools and statements (GC33-4010).
+///
+/// The statements are those of the list's items, in its order, whatever their numbers say. Refused comes with the line of the
+/// first statement that has a fault in its operation, name, section, the lengths of its items and literals, or the value of
+/// EQU, and with the lowest such fault of all statements of that line. Memory comes only where a growth was refused.
+pub fn place_all<'a>(alloc: Global, source: &'a Source) -> Result<Places<'a>, PlaceFault>
+    ensures { PlacesAs (known_of source.now) result }
+{
+    let pass = pass_over(alloc, source.items.as_slice())?;
+    if let Some(first) = pass.fault {
+        return Err(PlaceFault::Refused(first));
+    }
+    Ok(finished(alloc, pass)?)
+}

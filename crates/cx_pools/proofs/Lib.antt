@@ -1,0 +1,4 @@
+pub mod TextLemmas
+pub mod SizeLemmas
+pub mod FaultLemmas
+pub mod ListLemmas

@@ -1,0 +1,11 @@
+use Rattle.std.proofs.Common.{◌≡◌, drop, map}
+use Rattle.cx_terms.specs.Faults.{lower}
+use Rattle.cx_pools.specs.Pools.{lowest_part, with_parts}
+use Rattle.cx_pools.proofs.open.OpenPool.use_parts.Given as goal
+
+abbrev pub invariant-loop-part : goal.invariant-loop-part
+invariant-loop-part l =
+    record {
+      used : with_parts l.user l.self (map (λ part. part.now) (drop l.part-index l.parts)) ≡ with_parts l.user l.initial.self (map (λ part. part.now) l.parts);
+      fault : lower l.fault (lowest_part (map (λ part. part.now) (drop l.part-index l.parts))) ≡ lowest_part (map (λ part. part.now) l.parts);
+    }

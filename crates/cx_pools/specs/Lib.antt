@@ -1,0 +1,3 @@
+pub mod Pools
+-- Words of private functions.
+pub mod Parts

@@ -1,0 +1,97 @@
+-- Literals and their pools (GC33-4010, "Literals" and "Literal Pool").
+use Rattle.std.specs.Prelude.{ℕ, ◌+◌, ◌%◌, Bool, true, false, ◌==◌, nat_le, if◌then◌else◌, is_some, Option, Some, None, option_and_then, Result, Ok, Err, List, [], ◌∷◌, ◌++◌, map, drop, slice_index, sum_by}
+use Rattle.std.specs.List.{filter}
+use Rattle.std.specs.Map.{lookup}
+use Rattle.std.specs.Result.{result_err}
+use Rattle.std.specs.Str.{bytes_eq}
+use Rattle.cx_terms.specs.Digits.{bound}
+use Rattle.cx_terms.specs.Faults.{lowest}
+use Rattle.cx_terms.specs.Items.{Constant, constant_in, size_of}
+use Rattle.cx_terms.specs.declared.faults.FaultKind.{FaultKind}
+use Rattle.cx_pools.specs.declared.open.Used.{Used}
+use Rattle.cx_pools.specs.declared.closed.Literal.{Literal}
+
+-- A place or a length beyond the bound of all numbers counts as one more than it (own).
+abbrev pub capped : ℕ → ℕ
+capped n = if nat_le n bound then n else bound + 1
+
+-- ---- while a pool is open
+-- the literals of a pool by their texts, in order of first use
+abbrev pub Pooled : Type 0
+Pooled = List (List ℕ × Used)
+
+abbrev pub is_pooled : List ℕ → Pooled → Bool
+is_pooled text pool = is_some (lookup (bytes_eq text) pool)
+
+-- equal texts stand once
+abbrev pub with_literal : Pooled → List ℕ → Used → Pooled
+with_literal pool text used = if is_pooled text pool then pool else pool ++ (text, used) ∷ []
+
+-- an operand that begins with an equals sign is a literal, and what stands behind the sign is its text
+abbrev pub literal_text : List ℕ → Option (List ℕ)
+literal_text part = if slice_index part 0 == 61 then Some (drop 1 part) else None
+
+abbrev pub with_constant : ℕ → Pooled → List ℕ → Result Constant FaultKind → Pooled
+with_constant user pool text (Ok constant) = with_literal pool text (record { size = size_of constant; user = user })
+with_constant user pool text (Err fault) = pool
+
+abbrev pub with_text : ℕ → Pooled → Option (List ℕ) → Pooled
+with_text user pool None = pool
+with_text user pool (Some text) = with_constant user pool text (constant_in false text)
+
+-- with an operand of the statement of this number
+abbrev pub with_part : ℕ → Pooled → List ℕ → Pooled
+with_part user pool part = with_text user pool (literal_text part)
+
+-- with all operands of the statement
+abbrev pub with_parts : ℕ → Pooled → List (List ℕ) → Pooled
+with_parts user pool [] = pool
+with_parts user pool (part ∷ parts) = with_parts user (with_part user pool part) parts
+
+-- what is wrong with an operand that is a literal: it is no constant, or its lengths are outside their limits
+abbrev pub part_fault : List ℕ → Option FaultKind
+part_fault part = option_and_then (λ text. result_err (constant_in false text)) (literal_text part)
+
+abbrev pub lowest_part : List (List ℕ) → Option FaultKind
+lowest_part parts = lowest (map part_fault parts)
+
+-- how many bytes the literals have together
+abbrev pub pool_size : Pooled → ℕ
+pool_size pool = capped (sum_by (λ e. e.1.size) pool)
+
+abbrev pub pool_extent : Pooled → Option ℕ
+pool_extent [] = None
+pool_extent (e ∷ es) = Some (pool_size (e ∷ es))
+
+-- ---- where a pool's literals stand
+-- the greatest of 8, 4, 2 and 1 that divides a length
+abbrev pub group_of : ℕ → ℕ
+group_of size = if size % 8 == 0 then 8 else (if size % 4 == 0 then 4 else (if size % 2 == 0 then 2 else 1))
+
+abbrev pub of_group : ℕ → Pooled → Pooled
+of_group group pool = filter (λ e. group_of e.1.size == group) pool
+
+-- the literals by their groups, in each in order of first use
+abbrev pub grouped : Pooled → Pooled
+grouped pool = of_group 8 pool ++ of_group 4 pool ++ of_group 2 pool ++ of_group 1 pool
+
+-- the literals of a pool by their texts, in the order of their places
+abbrev pub Placed : Type 0
+Placed = List (List ℕ × Literal)
+
+-- no text stands twice
+abbrev pub with_placed : Placed → List ℕ → Literal → Placed
+with_placed pool text literal = if is_some (lookup (bytes_eq text) pool) then pool else pool ++ (text, literal) ∷ []
+
+abbrev pub stands_at : ℕ → Used → Literal
+stands_at offset used = record { offset = offset; user = used.user }
+
+-- Behind the literals that stand already the others stand one behind the other, from an offset on.
+abbrev pub placed_behind : Placed → ℕ → Pooled → Placed
+placed_behind pool offset [] = pool
+placed_behind pool offset (e ∷ es) =
+    placed_behind (with_placed pool e.0 (stands_at offset e.1)) (capped (offset + e.1.size)) es
+
+-- the literals of a pool that begins at an offset
+abbrev pub placed : ℕ → Pooled → Placed
+placed offset pool = placed_behind [] offset (grouped pool)

@@ -1,0 +1,156 @@
+//! A pool whose literals stand in their section.
+
+ghost use Rattle.std.specs.Prelude.{◌≡◌, [], ◌∷◌, ◌++◌, ◌+◌, ◌<◌, ◌≤◌, ◌^◌, OnOk, IfOk, Option, length, map, option_map, slice_get};
+ghost use Rattle.std.specs.Map.{lookup};
+ghost use Rattle.std.specs.Str.{bytes_eq};
+ghost use Rattle.cx_terms.specs.Digits.{bound};
+ghost use Rattle.cx_pools.specs.Parts.Texts.{by_text};
+ghost use Rattle.cx_pools.specs.Pools.{capped, group_of, grouped, of_group, placed, placed_behind, with_placed};
+
+use crate::open::{OpenPool, Used, capped};
+use crate::texts::push_literal;
+use indexmap::IndexMap;
+use std::alloc::{AllocError, Global};
+use std::marker::Model;
+
+/// Where a literal stands.
+#[derive(Clone, Copy, Debug, PartialEq, Eq)]
+pub struct Literal {
+    /// Its offset in the control section.
+    pub offset: u128,
+    /// The number of the statement that uses it first in its pool, from 0.
+    pub user: usize,
+}
+
+/// The literals of a pool by their texts, in the order of their places (GC33-4010, "Literal Pool").
+#[derive(Drop)]
+pub struct Pool<'a> {
+    literals: IndexMap<&'a [u8], Literal>,
+}
+
+impl<'a> Model for Pool<'a> {
+    ghost use Rattle.cx_pools.specs.Parts.Texts.{by_text};
+    ghost use Rattle.cx_pools.specs.Pools.{Placed};
+
+    ghost Value = { Placed };
+
+    ghost view = { λ pool. by_text pool.literals.entries };
+}
+
+/// The greatest of 8, 4, 2 and 1 that divides a length.
+fn group_of(size: u128) -> u8
+    ensures { result ≡ group_of size }
+{
+    if size % 8 == 0 {
+        8
+    } else if size % 4 == 0 {
+        4
+    } else if size % 2 == 0 {
+        2
+    } else {
+        1
+    }
+}
+
+/// Puts the literals of a group behind others.
+fn push_group<'a>(
+    list: &mut Vec<(&'a [u8], Used)>,
+    pool: &[(&'a [u8], Used)],
+    group: u8,
+) -> Result<(), AllocError>
+    ensures { OnOk result (by_text list.new.items
+        ≡ by_text list.old.items ++ of_group group (by_text pool.now)) }
+{
+    for entry in pool {
+        if group_of(entry.1.size) == group {
+            list.push(*entry)?;
+        }
+    }
+    Ok(())
+}
+
+/// The literals by their groups.
+fn grouped<'a>(
+    alloc: Global,
+    pool: &[(&'a [u8], Used)],
+) -> Result<Vec<(&'a [u8], Used)>, AllocError>
+    ensures { IfOk result (λ list. by_text list.items ≡ grouped (by_text pool.now)) }
+{
+    let mut list = Vec::new(alloc);
+    push_group(&mut list, pool, 8)?;
+    push_group(&mut list, pool, 4)?;
+    push_group(&mut list, pool, 2)?;
+    push_group(&mut list, pool, 1)?;
+    Ok(list)
+}
+
+impl<'a> Pool<'a> {
+    /// What is known of the literal of a text, which is what stands behind its equals sign; None where the pool has none. It
+    /// takes no memory.
+    #[tactic(auto, using(crate::proofs::TextLemmas::lookup_by_text))]
+    pub fn get(&self, text: &[u8]) -> Option<Literal>
+        ensures { result ≡ lookup (bytes_eq text.now) self.now }
+    {
+        self.literals.get(&text).copied()
+    }
+
+    /// How many literals there are. It takes no memory.
+    pub fn len(&self) -> usize
+        ensures { result ≡ length self.now }
+    {
+        self.literals.len()
+    }
+
+    /// A literal by its number, from 0, in the order of places, with its text. It takes no memory.
+    pub fn literal(&self, index: usize) -> Option<(&'a [u8], Literal)>
+        ensures { option_map (λ e. (e.0.now, e.1)) result ≡ slice_get self.now index }
+    {
+        let (text, literal) = self.literals.get_index(index)?;
+        Some((*text, *literal))
+    }
+
+    /// Puts a literal behind the others, unless its text stands already.
+    fn put(&mut self, text: &'a [u8], literal: Literal) -> Result<(), AllocError>
+        ensures { OnOk result (self.new ≡ with_placed self.old text.now literal) }
+    {
+        if self.get(text).is_none() {
+            push_literal(&mut self.literals, text, literal)?;
+        }
+        Ok(())
+    }
+
+    /// Puts literals behind the others, one behind the other from an offset on.
+    fn put_all(&mut self, list: &[(&'a [u8], Used)], offset: u128) -> Result<(), AllocError>
+        requires { offset ≤ bound + 8 }
+        ensures { OnOk result (self.new ≡ placed_behind self.old offset (by_text list.now)) }
+    {
+        let mut at = offset;
+        for entry in list {
+            self.put(
+                entry.0,
+                Literal {
+                    offset: at,
+                    user: entry.1.user,
+                },
+            )?;
+            at = capped(at + capped(entry.1.size));
+        }
+        Ok(())
+    }
+
+    /// The literals of an open pool in their places, by their groups, the first at an offset.
+    ///
+    /// An error comes only where a growth was refused.
+    pub fn placed(alloc: Global, pool: &OpenPool<'a>, offset: u128) -> Result<Pool<'a>, AllocError>
+        requires { offset ≤ bound + 8 }
+        ensures { IfOk result (λ placed_pool. placed_pool ≡ placed offset pool.now) }
+    {
+        let entries = pool.entries(alloc)?;
+        let list = grouped(alloc, entries.as_slice())?;
+        let mut literals = Pool {
+            literals: IndexMap::new(alloc),
+        };
+        literals.put_all(list.as_slice(), offset)?;
+        Ok(literals)
+    }
+}

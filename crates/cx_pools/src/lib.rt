@@ -1,0 +1,9 @@
+//! The literal pools of an assembler source.
+#![tactic(auto)]
+
+mod closed;
+mod open;
+mod texts;
+
+pub use closed::{Literal, Pool};
+pub use open::{OpenPool, Used, capped, literal_text};
