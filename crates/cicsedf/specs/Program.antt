@@ -1,7 +1,6 @@
 -- What the program does, and its status (own).
 use Rattle.std.specs.Prelude.{ℕ, Bool, List, Option, Result, Ok, Err}
-use Rattle.cx_region.specs.Defining.{fresh_region}
-use Rattle.cx_script.specs.Effects.{Performs}
+use Rattle.cx_script.specs.Effects.{Performs, fresh_state}
 use Rattle.cx_script.specs.Outcome.{RanScript}
 use Rattle.cx_script.specs.Status.{status_of}
 use Rattle.cx_script.specs.declared.faults.RunFault.{RunFault}
@@ -20,4 +19,4 @@ program_status (Err Memory) = status_of (Err fault.Memory)
 pub record RanFrom (left : Option (List ℕ)) (answer : Result Summary RunFault) (written written_after : Option (List ℕ)) : Type 0 where
   pub left_after : Option (List ℕ)
   pub failed : Bool
-  pub ran : RanScript Performs fresh_region left left_after failed answer written written_after
+  pub ran : RanScript Performs fresh_state left left_after failed answer written written_after

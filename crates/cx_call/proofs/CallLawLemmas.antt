@@ -1,5 +1,5 @@
 -- A call is read exactly where its list has what `IsCallAt` says.
-use Rattle.std.proofs.Common.{◌≡◌, ℕ, zero, suc, ◌+◌, ◌-◌, ◌*◌, ◌/◌, ◌%◌, ◌^◌, ◌<◌, ◌≤◌, ◌↔◌, ◌≢◌, Bool, nat_lt, true, false, ◌==◌, List, [], ◌∷◌, length, map, drop, slice_get, slice_index, Option, Some, None, Result, Ok, Err, is_some, IsSomeAnd, IsTrue, MatchBool, refl, sym, ap, ◌∙◌, arith, inl, inr, add-one}
+use Rattle.std.proofs.Common.{◌≡◌, ℕ, zero, suc, ◌+◌, ◌-◌, ◌*◌, ◌/◌, ◌%◌, ◌^◌, ◌<◌, ◌≤◌, ◌↔◌, ◌≢◌, Bool, nat_lt, true, false, ◌==◌, List, [], ◌∷◌, length, map, drop, slice_get, slice_index, Option, Some, None, Result, Ok, Err, is_some, IsSomeAnd, IsTrue, MatchBool, refl, sym, ap, ◌∙◌, arith, inl, inr, add-one, count_by, if◌then◌else◌}
 use Rattle.std.specs.Option.{option_map, option_and_then, ok_or, unwrap_or}
 use Rattle.std.specs.List.{AllByRecursion, position_or_len}
 use Rattle.std.proofs.lemmas.Bool.{cases_Bool, eqb-true, eq-eqb, ltb-true, ltb-false}
@@ -22,7 +22,7 @@ use Rattle.cx_storage.specs.Facts.Spans.{span_length}
 use Rattle.cx_storage.specs.Word.{word_at}
 use Rattle.cx_call.specs.declared.call.CallFault.{CallFault}
 use Rattle.cx_call.specs.declared.call.CallFault.TheVariants.{Xarg, Xfun}
-use Rattle.cx_call.specs.Call.{Call, Block, argument_count, block_at, block_from, block_of, call_of, command_of, conditions_of, has_high_bit, has_resp, listed_in, marks_last_alone, only_if, place_of, places_of, resp_place, then_result, words_at}
+use Rattle.cx_call.specs.Call.{Call, Block, argument_count, block_at, block_from, block_of, call_of, command_of, conditions_of, has_high_bit, has_resp, listed_in, marks_last_alone, only_if, place_of, places_of, resp_place, has_label, then_result, words_at}
 use Rattle.cx_call.specs.Laws.Calls.{IsCallAt, arguments_of, bytes_of_block, list_word}
 
 -- ---- results
@@ -351,17 +351,38 @@ AreFoundByName = (command : Command) (first k : ℕ) (option : CommandOption)
     → slice_get (arguments_in (row_of command).options first) k ≡ Some option → argument_index command first option.name ≡ Some k
 
 pub arguments_have_places : AreFoundByName → (s : Storage) (list : ℕ) (call : Call) (k : ℕ) (option : CommandOption) → IsCallAt s list call
-    → slice_get (arguments_of call) k ≡ Some option → (k < length call.places) × (place_of call option.name ≡ slice_get call.places k)
+    → slice_get (arguments_of call) k ≡ Some option
+    → (k < length call.places) × (place_of call option.name ≡ slice_get call.places k) × (place_of call option.name ≡ option_map address_in (list_word s list (k + 1)))
 unfolding place_of
 arguments_have_places are_found s list call k option is e =
     let within = slice_get_within (arguments_of call) k option e in
-    (omega (arith, is.count), rw (are_found call.command call.first k option e) refl)
+    let inside : k < length call.places = omega (arith, is.count, within) in
+    let found : place_of call option.name ≡ slice_get call.places k = rw (are_found call.command call.first k option e) refl in
+    (inside, found, found ∙ sym (is.places k inside))
 
-pub resp_has_its_place : (s : Storage) (list : ℕ) (call : Call) → IsCallAt s list call → is_some (resp_place call) ≡ has_resp call.second
+resp_place_is : (s : Storage) (list : ℕ) (call : Call) → IsCallAt s list call → has_resp call.second ≡ true
+    → resp_place call ≡ slice_get call.places (length (arguments_of call) + count_by has_label call.conditions)
 unfolding resp_place
+resp_place_is s list call is t =
+    let count = rw t at is.count in
+    let last : length call.places - 1 ≡ length (arguments_of call) + count_by has_label call.conditions = omega (arith, count) in
+    rw (t, last) refl
+
+resp_place_absent : (call : Call) → has_resp call.second ≡ false → resp_place call ≡ None
+unfolding resp_place
+resp_place_absent call f = rw f refl
+
+pub resp_has_its_place : (s : Storage) (list : ℕ) (call : Call) → IsCallAt s list call
+    → (is_some (resp_place call) ≡ has_resp call.second)
+    × (resp_place call ≡ (if has_resp call.second
+    then option_map address_in (list_word s list (length (arguments_of call) + count_by has_label call.conditions + 1)) else None))
 resp_has_its_place s list call is = elim (cases_Bool (has_resp call.second)) [
   | inl t ↦
       let count = rw t at is.count in
-      rw (t, slice_get-get_or call.places (length call.places - 1) 0 (omega (arith, count))) refl
-  | inr f ↦ rw f refl
+      let inside : length (arguments_of call) + count_by has_label call.conditions < length call.places = omega (arith, count) in
+      let found = resp_place_is s list call is t in
+      let there : is_some (resp_place call) ≡ true =
+      rw (found, slice_get-get_or call.places (length (arguments_of call) + count_by has_label call.conditions) 0 inside) refl in
+      rw (t) (there, found ∙ sym (is.places (length (arguments_of call) + count_by has_label call.conditions) inside))
+  | inr f ↦ let none = resp_place_absent call f in rw (f, none) (refl, refl)
 ]

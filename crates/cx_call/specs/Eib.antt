@@ -1,14 +1,13 @@
 -- The EXEC interface block of a task (Application Programmer's Reference Manual, SC33-0077, "EXEC Interface Block").
 -- Bytes that no field names are zero at attach and are never written.
 use Rattle.std.specs.Prelude.{ℕ, ◌+◌, ◌*◌, ◌/◌, ◌%◌, List, [], ◌∷◌, Option, Some, None}
-use Rattle.std.specs.Int.{w16, w32, to_be_bytes}
+use Rattle.std.specs.Int.{w16, to_be_bytes}
 use Rattle.cx_storage.specs.Storage.{Storage, written}
 use Rattle.cx_storage.specs.Address.{along}
 use Rattle.cx_command.specs.declared.eib.EibField.{EibField}
-use Rattle.cx_command.specs.declared.eib.EibField.TheVariants.{Time, Date, Trnid, Taskn, Trmid, Calen, Aid, Fn, Rcode, Resp}
+use Rattle.cx_command.specs.declared.eib.EibField.TheVariants.{Time, Date, Trnid, Taskn, Trmid, Calen, Aid}
 use Rattle.cx_command.specs.Eib.{eib_field}
 use Rattle.cx_call.specs.declared.eib.Begun.{Begun}
-use Rattle.cx_call.specs.declared.eib.Report.{Report}
 
 -- the decimal digit of a number at a power of ten
 abbrev pub digit : ℕ → ℕ → ℕ
@@ -46,13 +45,3 @@ fields_at_attach begun =
 unfoldable pub with_calen : Storage → ℕ → Option ℕ → Storage
 with_calen storage eib None = storage
 with_calen storage eib (Some calen) = with_field storage eib (content Calen (to_be_bytes w16 calen))
-
--- what a command writes: EIBRCODE has the condition's number in its first byte, and zeros
-abbrev pub fields_of_report : Report → List Content
-fields_of_report report =
-    content Fn (to_be_bytes w16 report.function) ∷ content Rcode (report.condition ∷ 0 ∷ 0 ∷ 0 ∷ 0 ∷ 0 ∷ [])
-    ∷ content Resp (to_be_bytes w32 report.condition) ∷ []
-
--- storage after a command's report in the EIB at this address
-unfoldable pub reported : Storage → ℕ → Report → Storage
-reported storage eib report = with_calen (with_fields storage eib (fields_of_report report)) eib report.calen

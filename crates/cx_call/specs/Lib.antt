@@ -1,7 +1,12 @@
 -- The definitions, in reading order.
 pub mod Call
+pub mod Listed
+pub mod Inputs
+pub mod Outputs
 pub mod Eib
+pub mod Answer
 pub mod Laws
+pub mod Facts
 pub use Rattle.cx_command.specs.Commands
 pub use Rattle.cx_command.specs.Conditions
 pub use Rattle.cx_command.specs.Legal

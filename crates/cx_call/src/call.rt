@@ -115,9 +115,17 @@ impl Call {
 
     /// The conditions that HANDLE or IGNORE CONDITION lists, in their order; none for other commands.
     pub fn conditions(&self) -> &[ListedCondition]
-        ensures { result.now ≡ self.now.conditions }
+        ensures value { result.now ≡ self.now.conditions }
+        ensures fits { length result.now ≤ 16 }
     {
         self.conditions.as_slice()
+    }
+
+    /// That every address of the call is below 2^24.
+    pub fn addresses_are_below(&self)
+        ensures { AllByRecursion (λ place. place < 2 ^ 24) self.now.places }
+    {
+        self.places();
     }
 
     /// The addresses (below 2^24) of the arguments, in the order of their words: those of the options, or

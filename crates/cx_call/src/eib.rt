@@ -1,6 +1,6 @@
-//! The fields of a task's EXEC interface block (SC33-0077, "EXEC Interface Block"): what attach and commands write into them.
+//! The fields of a task's EXEC interface block (SC33-0077, "EXEC Interface Block"), and what attach writes into them.
 ghost use Rattle.std.specs.Prelude.{◌≡◌, ◌<◌, ◌≤◌, ◌+◌, ◌%◌, ◌^◌, None, Some, length};
-ghost use Rattle.cx_call.specs.Eib.{content, digit, fields_at_attach, fields_of_report, packed, reported, with_calen, with_field, with_fields};
+ghost use Rattle.cx_call.specs.Eib.{content, digit, fields_at_attach, packed, with_calen, with_field, with_fields};
 
 use cx_command::EibField;
 use cx_storage::{Store, along};
@@ -21,17 +21,6 @@ pub struct Begun {
     pub calen: u16,
     /// The code of the key.
     pub aid: u8,
-}
-
-/// What a command reports in the EIB.
-#[derive(Clone, Copy, Debug, PartialEq, Eq)]
-pub struct Report {
-    /// Its function value.
-    pub function: u16,
-    /// The condition's number.
-    pub condition: u8,
-    /// The EIBCALEN that it sets, if it sets one.
-    pub calen: Option<u16>,
 }
 
 /// The digit of a number at a power of ten.
@@ -58,7 +47,7 @@ fn packed(n: u32) -> [u8; 4]
 
 /// Writes a field of the EIB at an address.
 #[tactic(auto, unfolding(crate::specs::Eib::with_field))]
-fn put<S: Store>(store: &mut S, eib: u32, field: EibField, bytes: &[u8])
+pub(crate) fn put<S: Store>(store: &mut S, eib: u32, field: EibField, bytes: &[u8])
     requires eib { eib < 2 ^ 24 }
     requires few { length bytes.now ≤ 8 }
     ensures { S.storage store.new ≡ with_field (S.storage store.old) eib (content field bytes.now) }
@@ -90,27 +79,4 @@ pub fn put_calen<S: Store>(store: &mut S, eib: u32, calen: Option<u16>)
     if let Some(calen) = calen {
         put(store, eib, EibField::Calen, &calen.to_be_bytes());
     }
-}
-
-/// Writes a command's report into the EIB at an address (below 2^24): EIBFN, EIBRCODE, EIBRESP, and EIBCALEN where the command
-/// sets it. No other byte changes.
-#[tactic(auto, unfolding(crate::specs::Eib::reported))]
-pub fn put_report<S: Store>(store: &mut S, eib: u32, report: &Report)
-    requires { eib < 2 ^ 24 }
-    ensures { S.storage store.new ≡ reported (S.storage store.old) eib report.now }
-{
-    put(store, eib, EibField::Fn, &report.function.to_be_bytes());
-    put(
-        store,
-        eib,
-        EibField::Rcode,
-        &[report.condition, 0, 0, 0, 0, 0],
-    );
-    put(
-        store,
-        eib,
-        EibField::Resp,
-        &u32::from(report.condition).to_be_bytes(),
-    );
-    put_calen(store, eib, report.calen);
 }

@@ -1,7 +1,7 @@
 -- Two outcomes of one event, or of one run of events, are equal.
-use Rattle.std.proofs.Common.{◌≡◌, ℕ, Bool, true, false, Option, Some, None, List, [], ◌∷◌, length, refl, sym, ◌∙◌, ap, subst, inl, inr}
-use Rattle.std.specs.Prelude.{◌⊎◌, MatchOption, MatchResult, MatchBool, Result, Ok, Err}
-use Rattle.std.specs.Prelude.{◌==◌, ◌&&◌, not}
+use Rattle.std.proofs.Common.{◌≡◌, ℕ, Option, Some, None, List, [], ◌∷◌, length, refl, sym, ◌∙◌, ap, subst, inl, inr}
+use Rattle.std.specs.Prelude.{◌⊎◌, MatchOption, Result, Ok, Err}
+use Rattle.std.specs.Prelude.{◌==◌}
 use Rattle.std.proofs.lemmas.Bool.{true≢false}
 use Rattle.std.proofs.lemmas.Option.{same_Some, none-some}
 use Rattle.cx_ebcdic.specs.declared.aids.Aid.{Aid}
@@ -11,21 +11,6 @@ use Rattle.cx_storage.specs.Storage.{Storage}
 use Rattle.cx_storage.specs.Facts.Places.{place_decides}
 use Rattle.cx_load.specs.declared.program.Loaded.{Loaded}
 use Rattle.cx_load.specs.Program.{IsLoaded, IsProgramPlace, first_of_programs, last_of_programs}
-use Rattle.cx_program.specs.Levels.{all_levels}
-use Rattle.cx_program.specs.Facts.NearestExit.{nearest_exit_one}
-use Rattle.cx_exec.specs.declared.machine.Halt.{Halt}
-use Rattle.cx_exec.specs.declared.machine.Halt.TheVariants as halt
-use Rattle.cx_exec.specs.Machine.{Machine}
-use Rattle.cx_exec.specs.Advance.{Advances}
-use Rattle.cx_exec.specs.Laws.Decide.{RunsDecide as MachineRunsDecide}
-use Rattle.cx_region.specs.declared.asking.Asked.{Asked}
-use Rattle.cx_region.specs.declared.asking.Asked.TheVariants.{Answer, Give, Attach}
-use Rattle.cx_region.specs.declared.asking.Places.{Places}
-use Rattle.cx_region.specs.declared.asking.Start.{Start}
-use Rattle.cx_call.specs.declared.call.CallFault.{CallFault}
-use Rattle.cx_region.specs.declared.judging.Judgement.{Judgement}
-use Rattle.cx_region.specs.declared.judging.Judgement.TheVariants.{Unwritten, GoesOn, LevelEnds, TaskEnds}
-use Rattle.cx_region.specs.declared.pass.Pass.{Pass}
 use Rattle.cx_region.specs.declared.replies.DefineFault.{DefineFault}
 use Rattle.cx_region.specs.declared.replies.DefineFault.TheVariants.{NoRoom}
 use Rattle.cx_region.specs.declared.replies.Event.TheVariants as event
@@ -33,18 +18,17 @@ use Rattle.cx_region.specs.declared.replies.KeyReply.{KeyReply}
 use Rattle.cx_region.specs.declared.replies.KeyReply.TheVariants as key
 use Rattle.cx_region.specs.declared.replies.Reply.{Reply}
 use Rattle.cx_region.specs.declared.replies.Reply.TheVariants as reply
-use Rattle.cx_region.specs.declared.replies.TurnReply.{TurnReply}
-use Rattle.cx_region.specs.declared.replies.TurnReply.TheVariants as turn
-use Rattle.cx_region.specs.State.{Input, RegionState, TerminalState, TaskState}
-use Rattle.cx_region.specs.Tables.{terminal_of}
+use Rattle.cx_state.specs.declared.replies.TurnReply.{TurnReply}
+use Rattle.cx_state.specs.declared.replies.TurnReply.TheVariants as turn
+use Rattle.cx_region.specs.State.{RegionState, TerminalState}
+use Rattle.cx_state.specs.State.{Input, Reach, TaskState}
+use Rattle.cx_region.specs.Tables.{program_of, terminal_of, transaction_of, with_terminal}
 use Rattle.cx_region.specs.Defining.{DefinesProgram, DefinesTerminal, DefinesTransaction, Loads, program_fault, terminal_fault, transaction_fault, with_new_terminal, with_clock, with_program, with_transaction}
 use Rattle.cx_command.specs.Eib.{eib_len}
-use Rattle.cx_region.specs.Attach.{ArePlaced, Attaches, HasNoPlaces, IsCopyPlace, IsTaskPlace, Keyed, KeyedAs, asked, attached, first_of_tasks, input_from, last_of_tasks, system_owner, with_copy_area, with_eib_area}
-use Rattle.cx_region.specs.Reach.{Reach, after_pass, reach_of, reply_of}
-use Rattle.cx_region.specs.Abend.{Abends, AbendsAt}
-use Rattle.cx_call.specs.Call.{Call, call_of}
-use Rattle.cx_region.specs.Performing.{Called, Carries, Commanded, can_respond, fault_code, is_written, judged, list_of}
-use Rattle.cx_region.specs.Turn.{HalfTurn, Halted, RunsOn, TaskTurned, Turned, after_machine, machine_of, most_steps}
+use Rattle.cx_region.specs.Attach.{ArePlaced, Attached, Attaches, HasNoPlaces, IsCopyPlace, Keyed, OnlyAnswers, TaskAreas, TerminalKeyed, attached, commarea_kept, input_from, transaction_named, with_eib_area, with_kept_area}
+use Rattle.cx_state.specs.Areas.{IsTaskPlace, first_of_tasks, last_of_tasks, system_owner}
+use Rattle.cx_task.specs.Laws.HalfTurns.{HalfTurnsDecide}
+use Rattle.cx_region.specs.Turn.{TaskTurned, Turned, after_half_turn, reach_of}
 use Rattle.cx_region.specs.Events.{Happens, Run}
 use Rattle.cx_region.specs.Laws.Regions.{EventsDecide, RunsDecide}
 
@@ -122,48 +106,44 @@ copy_place_once storage len None (Some place) h k = absurd (true≢false (sym (a
 copy_place_once storage len (Some place) None h k = absurd (true≢false (sym (ap (λ (n : ℕ). n == 0) k) ∙ h.0))
 copy_place_once storage len (Some place) (Some also) h k = task_place_once storage len (Some place) (Some also) h.1 k.1
 
-places_decide : (storage : Storage) (owner : Owner) (len stg_len : ℕ) (p q : Places)
+places_decide : (storage : Storage) (owner : Owner) (len stg_len : ℕ) (p q : TaskAreas)
     → ArePlaced storage owner len stg_len p → ArePlaced storage owner len stg_len q → p ≡ q
 places_decide storage owner len stg_len p q h k =
     let eib : p.eib ≡ q.eib = same_Some _ _ (task_place_once storage eib_len (Some p.eib) (Some q.eib) h.eib k.eib) in
     let copied : IsCopyPlace (with_eib_area storage owner q.eib) len p.commarea =
     subst (λ (a : ℕ). IsCopyPlace (with_eib_area storage owner a) len p.commarea) eib h.commarea in
     let commarea : p.commarea ≡ q.commarea = copy_place_once (with_eib_area storage owner q.eib) len p.commarea q.commarea copied k.commarea in
-    let first : IsTaskPlace (with_copy_area storage owner len q.eib p.commarea) stg_len (Some p.stg) =
-    subst (λ (a : ℕ). IsTaskPlace (with_copy_area storage owner len a p.commarea) stg_len (Some p.stg)) eib h.stg in
-    let second : IsTaskPlace (with_copy_area storage owner len q.eib q.commarea) stg_len (Some p.stg) =
-    subst (λ (o : Option ℕ). IsTaskPlace (with_copy_area storage owner len q.eib o) stg_len (Some p.stg)) commarea first in
-    let stg : p.stg ≡ q.stg = same_Some _ _ (task_place_once (with_copy_area storage owner len q.eib q.commarea) stg_len (Some p.stg) (Some q.stg) second k.stg) in
+    let first : IsTaskPlace (with_kept_area storage owner len q.eib p.commarea) stg_len (Some p.stg) =
+    subst (λ (a : ℕ). IsTaskPlace (with_kept_area storage owner len a p.commarea) stg_len (Some p.stg)) eib h.stg in
+    let second : IsTaskPlace (with_kept_area storage owner len q.eib q.commarea) stg_len (Some p.stg) =
+    subst (λ (o : Option ℕ). IsTaskPlace (with_kept_area storage owner len q.eib o) stg_len (Some p.stg)) commarea first in
+    let stg : p.stg ≡ q.stg = same_Some _ _ (task_place_once (with_kept_area storage owner len q.eib q.commarea) stg_len (Some p.stg) (Some q.stg) second k.stg) in
     λ i. record { eib = eib i; commarea = commarea i; stg = stg i }
 
 -- what an attach answers: a task with places for its areas, or that there are none
-abbrev IsAttached : RegionState → List ℕ → Start → Input → KeyReply → RegionState → Type 0
-IsAttached old name start input answer new =
-    (answer ≡ key.Attached) × (places : Places) × ArePlaced old.storage (system_owner start.slot) start.calen start.loaded.stg_len places
-    × (new ≡ attached old name start input places)
+abbrev Answered : RegionState → List ℕ → TerminalState → Input → List ℕ → List ℕ → Loaded → KeyReply → RegionState → Type 0
+Answered old name terminal input tran program loaded answer new =
+    ((answer ≡ key.Attached) × Attached old name terminal input tran program loaded new)
+    ⊎ ((answer ≡ key.NoStorage) × HasNoPlaces old.storage (system_owner terminal.slot) (length (commarea_kept terminal.following)) loaded.stg_len × (new ≡ old))
 
-abbrev IsUnplaced : RegionState → Start → KeyReply → RegionState → Type 0
-IsUnplaced old start answer new =
-    (answer ≡ key.NoStorage) × HasNoPlaces old.storage (system_owner start.slot) start.calen start.loaded.stg_len × (new ≡ old)
+attach_answers : (old : RegionState) (name : List ℕ) (terminal : TerminalState) (input : Input) (tran program : List ℕ) (loaded : Loaded) (answer : KeyReply) (new : RegionState)
+    → Attaches old name terminal input tran program loaded answer new → Answered old name terminal input tran program loaded answer new
+attach_answers old name terminal input tran program loaded key.Attached new h = inl (refl, h)
+attach_answers old name terminal input tran program loaded key.NoStorage new h = inr (refl, h.0, h.1)
+attach_answers old name terminal input tran program loaded _ new h = absurd h
 
-attach_answers : (old : RegionState) (name : List ℕ) (start : Start) (input : Input) (answer : KeyReply) (new : RegionState) → Attaches old name start input answer new
-    → IsAttached old name start input answer new ⊎ IsUnplaced old start answer new
-attach_answers old name start input key.Attached new h = inl (refl, h.0, h.1, h.2)
-attach_answers old name start input key.NoStorage new h = inr (refl, h.0, h.1)
-attach_answers old name start input _ new h = absurd h
-
-attach_decides : (old : RegionState) (name : List ℕ) (start : Start) (input : Input) (r s : KeyReply) (a b : RegionState)
-    → Attaches old name start input r a → Attaches old name start input s b → Alike r s a b
-attach_decides old name start input r s a b h k =
-    elim (attach_answers old name start input r a h) [
-      | inl one ↦ elim (attach_answers old name start input s b k) [
+attach_decides : (old : RegionState) (name : List ℕ) (terminal : TerminalState) (input : Input) (tran program : List ℕ) (loaded : Loaded) (r s : KeyReply) (a b : RegionState)
+    → Attaches old name terminal input tran program loaded r a → Attaches old name terminal input tran program loaded s b → Alike r s a b
+attach_decides old name terminal input tran program loaded r s a b h k =
+    elim (attach_answers old name terminal input tran program loaded r a h) [
+      | inl one ↦ elim (attach_answers old name terminal input tran program loaded s b k) [
         | inl two ↦
-            let same = places_decide old.storage (system_owner start.slot) start.calen start.loaded.stg_len one.1 two.1 one.2 two.2 in
-            (one.0 ∙ sym two.0, one.3 ∙ ap (λ (p : Places). attached old name start input p) same ∙ sym two.3)
-        | inr two ↦ absurd (two.1.none one.1 one.2)
+            let same = places_decide old.storage (system_owner terminal.slot) (length (commarea_kept terminal.following)) loaded.stg_len one.1.areas two.1.areas one.1.placed two.1.placed in
+            (one.0 ∙ sym two.0, one.1.after ∙ ap (λ (p : TaskAreas). attached old name terminal input tran program loaded p) same ∙ sym two.1.after)
+        | inr two ↦ absurd (two.1.none one.1.areas one.1.placed)
       ]
-      | inr one ↦ elim (attach_answers old name start input s b k) [
-        | inl two ↦ absurd (one.1.none two.1 two.2)
+      | inr one ↦ elim (attach_answers old name terminal input tran program loaded s b k) [
+        | inl two ↦ absurd (one.1.none two.1.areas two.1.placed)
         | inr two ↦ (one.0 ∙ sym two.0, one.2 ∙ sym two.2)
       ]
     ]
@@ -171,102 +151,63 @@ attach_decides old name start input r s a b h k =
 pub key_decides : (old : RegionState) (name : List ℕ) (input : Input) (r s : KeyReply) (a b : RegionState)
     → Keyed old name input r a → Keyed old name input s b → Alike r s a b
 unfolding Keyed
-key_decides old name input r s a b h k = by_asked (asked old name input.bytes) h k
+key_decides old name input r s a b h k = at_terminal (terminal_of old name) h k
   where
-    by_asked : (due : Asked) → KeyedAs due old name input r a → KeyedAs due old name input s b → Alike r s a b
-    by_asked (Answer answer) one two = told r s answer a b old one two
-    by_asked Give one two = told r s key.Given a b _ one two
-    by_asked (Attach start) one two = attach_decides old name start input r s a b one two
+    at_program : (t : TerminalState) (tran program : List ℕ) (o : Option Loaded)
+        → MatchOption o (OnlyAnswers key.NoSuchTransaction old r a) (λ loaded. Attaches old name t input tran program loaded r a)
+        → MatchOption o (OnlyAnswers key.NoSuchTransaction old s b) (λ loaded. Attaches old name t input tran program loaded s b) → Alike r s a b
+    at_program t tran program None one two = told r s key.NoSuchTransaction a b old one two
+    at_program t tran program (Some loaded) one two = attach_decides old name t input tran program loaded r s a b one two
+
+    at_tran : (t : TerminalState) (tran : List ℕ) (o : Option (List ℕ))
+        → MatchOption o (OnlyAnswers key.NoSuchTransaction old r a) (λ program. MatchOption (program_of old program) (OnlyAnswers key.NoSuchTransaction old r a) (λ loaded. Attaches old name t input tran program loaded r a))
+        → MatchOption o (OnlyAnswers key.NoSuchTransaction old s b) (λ program. MatchOption (program_of old program) (OnlyAnswers key.NoSuchTransaction old s b) (λ loaded. Attaches old name t input tran program loaded s b))
+        → Alike r s a b
+    at_tran t tran None one two = told r s key.NoSuchTransaction a b old one two
+    at_tran t tran (Some program) one two = at_program t tran program (program_of old program) one two
+
+    at_input : (t : TerminalState) (o : Option Input)
+        → MatchOption o ((r ≡ key.Given) × (a ≡ with_terminal old name (record t { input = Some input }))) (λ held. OnlyAnswers key.AlreadyHeldInput old r a)
+        → MatchOption o ((s ≡ key.Given) × (b ≡ with_terminal old name (record t { input = Some input }))) (λ held. OnlyAnswers key.AlreadyHeldInput old s b) → Alike r s a b
+    at_input t None one two = told r s key.Given a b _ one two
+    at_input t (Some held) one two = told r s key.AlreadyHeldInput a b old one two
+
+    at_task : (t : TerminalState) (tran : List ℕ) (o : Option TaskState)
+        → MatchOption o (MatchOption (transaction_of old tran) (OnlyAnswers key.NoSuchTransaction old r a) (λ program. MatchOption (program_of old program) (OnlyAnswers key.NoSuchTransaction old r a) (λ loaded. Attaches old name t input tran program loaded r a)))
+        (λ task. MatchOption t.input ((r ≡ key.Given) × (a ≡ with_terminal old name (record t { input = Some input }))) (λ held. OnlyAnswers key.AlreadyHeldInput old r a))
+        → MatchOption o (MatchOption (transaction_of old tran) (OnlyAnswers key.NoSuchTransaction old s b) (λ program. MatchOption (program_of old program) (OnlyAnswers key.NoSuchTransaction old s b) (λ loaded. Attaches old name t input tran program loaded s b)))
+        (λ task. MatchOption t.input ((s ≡ key.Given) × (b ≡ with_terminal old name (record t { input = Some input }))) (λ held. OnlyAnswers key.AlreadyHeldInput old s b))
+        → Alike r s a b
+    at_task t tran None one two = at_tran t tran (transaction_of old tran) one two
+    at_task t tran (Some task) one two = at_input t t.input one two
+
+    at_terminal : (o : Option TerminalState)
+        → MatchOption o (OnlyAnswers key.NoSuchTerminal old r a) (λ t. TerminalKeyed old name t input r a)
+        → MatchOption o (OnlyAnswers key.NoSuchTerminal old s b) (λ t. TerminalKeyed old name t input s b) → Alike r s a b
+    at_terminal None one two = told r s key.NoSuchTerminal a b old one two
+    at_terminal (Some t) one two = at_task t (transaction_named t.following input.bytes) t.task one two
 
 -- ---- turns
-abbrev SameEnd : Pass → Pass → Reach → Reach → Type 0
-SameEnd p q a b = (p ≡ q) × (a ≡ b)
-
-abend_decides : (code : List ℕ) (before : Reach) (p q : Pass) (a b : Reach) → Abends code before p a → Abends code before q b → SameEnd p q a b
-unfolding AbendsAt
-abend_decides code before p q a b h k =
-    by_exit k.exit
-    (subst (λ (exit : Option ℕ). AbendsAt exit code before p a) (nearest_exit_one (all_levels before.task.levels) h.exit k.exit h.nearest k.nearest) h.ends) k.ends
-  where
-    by_exit : (exit : Option ℕ) → AbendsAt exit code before p a → AbendsAt exit code before q b → SameEnd p q a b
-    by_exit None one two = told p q _ a b before one two
-    by_exit (Some index) one two = told p q _ a b _ one two
-
-carries_decide : (judgement : Judgement) (call : Call) (before : Reach) (p q : Pass) (a b : Reach)
-    → Carries judgement call before p a → Carries judgement call before q b → SameEnd p q a b
-carries_decide Unwritten call before p q a b h k = abend_decides _ before p q a b h k
-carries_decide (GoesOn condition) call before p q a b h k = told p q _ a b _ h k
-carries_decide LevelEnds call before p q a b h k = told p q _ a b _ h k
-carries_decide TaskEnds call before p q a b h k = told p q _ a b _ h k
-
--- where the code of an argument list is due, and where the judgement is carried out
-tested_decides : (refused : Bool) (judgement : Judgement) (call : Call) (code : List ℕ) (before : Reach) (p q : Pass) (a b : Reach)
-    → MatchBool refused (Abends code before p a) (Carries judgement call before p a)
-    → MatchBool refused (Abends code before q b) (Carries judgement call before q b) → SameEnd p q a b
-tested_decides true judgement call code before p q a b h k = abend_decides code before p q a b h k
-tested_decides false judgement call code before p q a b h k = carries_decide judgement call before p q a b h k
-
-called_decides : (judgement : Judgement) (call : Call) (before : Reach) (p q : Pass) (a b : Reach)
-    → Called judgement call before p a → Called judgement call before q b → SameEnd p q a b
-unfolding Called
-called_decides judgement call before p q a b h k =
-    tested_decides (is_written judgement && not (can_respond before.storage call)) judgement call _ before p q a b h k
-
-command_decides : (before : Reach) (p q : Pass) (a b : Reach) → Commanded before p a → Commanded before q b → SameEnd p q a b
-unfolding Commanded
-command_decides before p q a b h k = by_call (call_of before.storage (list_of before.task)) h k
-  where
-    by_call : (read : Result Call CallFault)
-        → MatchResult read (λ call. Called (judged call before.task.levels) call before p a) (λ fault. Abends (fault_code fault) before p a)
-        → MatchResult read (λ call. Called (judged call before.task.levels) call before q b) (λ fault. Abends (fault_code fault) before q b)
-        → SameEnd p q a b
-    by_call (Ok call) one two = called_decides (judged call before.task.levels) call before p q a b one two
-    by_call (Err fault) one two = abend_decides (fault_code fault) before p q a b one two
-
-halts_decide : (how : Halt) (before : Reach) (p q : Pass) (a b : Reach) → Halted how before p a → Halted how before q b → SameEnd p q a b
-halts_decide halt.AtEntry before p q a b h k = told p q _ a b _ h k
-halts_decide (halt.Interrupt cause place) before p q a b h k = abend_decides _ before p q a b h k
-halts_decide halt.Limit before p q a b h k = abend_decides _ before p q a b h k
-
-instructions_decide : ((limit : ℕ) → MachineRunsDecide (Advances limit)) → (before : Reach) (p q : Pass) (a b : Reach)
-    → RunsOn before p a → RunsOn before q b → SameEnd p q a b
-instructions_decide runs before p q a b h k =
-    let same = runs most_steps (machine_of before) h.how k.how h.machine k.machine h.advances k.advances in
-    let first : Halted k.how (after_machine before h.machine) p a =
-    subst (λ (how : Halt). Halted how (after_machine before h.machine) p a) same.0 h.ends in
-    let second : Halted k.how (after_machine before k.machine) p a =
-    subst (λ (m : Machine). Halted k.how (after_machine before m) p a) same.1 first in
-    halts_decide k.how (after_machine before k.machine) p q a b second k.ends
-
-half_turn_decides : ((limit : ℕ) → MachineRunsDecide (Advances limit)) → (before : Reach) (p q : Pass) (a b : Reach)
-    → HalfTurn before p a → HalfTurn before q b → SameEnd p q a b
-unfolding HalfTurn
-half_turn_decides runs before p q a b h k = by_due before.task.due h k
-  where
-    by_due : (due : Bool) → MatchBool due (Commanded before p a) (RunsOn before p a) → MatchBool due (Commanded before q b) (RunsOn before q b) → SameEnd p q a b
-    by_due true one two = command_decides before p q a b one two
-    by_due false one two = instructions_decide runs before p q a b one two
-
-task_turn_decides : ((limit : ℕ) → MachineRunsDecide (Advances limit)) → (old : RegionState) (name : List ℕ) (terminal : TerminalState) (task : TaskState)
+task_turn_decides : HalfTurnsDecide → (old : RegionState) (name : List ℕ) (terminal : TerminalState) (task : TaskState)
     (r s : TurnReply) (a b : RegionState)
     → TaskTurned old name terminal task r a → TaskTurned old name terminal task s b → Alike r s a b
-task_turn_decides runs old name terminal task r s a b h k =
-    let same = half_turn_decides runs (reach_of old terminal task) h.pass k.pass h.reach k.reach h.half_turn k.half_turn in (
-      h.answer ∙ ap (λ (p : Pass). reply_of p) same.0 ∙ sym k.answer,
-      h.after ∙ ap (λ (p : Pass). after_pass old name h.reach p) same.0 ∙ ap (λ (x : Reach). after_pass old name x k.pass) same.1 ∙ sym k.after,
+task_turn_decides law old name terminal task r s a b h k =
+    let same = law (reach_of old terminal task) h.reached k.reached r s h.half_turn k.half_turn in (
+      same.0,
+      h.after ∙ ap (λ (answer : TurnReply). after_half_turn old name answer h.reached) same.0 ∙ ap (λ (x : Reach). after_half_turn old name s x) same.1 ∙ sym k.after,
     )
 
 abbrev MatchTask : RegionState → List ℕ → TurnReply → RegionState → TerminalState → Option TaskState → Type 0
 MatchTask old name answer new terminal o = MatchOption o ((answer ≡ turn.Idle) × (new ≡ old)) (λ task. TaskTurned old name terminal task answer new)
 
-pub turn_decides : ((limit : ℕ) → MachineRunsDecide (Advances limit)) → (old : RegionState) (name : List ℕ) (r s : TurnReply) (a b : RegionState)
+pub turn_decides : HalfTurnsDecide → (old : RegionState) (name : List ℕ) (r s : TurnReply) (a b : RegionState)
     → Turned old name r a → Turned old name s b → Alike r s a b
 unfolding Turned
-turn_decides runs old name r s a b h k = at_terminal (terminal_of old name) h k
+turn_decides law old name r s a b h k = at_terminal (terminal_of old name) h k
   where
     at_task : (terminal : TerminalState) (o : Option TaskState) → MatchTask old name r a terminal o → MatchTask old name s b terminal o → Alike r s a b
     at_task terminal None one two = told r s turn.Idle a b old one two
-    at_task terminal (Some task) one two = task_turn_decides runs old name terminal task r s a b one two
+    at_task terminal (Some task) one two = task_turn_decides law old name terminal task r s a b one two
 
     at_terminal : (o : Option TerminalState)
         → MatchOption o ((r ≡ turn.NoSuchTerminal) × (a ≡ old)) (λ terminal. MatchTask old name r a terminal terminal.task)
@@ -316,7 +257,7 @@ turn_reply old name _ new h = absurd h
 replies_same : {A : Type 0} (hold : A → Reply) (r s : Reply) (x y : A) → r ≡ hold x → s ≡ hold y → x ≡ y → r ≡ s
 replies_same hold r s x y one two same = one ∙ ap hold same ∙ sym two
 
-pub events_decide : LoadingDecides → ((limit : ℕ) → MachineRunsDecide (Advances limit)) → EventsDecide
+pub events_decide : LoadingDecides → HalfTurnsDecide → EventsDecide
 events_decide loading runs old (event.Program name image) r s a b h k =
     let one = program_reply old name image r a h in
     let two = program_reply old name image s b k in

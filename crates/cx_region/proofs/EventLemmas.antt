@@ -1,14 +1,14 @@
 -- An event that was answered by want of memory may take some.
-use Rattle.std.proofs.Common.{◌≡◌, ℕ, Bool, true, false, cond, List, length, None, Some, Option, Result, Ok, Err, MatchOption, IsOkUnless, IsErrOf, IsOk, OnErr, refl, ap}
+use Rattle.std.proofs.Common.{◌≡◌, ℕ, Bool, true, false, cond, List, length, None, Some, Option, Result, Ok, Err, MatchOption, IsOkUnless, IsErrOf, OnErr, refl, ap}
 use Rattle.cx_code.specs.declared.image.Image.{Image}
 use Rattle.cx_ebcdic.specs.declared.aids.Aid.{Aid}
 use Rattle.cx_load.specs.Program.{IsProgramPlace}
 use Rattle.cx_load.specs.declared.program.Loaded.{Loaded}
 use Rattle.cx_region.specs.State.{RegionState}
-use Rattle.cx_region.specs.Attach.{MayGrow, asked, input_from}
+use Rattle.cx_region.specs.Attach.{KeyGrows, input_from}
 use Rattle.cx_region.specs.Defining.{program_fault, transaction_fault, terminal_fault}
 use Rattle.cx_region.specs.Events.{MayTakeMemory}
-use Rattle.cx_region.specs.Turn.{turn_may_grow}
+use Rattle.cx_region.specs.Turn.{TurnGrows}
 use Rattle.cx_region.specs.declared.replies.DefineFault.{DefineFault}
 use Rattle.cx_region.specs.declared.replies.DefineFault.TheVariants.{Duplicate, Full, Memory, NoProgram}
 use Rattle.cx_region.specs.declared.replies.Event.TheVariants as event
@@ -45,18 +45,13 @@ pub terminal_memory : (old : RegionState) (name : List ℕ) (r : Result (Unit {0
 unfolding MayTakeMemory terminal_fault
 terminal_memory old name r h e = none_due (terminal_fault old name) r (λ m. two _ _ m) h e
 
-pub key_memory : (old : RegionState) (name : List ℕ) (aid : Aid) (bytes : List ℕ) → MayGrow (asked old name (input_from aid bytes).bytes) old.storage → MayTakeMemory old (event.Key name aid bytes)
+pub key_memory : (old : RegionState) (name : List ℕ) (aid : Aid) (bytes : List ℕ) → KeyGrows old name (input_from aid bytes).bytes → MayTakeMemory old (event.Key name aid bytes)
 unfolding MayTakeMemory
 key_memory old name aid bytes h = h
 
-grown : {A E : Type 0} (b : Bool) (r : Result A E) (fault : E) → (b ≡ false → IsOk r) → r ≡ Err fault → b ≡ true
-grown true r fault h e = refl
-grown false (Ok a) fault h e = cc
-grown false (Err f) fault h e = let ok = h refl in cc
-
-pub turn_memory : {A E : Type 0} (old : RegionState) (name : List ℕ) (r : Result A E) (fault : E) → (turn_may_grow old name ≡ false → IsOk r) → r ≡ Err fault → MayTakeMemory old (event.Turn name)
+pub turn_memory : (old : RegionState) (name : List ℕ) → TurnGrows old name → MayTakeMemory old (event.Turn name)
 unfolding MayTakeMemory
-turn_memory old name r fault h e = grown (turn_may_grow old name) r fault h e
+turn_memory old name h = h
 
 -- what holds anyway holds of an error
 pub on_err : {A E : Type 0} (r : Result A E) (P : Type 0) → P → OnErr r P

@@ -1,14 +1,8 @@
 pub mod FreshLemmas
-pub mod AreaLemmas
 pub mod PlacingLemmas
-pub mod UnwindLemmas
-pub mod AbendLemmas
 pub mod SoundDefining
 pub mod LiveLemmas
 pub mod SoundAttach
-pub mod TurnLemmas
-pub mod SoundTurn
-pub mod FrameLemmas
 pub mod SoundTurned
 pub mod KeepsLemmas
 pub mod DecideLemmas

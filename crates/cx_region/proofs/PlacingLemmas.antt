@@ -1,25 +1,19 @@
 -- Placing a task's areas one after another.
-use Rattle.std.proofs.Common.{◌≡◌, ℕ, ◌^◌, ◌<◌, false, Option, Some, None, refl, sym, ◌∙◌, ap, subst, arith}
+use Rattle.std.proofs.Common.{◌≡◌, ℕ, false, Option, Some, None, refl, sym, ◌∙◌, ap, subst}
 use Rattle.std.specs.Prelude.{◌==◌}
 use Rattle.std.proofs.lemmas.Option.{none-some, same_Some}
 use Rattle.std.proofs.lemmas.Bool.{true≢false, eq-eqb}
 use Rattle.cx_storage.specs.declared.areas.Owner.{Owner}
 use Rattle.cx_storage.specs.Storage.{Storage, is_of_other_slot, with_area, with_areas_kept}
-use Rattle.cx_storage.specs.Place.{CanPlace, IsLeastPlace}
 use Rattle.cx_storage.specs.Facts.Places.{place_decides}
-use Rattle.cx_region.specs.declared.asking.Places.{Places}
 use Rattle.cx_region.specs.declared.asking.Start.{Start}
 use Rattle.cx_region.specs.declared.attach.StartFault.{StartFault}
 use Rattle.cx_region.specs.declared.attach.StartFault.TheVariants.{Memory, NoStorage}
 use Rattle.cx_region.specs.Parts.Placing.{AreFaultsOf, IsCopyFault, IsPlaceFault, IsSlotFree}
 use Rattle.cx_command.specs.Eib.{eib_len}
-use Rattle.cx_region.specs.Attach.{ArePlaced, HasNoPlaces, IsCopyPlace, IsTaskPlace, first_of_tasks, last_of_tasks, system_owner, with_copy_area, with_eib_area, with_task_areas}
-use Rattle.cx_region.proofs.AreaLemmas.{freed_put, kept_all}
-
--- a task's area begins below 2^24
-pub task_address : (s : Storage) (len a : ℕ) → 0 < len → IsTaskPlace s len (Some a) → a < 2 ^ 24
-unfolding IsLeastPlace CanPlace
-task_address s len a some place = let fits = place.0.2 in omega arith
+use Rattle.cx_state.specs.Areas.{IsTaskPlace, first_of_tasks, last_of_tasks, system_owner}
+use Rattle.cx_region.specs.Attach.{ArePlaced, HasNoPlaces, IsCopyPlace, TaskAreas, with_eib_area, with_kept_area, with_task_areas}
+use Rattle.cx_state.specs.Facts.Areas.{freed_put, kept_all}
 
 -- no area is put in where there is no place
 pub no_area : (s : Storage) (len : ℕ) (owner : Owner) → with_area s None len owner ≡ s
@@ -57,16 +51,16 @@ none_for_copy s owner len stg_len eib at some none =
     }
 
 pub none_for_stg : (s : Storage) (owner : Owner) (len stg_len eib : ℕ) (copy : Option ℕ) → IsTaskPlace s eib_len (Some eib) → IsCopyPlace (with_eib_area s owner eib) len copy
-    → IsTaskPlace (with_copy_area s owner len eib copy) stg_len None → HasNoPlaces s owner len stg_len
+    → IsTaskPlace (with_kept_area s owner len eib copy) stg_len None → HasNoPlaces s owner len stg_len
 none_for_stg s owner len stg_len eib copy at copied none =
     record {
       none = λ places placed.
           let same : eib ≡ places.eib = one_place s eib_len eib places.eib at placed.eib in
           let copied_there : IsCopyPlace (with_eib_area s owner places.eib) len copy = subst (λ (e : ℕ). IsCopyPlace (with_eib_area s owner e) len copy) same copied in
           let copy_same : copy ≡ places.commarea = one_copy (with_eib_area s owner places.eib) len copy places.commarea copied_there placed.commarea in
-          let first : IsTaskPlace (with_copy_area s owner len places.eib copy) stg_len None = subst (λ (e : ℕ). IsTaskPlace (with_copy_area s owner len e copy) stg_len None) same none in
-          let nowhere : IsTaskPlace (with_copy_area s owner len places.eib places.commarea) stg_len None = subst (λ (o : Option ℕ). IsTaskPlace (with_copy_area s owner len places.eib o) stg_len None) copy_same first in
-          not_both (with_copy_area s owner len places.eib places.commarea) stg_len places.stg nowhere placed.stg;
+          let first : IsTaskPlace (with_kept_area s owner len places.eib copy) stg_len None = subst (λ (e : ℕ). IsTaskPlace (with_kept_area s owner len e copy) stg_len None) same none in
+          let nowhere : IsTaskPlace (with_kept_area s owner len places.eib places.commarea) stg_len None = subst (λ (o : Option ℕ). IsTaskPlace (with_kept_area s owner len places.eib o) stg_len None) copy_same first in
+          not_both (with_kept_area s owner len places.eib places.commarea) stg_len places.stg nowhere placed.stg;
     }
 
 -- what the slot was given is gone when its areas are freed
@@ -89,7 +83,7 @@ pub stg_fault : (s t u : Storage) (start : Start) (eib : ℕ) (copy : Option ℕ
 stg_fault s t u start eib copy NoStorage at is copied is_next none =
     let owner = system_owner start.slot in
     let there : IsCopyPlace (with_eib_area s owner eib) start.calen copy = subst (λ (v : Storage). IsCopyPlace v start.calen copy) is copied in
-    let next : u ≡ with_copy_area s owner start.calen eib copy = is_next ∙ ap (λ (v : Storage). with_area v copy start.calen owner) is in
+    let next : u ≡ with_kept_area s owner start.calen eib copy = is_next ∙ ap (λ (v : Storage). with_area v copy start.calen owner) is in
     none_for_stg s owner start.calen start.loaded.stg_len eib copy at there (subst (λ (v : Storage). IsTaskPlace v start.loaded.stg_len None) next none)
 stg_fault s t u start eib copy (Memory refused) at is copied is_next none = λ nowhere. not_both s eib_len eib nowhere at
 
@@ -102,14 +96,14 @@ pub given_back : (s t u : Storage) (slot : ℕ) → IsSlotFree s slot → with_a
     → u ≡ with_areas_kept (is_of_other_slot slot) t → u ≡ s
 given_back s t u slot free same is = is ∙ same ∙ kept_all (is_of_other_slot slot) s free
 
-pub given_back_areas : (s t u : Storage) (slot len stg_len : ℕ) (places : Places) → IsSlotFree s slot → t ≡ with_task_areas s (system_owner slot) len stg_len places
+pub given_back_areas : (s t u : Storage) (slot len stg_len : ℕ) (places : TaskAreas) → IsSlotFree s slot → t ≡ with_task_areas s (system_owner slot) len stg_len places
     → u ≡ with_areas_kept (is_of_other_slot slot) t → u ≡ s
 given_back_areas s t u slot len stg_len places free is_given is =
     let owner = system_owner slot in
-    let same = freed_two (with_copy_area s owner len places.eib places.commarea) t slot stg_len (Some places.stg) is_given
+    let same = freed_two (with_kept_area s owner len places.eib places.commarea) t slot stg_len (Some places.stg) is_given
     ∙ freed_one (with_eib_area s owner places.eib) slot len places.commarea
     ∙ freed_one s slot eib_len (Some places.eib) in
     given_back s t u slot free same is
 
-pub eib_placed : (s : Storage) (owner : Owner) (len stg_len : ℕ) (places : Places) → ArePlaced s owner len stg_len places → IsTaskPlace s eib_len None → ⊥
+pub eib_placed : (s : Storage) (owner : Owner) (len stg_len : ℕ) (places : TaskAreas) → ArePlaced s owner len stg_len places → IsTaskPlace s eib_len None → ⊥
 eib_placed s owner len stg_len places placed none = not_both s eib_len places.eib none placed.eib

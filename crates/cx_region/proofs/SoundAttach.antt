@@ -1,91 +1,94 @@
 -- What always holds of a region is kept by a key.
-use Rattle.cx_command.specs.declared.eistg.EistgField.TheVariants.{Eicap}
-use Rattle.cx_command.specs.Eistg.{eistg_field}
 use Rattle.std.proofs.Common.{◌≡◌, ℕ, zero, suc, ◌<◌, ◌≤◌, Bool, true, false, Option, Some, None, List, [], ◌∷◌, length, refl, sym, ◌∙◌, ap, subst, arith, inl, inr, is_some}
-use Rattle.std.specs.Prelude.{◌==◌, ◌||◌, if◌then◌else◌, unwrap_or, nat_eq}
+use Rattle.std.specs.Prelude.{◌==◌, ◌||◌, if◌then◌else◌, nat_eq, IfErr, OnErr, MatchOption, Result, Ok, Err, ⊤}
 use Rattle.std.specs.Option.{option_map_or}
 use Rattle.std.specs.List.{AllByRecursion, IsDistinct}
-use Rattle.std.specs.Map.{set_value}
+use Rattle.std.specs.Map.{lookup, set_value}
 use Rattle.std.proofs.lemmas.Bool.{cases_eq, eq-eqb, ne_eqb}
-use Rattle.std.proofs.lemmas.Option.{none-some}
+use Rattle.std.proofs.lemmas.Option.{none-some, same_Some}
 use Rattle.std.proofs.lemmas.Map.{length-set_value}
 use Rattle.cx_storage.specs.declared.areas.Area.{Area}
-use Rattle.cx_storage.specs.declared.areas.Owner.{Owner}
-use Rattle.cx_storage.specs.Storage.{Storage, area_at, with_area, IsSound as IsSoundStorage}
+use Rattle.cx_storage.specs.Storage.{Storage, area_at, area_from, with_area, IsSound as IsSoundStorage}
 use Rattle.cx_storage.specs.Address.{along}
 use Rattle.cx_storage.specs.Place.{CanPlace, IsLeastPlace}
-use Rattle.cx_storage.specs.Storage.{area_from}
 use Rattle.cx_storage.specs.Facts.Sound.{sound_with_area}
 use Rattle.cx_load.specs.declared.program.Loaded.{Loaded}
-use Rattle.cx_region.specs.declared.asking.Asked.TheVariants.{Answer, Attach, Give}
-use Rattle.cx_region.specs.declared.replies.KeyReply.TheVariants as key
-use Rattle.cx_region.specs.declared.asking.Places.{Places}
-use Rattle.cx_region.specs.declared.asking.Start.{Start}
-use Rattle.cx_call.specs.declared.eib.Begun.{Begun}
-use Rattle.cx_ebcdic.specs.Aids.{key_of}
-use Rattle.cx_region.specs.State.{Input, RegionState, TaskState, TerminalState}
-use Rattle.cx_region.specs.Names.{is_name4, is_name8}
-use Rattle.cx_region.specs.Tables.{fresh_terminal, program_of, terminal_in, terminal_of, transaction_of}
+use Rattle.cx_command.specs.declared.eistg.EistgField.TheVariants.{Eicap}
+use Rattle.cx_command.specs.Eistg.{eistg_field}
+use Rattle.cx_command.specs.Eib.{eib_field, eib_len}
 use Rattle.cx_call.specs.Eib.{Content, fields_at_attach, with_field, with_fields}
-use Rattle.cx_command.specs.Eib.{eib_field}
-use Rattle.cx_command.specs.Eib.{eib_len}
-use Rattle.cx_region.specs.Attach.{ArePlaced, IsCopyPlace, IsTaskPlace, asked, attached, asked_at, commarea_kept, entry_level, filled, first_of_tasks, fresh_task, input_asked, last_of_tasks, next_number, start_asked, system_owner, transaction_named, with_copy, with_copy_area, with_eib_area, with_task, with_task_areas}
-use Rattle.cx_region.specs.Parts.Placing.{IsSlotFree}
-use Rattle.cx_region.specs.Sound.{IsAreaOf, IsOwned, IsSound, IsSoundProgram, IsSoundTask, IsSoundTerminal, is_live}
-use Rattle.cx_region.proofs.AreaLemmas.{all_areas_put, all_areas_written, area_kept_get, area_put, area_written, not_there}
+use Rattle.cx_ebcdic.specs.declared.aids.Aid.{Aid}
+use Rattle.cx_ebcdic.specs.Aids.{key_of}
+use Rattle.cx_state.specs.declared.verdict.NewLevel.{NewLevel}
+use Rattle.cx_state.specs.Areas.{IsAreaOf, IsSoundProgram, IsTaskPlace, entry_level, first_of_tasks, last_of_tasks, system_owner, with_cap}
+use Rattle.cx_state.specs.Facts.Areas.{all_areas_put, all_areas_written, area_kept_get, area_put, area_written, not_there}
+use Rattle.cx_state.specs.State.{Input, SharedState, TaskState}
 use Rattle.cx_tables.specs.Facts.Tables.{distinct-set_value, each-set_value, found_meets}
+use Rattle.cx_task.specs.Sound.{IsSoundTask}
+use Rattle.cx_region.specs.declared.asking.Asked.TheVariants.{Answer, Attach, Give}
+use Rattle.cx_region.specs.declared.asking.Start.{Start}
+use Rattle.cx_region.specs.declared.replies.KeyReply.{KeyReply}
+use Rattle.cx_region.specs.declared.replies.KeyReply.TheVariants as key
+use Rattle.cx_region.specs.State.{RegionState, TerminalState, shared_of}
+use Rattle.cx_region.specs.Names.{is_name4, is_name8}
+use Rattle.cx_region.specs.Tables.{program_of, terminal_of, transaction_of, with_terminal}
+use Rattle.cx_region.specs.Attach.{ArePlaced, Attached, Attaches, Gives, HasNoPlaces, IsCopyPlace, KeyGrows, Keyed, OnlyAnswers, StartGrows, Starts, TaskAreas, TerminalKeyGrows, TerminalKeyed, commarea_kept, eib_at_attach, filled, fresh_task, next_number, transaction_named, with_copy, with_eib_area, with_kept_area, with_task, with_task_areas}
+use Rattle.cx_region.specs.Parts.Asking.{asked, asked_at, input_asked, level_of, start_asked, start_of, task_of_start}
+use Rattle.cx_region.specs.declared.attach.StartFault.{StartFault}
+use Rattle.cx_region.specs.Parts.Placing.{AreFaultsOf, IsReady, IsSlotFree}
+use Rattle.cx_region.specs.Sound.{IsOwned, IsSound, IsSoundTerminal, is_live}
 use Rattle.cx_region.proofs.SoundDefining.{AreasStay, all_weaker, terminal_stays}
 use Rattle.cx_region.proofs.LiveLemmas.{live-set_value, live_at, numbered-set_value, slot_free, slot_from}
 
 -- ---- what is known where a task is to be attached
-pub record Starting (r : RegionState) (name : List ℕ) (start : Start) : Type 0 where
+pub record Starting (r : RegionState) (name bytes : List ℕ) (start : Start) : Type 0 where
   pub terminal : TerminalState
   pub there : terminal_of r name ≡ Some terminal
   pub idle : terminal.task ≡ None
   pub slot : start.slot ≡ terminal.slot
+  pub tran : start.tran ≡ transaction_named terminal.following bytes
+  pub defined : transaction_of r start.tran ≡ Some start.program
   pub program : program_of r start.program ≡ Some start.loaded
   pub calen : start.calen ≡ length (commarea_kept terminal.following)
 
-pub asked_start : (r : RegionState) (name bytes : List ℕ) (start : Start) → asked r name bytes ≡ Attach start → Starting r name start
+pub asked_start : (r : RegionState) (name bytes : List ℕ) (start : Start) → asked r name bytes ≡ Attach start → Starting r name bytes start
 unfolding asked start_asked
 asked_start r name bytes start is = by_terminal (terminal_of r name) refl is
   where
-    by_program : (t : TerminalState) (tran program : List ℕ) (o : Option Loaded) → program_of r program ≡ o → terminal_of r name ≡ Some t → t.task ≡ None
-        → option_map_or (λ loaded. Attach (record { slot = t.slot; tran = tran; program = program; loaded = loaded; calen = length (commarea_kept t.following) })) o (Answer key.NoSuchTransaction) ≡ Attach start → Starting r name start
-    by_program t tran program None e there idle h = cc
-    by_program t tran program (Some loaded) e there idle h =
-        let same : record { slot = t.slot; tran = tran; program = program; loaded = loaded; calen = length (commarea_kept t.following) } ≡ start = cc in
-        subst (Starting r name) same (record { terminal = t; there = there; idle = idle; slot = refl; program = e; calen = refl })
+    by_program : (t : TerminalState) (program : List ℕ) (o : Option Loaded) → program_of r program ≡ o → transaction_of r (transaction_named t.following bytes) ≡ Some program
+        → terminal_of r name ≡ Some t → t.task ≡ None
+        → option_map_or (start_of t (transaction_named t.following bytes) program) o (Answer key.NoSuchTransaction) ≡ Attach start → Starting r name bytes start
+    by_program t program None e defined there idle h = cc
+    by_program t program (Some loaded) e defined there idle h =
+        let same : record { slot = t.slot; tran = transaction_named t.following bytes; program = program; loaded = loaded; calen = length (commarea_kept t.following) } ≡ start = cc in
+        subst (Starting r name bytes) same (record { terminal = t; there = there; idle = idle; slot = refl; tran = refl; defined = defined; program = e; calen = refl })
 
-    by_tran : (t : TerminalState) (tran : List ℕ) (o : Option (List ℕ)) → terminal_of r name ≡ Some t → t.task ≡ None
-        → option_map_or (λ program. option_map_or (λ loaded. Attach (record { slot = t.slot; tran = tran; program = program; loaded = loaded; calen = length (commarea_kept t.following) })) (program_of r program) (Answer key.NoSuchTransaction)) o (Answer key.NoSuchTransaction) ≡ Attach start → Starting r name start
-    by_tran t tran None there idle h = cc
-    by_tran t tran (Some program) there idle h = by_program t tran program (program_of r program) refl there idle h
+    by_tran : (t : TerminalState) (o : Option (List ℕ)) → transaction_of r (transaction_named t.following bytes) ≡ o → terminal_of r name ≡ Some t → t.task ≡ None
+        → option_map_or (λ program. option_map_or (start_of t (transaction_named t.following bytes) program) (program_of r program) (Answer key.NoSuchTransaction)) o (Answer key.NoSuchTransaction) ≡ Attach start → Starting r name bytes start
+    by_tran t None e there idle h = cc
+    by_tran t (Some program) e there idle h = by_program t program (program_of r program) refl e there idle h
 
-    by_input : (o : Option Input) → input_asked o ≡ Attach start → Starting r name start
+    by_input : (o : Option Input) → input_asked o ≡ Attach start → Starting r name bytes start
     by_input None h = cc
     by_input (Some input) h = cc
 
-    started : (t : TerminalState) (tran : List ℕ) → terminal_of r name ≡ Some t → t.task ≡ None → start_asked r t tran ≡ Attach start → Starting r name start
-    started t tran there idle h = by_tran t tran (transaction_of r tran) there idle h
-
     by_task : (t : TerminalState) (o : Option TaskState) → t.task ≡ o → terminal_of r name ≡ Some t
-        → option_map_or (λ (_ : TaskState). input_asked t.input) o (start_asked r t (transaction_named t.following bytes)) ≡ Attach start → Starting r name start
-    by_task t None e there h = started t (transaction_named t.following bytes) there e h
+        → option_map_or (λ (_ : TaskState). input_asked t.input) o (start_asked r t (transaction_named t.following bytes)) ≡ Attach start → Starting r name bytes start
+    by_task t None e there h = by_tran t (transaction_of r (transaction_named t.following bytes)) refl there e h
     by_task t (Some task) e there h = by_input t.input h
 
-    by_terminal : (o : Option TerminalState) → terminal_of r name ≡ o → option_map_or (asked_at r bytes) o (Answer key.NoSuchTerminal) ≡ Attach start → Starting r name start
+    by_terminal : (o : Option TerminalState) → terminal_of r name ≡ o → option_map_or (asked_at r bytes) o (Answer key.NoSuchTerminal) ≡ Attach start → Starting r name bytes start
     by_terminal None e h = cc
     by_terminal (Some t) e h = by_task t t.task refl e h
 
-pub start_free : (r : RegionState) (name : List ℕ) (start : Start) → IsSound r → Starting r name start → IsSlotFree r.storage start.slot
-start_free r name start ok starting =
+pub start_free : (r : RegionState) (name bytes : List ℕ) (start : Start) → IsSound r → Starting r name bytes start → IsSlotFree r.storage start.slot
+start_free r name bytes start ok starting =
     let low = slot_from 1 r.terminals (is_name4 name) starting.terminal ok.numbered starting.there in
     let nobody : is_live r.terminals starting.terminal.slot ≡ false = live_at 1 r.terminals (is_name4 name) starting.terminal ok.numbered starting.there ∙ ap is_some starting.idle in
     rw starting.slot (slot_free r.terminals r.storage starting.terminal.slot low nobody ok.areas)
 
-pub start_program : (r : RegionState) (name : List ℕ) (start : Start) → IsSound r → Starting r name start → IsSoundProgram start.loaded
-start_program r name start ok starting = found_meets IsSoundProgram (is_name8 start.program) r.programs start.loaded ok.programs_sound starting.program
+pub start_program : (r : RegionState) (name bytes : List ℕ) (start : Start) → IsSound r → Starting r name bytes start → IsSoundProgram start.loaded
+start_program r name bytes start ok starting = found_meets IsSoundProgram (is_name8 start.program) r.programs start.loaded ok.programs_sound starting.program
 
 -- ---- another terminal under a name
 -- with a terminal of the same slot put under its name, and storage in which what stood stands
@@ -159,12 +162,12 @@ unfolding with_copy
 area_copy s None bytes x = refl
 area_copy s (Some a) bytes x = area_written s a bytes x
 
-area_filled : (s : Storage) (places : Places) (begun : Begun) (commarea : List ℕ) (x : ℕ) → area_at (filled s places begun commarea) x ≡ area_at s x
-unfolding filled
-area_filled s places begun commarea x =
-    area_written (with_copy (with_fields s places.eib (fields_at_attach begun)) places.commarea commarea) (along places.stg (eistg_field Eicap).offset) _ x
-    ∙ area_copy (with_fields s places.eib (fields_at_attach begun)) places.commarea commarea x
-    ∙ area_fields s places.eib (fields_at_attach begun) x
+area_filled : (s : Storage) (areas : TaskAreas) (fields : List Content) (commarea : List ℕ) (level : NewLevel) (x : ℕ) → area_at (filled s areas fields commarea level) x ≡ area_at s x
+unfolding filled with_cap
+area_filled s areas fields commarea level x =
+    area_written (with_copy (with_fields s areas.eib fields) areas.commarea commarea) (along level.stg (eistg_field Eicap).offset) _ x
+    ∙ area_copy (with_fields s areas.eib fields) areas.commarea commarea x
+    ∙ area_fields s areas.eib fields x
 
 owned_fields : (P : Area → Type 0) (s : Storage) (eib : ℕ) (fields : List Content) → AllByRecursion (λ h. P h.area) s → AllByRecursion (λ h. P h.area) (with_fields s eib fields)
 unfolding with_field
@@ -176,12 +179,12 @@ unfolding with_copy
 owned_copy P s None bytes all = all
 owned_copy P s (Some a) bytes all = all_areas_written P s a bytes all
 
-owned_filled : (P : Area → Type 0) (s : Storage) (places : Places) (begun : Begun) (commarea : List ℕ) → AllByRecursion (λ h. P h.area) s → AllByRecursion (λ h. P h.area) (filled s places begun commarea)
-unfolding filled
-owned_filled P s places begun commarea all =
-    all_areas_written P (with_copy (with_fields s places.eib (fields_at_attach begun)) places.commarea commarea) (along places.stg (eistg_field Eicap).offset) _
-    (owned_copy P (with_fields s places.eib (fields_at_attach begun)) places.commarea commarea
-    (owned_fields P s places.eib (fields_at_attach begun) all))
+owned_filled : (P : Area → Type 0) (s : Storage) (areas : TaskAreas) (fields : List Content) (commarea : List ℕ) (level : NewLevel) → AllByRecursion (λ h. P h.area) s → AllByRecursion (λ h. P h.area) (filled s areas fields commarea level)
+unfolding filled with_cap
+owned_filled P s areas fields commarea level all =
+    all_areas_written P (with_copy (with_fields s areas.eib fields) areas.commarea commarea) (along level.stg (eistg_field Eicap).offset) _
+    (owned_copy P (with_fields s areas.eib fields) areas.commarea commarea
+    (owned_fields P s areas.eib fields all))
 
 -- one area of a task put in
 record Put (s t : Storage) (slot len a : ℕ) : Type 0 where
@@ -223,11 +226,11 @@ two_apart : (a b : ℕ) → (a ≡ b → ⊥) → IsDistinct nat_eq (a ∷ b ∷
 unfolding IsDistinct
 two_apart a b ne = ((ne_eqb a b ne, tt), (tt, tt))
 
-owned_areas : (P : Area → Type 0) (s : Storage) (slot len stg_len : ℕ) (places : Places) → ((a n : ℕ) → P (area_from a n (system_owner slot))) → AllByRecursion (λ h. P h.area) s
+owned_areas : (P : Area → Type 0) (s : Storage) (slot len stg_len : ℕ) (places : TaskAreas) → ((a n : ℕ) → P (area_from a n (system_owner slot))) → AllByRecursion (λ h. P h.area) s
     → AllByRecursion (λ h. P h.area) (with_task_areas s (system_owner slot) len stg_len places)
 unfolding with_area
 owned_areas P s slot len stg_len places new all =
-    all_areas_put P (with_copy_area s (system_owner slot) len places.eib places.commarea) places.stg stg_len (system_owner slot) (new places.stg stg_len)
+    all_areas_put P (with_kept_area s (system_owner slot) len places.eib places.commarea) places.stg stg_len (system_owner slot) (new places.stg stg_len)
     (copied places.commarea)
   where
     first : AllByRecursion (λ h. P h.area) (with_eib_area s (system_owner slot) places.eib)
@@ -238,41 +241,38 @@ owned_areas P s slot len stg_len places new all =
     copied (Some a) = all_areas_put P (with_eib_area s (system_owner slot) places.eib) a len (system_owner slot) (new a len) first
 
 -- ---- attach
-pub sound_attached : (r : RegionState) (name : List ℕ) (start : Start) (input : Input) (places : Places) (begun : Begun) (commarea : List ℕ) (s : Storage) (ts : List (List ℕ × TerminalState))
-    → IsSound r → Starting r name start → IsSoundStorage s
+pub sound_attached : (r : RegionState) (name bytes : List ℕ) (start : Start) (input : Input) (places : TaskAreas) (fields : List Content) (commarea : List ℕ) (level : NewLevel) (s : Storage) (ts : List (List ℕ × TerminalState))
+    → IsSound r → (starting : Starting r name bytes start) → IsSoundStorage s
     → ArePlaced r.storage (system_owner start.slot) start.calen start.loaded.stg_len places
-    → s ≡ filled (with_task_areas r.storage (system_owner start.slot) start.calen start.loaded.stg_len places) places begun commarea
-    → ts ≡ set_value (is_name4 name) r.terminals (with_task (terminal_in r.terminals name) input (fresh_task start (next_number r.counter) places))
+    → s ≡ filled (with_task_areas r.storage (system_owner start.slot) start.calen start.loaded.stg_len places) places fields commarea level
+    → ts ≡ set_value (is_name4 name) r.terminals (with_task starting.terminal input (task_of_start start (next_number r.counter) places))
     → IsSound (record r { storage = s; terminals = ts; counter = next_number r.counter })
 unfolding fresh_task entry_level
-sound_attached r name start input places begun commarea s ts ok starting sound placed is is_ts =
-    let good = start_program r name start ok starting in
+sound_attached r name bytes start input places fields commarea level s ts ok starting sound placed is is_ts =
+    let good = start_program r name bytes start ok starting in
     let slot = start.slot in
     let t = starting.terminal in
-    let task = fresh_task start (next_number r.counter) places in
-    let found : terminal_in r.terminals name ≡ t = ap (λ o. unwrap_or o (fresh_terminal 0)) starting.there in
-    let u : TerminalState = with_task (terminal_in r.terminals name) input task in
-    let same : u.slot ≡ t.slot = ap (λ (v : TerminalState). v.slot) found in
+    let task = task_of_start start (next_number r.counter) places in
+    let u : TerminalState = with_task t input task in
     let low = good.stg_low in
     let one = put_one r.storage slot eib_len places.eib ok.storage (omega arith) placed.eib in
     let two = put_copy (with_eib_area r.storage (system_owner slot) places.eib) slot start.calen places.commarea one.sound placed.commarea in
-    let three = put_one (with_copy_area r.storage (system_owner slot) start.calen places.eib places.commarea) slot start.loaded.stg_len places.stg two.sound (omega arith) placed.stg in
+    let three = put_one (with_kept_area r.storage (system_owner slot) start.calen places.eib places.commarea) slot start.loaded.stg_len places.stg two.sound (omega arith) placed.stg in
     let last : (x : ℕ) (area : Area) → area_at (with_task_areas r.storage (system_owner slot) start.calen start.loaded.stg_len places) x ≡ Some area → area_at s x ≡ Some area =
-    λ x area stands. ap (λ v. area_at v x) is ∙ area_filled (with_task_areas r.storage (system_owner slot) start.calen start.loaded.stg_len places) places begun commarea x ∙ stands in
+    λ x area stands. ap (λ v. area_at v x) is ∙ area_filled (with_task_areas r.storage (system_owner slot) start.calen start.loaded.stg_len places) places fields commarea level x ∙ stands in
     let stay : AreasStay r.storage s = λ x area stands. last x area (three.stay x area (two.stay x area (one.stay x area stands))) in
-    let at_slot : u.slot ≡ slot = same ∙ sym starting.slot in
     let eib_there : IsAreaOf s slot places.eib eib_len = last places.eib _ (three.stay places.eib _ (two.stay places.eib _ one.new)) in
     let stg_there : IsAreaOf s slot places.stg start.loaded.stg_len = last places.stg _ three.new in
-    let eib_apart : places.eib ≡ places.stg → ⊥ = λ e. stg_new (with_copy_area r.storage (system_owner slot) start.calen places.eib places.commarea) start.loaded.stg_len places.eib places.stg two.sound (omega arith) placed.stg e _ (two.stay places.eib _ one.new) in
+    let eib_apart : places.eib ≡ places.stg → ⊥ = λ e. stg_new (with_kept_area r.storage (system_owner slot) start.calen places.eib places.commarea) start.loaded.stg_len places.eib places.stg two.sound (omega arith) placed.stg e _ (two.stay places.eib _ one.new) in
     let own : IsSoundTask s slot task =
     record { eib = eib_there; current = record { stg = stg_there; pushes = omega arith }; callers = tt; few = omega arith; apart = two_apart places.eib places.stg eib_apart } in
     let owned : AllByRecursion (λ held. IsOwned (set_value (is_name4 name) r.terminals u) held.area) s =
-    rw is (owned_filled (IsOwned (set_value (is_name4 name) r.terminals u)) (with_task_areas r.storage (system_owner slot) start.calen start.loaded.stg_len places) places begun commarea
+    rw is (owned_filled (IsOwned (set_value (is_name4 name) r.terminals u)) (with_task_areas r.storage (system_owner slot) start.calen start.loaded.stg_len places) places fields commarea level
     (owned_areas (IsOwned (set_value (is_name4 name) r.terminals u)) r.storage slot start.calen start.loaded.stg_len places
-    (λ a n. subst (λ (k : ℕ). IsOwned (set_value (is_name4 name) r.terminals u) (area_from a n (system_owner k))) (sym starting.slot) (owned_own r name t u a n ok starting.there same refl))
-    (all_weaker (λ held. IsOwned r.terminals held.area) (λ held. IsOwned (set_value (is_name4 name) r.terminals u) held.area) r.storage (λ held. owned_put r name t u held.area ok starting.there same refl) ok.areas))) in
+    (λ a n. subst (λ (k : ℕ). IsOwned (set_value (is_name4 name) r.terminals u) (area_from a n (system_owner k))) (sym starting.slot) (owned_own r name t u a n ok starting.there refl refl))
+    (all_weaker (λ held. IsOwned r.terminals held.area) (λ held. IsOwned (set_value (is_name4 name) r.terminals u) held.area) r.storage (λ held. owned_put r name t u held.area ok starting.there refl refl) ok.areas))) in
     let number : next_number r.counter ≤ 9999999 = number_few r.counter ok.counter in
-    rw is_ts (sound_put r name t u s (next_number r.counter) ok starting.there same refl sound stay (subst (λ (k : ℕ). IsSoundTask s k task) (sym at_slot) own) owned number)
+    rw is_ts (sound_put r name t u s (next_number r.counter) ok starting.there refl refl sound stay (subst (λ (k : ℕ). IsSoundTask s k task) starting.slot own) owned number)
   where
     number_few : (n : ℕ) → n ≤ 9999999 → next_number n ≤ 9999999
     number_few n most = elim (cases_eq n 9999999) [
@@ -284,62 +284,259 @@ sound_attached r name start input places begun commarea s ts ok starting sound p
 pub record Giving (r : RegionState) (name : List ℕ) : Type 0 where
   pub terminal : TerminalState
   pub there : terminal_of r name ≡ Some terminal
-  pub live : is_some terminal.task ≡ true
+  pub task : TaskState
+  pub live : terminal.task ≡ Some task
+  pub none : terminal.input ≡ None
 
 pub asked_give : (r : RegionState) (name bytes : List ℕ) → asked r name bytes ≡ Give → Giving r name
 unfolding asked start_asked
 asked_give r name bytes is = by_terminal (terminal_of r name) refl is
   where
-    by_program : (t : TerminalState) (tran program : List ℕ) (o : Option Loaded)
-        → option_map_or (λ loaded. Attach (record { slot = t.slot; tran = tran; program = program; loaded = loaded; calen = length (commarea_kept t.following) })) o (Answer key.NoSuchTransaction) ≡ Give → Giving r name
+    by_program : (t : TerminalState) (tran program : List ℕ) (o : Option Loaded) → option_map_or (start_of t tran program) o (Answer key.NoSuchTransaction) ≡ Give → Giving r name
     by_program t tran program None h = cc
     by_program t tran program (Some loaded) h = cc
 
     by_tran : (t : TerminalState) (tran : List ℕ) (o : Option (List ℕ))
-        → option_map_or (λ program. option_map_or (λ loaded. Attach (record { slot = t.slot; tran = tran; program = program; loaded = loaded; calen = length (commarea_kept t.following) })) (program_of r program) (Answer key.NoSuchTransaction)) o (Answer key.NoSuchTransaction) ≡ Give → Giving r name
+        → option_map_or (λ program. option_map_or (start_of t tran program) (program_of r program) (Answer key.NoSuchTransaction)) o (Answer key.NoSuchTransaction) ≡ Give → Giving r name
     by_tran t tran None h = cc
     by_tran t tran (Some program) h = by_program t tran program (program_of r program) h
+
+    by_input : (t : TerminalState) (task : TaskState) (o : Option Input) → t.input ≡ o → t.task ≡ Some task → terminal_of r name ≡ Some t → input_asked o ≡ Give → Giving r name
+    by_input t task None e live there h = record { terminal = t; there = there; task = task; live = live; none = e }
+    by_input t task (Some held) e live there h = cc
 
     by_task : (t : TerminalState) (o : Option TaskState) → t.task ≡ o → terminal_of r name ≡ Some t
         → option_map_or (λ (_ : TaskState). input_asked t.input) o (start_asked r t (transaction_named t.following bytes)) ≡ Give → Giving r name
     by_task t None e there h = by_tran t (transaction_named t.following bytes) (transaction_of r (transaction_named t.following bytes)) h
-    by_task t (Some task) e there h = record { terminal = t; there = there; live = ap is_some e }
+    by_task t (Some task) e there h = by_input t task t.input refl e there h
 
     by_terminal : (o : Option TerminalState) → terminal_of r name ≡ o → option_map_or (asked_at r bytes) o (Answer key.NoSuchTerminal) ≡ Give → Giving r name
     by_terminal None e h = cc
     by_terminal (Some t) e h = by_task t t.task refl e h
 
-pub sound_given : (r : RegionState) (name : List ℕ) (input : Input) (ts : List (List ℕ × TerminalState)) → IsSound r → Giving r name
-    → ts ≡ set_value (is_name4 name) r.terminals (record (terminal_in r.terminals name) { input = Some input }) → IsSound (record r { terminals = ts })
+pub sound_given : (r : RegionState) (name : List ℕ) (input : Input) (ts : List (List ℕ × TerminalState)) → IsSound r → (giving : Giving r name)
+    → ts ≡ set_value (is_name4 name) r.terminals (record giving.terminal { input = Some input }) → IsSound (record r { terminals = ts })
 sound_given r name input ts ok giving is =
     let t = giving.terminal in
-    let found : terminal_in r.terminals name ≡ t = ap (λ o. unwrap_or o (fresh_terminal 0)) giving.there in
-    let u : TerminalState = record (terminal_in r.terminals name) { input = Some input } in
-    let same : u.slot ≡ t.slot = ap (λ (v : TerminalState). v.slot) found in
-    let live : is_some u.task ≡ true = ap (λ (v : TerminalState). is_some v.task) found ∙ giving.live in
+    let u : TerminalState = record t { input = Some input } in
+    let live : is_some u.task ≡ true = ap is_some giving.live in
     let own : IsSoundTerminal r.storage t = found_meets (IsSoundTerminal r.storage) (is_name4 name) r.terminals t ok.tasks giving.there in
-    let held : IsSoundTerminal r.storage u = subst (λ (v : TerminalState). IsSoundTerminal r.storage (record v { input = Some input })) (sym found) own in
     let owned : AllByRecursion (λ h. IsOwned (set_value (is_name4 name) r.terminals u) h.area) r.storage =
-    all_weaker (λ h. IsOwned r.terminals h.area) (λ h. IsOwned (set_value (is_name4 name) r.terminals u) h.area) r.storage (λ h. owned_put r name t u h.area ok giving.there same live) ok.areas in
-    rw is (sound_put r name t u r.storage r.counter ok giving.there same live ok.storage (λ x area stands. stands) held owned ok.counter)
+    all_weaker (λ h. IsOwned r.terminals h.area) (λ h. IsOwned (set_value (is_name4 name) r.terminals u) h.area) r.storage (λ h. owned_put r name t u h.area ok giving.there refl live) ok.areas in
+    rw is (sound_put r name t u r.storage r.counter ok giving.there refl live ok.storage (λ x area stands. stands) own owned ok.counter)
+
+-- ---- what is told of the terminal that is found
+pub of_found : {T : Type 0} (P : T → Type 0) (o : Option T) (t : T) → o ≡ Some t → MatchOption o ⊤ P → P t
+of_found P None t e h = absurd (none-some t e)
+of_found P (Some u) t e h = subst P (same_Some u t e) h
+
+pub of_some : {T : Type 0} (A : Type 0) (P : T → Type 0) (o : Option T) (t : T) → o ≡ Some t → P t → MatchOption o A P
+of_some A P None t e h = absurd (none-some t e)
+of_some A P (Some u) t e h = subst P (sym (same_Some u t e)) h
+
+pub of_none : {T : Type 0} (A : Type 0) (P : T → Type 0) (o : Option T) → o ≡ None → A → MatchOption o A P
+of_none A P None e h = h
+of_none A P (Some u) e h = absurd (none-some u (sym e))
+
+-- ---- what a key that is asked for so does
+pub keyed_answer : (r : RegionState) (name : List ℕ) (input : Input) (due : KeyReply) → asked r name input.bytes ≡ Answer due → Keyed r name input due r
+unfolding Keyed asked start_asked
+keyed_answer r name input due is = by_terminal (terminal_of r name) is
+  where
+    same : (a : KeyReply) → Answer a ≡ Answer due → due ≡ a
+    same a e = cc
+
+    by_program : (t : TerminalState) (tran program : List ℕ) (o : Option Loaded) → option_map_or (start_of t tran program) o (Answer key.NoSuchTransaction) ≡ Answer due
+        → MatchOption o ((due ≡ key.NoSuchTransaction) × (r ≡ r)) (λ loaded. Attaches r name t input tran program loaded due r)
+    by_program t tran program None h = (same key.NoSuchTransaction h, refl)
+    by_program t tran program (Some loaded) h = cc
+
+    by_tran : (t : TerminalState) (tran : List ℕ) (o : Option (List ℕ))
+        → option_map_or (λ program. option_map_or (start_of t tran program) (program_of r program) (Answer key.NoSuchTransaction)) o (Answer key.NoSuchTransaction) ≡ Answer due
+        → MatchOption o ((due ≡ key.NoSuchTransaction) × (r ≡ r)) (λ program. MatchOption (program_of r program) ((due ≡ key.NoSuchTransaction) × (r ≡ r)) (λ loaded. Attaches r name t input tran program loaded due r))
+    by_tran t tran None h = (same key.NoSuchTransaction h, refl)
+    by_tran t tran (Some program) h = by_program t tran program (program_of r program) h
+
+    by_input : (t : TerminalState) (o : Option Input) → input_asked o ≡ Answer due
+        → MatchOption o ((due ≡ key.Given) × (r ≡ with_terminal r name (record t { input = Some input }))) (λ held. (due ≡ key.AlreadyHeldInput) × (r ≡ r))
+    by_input t None h = cc
+    by_input t (Some held) h = (same key.AlreadyHeldInput h, refl)
+
+    by_task : (t : TerminalState) (o : Option TaskState)
+        → option_map_or (λ (_ : TaskState). input_asked t.input) o (start_asked r t (transaction_named t.following input.bytes)) ≡ Answer due
+        → MatchOption o (MatchOption (transaction_of r (transaction_named t.following input.bytes)) ((due ≡ key.NoSuchTransaction) × (r ≡ r)) (λ program. MatchOption (program_of r program) ((due ≡ key.NoSuchTransaction) × (r ≡ r)) (λ loaded. Attaches r name t input (transaction_named t.following input.bytes) program loaded due r)))
+        (λ task. MatchOption t.input ((due ≡ key.Given) × (r ≡ with_terminal r name (record t { input = Some input }))) (λ held. (due ≡ key.AlreadyHeldInput) × (r ≡ r)))
+    by_task t None h = by_tran t (transaction_named t.following input.bytes) (transaction_of r (transaction_named t.following input.bytes)) h
+    by_task t (Some task) h = by_input t t.input h
+
+    by_terminal : (o : Option TerminalState) → option_map_or (asked_at r input.bytes) o (Answer key.NoSuchTerminal) ≡ Answer due
+        → MatchOption o ((due ≡ key.NoSuchTerminal) × (r ≡ r)) (λ t. MatchOption t.task (MatchOption (transaction_of r (transaction_named t.following input.bytes)) ((due ≡ key.NoSuchTransaction) × (r ≡ r)) (λ program. MatchOption (program_of r program) ((due ≡ key.NoSuchTransaction) × (r ≡ r)) (λ loaded. Attaches r name t input (transaction_named t.following input.bytes) program loaded due r)))
+        (λ task. MatchOption t.input ((due ≡ key.Given) × (r ≡ with_terminal r name (record t { input = Some input }))) (λ held. (due ≡ key.AlreadyHeldInput) × (r ≡ r))))
+    by_terminal None h = (same key.NoSuchTerminal h, refl)
+    by_terminal (Some t) h = by_task t t.task h
+
+pub keyed_given : (r new : RegionState) (name : List ℕ) (input : Input) (giving : Giving r name) → new ≡ with_terminal r name (record giving.terminal { input = Some input }) → Keyed r name input key.Given new
+unfolding Keyed
+keyed_given r new name input giving is =
+    of_some _ (λ t. TerminalKeyed r name t input key.Given new) (terminal_of r name) giving.terminal giving.there
+    (of_some _ (λ task. Gives r name giving.terminal input key.Given new) giving.terminal.task giving.task giving.live
+    (of_none _ (λ held. OnlyAnswers key.AlreadyHeldInput r key.Given new) giving.terminal.input giving.none (refl, is)))
+
+pub given_grows : (r : RegionState) (name bytes : List ℕ) → Giving r name → KeyGrows r name bytes
+unfolding KeyGrows
+given_grows r name bytes giving =
+    of_some _ (TerminalKeyGrows r bytes) (terminal_of r name) giving.terminal giving.there
+    (of_some _ (λ task. giving.terminal.input ≡ None) giving.terminal.task giving.task giving.live giving.none)
+
+pub keyed_start : (r new : RegionState) (name : List ℕ) (input : Input) (start : Start) (starting : Starting r name input.bytes start) (reply : KeyReply)
+    → Attaches r name starting.terminal input start.tran start.program start.loaded reply new → Keyed r name input reply new
+unfolding Keyed
+keyed_start r new name input start starting reply h =
+    of_some _ (λ t. TerminalKeyed r name t input reply new) (terminal_of r name) starting.terminal starting.there
+    (of_none _ (λ task. Gives r name starting.terminal input reply new) starting.terminal.task starting.idle
+    (subst (λ (tran : List ℕ). Starts r name starting.terminal input tran reply new) starting.tran
+    (of_some _ (λ program. MatchOption (program_of r program) (OnlyAnswers key.NoSuchTransaction r reply new) (λ loaded. Attaches r name starting.terminal input start.tran program loaded reply new))
+    (transaction_of r start.tran) start.program starting.defined
+    (of_some _ (λ loaded. Attaches r name starting.terminal input start.tran start.program loaded reply new) (program_of r start.program) start.loaded starting.program h))))
+
+pub start_grows : (r : RegionState) (name bytes : List ℕ) (start : Start) → Starting r name bytes start → (IsTaskPlace r.storage eib_len None → ⊥) → KeyGrows r name bytes
+unfolding KeyGrows
+start_grows r name bytes start starting h =
+    of_some _ (TerminalKeyGrows r bytes) (terminal_of r name) starting.terminal starting.there
+    (of_none _ (λ task. starting.terminal.input ≡ None) starting.terminal.task starting.idle
+    (subst (StartGrows r) starting.tran
+    (of_some _ (λ program. MatchOption (program_of r program) ⊥ (λ loaded. IsTaskPlace r.storage eib_len None → ⊥)) (transaction_of r start.tran) start.program starting.defined
+    (of_some _ (λ loaded. IsTaskPlace r.storage eib_len None → ⊥) (program_of r start.program) start.loaded starting.program h))))
+
+pub no_places : (r : RegionState) (name bytes : List ℕ) (start : Start) (starting : Starting r name bytes start) → HasNoPlaces r.storage (system_owner start.slot) start.calen start.loaded.stg_len
+    → HasNoPlaces r.storage (system_owner starting.terminal.slot) (length (commarea_kept starting.terminal.following)) start.loaded.stg_len
+no_places r name bytes start starting none = rw (← starting.slot, ← starting.calen) none
 
 -- ---- what attach leaves
-pub entries_at : (terminals : List (List ℕ × TerminalState)) (counter : ℕ) (name : List ℕ) (start : Start) (held input : Input) (task : TaskState) (number : ℕ) (places : Places) (ts : List (List ℕ × TerminalState))
-    → ts ≡ set_value (is_name4 name) terminals (with_task (terminal_in terminals name) held task) → held ≡ input → task ≡ fresh_task start number places → number ≡ next_number counter
-    → ts ≡ set_value (is_name4 name) terminals (with_task (terminal_in terminals name) input (fresh_task start (next_number counter) places))
-entries_at terminals counter name start held input task number places ts is e f n = is ∙ rw (e, f, n) refl
+pub attached_is : (r v : RegionState) (name bytes : List ℕ) (start : Start) (starting : Starting v name bytes start) (input : Input) (places : TaskAreas) (number : ℕ) (s : Storage) (ts : List (List ℕ × TerminalState))
+    → r ≡ v → number ≡ next_number r.counter → ArePlaced r.storage (system_owner start.slot) start.calen start.loaded.stg_len places
+    → s ≡ filled (with_task_areas r.storage (system_owner start.slot) start.calen start.loaded.stg_len places) places (eib_at_attach r name start.tran start.calen input.aid) (commarea_kept starting.terminal.following) (level_of start places)
+    → ts ≡ set_value (is_name4 name) r.terminals (with_task starting.terminal input (task_of_start start (next_number r.counter) places))
+    → Attached v name starting.terminal input start.tran start.program start.loaded (record r { storage = s; terminals = ts; counter = number })
+attached_is r v name bytes start starting input places number s ts e n placed is is_ts =
+    record {
+      areas = places;
+      placed = rw (← starting.slot, ← starting.calen, ← e) placed;
+      after = rw (is, is_ts, n, e, ← starting.slot, ← starting.calen) refl;
+    }
 
-pub storage_at : (s t u : Storage) (places : Places) (begun : Begun) (commarea : List ℕ) → u ≡ filled t places begun commarea → t ≡ s → u ≡ filled s places begun commarea
-storage_at s t u places begun commarea is e = is ∙ rw e refl
+-- the fields that the code lists are those that stand in the EIB
+pub fields_are : (r : RegionState) (name tran terminal : List ℕ) (number code : ℕ) (start : Start) (aid : Aid) → tran ≡ start.tran → terminal ≡ name → number ≡ next_number r.counter → code ≡ (key_of aid).code
+    → fields_at_attach (record { time = r.time; date = r.date; tran = tran; number = number; terminal = terminal; calen = start.calen; aid = code }) ≡ eib_at_attach r name start.tran start.calen aid
+fields_are r name tran terminal number code start aid at on n by = rw (at, on, n, by) refl
 
-pub attached_is : (r v : RegionState) (name : List ℕ) (start : Start) (input : Input) (places : Places) (tran terminal : List ℕ) (number code : ℕ) (s : Storage) (ts : List (List ℕ × TerminalState))
-    → r ≡ v → number ≡ next_number r.counter → tran ≡ start.tran → terminal ≡ name → code ≡ (key_of input.aid).code
-    → s ≡ filled (with_task_areas r.storage (system_owner start.slot) start.calen start.loaded.stg_len places) places
-    (record { time = r.time; date = r.date; tran = tran; number = number; terminal = terminal; calen = start.calen; aid = code }) (commarea_kept (terminal_in r.terminals name).following)
-    → ts ≡ set_value (is_name4 name) r.terminals (with_task (terminal_in r.terminals name) input (fresh_task start (next_number r.counter) places))
-    → record r { storage = s; terminals = ts; counter = number } ≡ attached v name start input places
-attached_is r v name start input places tran terminal number code s ts e n at on by is is_ts =
-    rw (is, is_ts, n, at, on, by) (λ i. attached (e i) name start input places)
+pub storage_at : (s t u : Storage) (places : TaskAreas) (fields shown : List Content) (commarea : List ℕ) (level now : NewLevel) → u ≡ filled t places fields commarea level → t ≡ s → fields ≡ shown → level ≡ now
+    → u ≡ filled s places shown commarea now
+storage_at s t u places fields shown commarea level now is e f g = is ∙ rw (e, f, g) refl
 
-pub placed_in : (s t : Storage) (owner : Owner) (len stg_len : ℕ) (places : Places) → s ≡ t → ArePlaced s owner len stg_len places → ArePlaced t owner len stg_len places
-placed_in s t owner len stg_len places e placed = subst (λ (v : Storage). ArePlaced v owner len stg_len places) e placed
+pub entries_at : (terminals : List (List ℕ × TerminalState)) (counter : ℕ) (name : List ℕ) (terminal : TerminalState) (start : Start) (held input : Input) (task : TaskState) (number : ℕ) (places : TaskAreas) (ts : List (List ℕ × TerminalState))
+    → ts ≡ set_value (is_name4 name) terminals (with_task terminal held task) → held ≡ input → task ≡ task_of_start start number places → number ≡ next_number counter
+    → ts ≡ set_value (is_name4 name) terminals (with_task terminal input (task_of_start start (next_number counter) places))
+entries_at terminals counter name terminal start held input task number places ts is e f n = is ∙ rw (e, f, n) refl
+
+-- ---- the whole of an attach
+err_gives : {A E : Type 0} (P : E → Type 0) (r : Result A E) (e : E) → r ≡ Err e → IfErr r P → P e
+err_gives P (Ok a) e is h = cc
+err_gives P (Err f) e is h = let same : f ≡ e = cc in subst P same h
+
+pub faults_are : {A : Type 0} (s : Storage) (start : Start) (r : Result A StartFault) (found fault : StartFault) → r ≡ Err found → found ≡ fault → IfErr r (AreFaultsOf s start) → AreFaultsOf s start fault
+faults_are s start r found fault is same h = subst (AreFaultsOf s start) same (err_gives (AreFaultsOf s start) r found is h)
+
+pub on_refusal : {A E : Type 0} (P : Type 0) (r : Result A E) (found : E) → r ≡ Err found → OnErr r P → P
+on_refusal P (Ok a) found is h = cc
+on_refusal P (Err f) found is h = h
+
+-- a region with what tasks share, its terminals and its counter
+abbrev pub with_shared : RegionState → SharedState → List (List ℕ × TerminalState) → ℕ → RegionState
+with_shared r shared terminals counter =
+    record r { storage = shared.storage; programs = shared.programs; queues = shared.queues; resources = shared.resources; terminals = terminals; counter = counter }
+
+rest_same : (r : RegionState) (mid after : SharedState) (terminals : List (List ℕ × TerminalState)) (number counter : ℕ) → mid ≡ record (shared_of r) { storage = mid.storage } → after ≡ record mid { storage = after.storage } → number ≡ counter
+    → with_shared r after terminals number ≡ record r { storage = after.storage; terminals = terminals; counter = counter }
+rest_same r mid after terminals number counter e f n =
+    let programs : after.programs ≡ r.programs = ap (λ (h : SharedState). h.programs) f ∙ ap (λ (h : SharedState). h.programs) e in
+    let queues : after.queues ≡ r.queues = ap (λ (h : SharedState). h.queues) f ∙ ap (λ (h : SharedState). h.queues) e in
+    let resources : after.resources ≡ r.resources = ap (λ (h : SharedState). h.resources) f ∙ ap (λ (h : SharedState). h.resources) e in
+    λ i. record r { storage = after.storage; programs = programs i; queues = queues i; resources = resources i; terminals = terminals; counter = n i }
+
+record AttachedParts (r : RegionState) (name bytes : List ℕ) (start : Start) (terminal : TerminalState) (input : Input) (fields : List Content) (places : TaskAreas) (level : NewLevel) (after : Storage) (ts : List (List ℕ × TerminalState)) : Type 0 where
+  pub storage : after ≡ filled (with_task_areas r.storage (system_owner start.slot) start.calen start.loaded.stg_len places) places fields (commarea_kept terminal.following) level
+  pub terminals : ts ≡ set_value (is_name4 name) r.terminals (with_task terminal input (task_of_start start (next_number r.counter) places))
+
+parts_of : (r : RegionState) (name bytes : List ℕ) (start : Start) (starting : Starting r name bytes start) (input held : Input) (fields : List Content) (places : TaskAreas) (level : NewLevel) (task : TaskState) (number : ℕ) (mid after : Storage) (ts : List (List ℕ × TerminalState))
+    → IsReady r.storage start number input places level task held mid → number ≡ next_number r.counter
+    → MatchOption (lookup (is_name4 name) r.terminals) ⊤ (λ terminal. after ≡ filled mid places fields (commarea_kept terminal.following) level)
+    → MatchOption (lookup (is_name4 name) r.terminals) ⊤ (λ terminal. ts ≡ set_value (is_name4 name) r.terminals (with_task terminal held task))
+    → AttachedParts r name bytes start starting.terminal input fields places level after ts
+parts_of r name bytes start starting input held fields places level task number mid after ts ready n is is_ts =
+    record {
+      storage = of_found (λ terminal. after ≡ filled mid places fields (commarea_kept terminal.following) level) (lookup (is_name4 name) r.terminals) starting.terminal starting.there is
+          ∙ ap (λ (s : Storage). filled s places fields (commarea_kept starting.terminal.following) level) ready.made;
+      terminals = entries_at r.terminals r.counter name starting.terminal start held input task number places ts
+          (of_found (λ terminal. ts ≡ set_value (is_name4 name) r.terminals (with_task terminal held task)) (lookup (is_name4 name) r.terminals) starting.terminal starting.there is_ts)
+          ready.input_is ready.task_is n;
+    }
+
+pub sound_attach : (r : RegionState) (name bytes : List ℕ) (start : Start) (starting : Starting r name bytes start) (input held : Input) (fields : List Content) (places : TaskAreas) (level : NewLevel) (task : TaskState) (number : ℕ) (mid after : SharedState) (ts : List (List ℕ × TerminalState))
+    → IsSound r → IsSoundStorage after.storage → IsReady r.storage start number input places level task held mid.storage → number ≡ next_number r.counter
+    → mid ≡ record (shared_of r) { storage = mid.storage } → after ≡ record mid { storage = after.storage }
+    → MatchOption (lookup (is_name4 name) r.terminals) ⊤ (λ terminal. after.storage ≡ filled mid.storage places fields (commarea_kept terminal.following) level)
+    → MatchOption (lookup (is_name4 name) r.terminals) ⊤ (λ terminal. ts ≡ set_value (is_name4 name) r.terminals (with_task terminal held task))
+    → IsSound (with_shared r after ts number)
+sound_attach r name bytes start starting input held fields places level task number mid after ts ok sound ready n e f is is_ts =
+    let parts = parts_of r name bytes start starting input held fields places level task number mid.storage after.storage ts ready n is is_ts in
+    subst IsSound (sym (rest_same r mid after ts number (next_number r.counter) e f n))
+    (sound_attached r name bytes start input places fields (commarea_kept starting.terminal.following) level after.storage ts ok starting sound ready.placed parts.storage parts.terminals)
+
+abbrev pub fields_begun : RegionState → Start → List ℕ → List ℕ → ℕ → ℕ → List Content
+fields_begun r start tran terminal number code =
+    fields_at_attach (record { time = r.time; date = r.date; tran = tran; number = number; terminal = terminal; calen = start.calen; aid = code })
+
+pub keyed_attach : (r : RegionState) (name : List ℕ) (start : Start) (input held : Input) (starting : Starting r name input.bytes start) (tran terminal : List ℕ) (code : ℕ) (places : TaskAreas) (level : NewLevel) (task : TaskState) (number : ℕ) (mid after : SharedState) (ts : List (List ℕ × TerminalState))
+    → IsReady r.storage start number input places level task held mid.storage → number ≡ next_number r.counter → tran ≡ start.tran → terminal ≡ name → code ≡ (key_of input.aid).code
+    → mid ≡ record (shared_of r) { storage = mid.storage } → after ≡ record mid { storage = after.storage }
+    → MatchOption (lookup (is_name4 name) r.terminals) ⊤ (λ t. after.storage ≡ filled mid.storage places (fields_begun r start tran terminal number code) (commarea_kept t.following) level)
+    → MatchOption (lookup (is_name4 name) r.terminals) ⊤ (λ t. ts ≡ set_value (is_name4 name) r.terminals (with_task t held task))
+    → Keyed r name input key.Attached (with_shared r after ts number)
+keyed_attach r name start input held starting tran terminal code places level task number mid after ts ready n at on by e f is is_ts =
+    let fields = fields_begun r start tran terminal number code in
+    let fields_is : fields ≡ eib_at_attach r name start.tran start.calen input.aid = fields_are r name tran terminal number code start input.aid at on n by in
+    let parts = parts_of r name input.bytes start starting input held fields places level task number mid.storage after.storage ts ready n is is_ts in
+    let storage = parts.storage ∙ ap (λ (fs : List Content). filled (with_task_areas r.storage (system_owner start.slot) start.calen start.loaded.stg_len places) places fs (commarea_kept starting.terminal.following) level) fields_is
+    ∙ ap (λ (l : NewLevel). filled (with_task_areas r.storage (system_owner start.slot) start.calen start.loaded.stg_len places) places (eib_at_attach r name start.tran start.calen input.aid) (commarea_kept starting.terminal.following) l) ready.level_is in
+    keyed_start r (with_shared r after ts number) name input start starting key.Attached
+    (subst (λ (v : RegionState). Attached r name starting.terminal input start.tran start.program start.loaded v) (sym (rest_same r mid after ts number number e f refl))
+    (attached_is r r name input.bytes start starting input places number after.storage ts refl n ready.placed storage parts.terminals))
+
+pub keyed_unplaced : (r : RegionState) (name : List ℕ) (start : Start) (input : Input) (starting : Starting r name input.bytes start) (mid : SharedState)
+    → HasNoPlaces r.storage (system_owner start.slot) start.calen start.loaded.stg_len → mid ≡ record (shared_of r) { storage = mid.storage } → mid.storage ≡ r.storage
+    → Keyed r name input key.NoStorage (with_shared r mid r.terminals r.counter)
+keyed_unplaced r name start input starting mid none e s =
+    let same : with_shared r mid r.terminals r.counter ≡ r = rest_same r mid mid r.terminals r.counter r.counter e refl refl ∙ (λ i. record r { storage = s i }) in
+    keyed_start r (with_shared r mid r.terminals r.counter) name input start starting key.NoStorage (no_places r name input.bytes start starting none, same)
+
+pub keyed_give : (r : RegionState) (name : List ℕ) (giving : Giving r name) (held input : Input) (ts : List (List ℕ × TerminalState))
+    → MatchOption (lookup (is_name4 name) r.terminals) ⊤ (λ terminal. ts ≡ set_value (is_name4 name) r.terminals (record terminal { input = Some held })) → held ≡ input
+    → Keyed r name input key.Given (record r { terminals = ts })
+keyed_give r name giving held input ts is same =
+    let put = of_found (λ terminal. ts ≡ set_value (is_name4 name) r.terminals (record terminal { input = Some held })) (lookup (is_name4 name) r.terminals) giving.terminal giving.there is in
+    let put_is : ts ≡ set_value (is_name4 name) r.terminals (record giving.terminal { input = Some input }) = put ∙ ap (λ (x : Input). set_value (is_name4 name) r.terminals (record giving.terminal { input = Some x })) same in
+    keyed_given r (record r { terminals = ts }) name input giving (λ i. record r { terminals = put_is i })
+
+pub sound_give : (r : RegionState) (name : List ℕ) (giving : Giving r name) (held : Input) (ts : List (List ℕ × TerminalState)) → IsSound r
+    → MatchOption (lookup (is_name4 name) r.terminals) ⊤ (λ terminal. ts ≡ set_value (is_name4 name) r.terminals (record terminal { input = Some held }))
+    → IsSound (record r { terminals = ts })
+sound_give r name giving held ts ok is =
+    sound_given r name held ts ok giving (of_found (λ terminal. ts ≡ set_value (is_name4 name) r.terminals (record terminal { input = Some held })) (lookup (is_name4 name) r.terminals) giving.terminal giving.there is)
+
+-- of a region that is seen so
+pub keyed_seen : (r v : RegionState) (name : List ℕ) (input : Input) (reply : KeyReply) (new : RegionState) → r ≡ v → Keyed r name input reply new → Keyed v name input reply new
+keyed_seen r v name input reply new e h = subst (λ (k : RegionState). Keyed k name input reply new) e h
+
+pub grows_seen : (r v : RegionState) (name bytes : List ℕ) → r ≡ v → KeyGrows r name bytes → KeyGrows v name bytes
+grows_seen r v name bytes e h = subst (λ (k : RegionState). KeyGrows k name bytes) e h

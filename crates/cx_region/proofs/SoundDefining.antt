@@ -19,12 +19,15 @@ use Rattle.cx_code.specs.declared.image.Image.{Image}
 use Rattle.cx_load.specs.Fault.{IsFit}
 use Rattle.cx_load.specs.Program.{IsLoaded, program_owner, text_at}
 use Rattle.cx_program.specs.declared.level.Level.{Level}
-use Rattle.cx_region.specs.State.{TaskState, TerminalState, RegionState}
+use Rattle.cx_region.specs.State.{TerminalState, RegionState}
+use Rattle.cx_state.specs.State.{TaskState}
 use Rattle.cx_region.specs.Names.{is_name4, is_name8}
 use Rattle.cx_region.specs.Tables.{fresh_terminal}
 use Rattle.cx_region.specs.Defining.{fresh_region, fresh_storage, program_fault, terminal_fault, transaction_fault}
-use Rattle.cx_region.specs.Sound.{AreNumbered, IsOwned, IsSound, IsSoundLevel, IsSoundProgram, IsSoundTask, IsSoundTerminal, is_live}
-use Rattle.cx_region.proofs.AreaLemmas.{area_kept_get, area_written, all_areas_put, all_areas_written}
+use Rattle.cx_state.specs.Areas.{IsSoundProgram}
+use Rattle.cx_task.specs.Sound.{IsSoundLevel, IsSoundTask}
+use Rattle.cx_region.specs.Sound.{AreNumbered, IsOwned, IsSound, IsSoundTerminal, is_live}
+use Rattle.cx_state.specs.Facts.Areas.{area_kept_get, area_written, all_areas_put, all_areas_written}
 use Rattle.cx_tables.specs.Facts.Tables.{insert_entry_absent, each-insert_entry}
 
 -- a refusal that isn't the first one doesn't apply
@@ -237,3 +240,7 @@ sound_program r name image loaded t ps ok sound some good free is_loaded is dist
       date = ok.date;
       counter = ok.counter;
     }
+
+-- the same, where queues and resources stay
+pub sound_with_queues : (v : RegionState) (queues : Queues) (resources : Resources) → queues ≡ v.queues → resources ≡ v.resources → IsSound v → IsSound (record v { queues = queues; resources = resources })
+sound_with_queues v queues resources e f ok = subst IsSound (λ i. record v { queues = sym e i; resources = sym f i }) ok

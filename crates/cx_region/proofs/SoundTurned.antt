@@ -1,31 +1,70 @@
 -- What always holds of a region is kept by a whole turn.
 use Rattle.std.proofs.Common.{◌≡◌, ℕ, suc, ◌<◌, Bool, true, false, Option, Some, None, List, [], ◌∷◌, length, refl, sym, ◌∙◌, ap, subst, arith, inl, inr, is_some}
-use Rattle.std.specs.Prelude.{◌==◌, ◌||◌, not, if◌then◌else◌, MatchOption, ⊤}
+use Rattle.std.specs.Prelude.{◌==◌, ◌||◌, not, if◌then◌else◌, IfOk, OnErr, MatchOption, Result, Ok, Err, ⊤}
 use Rattle.std.specs.List.{AllByRecursion}
 use Rattle.std.specs.Map.{lookup, set_value}
 use Rattle.std.proofs.lemmas.Bool.{cases_Bool, cases_eq, eq-eqb, ne_eqb}
-use Rattle.std.proofs.lemmas.Option.{same_Some}
+use Rattle.std.proofs.lemmas.Option.{none-some, same_Some}
 use Rattle.std.proofs.lemmas.Map.{length-set_value}
+use Rattle.std.proofs.lemmas.Map.Steps.{set_value_same}
+use Rattle.cx_storage.specs.declared.areas.Area.{Area}
 use Rattle.cx_storage.specs.Storage.{Storage, area_at, is_of_other_slot, with_areas_kept, IsSound as IsSoundStorage}
+use Rattle.cx_storage.specs.Facts.Areas.{area_after_free, area_of_areas}
+use Rattle.cx_storage.specs.Laws.Areas.{kept_only}
 use Rattle.cx_program.specs.declared.level.Level.{Level}
 use Rattle.cx_load.specs.declared.program.Loaded.{Loaded}
-use Rattle.cx_service.specs.Queues.{Queues}
+use Rattle.cx_service.specs.Queues.{AreSoundQueues, Queues}
 use Rattle.cx_service.specs.Resources.{AreSoundResources, Resources, without_owner}
-use Rattle.cx_region.specs.declared.pass.Pass.{Pass}
-use Rattle.cx_region.specs.declared.pass.Pass.TheVariants.{Ends, Stays}
-use Rattle.cx_region.specs.declared.replies.TurnReply.{TurnReply}
-use Rattle.cx_region.specs.declared.replies.TurnReply.TheVariants as turn
-use Rattle.cx_region.specs.State.{RegionState, TaskState, TerminalState}
-use Rattle.cx_region.specs.Names.{is_name4}
-use Rattle.cx_region.specs.Reach.{Reach, reach_of, resources_after, storage_after, terminal_after}
-use Rattle.cx_region.specs.Turn.{TaskTurned, Turned}
-use Rattle.cx_region.specs.Sound.{AreNumbered, IsOwned, IsSound, IsSoundLevel, IsSoundTask, IsSoundTerminal, is_live}
+use Rattle.cx_state.specs.declared.replies.TurnReply.{TurnReply}
+use Rattle.cx_state.specs.declared.replies.TurnReply.TheVariants as turn
+use Rattle.cx_state.specs.Replies.{is_over}
+use Rattle.cx_state.specs.State.{Reach, SharedState, StationState, TaskState}
+use Rattle.cx_state.specs.Facts.Areas.{all_areas_same, area_kept_any, kept_pass}
+use Rattle.cx_task.specs.Laws.HalfTurns.{HalfTurnKeeps, HalfTurnsKeep, others_areas}
+use Rattle.cx_task.specs.Sound.{IsSoundLevel, IsSoundTask}
 use Rattle.cx_tables.specs.Facts.Tables.{distinct-set_value, found_meets}
-use Rattle.cx_region.proofs.AreaLemmas.{area_kept_any, kept_pass}
+use Rattle.cx_region.specs.State.{RegionState, TerminalState, shared_of, terminal_with}
+use Rattle.cx_region.specs.Names.{is_name4}
+use Rattle.cx_region.specs.Turn.{TaskTurned, Turned, TurnGrows, reach_of, task_after}
+use Rattle.cx_region.specs.Parts.Turning.{GrowsAt, GrowsIn, HalfTurned, PartIdle, PartTurned, Terminals, TurnedAt, TurnedIn, TurnedNowhere, TurnedThere}
+use Rattle.cx_region.specs.Sound.{AreNumbered, IsOwned, IsSound, IsSoundTerminal, is_live}
 use Rattle.cx_region.proofs.SoundDefining.{all_weaker}
 use Rattle.cx_region.proofs.LiveLemmas.{live-set_value, numbered-set_value, slot_from}
-use Rattle.cx_region.proofs.FrameLemmas.{Frame, half_turn_frame}
-use Rattle.cx_region.proofs.SoundTurn.{Kept, OthersStay, half_turn_kept}
+
+-- ---- areas and resources of others
+-- areas of other slots stand where they stood
+abbrev pub OthersStay : ℕ → Storage → Storage → Type 0
+OthersStay slot s t = (x : ℕ) (area : Area) → area_at s x ≡ Some area → (area.owner.slot ≡ slot → ⊥) → area_at t x ≡ Some area
+
+found_kept : (keeps : Area → Bool) (o : Option Area) (area : Area) → kept_only keeps o ≡ Some area → o ≡ Some area
+found_kept keeps None area e = absurd (none-some area e)
+found_kept keeps (Some found) area e = elim (cases_Bool (keeps found)) [
+  | inl k ↦ rw k at e
+  | inr k ↦ absurd (none-some area (rw k at e))
+]
+
+others_stay : (slot : ℕ) (s t : Storage) → IsSoundStorage t → others_areas slot t ≡ others_areas slot s → OthersStay slot s t
+others_stay slot s t ok e x area stands other =
+    let keeps : Area → Bool = is_of_other_slot slot in
+    let there : area_at (with_areas_kept keeps s) x ≡ Some area = area_kept_any s keeps x area stands (rw (ne_eqb area.owner.slot slot other) refl) in
+    let kept : area_at (with_areas_kept keeps t) x ≡ Some area = area_of_areas (with_areas_kept keeps t) (with_areas_kept keeps s) x e ∙ there in
+    found_kept keeps (area_at t x) area (sym (area_after_free t keeps x ok) ∙ kept)
+
+from_kept : (P : Area → Type 0) (slot : ℕ) (t : Storage) → ((area : Area) → area.owner.slot ≡ slot → P area) → AllByRecursion (λ h. P h.area) (with_areas_kept (is_of_other_slot slot) t) → AllByRecursion (λ h. P h.area) t
+unfolding with_areas_kept
+from_kept P slot [] own all = tt
+from_kept P slot (h ∷ hs) own all = elim (cases_eq h.area.owner.slot slot) [
+  | inl e ↦ (own h.area e, from_kept P slot hs own (rw (eq-eqb h.area.owner.slot slot e) at all))
+  | inr ne ↦ let both = rw (ne_eqb h.area.owner.slot slot ne) at all in (both.0, from_kept P slot hs own both.1)
+]
+
+from_others : (P : ℕ → Type 0) (slot : ℕ) (rs : Resources) → P slot → AllByRecursion (λ e. P e.1.owner) (without_owner rs slot) → AllByRecursion (λ e. P e.1.owner) rs
+unfolding without_owner
+from_others P slot [] own all = tt
+from_others P slot (e ∷ rs) own all = elim (cases_eq e.1.owner slot) [
+  | inl is ↦ (subst P (sym is) own, from_others P slot rs own (rw (eq-eqb e.1.owner slot is) at all))
+  | inr ne ↦ let both = rw (ne_eqb e.1.owner slot ne) at all in (both.0, from_others P slot rs own both.1)
+]
 
 -- ---- the other terminals' tasks
 other_level : (slot mine : ℕ) (s t : Storage) → OthersStay mine s t → (slot ≡ mine → ⊥) → (level : Level) → IsSoundLevel s slot level → IsSoundLevel t slot level
@@ -66,15 +105,15 @@ tasks_put from (x ∷ ts) test t u s s' numbered there stay all own = elim (case
 
 -- ---- a terminal put back, whose task goes on or has ended
 sound_back : (r new : RegionState) (name : List ℕ) (t u : TerminalState) → IsSound r → lookup (is_name4 name) r.terminals ≡ Some t → u.slot ≡ t.slot
-    → new ≡ record r { storage = new.storage; resources = new.resources; terminals = set_value (is_name4 name) r.terminals u }
-    → IsSoundStorage new.storage → AreSoundResources new.resources → OthersStay t.slot r.storage new.storage → IsSoundTerminal new.storage u
+    → new ≡ record r { storage = new.storage; queues = new.queues; resources = new.resources; terminals = set_value (is_name4 name) r.terminals u }
+    → IsSoundStorage new.storage → AreSoundQueues new.queues → AreSoundResources new.resources → OthersStay t.slot r.storage new.storage → IsSoundTerminal new.storage u
     → AllByRecursion (λ held. IsOwned (set_value (is_name4 name) r.terminals u) held.area) new.storage
     → AllByRecursion (λ e. is_live (set_value (is_name4 name) r.terminals u) e.1.owner ≡ true) new.resources → IsSound new
-sound_back r new name t u ok there same is sound resources_ok stay own owned held =
+sound_back r new name t u ok there same is sound queues_ok resources_ok stay own owned held =
     let low = slot_from 1 r.terminals (is_name4 name) t ok.numbered there in
     let most = ok.terminals_few in
     let size : length (set_value (is_name4 name) r.terminals u) ≡ length r.terminals = length-set_value (is_name4 name) r.terminals u in
-    let whole : IsSound (record r { storage = new.storage; resources = new.resources; terminals = set_value (is_name4 name) r.terminals u }) =
+    let whole : IsSound (record r { storage = new.storage; queues = new.queues; resources = new.resources; terminals = set_value (is_name4 name) r.terminals u }) =
     record {
       storage = sound;
       cwa_stands = stay 0x001000 _ ok.cwa_stands (λ e. absurd (omega (arith, e)));
@@ -89,7 +128,7 @@ sound_back r new name t u ok there same is sound resources_ok stay own owned hel
       tasks = tasks_put 1 r.terminals (is_name4 name) t u r.storage new.storage ok.numbered there stay ok.tasks own;
       areas = owned;
       resources = held;
-      queues_sound = ok.queues_sound;
+      queues_sound = queues_ok;
       resources_sound = resources_ok;
       time = ok.time;
       date = ok.date;
@@ -135,101 +174,186 @@ released r name t u ok there same (e ∷ rs) all = elim (cases_Bool (not (e.1.ow
 ]
 
 -- ---- the turn
-task_of_terminal : (s : Storage) (t : TerminalState) (task : TaskState) → t.task ≡ Some task → IsSoundTerminal s t → IsSoundTask s t.slot task
+pub task_of_terminal : (s : Storage) (t : TerminalState) (task : TaskState) → t.task ≡ Some task → IsSoundTerminal s t → IsSoundTask s t.slot task
 task_of_terminal s t task at own = by_task t.task at own
   where
     by_task : (o : Option TaskState) → o ≡ Some task → MatchOption o ⊤ (λ k. IsSoundTask s t.slot k) → IsSoundTask s t.slot task
     by_task None e own = cc
     by_task (Some k) e own = subst (IsSoundTask s t.slot) (same_Some k task e) own
 
-own_put : (s s' : Storage) (u v : TerminalState) (task : TaskState) (slot : ℕ) → s' ≡ s → u ≡ record v { task = Some task } → v.slot ≡ slot → IsSoundTask s slot task → IsSoundTerminal s' u
-own_put s s' u v task slot a b c own =
-    let there : IsSoundTask s v.slot task = subst (λ (k : ℕ). IsSoundTask s k task) (sym c) own in
-    rw (a, b) there
+live_task : (over : Bool) (task : TaskState) → over ≡ false → is_some (if over then None else Some task) ≡ true
+live_task true task e = cc
+live_task false task e = refl
 
-assembled : (r : RegionState) (s s' : Storage) (programs : List (List ℕ × Loaded)) (queues : Queues) (rs rs' : Resources) (ts : List (List ℕ × TerminalState))
-    → s' ≡ s → programs ≡ r.programs → queues ≡ r.queues → rs' ≡ rs
-    → record r { storage = s; programs = programs; queues = queues; resources = rs; terminals = ts } ≡ record r { storage = s'; resources = rs'; terminals = ts }
-assembled r s s' programs queues rs rs' ts a b c d = rw (a, b, c, d) refl
+own_live : (over : Bool) (s : Storage) (slot : ℕ) (task : TaskState) → over ≡ false → IsSoundTask s slot task → MatchOption (if over then None else Some task) ⊤ (λ k. IsSoundTask s slot k)
+own_live true s slot task e own = cc
+own_live false s slot task e own = own
 
-sound_task_turned : (r new : RegionState) (name : List ℕ) (t : TerminalState) (task : TaskState) (reply : TurnReply) → IsSound r → lookup (is_name4 name) r.terminals ≡ Some t → t.task ≡ Some task
-    → TaskTurned r name t task reply new → IsSoundStorage new.storage → AreSoundResources new.resources → IsSound new
-sound_task_turned r new name t task reply ok there at turned sound resources_ok = by_pass turned.pass turned.after
+own_over : (over : Bool) (s : Storage) (slot : ℕ) (task : TaskState) → over ≡ true → MatchOption (if over then None else Some task) ⊤ (λ k. IsSoundTask s slot k)
+own_over true s slot task e = tt
+own_over false s slot task e = cc
+
+assembled : (r : RegionState) (s s' : Storage) (programs : List (List ℕ × Loaded)) (queues queues' : Queues) (rs rs' : Resources) (ts : List (List ℕ × TerminalState))
+    → s' ≡ s → programs ≡ r.programs → queues' ≡ queues → rs' ≡ rs
+    → record r { storage = s; programs = programs; queues = queues; resources = rs; terminals = ts } ≡ record r { storage = s'; queues = queues'; resources = rs'; terminals = ts }
+assembled r s s' programs queues queues' rs rs' ts a b c d = rw (a, b, c, d) refl
+
+sound_task_turned : HalfTurnsKeep → (r new : RegionState) (name : List ℕ) (t : TerminalState) (task : TaskState) (reply : TurnReply) → IsSound r → lookup (is_name4 name) r.terminals ≡ Some t → t.task ≡ Some task
+    → TaskTurned r name t task reply new → IsSoundStorage new.storage → AreSoundQueues new.queues → AreSoundResources new.resources → IsSound new
+sound_task_turned law r new name t task reply ok there at turned sound queues_ok resources_ok = by_over (is_over reply) refl
   where
-    before : Reach
-    before = reach_of r t task
-
     after : Reach
-    after = turned.reach
-
-    frame : Frame before after
-    frame = half_turn_frame before after turned.pass turned.half_turn
+    after = turned.reached
 
     own : IsSoundTask r.storage t.slot task
     own = task_of_terminal r.storage t task at (found_meets (IsSoundTerminal r.storage) (is_name4 name) r.terminals t ok.tasks there)
 
-    kept : Kept (IsOwned r.terminals) t.slot r.storage after.storage after.task
-    kept = half_turn_kept (IsOwned r.terminals) t.slot before after turned.pass ok.storage ok.areas own turned.half_turn
+    keeps : HalfTurnKeeps (reach_of r t task) reply after
+    keeps = law (reach_of r t task) after reply ok.storage ok.programs_sound ok.queues_sound own turned.half_turn
 
-    slot_same : after.terminal.slot ≡ t.slot
-    slot_same = ap (λ (v : TerminalState). v.slot) frame.terminal
+    u : TerminalState
+    u = terminal_with after.station (task_after reply after.task)
 
-    stays : (u : TerminalState) → u ≡ record after.terminal { task = Some after.task } → new ≡ record r { storage = after.storage; programs = after.programs; queues = after.queues; resources = after.resources; terminals = set_value (is_name4 name) r.terminals u } → IsSound new
-    stays u u_is is =
-        let same : u.slot ≡ t.slot = ap (λ (v : TerminalState). v.slot) u_is ∙ slot_same in
-        let live : is_some u.task ≡ true = ap (λ (v : TerminalState). is_some v.task) u_is in
-        let storage_is : new.storage ≡ after.storage = ap (λ (n : RegionState). n.storage) is in
-        let resources_is : new.resources ≡ r.resources = ap (λ (n : RegionState). n.resources) is ∙ frame.resources in
-        let whole : new ≡ record r { storage = new.storage; resources = new.resources; terminals = set_value (is_name4 name) r.terminals u } =
-        is ∙ assembled r after.storage new.storage after.programs after.queues after.resources new.resources (set_value (is_name4 name) r.terminals u) storage_is frame.programs frame.queues (ap (λ (n : RegionState). n.resources) is) in
-        let own_after : IsSoundTerminal new.storage u = own_put after.storage new.storage u after.terminal after.task t.slot storage_is u_is slot_same kept.task_sound in
-        sound_back r new name t u ok there same whole sound resources_ok
-        (λ x area stands other. ap (λ v. area_at v x) storage_is ∙ kept.others x area stands other) own_after
-        (rw storage_is (all_weaker (λ held. IsOwned r.terminals held.area) (λ held. IsOwned (set_value (is_name4 name) r.terminals u) held.area) after.storage
-        (λ held. or_keeps (held.area.owner.slot == 0) (is_live r.terminals held.area.owner.slot) (is_live (set_value (is_name4 name) r.terminals u) held.area.owner.slot) (live_on r name t u held.area.owner.slot ok there same live)) kept.each))
-        (rw resources_is (all_weaker (λ e. is_live r.terminals e.1.owner ≡ true) (λ e. is_live (set_value (is_name4 name) r.terminals u) e.1.owner ≡ true) r.resources (λ e. live_on r name t u e.1.owner ok there same live) ok.resources))
+    ts : List (List ℕ × TerminalState)
+    ts = set_value (is_name4 name) r.terminals u
 
-    ends : (u : TerminalState) → u ≡ record after.terminal { input = None; following = None; task = None }
-        → new ≡ record r { storage = with_areas_kept (is_of_other_slot after.terminal.slot) after.storage; programs = after.programs; queues = after.queues; resources = without_owner after.resources after.terminal.slot; terminals = set_value (is_name4 name) r.terminals u } → IsSound new
-    ends u u_is is =
-        let same : u.slot ≡ t.slot = ap (λ (v : TerminalState). v.slot) u_is ∙ slot_same in
-        let storage_is : new.storage ≡ with_areas_kept (is_of_other_slot t.slot) after.storage = ap (λ (n : RegionState). n.storage) is ∙ ap (λ k. with_areas_kept (is_of_other_slot k) after.storage) slot_same in
-        let resources_is : new.resources ≡ without_owner r.resources t.slot = ap (λ (n : RegionState). n.resources) is ∙ ap (λ rs. without_owner rs after.terminal.slot) frame.resources ∙ ap (without_owner r.resources) slot_same in
-        let whole : new ≡ record r { storage = new.storage; resources = new.resources; terminals = set_value (is_name4 name) r.terminals u } =
-        is ∙ assembled r (with_areas_kept (is_of_other_slot after.terminal.slot) after.storage) new.storage after.programs after.queues (without_owner after.resources after.terminal.slot) new.resources (set_value (is_name4 name) r.terminals u) (ap (λ (n : RegionState). n.storage) is) frame.programs frame.queues (ap (λ (n : RegionState). n.resources) is) in
-        let own_after : IsSoundTerminal new.storage u = rw u_is tt in
-        sound_back r new name t u ok there same whole sound resources_ok
-        (λ x area stands other. ap (λ v. area_at v x) storage_is ∙ gone_but_others x area stands other) own_after
-        (rw storage_is (kept_pass (IsOwned r.terminals) (IsOwned (set_value (is_name4 name) r.terminals u)) (is_of_other_slot t.slot) after.storage
-        (λ area owned other. or_keeps (area.owner.slot == 0) (is_live r.terminals area.owner.slot) (is_live (set_value (is_name4 name) r.terminals u) area.owner.slot)
-        (live_off r name t u area.owner.slot ok there same (not_true (area.owner.slot == t.slot) other)) owned) kept.each))
-        (rw resources_is (released r name t u ok there same r.resources ok.resources))
+    same : u.slot ≡ t.slot
+    same = keeps.slot
+
+    storage_is : new.storage ≡ after.shared.storage
+    storage_is = ap (λ (n : RegionState). n.storage) turned.after
+
+    resources_are : new.resources ≡ after.shared.resources
+    resources_are = ap (λ (n : RegionState). n.resources) turned.after
+
+    whole : new ≡ record r { storage = new.storage; queues = new.queues; resources = new.resources; terminals = ts }
+    whole = turned.after ∙ assembled r after.shared.storage new.storage after.shared.programs after.shared.queues new.queues after.shared.resources new.resources ts
+        storage_is keeps.programs (ap (λ (n : RegionState). n.queues) turned.after) resources_are
+
+    areas : others_areas t.slot new.storage ≡ others_areas t.slot r.storage
+    areas = ap (others_areas t.slot) storage_is ∙ keeps.areas
+
+    stay : OthersStay t.slot r.storage new.storage
+    stay = others_stay t.slot r.storage new.storage sound areas
+
+    others_owned : AllByRecursion (λ held. IsOwned ts held.area) (with_areas_kept (is_of_other_slot t.slot) new.storage)
+    others_owned =
+        all_areas_same (IsOwned ts) (with_areas_kept (is_of_other_slot t.slot) r.storage) (with_areas_kept (is_of_other_slot t.slot) new.storage) (sym areas)
+        (kept_pass (IsOwned r.terminals) (IsOwned ts) (is_of_other_slot t.slot) r.storage
+        (λ area owned other. or_keeps (area.owner.slot == 0) (is_live r.terminals area.owner.slot) (is_live ts area.owner.slot)
+        (live_off r name t u area.owner.slot ok there same (not_true (area.owner.slot == t.slot) other)) owned) ok.areas)
+
+    others_held : AllByRecursion (λ e. is_live ts e.1.owner ≡ true) (without_owner new.resources t.slot)
+    others_held =
+        let are : without_owner new.resources t.slot ≡ without_owner r.resources t.slot = ap (λ rs. without_owner rs t.slot) resources_are ∙ keeps.resources in
+        subst (λ (rs : Resources). AllByRecursion (λ e. is_live ts e.1.owner ≡ true) rs) (sym are) (released r name t u ok there same r.resources ok.resources)
+
+    stays : is_over reply ≡ false → IsSound new
+    stays on =
+        let live : is_some u.task ≡ true = live_task (is_over reply) after.task on in
+        let is_now : is_live ts t.slot ≡ true = live-set_value 1 r.terminals (is_name4 name) t u t.slot ok.numbered there same ∙ rw (eq-eqb t.slot t.slot refl) live in
+        let its : IsSoundTask new.storage u.slot after.task =
+        subst (λ (s : Storage). IsSoundTask s u.slot after.task) (sym storage_is) (subst (λ (k : ℕ). IsSoundTask after.shared.storage k after.task) (sym same) (keeps.task on)) in
+        let own_after : IsSoundTerminal new.storage u = own_live (is_over reply) new.storage u.slot after.task on its in
+        sound_back r new name t u ok there same whole sound queues_ok resources_ok stay own_after
+        (from_kept (IsOwned ts) t.slot new.storage (λ area e. rw e (or_second (t.slot == 0) (is_live ts t.slot) is_now)) others_owned)
+        (from_others (λ slot. is_live ts slot ≡ true) t.slot new.resources is_now others_held)
       where
-        gone_but_others : OthersStay t.slot r.storage (with_areas_kept (is_of_other_slot t.slot) after.storage)
-        gone_but_others x area stands other = area_kept_any after.storage (is_of_other_slot t.slot) x area (kept.others x area stands other) (rw (ne_eqb area.owner.slot t.slot other) refl)
+        or_second : (a b : Bool) → b ≡ true → a || b ≡ true
+        or_second true b e = refl
+        or_second false b e = e
 
-    by_pass : (p : Pass) → new ≡ record r { storage = storage_after p after; programs = after.programs; queues = after.queues; resources = resources_after p after; terminals = set_value (is_name4 name) r.terminals (terminal_after p after) } → IsSound new
-    by_pass (Stays reply) is = stays (terminal_after (Stays reply) after) refl is
-    by_pass (Ends reply) is = ends (terminal_after (Ends reply) after) refl is
+    ends : is_over reply ≡ true → IsSound new
+    ends off =
+        let own_after : IsSoundTerminal new.storage u = own_over (is_over reply) new.storage u.slot after.task off in
+        let left : with_areas_kept (is_of_other_slot t.slot) new.storage ≡ new.storage =
+        ap (with_areas_kept (is_of_other_slot t.slot)) storage_is ∙ keeps.nothing_left off ∙ sym storage_is in
+        let free : without_owner new.resources t.slot ≡ new.resources =
+        ap (λ rs. without_owner rs t.slot) resources_are ∙ keeps.released off ∙ sym resources_are in
+        sound_back r new name t u ok there same whole sound queues_ok resources_ok stay own_after
+        (subst (λ (s : Storage). AllByRecursion (λ held. IsOwned ts held.area) s) left others_owned)
+        (subst (λ (rs : Resources). AllByRecursion (λ e. is_live ts e.1.owner ≡ true) rs) free others_held)
 
-pub sound_turned : (r new : RegionState) (name : List ℕ) (reply : TurnReply) → IsSound r → Turned r name reply new → IsSoundStorage new.storage → AreSoundResources new.resources → IsSound new
+    by_over : (b : Bool) → is_over reply ≡ b → IsSound new
+    by_over true off = ends off
+    by_over false on = stays on
+
+pub sound_turned : HalfTurnsKeep → (r new : RegionState) (name : List ℕ) (reply : TurnReply) → IsSound r → Turned r name reply new
+    → IsSoundStorage new.storage → AreSoundQueues new.queues → AreSoundResources new.resources → IsSound new
 unfolding Turned
-sound_turned r new name reply ok turned sound resources_ok = by_terminal (lookup (is_name4 name) r.terminals) refl turned
+sound_turned law r new name reply ok turned sound queues_ok resources_ok = by_terminal (lookup (is_name4 name) r.terminals) refl turned
   where
     by_task : (t : TerminalState) (o : Option TaskState) → lookup (is_name4 name) r.terminals ≡ Some t → t.task ≡ o → MatchOption o ((reply ≡ turn.Idle) × (new ≡ r)) (λ task. TaskTurned r name t task reply new) → IsSound new
     by_task t None there at idle = subst IsSound (sym idle.1) ok
-    by_task t (Some task) there at turned = sound_task_turned r new name t task reply ok there at turned sound resources_ok
+    by_task t (Some task) there at turned = sound_task_turned law r new name t task reply ok there at turned sound queues_ok resources_ok
 
     by_terminal : (o : Option TerminalState) → lookup (is_name4 name) r.terminals ≡ o
         → MatchOption o ((reply ≡ turn.NoSuchTerminal) × (new ≡ r)) (λ t. MatchOption t.task ((reply ≡ turn.Idle) × (new ≡ r)) (λ task. TaskTurned r name t task reply new)) → IsSound new
     by_terminal None there nowhere = subst IsSound (sym nowhere.1) ok
     by_terminal (Some t) there turned = by_task t t.task there refl turned
 
--- the same turn of the same region
-pub turned_from : (r v new : RegionState) (name : List ℕ) (reply : TurnReply) → r ≡ v → Turned r name reply new → Turned v name reply new
-turned_from r v new name reply e turned = subst (λ (k : RegionState). Turned k name reply new) e turned
+-- ---- a turn by the parts that change
+abbrev pub with_parts : RegionState → SharedState → Terminals → RegionState
+with_parts r shared terminals =
+    record r { storage = shared.storage; programs = shared.programs; queues = shared.queues; resources = shared.resources; terminals = terminals }
 
--- a region by what a turn doesn't touch
-abbrev pub bare : ℕ → ℕ → List (List ℕ × List ℕ) → ℕ → RegionState
-bare time date transactions counter =
-    record { storage = []; time = time; date = date; programs = []; transactions = transactions; terminals = []; queues = []; resources = []; counter = counter }
+same_parts : (r : RegionState) (shared : SharedState) (terminals : Terminals) → shared ≡ shared_of r → terminals ≡ r.terminals → with_parts r shared terminals ≡ r
+same_parts r shared terminals e f = rw (e, f) refl
+
+pub turned_whole : (r : RegionState) (name : List ℕ) (reply : TurnReply) (shared : SharedState) (terminals : Terminals)
+    → TurnedIn (shared_of r) r.terminals name reply shared terminals → Turned r name reply (with_parts r shared terminals)
+unfolding Turned TurnedIn TurnedAt
+turned_whole r name reply shared terminals turned = by_terminal (lookup (is_name4 name) r.terminals) refl turned
+  where
+    new : RegionState
+    new = with_parts r shared terminals
+
+    by_task : (t left : TerminalState) → lookup (is_name4 name) r.terminals ≡ Some t → terminals ≡ set_value (is_name4 name) r.terminals left → (o : Option TaskState)
+        → MatchOption o (PartIdle (shared_of r) t reply shared left) (λ task. PartTurned (shared_of r) t task reply shared left)
+        → MatchOption o ((reply ≡ turn.Idle) × (new ≡ r)) (λ task. TaskTurned r name t task reply new)
+    by_task t left there back None idle = (idle.answer, same_parts r shared terminals idle.shared_stays (back ∙ ap (set_value (is_name4 name) r.terminals) idle.terminal_stays ∙ set_value_same (is_name4 name) r.terminals t there))
+    by_task t left there back (Some task) done =
+        record { reached = done.reached; half_turn = done.half_turn; after = rw (done.shared_is, back, done.terminal_is) refl }
+
+    by_terminal : (o : Option TerminalState) → lookup (is_name4 name) r.terminals ≡ o
+        → MatchOption o (TurnedNowhere (shared_of r) r.terminals reply shared terminals) (λ t. TurnedThere (shared_of r) r.terminals name t reply shared terminals)
+        → MatchOption o ((reply ≡ turn.NoSuchTerminal) × (new ≡ r)) (λ t. MatchOption t.task ((reply ≡ turn.Idle) × (new ≡ r)) (λ task. TaskTurned r name t task reply new))
+    by_terminal None e nowhere = (nowhere.answer, same_parts r shared terminals nowhere.shared_stays nowhere.terminals_stay)
+    by_terminal (Some t) e done = by_task t done.left e done.put_back t.task done.turned
+
+pub grows_whole : (r : RegionState) (name : List ℕ) → GrowsIn (shared_of r) r.terminals name → TurnGrows r name
+unfolding TurnGrows GrowsIn GrowsAt
+grows_whole r name grows = grows
+
+-- ---- a task that is held, or dropped
+pub turned_on : (shared after : SharedState) (station left : StationState) (o held kept : Option TaskState) (reply : TurnReply)
+    → HalfTurned shared station o reply after left held → kept ≡ (if is_over reply then None else held) → TurnedAt shared (terminal_with station o) reply after (terminal_with left kept)
+unfolding HalfTurned TurnedAt
+turned_on shared after station left None held kept reply h is =
+    let over : is_over reply ≡ false = ap is_over h.answer in
+    record { answer = h.answer; shared_stays = h.shared_stays; terminal_stays = rw (h.station_stays, is, h.none, over) refl }
+turned_on shared after station left (Some task) held kept reply h is =
+    record { reached = h.reached; half_turn = h.half_turn; shared_is = h.shared_is; terminal_is = rw (h.station_is, is, h.held_is) refl }
+
+-- ---- either way of a turn
+pub put_back_err : {A E : Type 0} (r : Result A E) (shared after : SharedState) (ts later : Terminals) (name : List ℕ) (t u : TerminalState) → lookup (is_name4 name) ts ≡ Some t
+    → later ≡ set_value (is_name4 name) ts u → OnErr r ((after ≡ shared) × (u ≡ t)) → OnErr r ((after ≡ shared) × (later ≡ ts))
+put_back_err (Ok a) shared after ts later name t u there back h = tt
+put_back_err (Err e) shared after ts later name t u there back h = (h.0, back ∙ ap (set_value (is_name4 name) ts) h.1 ∙ set_value_same (is_name4 name) ts t there)
+
+pub sound_turn : {E : Type 0} (law : HalfTurnsKeep) (r : RegionState) (name : List ℕ) (result : Result TurnReply E) (shared : SharedState) (ts : Terminals) → IsSound r
+    → IfOk result (λ reply. TurnedIn (shared_of r) r.terminals name reply shared ts) → OnErr result ((shared ≡ shared_of r) × (ts ≡ r.terminals))
+    → IsSoundStorage shared.storage → AreSoundQueues shared.queues → AreSoundResources shared.resources → IsSound (with_parts r shared ts)
+sound_turn law r name (Ok reply) shared ts ok turned err storage queues resources =
+    sound_turned law r (with_parts r shared ts) name reply ok (turned_whole r name reply shared ts turned) storage queues resources
+sound_turn law r name (Err e) shared ts ok turned err storage queues resources = subst IsSound (sym (same_parts r shared ts err.0 err.1)) ok
+
+pub turned_seen : {E : Type 0} (r v : RegionState) (name : List ℕ) (result : Result TurnReply E) (shared : SharedState) (ts : Terminals) → r ≡ v
+    → IfOk result (λ reply. TurnedIn (shared_of r) r.terminals name reply shared ts) → IfOk result (λ reply. Turned v name reply (with_parts r shared ts))
+turned_seen r v name (Ok reply) shared ts e turned = subst (λ (k : RegionState). Turned k name reply (with_parts r shared ts)) e (turned_whole r name reply shared ts turned)
+turned_seen r v name (Err refused) shared ts e turned = tt
+
+pub grows_seen : {E : Type 0} (r v : RegionState) (name : List ℕ) (result : Result TurnReply E) → r ≡ v
+    → OnErr result (GrowsIn (shared_of r) r.terminals name) → OnErr result (TurnGrows v name)
+grows_seen r v name (Ok reply) e grows = tt
+grows_seen r v name (Err refused) e grows = subst (λ (k : RegionState). TurnGrows k name) e (grows_whole r name grows)

@@ -1,5 +1,5 @@
 -- Events of a region, and runs of them (this product's own).
-use Rattle.std.specs.Prelude.{◌≡◌, ℕ, ◌<◌, ◌≤◌, ◌⊎◌, true, None, IsSomeAnd, List, [], ◌∷◌, length, take, slice_get}
+use Rattle.std.specs.Prelude.{◌≡◌, ℕ, ◌<◌, ◌≤◌, ◌⊎◌, None, IsSomeAnd, List, [], ◌∷◌, length, take, slice_get}
 use Rattle.std.specs.List.{AllByRecursion}
 use Rattle.cx_region.specs.declared.replies.Event.{Event}
 use Rattle.cx_region.specs.declared.replies.Event.TheVariants as event
@@ -8,8 +8,8 @@ use Rattle.cx_region.specs.declared.replies.Reply.TheVariants as reply
 use Rattle.cx_load.specs.Program.{IsProgramPlace}
 use Rattle.cx_region.specs.State.{RegionState}
 use Rattle.cx_region.specs.Defining.{DefinesProgram, DefinesTransaction, DefinesTerminal, program_fault, transaction_fault, terminal_fault, with_clock}
-use Rattle.cx_region.specs.Attach.{Keyed, MayGrow, asked, input_from}
-use Rattle.cx_region.specs.Turn.{Turned, turn_may_grow}
+use Rattle.cx_region.specs.Attach.{KeyGrows, Keyed, input_from}
+use Rattle.cx_region.specs.Turn.{TurnGrows, Turned}
 
 -- one event: its reply and the region after it
 unfoldable pub Happens : RegionState → Event → Reply → RegionState → Type 0
@@ -34,8 +34,8 @@ MayTakeMemory region (event.Program name image) = (program_fault region name ≡
 MayTakeMemory region (event.Transaction tran program) = transaction_fault region tran program ≡ None
 MayTakeMemory region (event.Terminal name) = terminal_fault region name ≡ None
 MayTakeMemory region (event.Clock time date) = ⊥
-MayTakeMemory region (event.Key name aid bytes) = MayGrow (asked region name (input_from aid bytes).bytes) region.storage
-MayTakeMemory region (event.Turn name) = turn_may_grow region name ≡ true
+MayTakeMemory region (event.Key name aid bytes) = KeyGrows region name (input_from aid bytes).bytes
+MayTakeMemory region (event.Turn name) = TurnGrows region name
 
 -- A run that stopped after so many events, and left the region as these did: in front of all of them, or at an event
 -- that may take memory.

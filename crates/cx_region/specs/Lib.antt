@@ -4,9 +4,6 @@ pub mod Names
 pub mod Tables
 pub mod Defining
 pub mod Attach
-pub mod Reach
-pub mod Abend
-pub mod Performing
 pub mod Turn
 pub mod Events
 pub mod Replies
@@ -14,11 +11,14 @@ pub mod Looking
 pub mod Sound
 pub mod Laws
 pub mod Parts
-pub use Rattle.cx_call.specs.Call
 pub use Rattle.cx_call.specs.Eib
 pub use Rattle.cx_command.specs.Commands
 pub use Rattle.cx_command.specs.Conditions
 pub use Rattle.cx_command.specs.Legal
+pub use Rattle.cx_state.specs.Areas
+pub use Rattle.cx_state.specs.Replies as TurnReplies
+pub use Rattle.cx_state.specs.State as Stations
 pub use Rattle.cx_storage.specs.Address
 pub use Rattle.cx_storage.specs.Storage
-pub use Rattle.cx_storage.specs.Word
+pub use Rattle.cx_task.specs.Turn as HalfTurns
+pub use Rattle.cx_task.specs.Sound as SoundTasks

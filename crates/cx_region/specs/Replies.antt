@@ -4,8 +4,6 @@ use Rattle.cx_region.specs.declared.replies.DefineFault.{DefineFault}
 use Rattle.cx_region.specs.declared.replies.DefineFault.TheVariants as define
 use Rattle.cx_region.specs.declared.replies.KeyReply.{KeyReply}
 use Rattle.cx_region.specs.declared.replies.KeyReply.TheVariants as key
-use Rattle.cx_region.specs.declared.replies.TurnReply.{TurnReply}
-use Rattle.cx_region.specs.declared.replies.TurnReply.TheVariants as turn
 
 abbrev pub define_fault_name : DefineFault → List ℕ
 define_fault_name define.Duplicate = codes "Duplicate"
@@ -21,16 +19,3 @@ key_reply_name key.AlreadyHeldInput = codes "AlreadyHeldInput"
 key_reply_name key.NoSuchTransaction = codes "NoSuchTransaction"
 key_reply_name key.NoStorage = codes "NoStorage"
 key_reply_name key.NoSuchTerminal = codes "NoSuchTerminal"
-
-abbrev pub turn_reply_name : TurnReply → List ℕ
-turn_reply_name turn.Idle = codes "Idle"
-turn_reply_name turn.NoSuchTerminal = codes "NoSuchTerminal"
-turn_reply_name turn.AtCommand = codes "AtCommand"
-turn_reply_name (turn.Performed condition) = codes "Performed"
-turn_reply_name turn.Entered = codes "Entered"
-turn_reply_name turn.Returned = codes "Returned"
-turn_reply_name turn.Waiting = codes "Waiting"
-turn_reply_name (turn.TookLabel condition) = codes "TookLabel"
-turn_reply_name (turn.TookExit code) = codes "TookExit"
-turn_reply_name (turn.Abended code) = codes "Abended"
-turn_reply_name turn.Ended = codes "Ended"

@@ -1,46 +1,22 @@
 -- What holds of a region in every state that its events reach (this product's own): areas are disjoint, each task has its areas, a terminal
 -- without a task owns nothing, names are distinct, and the limits are kept.
-use Rattle.std.specs.Prelude.{◌≡◌, ℕ, suc, ◌^◌, ◌<◌, ◌≤◌, Bool, true, ◌&&◌, ◌||◌, ◌==◌, List, [], ◌∷◌, length, map, nat_eq, Some, is_some, ⊤, MatchOption}
+use Rattle.std.specs.Prelude.{◌≡◌, ℕ, suc, ◌≤◌, Bool, true, ◌&&◌, ◌||◌, ◌==◌, List, [], ◌∷◌, length, Some, is_some, ⊤, MatchOption}
 use Rattle.std.specs.List.{AllByRecursion, IsDistinct, list_any}
 use Rattle.std.specs.Map.{keys_of}
 use Rattle.cx_storage.specs.declared.areas.Area.{Area}
 use Rattle.cx_storage.specs.declared.areas.Kind.TheVariants.{Fixed}
 use Rattle.cx_storage.specs.Storage.{Storage, area_at, IsSound as IsSoundStorage}
-use Rattle.cx_storage.specs.Storage.{area_from}
-use Rattle.cx_load.specs.declared.program.Loaded.{Loaded}
-use Rattle.cx_program.specs.declared.level.Level.{Level}
 use Rattle.cx_service.specs.Queues.{AreSoundQueues}
 use Rattle.cx_service.specs.Resources.{AreSoundResources}
-use Rattle.cx_region.specs.State.{TaskState, TerminalState, RegionState}
+use Rattle.cx_state.specs.Areas.{IsSoundProgram}
+use Rattle.cx_task.specs.Sound.{IsSoundTask}
+use Rattle.cx_region.specs.State.{TerminalState, RegionState}
 use Rattle.cx_region.specs.Names.{is_name4, is_name8}
 use Rattle.cx_region.specs.Defining.{most_programs, most_transactions, most_terminals}
-use Rattle.cx_command.specs.Eib.{eib_len}
-use Rattle.cx_region.specs.Attach.{system_owner}
 
 -- the common work area: 512 bytes of the region's own
 abbrev pub cwa : Area
 cwa = record { start = 0x001000; len = 512; owner = record { slot = 0; kind = Fixed } }
-
--- the area that starts at the address is of this length, and the slot's own
-abbrev pub IsAreaOf : Storage → ℕ → ℕ → ℕ → Type 0
-IsAreaOf storage slot start len = area_at storage start ≡ Some (area_from start len (system_owner slot))
-
--- a level's DFHEISTG is an area of its slot, and it keeps at most sixteen PUSH HANDLEs
-pub record IsSoundLevel (storage : Storage) (slot : ℕ) (level : Level) : Type 0 where
-  pub stg : IsAreaOf storage slot level.stg level.stg_len
-  pub pushes : length level.handles.kept ≤ 16
-
--- the areas of a task: its EIB, and each level's DFHEISTG
-abbrev pub starts_of : TaskState → List ℕ
-starts_of task = task.eib ∷ task.levels.current.stg ∷ map (λ level. level.stg) task.levels.callers
-
--- a task's EIB is an area of its slot, and it has 1 to 16 levels, each sound; no two of these areas are the same
-pub record IsSoundTask (storage : Storage) (slot : ℕ) (task : TaskState) : Type 0 where
-  pub eib : IsAreaOf storage slot task.eib eib_len
-  pub current : IsSoundLevel storage slot task.levels.current
-  pub callers : AllByRecursion (IsSoundLevel storage slot) task.levels.callers
-  pub few : length task.levels.callers ≤ 15
-  pub apart : IsDistinct nat_eq (starts_of task)
 
 abbrev pub IsSoundTerminal : Storage → TerminalState → Type 0
 IsSoundTerminal storage terminal = MatchOption terminal.task ⊤ (λ task. IsSoundTask storage terminal.slot task)
@@ -57,12 +33,6 @@ is_live terminals slot = list_any (λ entry. (entry.1.slot == slot) && is_some e
 -- an area is the region's own, or that of a live task
 abbrev pub IsOwned : List (List ℕ × TerminalState) → Area → Type 0
 IsOwned terminals area = (area.owner.slot == 0) || is_live terminals area.owner.slot ≡ true
-
--- a program's working storage has a length, and its entry is an address
-pub record IsSoundProgram (loaded : Loaded) : Type 0 where
-  pub stg_low : 80 ≤ loaded.stg_len
-  pub stg_high : loaded.stg_len ≤ 65520
-  pub entry : loaded.entry < 2 ^ 24
 
 pub record IsSound (region : RegionState) : Type 0 where
   pub storage : IsSoundStorage region.storage

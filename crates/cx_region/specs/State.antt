@@ -1,34 +1,11 @@
 -- The state of a region: all that its events can change. The manual's words are those of the Application Programmer's
 -- Reference Manual (Command Level), SC33-0077; the limits and the layout in storage are this product's own.
-use Rattle.std.specs.Prelude.{ℕ, Bool, List, Option}
-use Rattle.cx_ebcdic.specs.declared.aids.Aid.{Aid}
+use Rattle.std.specs.Prelude.{ℕ, List, Option}
 use Rattle.cx_storage.specs.Storage.{Storage}
 use Rattle.cx_load.specs.declared.program.Loaded.{Loaded}
-use Rattle.cx_program.specs.Levels.{Levels}
 use Rattle.cx_service.specs.Queues.{Queues}
 use Rattle.cx_service.specs.Resources.{Resources}
-
--- what a terminal's operator sent, with the key that sent it
-pub record Input : Type 0 where
-  pub aid : Aid
-  pub bytes : List ℕ
-
--- the transaction that the terminal's next key attaches, and the COMMAREA kept for it: no bytes where there is none
-pub record Following : Type 0 where
-  pub tran : List ℕ
-  pub commarea : List ℕ
-
--- A live task: its transaction, its number, the address of its EIB, its program levels, its registers, condition code
--- and next address, and whether a command is due.
-pub record TaskState : Type 0 where
-  pub tran : List ℕ
-  pub number : ℕ
-  pub eib : ℕ
-  pub levels : Levels
-  pub regs : List ℕ
-  pub cc : ℕ
-  pub next : ℕ
-  pub due : Bool
+use Rattle.cx_state.specs.State.{Following, Input, SharedState, StationState, TaskState}
 
 -- A terminal: its position among the terminals, counted from 1, by which its task owns areas and resources; its
 -- screen, its held input, its next transaction, and its task.
@@ -50,3 +27,16 @@ pub record RegionState : Type 0 where
   pub queues : Queues
   pub resources : Resources
   pub counter : ℕ
+
+-- what all tasks share
+abbrev pub shared_of : RegionState → SharedState
+shared_of region = record { storage = region.storage; programs = region.programs; queues = region.queues; resources = region.resources }
+
+-- a terminal without its task
+abbrev pub station_of : TerminalState → StationState
+station_of terminal = record { slot = terminal.slot; screen = terminal.screen; input = terminal.input; following = terminal.following }
+
+-- the terminal that is this station, with that task
+abbrev pub terminal_with : StationState → Option TaskState → TerminalState
+terminal_with station task =
+    record { slot = station.slot; screen = station.screen; input = station.input; following = station.following; task = task }

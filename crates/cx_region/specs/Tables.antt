@@ -1,15 +1,15 @@
 -- What is found in a region by name (this product's own).
-use Rattle.std.specs.Prelude.{ℕ, List, Option, None, unwrap_or}
+use Rattle.std.specs.Prelude.{ℕ, List, Option, None}
 use Rattle.std.specs.Option.{option_and_then}
 use Rattle.std.specs.Map.{lookup, set_value}
 use Rattle.cx_load.specs.declared.program.Loaded.{Loaded}
-use Rattle.cx_service.specs.Screen.{blank_screen}
-use Rattle.cx_region.specs.State.{RegionState, TerminalState, TaskState}
+use Rattle.cx_state.specs.State.{TaskState, fresh_station}
+use Rattle.cx_region.specs.State.{RegionState, TerminalState, terminal_with}
 use Rattle.cx_region.specs.Names.{is_name4, is_name8}
 
 -- a new terminal: a blank screen, and nothing else
 abbrev pub fresh_terminal : ℕ → TerminalState
-fresh_terminal slot = record { slot = slot; screen = blank_screen; input = None; following = None; task = None }
+fresh_terminal slot = terminal_with (fresh_station slot) None
 
 -- where the program of a name stands
 abbrev pub program_of : RegionState → List ℕ → Option Loaded
@@ -30,10 +30,3 @@ task_of region name = option_and_then (λ terminal. terminal.task) (terminal_of 
 -- the region with another terminal under the name
 abbrev pub with_terminal : RegionState → List ℕ → TerminalState → RegionState
 with_terminal region name terminal = record region { terminals = set_value (is_name4 name) region.terminals terminal }
-
--- the terminal of a name that has one
-abbrev pub terminal_in : List (List ℕ × TerminalState) → List ℕ → TerminalState
-terminal_in terminals name = unwrap_or (lookup (is_name4 name) terminals) (fresh_terminal 0)
-
-abbrev pub terminal_at : RegionState → List ℕ → TerminalState
-terminal_at region name = terminal_in region.terminals name

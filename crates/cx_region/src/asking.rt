@@ -2,6 +2,7 @@
 use crate::replies::KeyReply;
 use cx_ebcdic::{Name4, Name8};
 use cx_load::Loaded;
+use std::marker::Model;
 
 /// A task to be attached.
 #[derive(Clone, Copy, Debug, PartialEq, Eq)]
@@ -30,7 +31,7 @@ pub enum Asked {
 }
 
 /// Where the areas of a task stand.
-#[derive(Clone, Copy, Debug, PartialEq, Eq)]
+#[derive(Drop)]
 pub struct Places {
     /// The address of the EIB.
     pub eib: u32,
@@ -38,4 +39,12 @@ pub struct Places {
     pub commarea: Option<u32>,
     /// The address of DFHEISTG.
     pub stg: u32,
+}
+
+impl Model for Places {
+    ghost use Rattle.cx_region.specs.Attach.{TaskAreas};
+
+    ghost Value = { TaskAreas };
+
+    ghost view = { λ places. record { eib = places.eib; commarea = places.commarea; stg = places.stg } };
 }

@@ -1,27 +1,34 @@
 //! A key of a terminal: a task is attached, or the input is held for the one that is there.
-ghost use Rattle.std.specs.Prelude.{◌≡◌, ◌≢◌, ◌<◌, ◌≤◌, ◌+◌, ◌^◌, ◌==◌, false, if◌then◌else◌, [], None, Some, length, unwrap_or, IfOk, IfErr, OnOk, OnErr, IfSome, position, MatchOption};
+ghost use Rattle.std.specs.Prelude.{◌≡◌, ◌≢◌, ◌<◌, ◌≤◌, ◌+◌, ◌^◌, ◌==◌, ⊤, false, if◌then◌else◌, [], None, Some, length, unwrap_or, IfOk, IfErr, OnOk, OnErr, IfSome, position, MatchOption};
 ghost use Rattle.std.specs.List.{AllByRecursion};
 ghost use Rattle.std.specs.Option.{option_copied, option_map};
 ghost use Rattle.std.specs.Map.{lookup, set_value};
-ghost use Rattle.cx_storage.specs.Storage.{is_of_other_slot, with_area, with_areas_kept};
-ghost use Rattle.cx_region.specs.Parts.Placing.{AreFaultsOf, IsSlotFree, input_of, ArePlacesBelow, IsCopyFault, IsPlaceFault};
 ghost use Rattle.cx_ebcdic.specs.Names.{padded};
+ghost use Rattle.cx_storage.specs.Storage.{IsSound as IsSoundStorage, is_of_other_slot, with_area, with_areas_kept};
+ghost use Rattle.cx_call.specs.Eib.{fields_at_attach};
+ghost use Rattle.cx_state.specs.Areas.{IsSoundProgram, IsTaskPlace, system_owner};
+ghost use Rattle.cx_state.specs.State.{TaskState};
 ghost use Rattle.cx_region.specs.Names.{is_name4};
-ghost use Rattle.cx_region.specs.Tables.{program_of, terminal_at, with_terminal, terminal_in, terminal_of, transaction_of};
-ghost use Rattle.cx_region.specs.State.{TaskState};
-ghost use Rattle.cx_region.specs.Attach.{ArePlaced, Attaches, MayGrow, start_of, HasNoPlaces, IsCopyPlace, IsTaskPlace, asked, asked_at, commarea_kept, filled, first_word, fresh_task, input_asked, input_from, Keyed, next_number, sends_data, start_asked, system_owner, transaction_named, with_copy, with_task, with_task_areas, entry_level, entry_registers};
-ghost use Rattle.cx_region.specs.Sound.{IsSound, IsSoundProgram};
+ghost use Rattle.cx_region.specs.Tables.{program_of, terminal_of, transaction_of};
+ghost use Rattle.cx_region.specs.Attach.{ArePlaced, IsCopyPlace, KeyGrows, Keyed, commarea_kept, eib_at_attach, filled, first_word, fresh_task, input_from, next_number, sends_data, transaction_named, with_copy, with_task, with_task_areas};
+ghost use Rattle.cx_region.specs.Parts.Asking.{asked, asked_at, input_asked, level_of, start_asked, start_of, task_of_start};
+ghost use Rattle.cx_region.specs.Parts.Placing.{AreFaultsOf, ArePlacesBelow, IsCopyFault, IsPlaceFault, IsReady, IsSlotFree, input_of};
+ghost use Rattle.cx_region.specs.Sound.{IsSound};
 
 use crate::asking::{Asked, Places, Start};
 use crate::replies::KeyReply;
-use crate::state::{Following, Input, Region, Task, Terminal};
+use crate::state::{Region, Terminal};
+use cx_call::Piece;
 use cx_call::eib::{Begun, begin};
-use cx_command::EistgField;
 use cx_ebcdic::{Aid, Name4, Name8};
 use cx_exec::Cpu;
 use cx_load::Loaded;
-use cx_program::{ConditionCode, HandleTable, Level, LevelStack};
-use cx_storage::{Kind, Owner, Store, along};
+use cx_program::LevelStack;
+use cx_state::{FIRST_OF_TASKS, Following, Input, LAST_OF_TASKS, NewLevel, Shared, Task};
+use cx_storage::laws::store_is_sound;
+use cx_storage::{Kind, Owner, Store};
+use cx_tables::List;
+use cx_task::{entry_level, entry_registers, put_cap};
 use indexmap::IndexMap;
 use std::alloc::{AllocError, Global};
 
@@ -109,17 +116,12 @@ impl From<AllocError> for StartFault {
     }
 }
 
-/// The addresses between which the areas of tasks stand.
-const FIRST_OF_TASKS: u32 = 0x20_0000;
-
-const LAST_OF_TASKS: u32 = 0xFF_FFFF;
-
 /// The length of an EIB.
 const EIB_LEN: u32 = 88;
 
 /// Makes an area of a task. NoStorage comes exactly where there is no place; then, and where a growth was refused, all
 /// is as before.
-#[tactic(auto, using(cx_storage::specs::Facts::Places::place_decides, crate::proofs::PlacingLemmas::task_address, crate::proofs::PlacingLemmas::no_area))]
+#[tactic(auto, using(cx_storage::specs::Facts::Places::place_decides, cx_state::specs::Facts::Areas::place_below, crate::proofs::PlacingLemmas::no_area))]
 fn get_task_area<S: Store>(store: &mut S, len: u32, owner: Owner) -> Result<u32, StartFault>
     requires { 0 < len }
     ensures place { IfOk result (λ start. IsTaskPlace (S.storage store.old) len (Some start)) }
@@ -198,66 +200,62 @@ fn place_task<S: Store>(store: &mut S, start: &Start) -> Result<Places, StartFau
     }
 }
 
-/// A level's registers on entry to its program.
-#[tactic(auto, unfolding(crate::specs::Attach::entry_registers))]
-fn entry_registers(entry: u32, stg: u32, eib: u32) -> [u32; 16]
-    ensures { result ≡ entry_registers entry stg eib }
+/// The level with which a task begins.
+fn level_of(start: &Start, places: &Places) -> NewLevel
+    ensures { result ≡ level_of start.now places.now }
 {
-    [0, 0, 0, entry, 0, 0, 0, 0, 0, 0, 0, eib, 0, stg, 0, entry]
-}
-
-/// The first level of a task.
-#[tactic(auto, unfolding(crate::specs::Attach::entry_level))]
-fn entry_level(start: &Start, places: &Places) -> Level
-    ensures { result ≡ entry_level start.now places.now }
-{
-    Level {
+    let len = start.calen;
+    NewLevel {
         program: start.program,
+        loaded: start.loaded,
+        commarea: places.commarea.map(|place| Piece { place, len }),
         stg: places.stg,
-        stg_len: start.loaded.stg_len,
-        calen: start.calen,
-        regs: entry_registers(start.loaded.entry, places.stg, places.eib),
-        cc: ConditionCode::new(0),
-        handles: HandleTable::new(),
     }
 }
 
 /// A task as it starts.
 #[tactic(auto, unfolding(crate::specs::Attach::fresh_task))]
-fn fresh_task(start: &Start, number: u32, places: &Places) -> Task
-    requires eib { places.now.eib < 2 ^ 24 }
-    requires entry { start.now.loaded.entry < 2 ^ 24 }
-    ensures { result ≡ fresh_task start.now number places.now }
+fn fresh_task(
+    alloc: Global,
+    tran: Name4,
+    number: u32,
+    eib: u32,
+    level: &NewLevel,
+) -> Result<Task, AllocError>
+    requires eib { eib < 2 ^ 24 }
+    requires entry { level.now.loaded.entry < 2 ^ 24 }
+    ensures { IfOk result (λ task. task ≡ fresh_task tran number eib level.now) }
 {
-    Task {
-        tran: start.tran,
+    let levels = Box::new(alloc, LevelStack::new(entry_level(level, eib)))?;
+    Ok(Task {
+        tran,
         number,
-        eib: places.eib,
-        levels: LevelStack::new(entry_level(start, places)),
+        eib,
+        levels,
         cpu: Cpu {
-            regs: entry_registers(start.loaded.entry, places.stg, places.eib),
+            regs: entry_registers(level, eib),
             cc: 0,
-            next: start.loaded.entry,
+            next: level.loaded.entry,
         },
         due: false,
-    }
+    })
 }
 
-impl Input {
-    /// What a key sent.
-    pub(crate) fn new(alloc: Global, aid: Aid, bytes: &[u8]) -> Result<Input, AllocError>
-        ensures { IfOk result (λ input. input ≡ input_of aid bytes.now) }
-    {
-        let bytes = Vec::from_slice(alloc, bytes)?;
-        Ok(Input { aid, bytes })
-    }
+/// What a key sent.
+fn input_of(alloc: Global, aid: Aid, bytes: &[u8]) -> Result<Input, AllocError>
+    requires { length bytes.now ≤ 1920 }
+    ensures { IfOk result (λ input. input ≡ input_of aid bytes.now) }
+{
+    let bytes = List::from_slice(alloc, bytes)?;
+    Ok(Input { aid, bytes })
 }
 
 /// A task that is ready to be attached, with the input that it begins with.
 #[derive(Drop)]
 struct Ready {
     places: Places,
-    task: Box<Task>,
+    level: NewLevel,
+    task: Task,
     input: Input,
 }
 
@@ -272,14 +270,18 @@ fn make_ready(
 ) -> Result<Ready, AllocError>
     requires eib { places.eib < 2 ^ 24 }
     requires entry { start.now.loaded.entry < 2 ^ 24 }
+    requires few { length bytes.now ≤ 1920 }
     ensures places { IfOk result (λ ready. ready.places ≡ places) }
-    ensures task { IfOk result (λ ready. ready.task.value ≡ fresh_task start.now number places) }
+    ensures level { IfOk result (λ ready. ready.level ≡ level_of start.now places) }
+    ensures task { IfOk result (λ ready. ready.task ≡ task_of_start start.now number places) }
     ensures input { IfOk result (λ ready. ready.input ≡ input_of aid bytes.now) }
 {
-    let task = Box::new(alloc, fresh_task(start, number, &places))?;
-    let input = Input::new(alloc, aid, bytes)?;
+    let level = level_of(start, &places);
+    let task = fresh_task(alloc, start.tran, number, places.eib, &level)?;
+    let input = input_of(alloc, aid, bytes)?;
     Ok(Ready {
         places,
+        level,
         task,
         input,
     })
@@ -287,7 +289,7 @@ fn make_ready(
 
 /// Makes the areas of a task, the task and its input; or nothing.
 #[tactic(auto, using(crate::proofs::PlacingLemmas::given_back_areas, crate::proofs::PlacingLemmas::eib_placed))]
-fn prepare<S: Store>(
+fn prepare_in<S: Store>(
     alloc: Global,
     store: &mut S,
     start: &Start,
@@ -297,12 +299,8 @@ fn prepare<S: Store>(
 ) -> Result<Ready, StartFault>
     requires program { IsSoundProgram start.now.loaded }
     requires free { IsSlotFree (S.storage store.old) start.now.slot }
-    ensures placed { IfOk result (λ ready. ArePlaced (S.storage store.old) (system_owner start.now.slot) start.now.calen start.now.loaded.stg_len ready.places) }
-    ensures after { IfOk result (λ ready. S.storage store.new
-        ≡ with_task_areas (S.storage store.old) (system_owner start.now.slot) start.now.calen start.now.loaded.stg_len ready.places) }
-    ensures addresses { IfOk result (λ ready. ArePlacesBelow ready.places) }
-    ensures task { IfOk result (λ ready. ready.task.value ≡ fresh_task start.now number ready.places) }
-    ensures input { IfOk result (λ ready. ready.input ≡ input_of aid bytes.now) }
+    requires few { length bytes.now ≤ 1920 }
+    ensures ready { IfOk result (λ ready. IsReady (S.storage store.old) start.now number (input_of aid bytes.now) ready.places ready.level ready.task ready.input (S.storage store.new)) }
     ensures fault { IfErr result (AreFaultsOf (S.storage store.old) start.now) }
     ensures err { OnErr result (S.storage store.new ≡ S.storage store.old) }
 {
@@ -319,64 +317,90 @@ fn prepare<S: Store>(
     }
 }
 
+/// Makes the areas of a task, the task and its input; or nothing.
+fn prepare<S: Store + Drop>(
+    shared: &mut Shared<S>,
+    start: &Start,
+    number: u32,
+    aid: Aid,
+    bytes: &[u8],
+) -> Result<Ready, StartFault>
+    requires program { IsSoundProgram start.now.loaded }
+    requires free { IsSlotFree shared.old.storage start.now.slot }
+    requires few { length bytes.now ≤ 1920 }
+    ensures ready { IfOk result (λ ready. IsReady shared.old.storage start.now number (input_of aid bytes.now) ready.places ready.level ready.task ready.input shared.new.storage) }
+    ensures rest { shared.new ≡ record shared.old { storage = shared.new.storage } }
+    ensures fault { IfErr result (AreFaultsOf shared.old.storage start.now) }
+    ensures err { OnErr result (shared.new.storage ≡ shared.old.storage) }
+{
+    prepare_in(shared.alloc, &mut shared.store, start, number, aid, bytes)
+}
+
 /// Fills the areas of a task that begins.
 #[tactic(auto, unfolding(crate::specs::Attach::filled, crate::specs::Attach::with_copy))]
-fn fill<S: Store>(store: &mut S, places: &Places, begun: &Begun, commarea: &[u8])
+fn fill<S: Store>(store: &mut S, places: &Places, begun: &Begun, commarea: &[u8], level: &NewLevel)
     requires below { ArePlacesBelow places.now }
     requires short { length commarea.now ≤ 32767 }
-    ensures { S.storage store.new ≡ filled (S.storage store.old) places.now begun.now commarea.now }
+    ensures { S.storage store.new
+        ≡ filled (S.storage store.old) places.now (fields_at_attach begun.now) commarea.now level.now }
 {
     begin(store, places.eib, begun);
     if let Some(place) = places.commarea {
         store.write(place, commarea);
     }
-    let address = places.commarea.unwrap_or(0);
-    store.write(
-        along(places.stg, EistgField::Eicap.offset()),
-        &address.to_be_bytes(),
-    );
+    put_cap(store, level);
 }
 
 /// Fills the areas of a terminal's task that begins, with the COMMAREA kept at the terminal.
-fn fill_from<S: Store>(
-    store: &mut S,
+fn fill_from<S: Store + Drop>(
+    shared: &mut Shared<S>,
     terminals: &IndexMap<Name4, Terminal>,
     name: Name4,
-    places: &Places,
+    ready: &Ready,
     begun: &Begun,
 )
-    requires { ArePlacesBelow places.now }
-    ensures { S.storage store.new ≡ filled (S.storage store.old) places.now begun.now
-        (commarea_kept (terminal_in terminals.now.entries name).following) }
+    requires { ArePlacesBelow ready.now.places }
+    ensures filled { MatchOption (lookup (is_name4 name) terminals.now.entries) ⊤ (λ terminal. shared.new.storage
+        ≡ filled shared.old.storage ready.now.places (fields_at_attach begun.now) (commarea_kept terminal.following) ready.now.level) }
+    ensures rest { shared.new ≡ record shared.old { storage = shared.new.storage } }
+    ensures sound { IsSoundStorage shared.new.storage }
 {
-    match terminals.get(&name) {
-        Some(terminal) => fill(store, places, begun, commarea_kept(&terminal.following)),
-        None => fill(store, places, begun, &[]),
-    }
+    store_is_sound(&shared.store);
+    let Some(terminal) = terminals.get(&name) else {
+        return;
+    };
+    fill(
+        &mut shared.store,
+        &ready.places,
+        begun,
+        commarea_kept(&terminal.station.following),
+        &ready.level,
+    );
+    store_is_sound(&shared.store);
 }
 
 /// Gives a terminal its task, and the input that it begins with.
-#[tactic(auto, using(cx_tables::specs::Facts::Tables::set_value_absent))]
-fn start_at(terminals: &mut IndexMap<Name4, Terminal>, name: Name4, input: Input, task: Box<Task>)
-    ensures { terminals.new.entries ≡ set_value (is_name4 name) terminals.old.entries
-        (with_task (terminal_in terminals.old.entries name) input task.value) }
+fn start_at(terminals: &mut IndexMap<Name4, Terminal>, name: Name4, input: Input, task: Task)
+    ensures { MatchOption (lookup (is_name4 name) terminals.old.entries) ⊤ (λ terminal. terminals.new.entries
+        ≡ set_value (is_name4 name) terminals.old.entries (with_task terminal input task)) }
 {
-    if let Some(terminal) = terminals.get_mut(&name) {
-        terminal.input = Some(input);
-        terminal.following = None;
-        terminal.task = Some(task);
-    }
+    let Some(terminal) = terminals.get_mut(&name) else {
+        return;
+    };
+    terminal.station.input = Some(input);
+    terminal.station.following = None;
+    terminal.task = Some(task);
 }
 
 /// Holds an input for a terminal's task.
-#[tactic(auto, using(cx_tables::specs::Facts::Tables::set_value_absent))]
 fn give_at(terminals: &mut IndexMap<Name4, Terminal>, name: Name4, input: Input)
-    ensures { terminals.new.entries ≡ set_value (is_name4 name) terminals.old.entries
-        (record (terminal_in terminals.old.entries name) { input = Some input }) }
+    ensures { MatchOption (lookup (is_name4 name) terminals.old.entries) ⊤ (λ terminal. terminals.new.entries
+        ≡ set_value (is_name4 name) terminals.old.entries (record terminal { input = Some input })) }
 {
-    if let Some(terminal) = terminals.get_mut(&name) {
-        terminal.input = Some(input);
-    }
+    let Some(terminal) = terminals.get_mut(&name) else {
+        return;
+    };
+    terminal.station.input = Some(input);
 }
 
 /// The number of the task after so many.
@@ -395,7 +419,7 @@ impl Terminal {
         if self.task.is_none() {
             return None;
         }
-        if self.input.is_some() {
+        if self.station.input.is_some() {
             return Some(Asked::Answer(KeyReply::AlreadyHeldInput));
         }
         Some(Asked::Give)
@@ -405,7 +429,7 @@ impl Terminal {
     fn transaction_named(&self, bytes: &[u8]) -> Name4
         ensures { result ≡ transaction_named self.now.following bytes.now }
     {
-        transaction_named(&self.following, bytes)
+        transaction_named(&self.station.following, bytes)
     }
 
     /// A task to be attached.
@@ -413,18 +437,18 @@ impl Terminal {
         ensures { result ≡ start_of self.now tran program loaded }
     {
         Asked::Attach(Start {
-            slot: self.slot,
+            slot: self.station.slot,
             tran,
             program,
             loaded,
-            calen: commarea_kept(&self.following).len() as u16,
+            calen: commarea_kept(&self.station.following).len() as u16,
         })
     }
 }
 
 impl<S: Store + Drop> Region<S> {
     /// What a key asks for.
-    #[tactic(auto, unfolding(crate::specs::Attach::asked))]
+    #[tactic(auto, unfolding(crate::specs::Parts::Asking::asked))]
     fn asked(&self, name: Name4, bytes: &[u8]) -> Asked
         ensures value { result ≡ asked self.now name bytes.now }
         ensures sound { IsSound self.now }
@@ -464,11 +488,11 @@ impl<S: Store + Drop> Region<S> {
     fn program(&self, name: Name8) -> Option<Loaded>
         ensures { result ≡ program_of self.now name }
     {
-        self.common.programs.get(&name).copied()
+        self.shared.programs.get(&name).copied()
     }
 
     /// What a key asks for where the terminal has no task.
-    #[tactic(auto, unfolding(crate::specs::Attach::start_asked))]
+    #[tactic(auto, unfolding(crate::specs::Parts::Asking::start_asked))]
     fn start_asked(&self, terminal: &Terminal, tran: Name4) -> Asked
         ensures { result ≡ start_asked self.now terminal.now tran }
     {
@@ -490,20 +514,14 @@ impl<S: Store + Drop> Region<S> {
         start: &Start,
     ) -> Result<KeyReply, AllocError>
         requires asked { asked self.old name bytes.now ≡ Asked.Attach start.now }
-        ensures attached { IfOk result (λ reply. Attaches self.old name start.now (input_of aid bytes.now) reply self.new) }
-        ensures place { OnErr result (IsTaskPlace self.old.storage EIB_LEN None → ⊥) }
+        requires few { length bytes.now ≤ 1920 }
+        ensures keyed { IfOk result (λ reply. Keyed self.old name (input_of aid bytes.now) reply self.new) }
+        ensures grows { OnErr result (KeyGrows self.old name bytes.now) }
         ensures err { OnErr result (self.new ≡ self.old) }
         ensures sound { IsSound self.new }
     {
         let number = next_number(self.counter);
-        let prepared = prepare(
-            self.alloc,
-            &mut self.common.store,
-            start,
-            number,
-            aid,
-            bytes,
-        );
+        let prepared = prepare(&mut self.shared, start, number, aid, bytes);
         let ready = match prepared {
             Ok(ready) => ready,
             Err(StartFault::NoStorage) => return Ok(KeyReply::NoStorage),
@@ -518,13 +536,7 @@ impl<S: Store + Drop> Region<S> {
             calen: start.calen,
             aid: aid.code(),
         };
-        fill_from(
-            &mut self.common.store,
-            &self.terminals,
-            name,
-            &ready.places,
-            &begun,
-        );
+        fill_from(&mut self.shared, &self.terminals, name, &ready, &begun);
         start_at(&mut self.terminals, name, ready.input, ready.task);
         self.counter = number;
         Ok(KeyReply::Attached)
@@ -533,12 +545,13 @@ impl<S: Store + Drop> Region<S> {
     /// Holds an input for a terminal's task.
     fn give(&mut self, name: Name4, aid: Aid, bytes: &[u8]) -> Result<(), AllocError>
         requires asked { asked self.old name bytes.now ≡ Asked.Give }
-        ensures given { OnOk result (self.new
-            ≡ with_terminal self.old name (record (terminal_at self.old name) { input = Some (input_of aid bytes.now) })) }
+        requires few { length bytes.now ≤ 1920 }
+        ensures keyed { OnOk result (Keyed self.old name (input_of aid bytes.now) KeyReply.Given self.new) }
+        ensures grows { OnErr result (KeyGrows self.old name bytes.now) }
         ensures err { OnErr result (self.new ≡ self.old) }
         ensures sound { IsSound self.new }
     {
-        let input = Input::new(self.alloc, aid, bytes)?;
+        let input = input_of(self.alloc, aid, bytes)?;
         give_at(&mut self.terminals, name, input);
         Ok(())
     }
@@ -552,11 +565,11 @@ impl<S: Store + Drop> Region<S> {
     ///
     /// An error comes only where a growth was refused; then no answer that names or held input give is due, the EIB of a
     /// task to be attached has a place, and all is as before.
-    #[tactic(auto, unfolding(crate::specs::Attach::Keyed, crate::specs::Attach::input_from))]
+    #[tactic(auto, using(crate::proofs::SoundAttach::keyed_answer), unfolding(crate::specs::Attach::input_from))]
     pub fn key(&mut self, name: Name4, aid: Aid, bytes: &[u8]) -> Result<KeyReply, AllocError>
         requires { length bytes.now ≤ 1920 }
         ensures keyed { IfOk result (λ reply. Keyed self.old name (input_from aid bytes.now) reply self.new) }
-        ensures tested { OnErr result (MayGrow (asked self.old name (input_from aid bytes.now).bytes) self.old.storage) }
+        ensures grows { OnErr result (KeyGrows self.old name (input_from aid bytes.now).bytes) }
         ensures err { OnErr result (self.new ≡ self.old) }
         ensures sound { IsSound self.new }
     {

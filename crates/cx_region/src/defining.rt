@@ -10,14 +10,17 @@ ghost use Rattle.cx_region.specs.Names.{is_name4, is_name8};
 ghost use Rattle.cx_region.specs.Defining.{DefinesProgram, fresh_region, fresh_storage, program_fault, terminal_fault, transaction_fault, with_clock, with_new_terminal, with_transaction};
 ghost use Rattle.cx_region.specs.Parts.Loading.{MatchLoadRefusal};
 ghost use Rattle.cx_load.specs.Fault.{IsFit};
-ghost use Rattle.cx_region.specs.Sound.{IsSound, IsSoundProgram};
+ghost use Rattle.cx_state.specs.Areas.{IsSoundProgram};
+ghost use Rattle.cx_region.specs.Sound.{IsSound};
 ghost use Rattle.cx_region.specs.Tables.{fresh_terminal};
 
 use crate::replies::DefineFault;
-use crate::state::{Common, Region, Terminal};
+use crate::state::{Region, Terminal};
 use cx_ebcdic::{Name4, Name8};
 use cx_load::{CheckedImage, Loaded, load};
-use cx_service::{Enqueues, Queues, Screen};
+use cx_service::{Enqueues, Queues};
+use cx_state::Shared;
+use cx_storage::laws::store_is_sound;
 use cx_storage::{Kind, Owner, Store};
 use indexmap::IndexMap;
 use std::alloc::{AllocError, Global};
@@ -58,7 +61,8 @@ impl<S: Store + Drop> Region<S> {
         let enqueues = Enqueues::new(alloc)?;
         Ok(Region {
             alloc,
-            common: Common {
+            shared: Shared {
+                alloc,
                 store,
                 programs: IndexMap::new(alloc),
                 queues,
@@ -103,14 +107,7 @@ impl<S: Store + Drop> Region<S> {
         ensures sound { IsSound self.new }
     {
         self.can_define_program(name)?;
-        let common = &mut self.common;
-        let loaded = load_program(
-            self.alloc,
-            &mut common.store,
-            &mut common.programs,
-            name,
-            image,
-        )?;
+        let loaded = load_into(&mut self.shared, name, image)?;
         Ok(loaded)
     }
 
@@ -120,10 +117,10 @@ impl<S: Store + Drop> Region<S> {
         ensures value { result_err result ≡ program_fault self.now name }
         ensures no_memory { IfErr result (λ fault. fault ≢ DefineFault.Memory) }
     {
-        if self.common.programs.contains_key(&name) {
+        if self.shared.programs.contains_key(&name) {
             return Err(DefineFault::Duplicate);
         }
-        if self.common.programs.len() >= MOST_PROGRAMS {
+        if self.shared.programs.len() >= MOST_PROGRAMS {
             return Err(DefineFault::Full);
         }
         Ok(())
@@ -156,7 +153,7 @@ impl<S: Store + Drop> Region<S> {
         if self.transactions.len() >= MOST_TRANSACTIONS {
             return Err(DefineFault::Full);
         }
-        if !self.common.programs.contains_key(&program) {
+        if !self.shared.programs.contains_key(&program) {
             return Err(DefineFault::NoProgram);
         }
         Ok(())
@@ -255,6 +252,34 @@ fn load_program<S: Store>(
     let loaded = load(alloc, image, store)?;
     programs.insert(name, loaded)?;
     Ok(loaded)
+}
+
+/// Loads a program into what tasks share.
+fn load_into<S: Store + Drop>(
+    shared: &mut Shared<S>,
+    name: Name8,
+    image: &CheckedImage,
+) -> Result<Loaded, DefineFault>
+    ensures fit { IsFit image.now }
+    ensures good { IfOk result IsSoundProgram }
+    ensures loaded { IfOk result (λ loaded. IsLoaded shared.old.storage image.now loaded shared.new.storage) }
+    ensures put { IfOk result (λ loaded. shared.new.programs ≡ insert_entry is_name8 shared.old.programs name loaded) }
+    ensures distinct { OnOk result (IsDistinct is_name8 (keys_of shared.new.programs)) }
+    ensures queues { shared.new.queues ≡ shared.old.queues }
+    ensures resources { shared.new.resources ≡ shared.old.resources }
+    ensures refused { IfErr result (λ fault. MatchLoadRefusal shared.old.storage (length image.now.text) fault) }
+    ensures err { OnErr result (shared.new ≡ shared.old) }
+    ensures sound { IsSoundStorage shared.new.storage }
+{
+    let result = load_program(
+        shared.alloc,
+        &mut shared.store,
+        &mut shared.programs,
+        name,
+        image,
+    );
+    store_is_sound(&shared.store);
+    result
 }
 
 /// Whether storage has a place for a program.

@@ -4,26 +4,21 @@
 mod asking;
 mod attach;
 mod defining;
-mod ending;
 mod events;
-mod judging;
 mod looking;
-mod pass;
 pub mod region_laws;
 mod replies;
 mod state;
 mod turn;
-mod turning;
 
 #[doc(hidden)]
 pub use asking::{Asked, Places, Start};
 pub use cx_call::{Call, CallFault, read_call};
+pub use cx_state::TurnReply;
 #[doc(hidden)]
-pub use judging::Judgement;
+pub use cx_state::{Following, Input, Shared, Station, Task};
 pub use looking::command_name;
-#[doc(hidden)]
-pub use pass::Pass;
-pub use replies::{DefineFault, Event, KeyReply, Reply, RunStop, TaskInfo, TurnReply};
+pub use replies::{DefineFault, Event, KeyReply, Reply, RunStop, TaskInfo};
 pub use state::Region;
 #[doc(hidden)]
-pub use state::{Common, Following, Input, Task, Terminal};
+pub use state::Terminal;

@@ -8,35 +8,34 @@ ghost use Rattle.cx_region.specs.Tables.{task_of, terminal_of};
 ghost use Rattle.cx_region.specs.Looking.{Shows};
 
 use crate::replies::TaskInfo;
-use crate::state::{Region, Task, Terminal};
+use crate::state::{Region, Terminal};
 use cx_command::Command;
 use cx_ebcdic::Name4;
 use cx_exec::Cpu;
 use cx_service::Screen;
+use cx_state::Task;
 use cx_storage::Store;
 
-impl Task {
-    /// What is shown of the task.
-    fn info(&self) -> TaskInfo
-        ensures { Shows self.now result }
-    {
-        let level = self.levels.current();
-        let regs = self.cpu.regs;
-        TaskInfo {
-            tran: self.tran,
-            program: level.program,
-            number: self.number,
-            levels: self.levels.len(),
-            eib: self.eib,
-            stg: level.stg,
-            stg_len: level.stg_len,
-            cpu: Cpu {
-                regs,
-                cc: self.cpu.cc,
-                next: self.cpu.next,
-            },
-            due: self.due,
-        }
+/// What is shown of a task.
+fn info_of(task: &Task) -> TaskInfo
+    ensures { Shows task.now result }
+{
+    let level = task.levels.current();
+    let regs = task.cpu.regs;
+    TaskInfo {
+        tran: task.tran,
+        program: level.program,
+        number: task.number,
+        levels: task.levels.len(),
+        eib: task.eib,
+        stg: level.stg,
+        stg_len: level.stg_len,
+        cpu: Cpu {
+            regs,
+            cc: task.cpu.cc,
+            next: task.cpu.next,
+        },
+        due: task.due,
     }
 }
 
@@ -46,14 +45,14 @@ impl Terminal {
         ensures { MatchOption self.now.task (result ≡ None) (λ task. IsSomeAnd result (Shows task)) }
     {
         let task = self.task.as_ref()?;
-        Some(task.info())
+        Some(info_of(task))
     }
 
     /// The screen.
     fn screen(&self) -> &Screen
         ensures { result.now ≡ self.now.screen }
     {
-        &self.screen
+        &self.station.screen
     }
 }
 
@@ -78,7 +77,7 @@ impl<S: Store + Drop> Region<S> {
     pub fn byte(&self, address: u32) -> Option<u8>
         ensures { result ≡ byte_at self.now.storage address }
     {
-        byte_of(&self.common.store, address)
+        byte_of(&self.shared.store, address)
     }
 }
 

@@ -1,12 +1,12 @@
 //! What holds of every event, and of every run of events.
-ghost use Rattle.cx_region.specs.Laws.Regions.{ProgramsDecide, TransactionsDecide, TerminalsDecide, TurnsDecide, EachIsAnswered, EventsDecide, KeysDecide, KeysKeepToTheirTerminal, RefusedProgramsLeaveTheRegion, RefusedTerminalsLeaveTheRegion, RefusedTransactionsLeaveTheRegion, RunsDecide, RunsJoin, RunsPart, StillKeysLeaveTheRegion, StillTurnsLeaveTheRegion, TurnsKeepToTheirTask};
+ghost use Rattle.cx_region.specs.Laws.Regions.{ProgramsDecide, TransactionsDecide, TerminalsDecide, TurnsDecide, EachIsAnswered, EventsDecide, KeysDecide, KeysKeepToTheirTerminal, RefusedProgramsLeaveTheRegion, RefusedTerminalsLeaveTheRegion, RefusedTransactionsLeaveTheRegion, RunsDecide, RunsJoin, RunsPart, StillKeysLeaveTheRegion, StillTurnsLeaveTheRegion, TurnsKeepOthers, TurnsKeepToTheirTask};
 
 /// A region and an event decide the reply and the region after it.
 pub fn events_decide()
     ensures { EventsDecide }
 {
     cx_load::laws::loading_decides();
-    cx_exec::laws::runs_decide();
+    cx_task::laws::half_turns_decide();
 }
 
 /// A region and what a call is given decide the call's answer and the region after it.
@@ -18,7 +18,7 @@ pub fn calls_decide()
     ensures turns { TurnsDecide }
 {
     cx_load::laws::loading_decides();
-    cx_exec::laws::runs_decide();
+    cx_task::laws::half_turns_decide();
 }
 
 /// A region and a list of events decide their replies and the region after them.
@@ -29,11 +29,15 @@ pub fn runs_decide()
 }
 
 /// A turn changes no terminal but its own, so no other task's registers, levels or due command; and no definition,
-/// neither the clock nor the counter of tasks.
-#[tactic(auto, using(crate::proofs::KeepsLemmas::turned_keeps))]
+/// neither the clock nor the counter of tasks. Of a sound region it changes no area and no resource that another task or
+/// the region owns, both ways.
 pub fn a_turn_keeps_to_its_task()
-    ensures { TurnsKeepToTheirTask }
-{}
+    ensures task { TurnsKeepToTheirTask }
+    ensures others { TurnsKeepOthers }
+{
+    cx_task::laws::half_turns_stay();
+    cx_task::laws::half_turns_keep();
+}
 
 /// A key changes no terminal but its own, and no definition, queue or resource, nor the clock. Storage and the counter
 /// of tasks change only where it attaches a task: the counter goes to the next number.
@@ -43,10 +47,12 @@ pub fn a_key_keeps_to_its_terminal()
 {}
 
 /// A turn answered Idle, NoSuchTerminal or Waiting leaves the region as it was.
-#[tactic(auto, using(crate::proofs::KeepsLemmas::still_turns_leave))]
 pub fn waiting_leaves_the_region()
     ensures { StillTurnsLeaveTheRegion }
-{}
+{
+    cx_task::laws::half_turns_stay();
+    cx_task::laws::waits_leave();
+}
 
 /// A key's answer other than Attached and Given leaves the region as it was.
 #[tactic(auto, using(crate::proofs::KeepsLemmas::still_keys_leave))]

@@ -1,83 +1,134 @@
 //! Turns of terminals.
-ghost use Rattle.std.specs.Prelude.{◌≡◌, false, IfOk, IsOk, OnErr, None, Some, MatchOption};
-ghost use Rattle.std.specs.Map.{lookup, set_value};
+ghost use Rattle.std.specs.Prelude.{◌≡◌, if◌then◌else◌, IfOk, OnErr, None, Some};
+ghost use Rattle.cx_state.specs.Replies.{is_over};
+ghost use Rattle.cx_storage.specs.Storage.{IsSound as IsSoundStorage};
+ghost use Rattle.cx_service.specs.Queues.{AreSoundQueues};
 ghost use Rattle.cx_service.specs.Resources.{AreSoundResources};
-ghost use Rattle.cx_region.specs.Names.{is_name4};
-ghost use Rattle.cx_region.specs.State.{RegionState, TaskState};
-ghost use Rattle.cx_region.specs.Turn.{HalfTurn, Turned, turn_may_grow};
-ghost use Rattle.cx_region.specs.Parts.HalfTurn.{PartIdle, PartTurned, with_shared};
+ghost use Rattle.cx_rows.specs.Common.{AreSoundPrograms};
+ghost use Rattle.cx_region.specs.Parts.Turning.{GrowsAt, GrowsIn, HalfTurned, TurnedAt, TurnedIn};
+ghost use Rattle.cx_region.specs.State.{terminal_with};
+ghost use Rattle.cx_region.specs.Turn.{TurnGrows, Turned};
 ghost use Rattle.cx_region.specs.Sound.{IsSound};
 
-use crate::pass::Pass;
-use crate::replies::TurnReply;
-use crate::state::{Common, Region, Terminal};
-use crate::turning::half_turn;
-use cx_ebcdic::Name4;
+use crate::state::{Region, Terminal};
+use cx_ebcdic::{Name4, Name8};
+use cx_service::ResourceName;
+use cx_state::{Shared, Station, Task, TurnReply};
 use cx_storage::Store;
+use cx_storage::laws::store_is_sound;
+use cx_task::half_turn;
+use cx_task::laws::half_turns_keep;
 use indexmap::IndexMap;
 use std::alloc::AllocError;
 
-/// A half-turn of a terminal's task, where it has one. Where the task ends, its areas are freed, its resources released,
-/// and its held input dropped.
-fn turn_terminal<S: Store + Drop>(common: &mut Common<S>, terminal: &mut Terminal) -> TurnReply
-    requires { AreSoundResources common.old.enqueues }
-    ensures turned { MatchOption terminal.old.task
-        (PartIdle result (S.storage common.old.store) (S.storage common.new.store) common.old.programs.entries common.new.programs.entries
-        common.old.queues common.new.queues common.old.enqueues common.new.enqueues terminal.old terminal.new)
-        (λ task. PartTurned
-        (record { storage = S.storage common.old.store; programs = common.old.programs.entries; queues = common.old.queues; resources = common.old.enqueues; terminal = terminal.old; task = task })
-        result (S.storage common.new.store) common.new.programs.entries common.new.queues common.new.enqueues terminal.new) }
-    ensures sound { AreSoundResources common.new.enqueues }
+/// A half-turn of a task, where there is one.
+#[tactic(auto, unfolding(crate::specs::Parts::Turning::HalfTurned, crate::specs::Parts::Turning::GrowsAt))]
+fn half_turn_of<S: Store + Drop>(
+    shared: &mut Shared<S>,
+    station: &mut Station,
+    held: &mut Option<Task>,
+) -> Result<TurnReply, AllocError>
+    requires { AreSoundPrograms shared.old.programs }
+    ensures turned { IfOk result (λ reply. HalfTurned shared.old station.old held.old reply shared.new station.new held.new) }
+    ensures grows { OnErr result (GrowsAt shared.old (terminal_with station.old held.old)) }
+    ensures err { OnErr result ((shared.new ≡ shared.old) × (terminal_with station.new held.new ≡ terminal_with station.old held.old)) }
 {
-    let Some(mut task) = terminal.task.take() else {
-        return TurnReply::Idle;
+    let Some(task) = held else {
+        return Ok(TurnReply::Idle);
     };
-    match half_turn(&mut common.store, &mut task) {
-        Pass::Stays(reply) => {
-            terminal.task = Some(task);
-            reply
-        }
-        Pass::Ends(reply) => {
-            common.store.free_slot(terminal.slot);
-            common.enqueues.release_all(terminal.slot);
-            terminal.input = None;
-            terminal.following = None;
-            reply
-        }
+    half_turn(shared, station, task)
+}
+
+/// Drops a task that is over.
+fn drop_if(over: bool, held: &mut Option<Task>)
+    ensures { held.new ≡ (if over then None else held.old) }
+{
+    if over {
+        *held = None;
     }
 }
 
+/// Drops a task that is over, by its answer.
+fn drop_over(reply: &TurnReply, held: &mut Option<Task>)
+    ensures { held.new ≡ (if is_over reply.now then None else held.old) }
+{
+    drop_if(reply.is_over(), held);
+}
+
+/// A half-turn of a terminal's task, where it has one. A task that is over is dropped.
+#[tactic(auto, using(crate::proofs::SoundTurned::turned_on))]
+fn turn_parts<S: Store + Drop>(
+    shared: &mut Shared<S>,
+    station: &mut Station,
+    held: &mut Option<Task>,
+) -> Result<TurnReply, AllocError>
+    requires { AreSoundPrograms shared.old.programs }
+    ensures turned { IfOk result (λ reply. TurnedAt shared.old (terminal_with station.old held.old) reply shared.new (terminal_with station.new held.new)) }
+    ensures grows { OnErr result (GrowsAt shared.old (terminal_with station.old held.old)) }
+    ensures err { OnErr result ((shared.new ≡ shared.old) × (terminal_with station.new held.new ≡ terminal_with station.old held.old)) }
+{
+    let reply = half_turn_of(shared, station, held)?;
+    drop_over(&reply, held);
+    Ok(reply)
+}
+
+/// A half-turn of a terminal's task, where it has one.
+fn turn_terminal<S: Store + Drop>(
+    shared: &mut Shared<S>,
+    terminal: &mut Terminal,
+) -> Result<TurnReply, AllocError>
+    requires { AreSoundPrograms shared.old.programs }
+    ensures turned { IfOk result (λ reply. TurnedAt shared.old terminal.old reply shared.new terminal.new) }
+    ensures grows { OnErr result (GrowsAt shared.old terminal.old) }
+    ensures err { OnErr result ((shared.new ≡ shared.old) × (terminal.new ≡ terminal.old)) }
+{
+    turn_parts(shared, &mut terminal.station, &mut terminal.task)
+}
+
 /// A turn of the terminal of a name, where there is one.
+#[tactic(auto, unfolding(crate::specs::Parts::Turning::TurnedIn, crate::specs::Parts::Turning::GrowsIn))]
 fn turn_in<S: Store + Drop>(
-    common: &mut Common<S>,
+    shared: &mut Shared<S>,
     terminals: &mut IndexMap<Name4, Terminal>,
     name: Name4,
-) -> TurnReply
-    requires { AreSoundResources common.old.enqueues }
-    ensures turned { (r : RegionState) → Turned
-        (with_shared r (S.storage common.old.store) common.old.programs.entries common.old.queues common.old.enqueues terminals.old.entries) name result
-        (with_shared r (S.storage common.new.store) common.new.programs.entries common.new.queues common.new.enqueues terminals.new.entries) }
-    ensures sound { AreSoundResources common.new.enqueues }
+) -> Result<TurnReply, AllocError>
+    requires { AreSoundPrograms shared.old.programs }
+    ensures turned { IfOk result (λ reply. TurnedIn shared.old terminals.old.entries name reply shared.new terminals.new.entries) }
+    ensures grows { OnErr result (GrowsIn shared.old terminals.old.entries name) }
+    ensures err { OnErr result ((shared.new ≡ shared.old) × (terminals.new.entries ≡ terminals.old.entries)) }
 {
     let Some(terminal) = terminals.get_mut(&name) else {
-        return TurnReply::NoSuchTerminal;
+        return Ok(TurnReply::NoSuchTerminal);
     };
-    turn_terminal(common, terminal)
+    turn_terminal(shared, terminal)
+}
+
+/// Storage, queues and resources are sound.
+fn services_are_sound<S: Store + Drop>(shared: &Shared<S>)
+    ensures storage { IsSoundStorage shared.now.storage }
+    ensures queues { AreSoundQueues shared.now.queues }
+    ensures resources { AreSoundResources shared.now.resources }
+{
+    store_is_sound(&shared.store);
+    let _items = shared.queues.items(Name8::from_bytes([0; 8]));
+    let _hold = shared.enqueues.hold(&ResourceName::Address(0));
 }
 
 impl<S: Store + Drop> Region<S> {
     /// A turn of a terminal: its task runs up to its next command, an interruption or the limit of 65,536 instructions;
     /// or the command that is due is performed.
     ///
-    /// An error comes only where a growth was refused, and only where the command due may take memory: GETMAIN, LINK,
-    /// XCTL, WRITEQ TS, ENQ, RETURN with COMMAREA. Then all is as before.
+    /// An error comes only where a growth was refused, and only where the change that the command makes takes memory and
+    /// no refusal, wait or abend applies. Then all is as before.
     pub fn turn(&mut self, name: Name4) -> Result<TurnReply, AllocError>
         ensures turned { IfOk result (λ reply. Turned self.old name reply self.new) }
-        ensures succeeds { turn_may_grow self.old name ≡ false → IsOk result }
+        ensures grows { OnErr result (TurnGrows self.old name) }
         ensures err { OnErr result (self.new ≡ self.old) }
         ensures sound { IsSound self.new }
     {
-        let reply = turn_in(&mut self.common, &mut self.terminals, name);
-        Ok(reply)
+        half_turns_keep();
+        let reply = turn_in(&mut self.shared, &mut self.terminals, name);
+        services_are_sound(&self.shared);
+        reply
     }
 }

@@ -171,14 +171,13 @@ fn lists_that_are_none_abend(rt: HostRuntime) -> Result<(), Fail> {
     Ok(())
 }
 
-/// An unknown function, an illegal option byte of each kind, and PUSH HANDLE, which has no row yet.
+/// An unknown function, and an illegal option byte of each kind.
 #[test]
 fn blocks_that_are_none_abend(rt: HostRuntime) -> Result<(), Fail> {
     for block in [
         [0x0E, 0xFF, 0, 0],
         [0x0E, 0x08, 0x40, 0],
         [0x0E, 0x08, 0, 1],
-        [0x02, 0x0C, 0, 0],
     ] {
         let text = with_block(block);
         assert!(rt; turns_to(rt.alloc(), &text, 2, abended(XFUN))?);

@@ -1,15 +1,20 @@
 -- Which faults a script may have, by why no more of it was read.
-use Rattle.std.proofs.Common.{◌≡◌, ℕ, ◌+◌, Bool, true, false, List, [], ◌∷◌, None, Some, Option, refl, sym, ap, ◌∙◌}
-use Rattle.cx_script.specs.ImageBlock.{ImageBlock}
-use Rattle.cx_script.specs.Blocks.{step_at}
-use Rattle.cx_script.specs.Lines.{lines_met}
+use Rattle.std.proofs.Common.{◌≡◌, ℕ, ◌+◌, Bool, true, false, List, [], ◌∷◌, None, Some, Option, Result, Ok, Err, cond, codes, refl, sym, ap, ◌∙◌}
+use Rattle.cx_script.specs.declared.blocks.Block.{Block}
+use Rattle.std.specs.Option.{ok_or}
+use Rattle.std.specs.Option.{option_map}
+use Rattle.std.specs.Str.{bytes_eq}
+use Rattle.cx_script.specs.declared.blocks.Block.TheVariants as kind
+use Rattle.cx_actions.specs.Actions.{line_of}
+use Rattle.cx_script.specs.Blocks.{continued, ended, step_at, step_in, step_of, with_line}
+use Rattle.cx_lines.specs.Lines.{is_too_long, lines_met}
 use Rattle.cx_script.specs.Script.{Script, script_of, script_from, fault_at, before, led_to}
-use Rattle.cx_script.specs.declared.actions.Action.{Action}
+use Rattle.cx_actions.specs.declared.actions.Action.{Action}
 use Rattle.cx_script.specs.declared.blocks.Step.{Step}
 use Rattle.cx_script.specs.declared.faults.RunFault.{RunFault}
-use Rattle.cx_script.specs.declared.faults.RunFault.TheVariants.{BadLine, Read, ReadBound}
-use Rattle.cx_script.specs.declared.input.Ending.{Ending}
-use Rattle.cx_script.specs.declared.input.Ending.TheVariants.{AtEnd, Failed, PastBound}
+use Rattle.cx_script.specs.declared.faults.RunFault.TheVariants.{BadLine, Read, Write, Memory, ReadBound}
+use Rattle.cx_lines.specs.declared.input.Ending.{Ending}
+use Rattle.cx_lines.specs.declared.input.Ending.TheVariants.{AtEnd, Failed, PastBound}
 
 -- whether a script that was read so far may have this fault, or none
 abbrev pub may_have : Ending → Option RunFault → Bool
@@ -23,25 +28,60 @@ pub fault_before : (action : Option Action) (script : Script) → (before action
 fault_before None script = refl
 fault_before (Some action) script = refl
 
-led_has : (ending : Ending) (due : Option Step) (number : ℕ) (next : Option ImageBlock → Script)
-    → ((block : Option ImageBlock) → may_have ending (next block).fault ≡ true) → may_have ending (led_to due number next).fault ≡ true
-led_has AtEnd None number next h = refl
-led_has Failed None number next h = refl
-led_has PastBound None number next h = refl
-led_has ending (Some step) number next h = ap (may_have ending) (fault_before step.action (next step.block)) ∙ h step.block
+-- what a line's fault may be
+abbrev pub is_own : RunFault → Bool
+is_own (BadLine n) = true
+is_own _ = false
 
-end_has : (ending : Ending) (block : Option ImageBlock) → may_have ending (fault_at ending block) ≡ true
+-- a step, or a fault that a line may have
+abbrev pub MayBeLed : Result Step RunFault → Type 0
+MayBeLed (Ok step) = Unit {0}
+MayBeLed (Err fault) = is_own fault ≡ true
+
+own_bad : (o : Option Step) (number : ℕ) → MayBeLed (ok_or o (BadLine number))
+own_bad None number = refl
+own_bad (Some step) number = tt
+
+own_end : (block : Block) → MayBeLed (ended block)
+own_end (kind.Image block) = tt
+
+own_within : (number : ℕ) (block : Block) (text : List ℕ) (end : Bool) → MayBeLed (cond end (ended block) (ok_or (option_map continued (with_line block text)) (BadLine number)))
+own_within number block text true = own_end block
+own_within number block text false = own_bad (option_map continued (with_line block text)) number
+
+own_in : (number : ℕ) (block : Option Block) (text : List ℕ) (long : Bool) → MayBeLed (cond long (Err (BadLine number)) (step_in number block text))
+own_in number block text true = refl
+own_in number None text false = own_bad (option_map (step_of number) (line_of text)) number
+own_in number (Some block) text false = own_within number block text (bytes_eq text (codes "/*"))
+
+pub led_own : (number : ℕ) (block : Option Block) (text : List ℕ) → MayBeLed (step_at number block text)
+unfolding step_at
+led_own number block text = own_in number block text (is_too_long text)
+
+own_may : (ending : Ending) (fault : RunFault) → is_own fault ≡ true → may_have ending (Some fault) ≡ true
+own_may ending (BadLine n) e = refl
+own_may ending Read e = cc
+own_may ending Write e = cc
+own_may ending Memory e = cc
+own_may ending ReadBound e = cc
+
+led_has : (ending : Ending) (due : Result Step RunFault) (next : Option Block → Script) → MayBeLed due
+    → ((block : Option Block) → may_have ending (next block).fault ≡ true) → may_have ending (led_to due next).fault ≡ true
+led_has ending (Err fault) next own h = own_may ending fault own
+led_has ending (Ok step) next own h = ap (may_have ending) (fault_before step.action (next step.block)) ∙ h step.block
+
+end_has : (ending : Ending) (block : Option Block) → may_have ending (fault_at ending block) ≡ true
 unfolding fault_at
 end_has AtEnd None = refl
 end_has AtEnd (Some block) = refl
 end_has Failed block = refl
 end_has PastBound block = refl
 
-from_has : (ending : Ending) (number : ℕ) (block : Option ImageBlock) (lines : List (List ℕ)) → may_have ending (script_from ending number block lines).fault ≡ true
+from_has : (ending : Ending) (number : ℕ) (block : Option Block) (lines : List (List ℕ)) → may_have ending (script_from ending number block lines).fault ≡ true
 unfolding script_from
 from_has ending number block [] = end_has ending block
 from_has ending number block (line ∷ lines) =
-    led_has ending (step_at number block line) number (λ next. script_from ending (number + 1) next lines) (λ next. from_has ending (number + 1) next lines)
+    led_has ending (step_at number block line) (λ next. script_from ending (number + 1) next lines) (led_own number block line) (λ next. from_has ending (number + 1) next lines)
 
 pub script_has : (ending : Ending) (bytes : List ℕ) → may_have ending (script_of ending bytes).fault ≡ true
 unfolding script_of

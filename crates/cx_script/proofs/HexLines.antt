@@ -2,7 +2,7 @@
 use Rattle.std.proofs.Common.{◌≡◌, ℕ, ◌/◌, true, false, List, length, Result, Ok, Err, MatchResult, MatchOption, is_ok, refl, ap, ◌∙◌, subst, eq-eqb}
 use Rattle.hex.specs.Hex.{decode_of, decode_sized}
 use Rattle.hex.specs.declared.error.FromHexError.{FromHexError}
-use Rattle.cx_script.specs.Words.{hex_bytes, bytes_or_none}
+use Rattle.cx_actions.specs.Words.{hex_bytes, bytes_or_none}
 
 answered : (d : Result (List ℕ) FromHexError) (r : Result (Unit {0}) FromHexError) (new : List ℕ)
     → MatchResult d (λ bytes. (r ≡ Ok tt) × (new ≡ bytes)) (λ e. r ≡ Err e)

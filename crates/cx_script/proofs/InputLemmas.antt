@@ -3,20 +3,19 @@ use Rattle.std.proofs.Common.{◌≡◌, ℕ, ◌≤◌, Bool, true, false, List
 use Rattle.std.specs.Io.KnownBytes.{Appends, Consumes}
 use Rattle.std.specs.Result.{result_err}
 use Rattle.std.proofs.lemmas.List.{append_cancel_right}
-use Rattle.cx_region.specs.State.{RegionState}
-use Rattle.cx_region.specs.Defining.{fresh_region}
-use Rattle.cx_script.specs.Input.{Reads, is_failure, most_bytes}
+use Rattle.cx_edf.specs.State.{EdfState}
+use Rattle.cx_lines.specs.Input.{Reads, is_failure, most_bytes}
 use Rattle.cx_script.specs.Script.{Script, script_of, line_count}
 use Rattle.cx_script.specs.Transcript.{Ends, Stops, WroteAll}
-use Rattle.cx_script.specs.Effects.{Performs}
+use Rattle.cx_actions.specs.Effects.{Performs, fresh_state}
 use Rattle.cx_script.specs.Outcome.{HasRead}
 use Rattle.cx_script.specs.Laws.Inputs.{was_stopped, InputsDecide, IsPastBound, IsTold, FailuresAreTold, PastTheBoundIsReadBound, ReadBoundIsPastTheBound, ReadIsAFailure}
-use Rattle.cx_script.specs.declared.actions.Action.{Action}
+use Rattle.cx_actions.specs.declared.actions.Action.{Action}
 use Rattle.cx_script.specs.declared.faults.RunFault.{RunFault}
 use Rattle.cx_script.specs.declared.faults.RunFault.TheVariants.{BadLine, Read, Write, Memory, ReadBound}
 use Rattle.cx_script.specs.declared.faults.Summary.{Summary}
-use Rattle.cx_script.specs.declared.input.Ending.{Ending}
-use Rattle.cx_script.specs.declared.input.Ending.TheVariants.{AtEnd, Failed, PastBound}
+use Rattle.cx_lines.specs.declared.input.Ending.{Ending}
+use Rattle.cx_lines.specs.declared.input.Ending.TheVariants.{AtEnd, Failed, PastBound}
 use Rattle.cx_script.proofs.FaultLemmas.{has_this, may_have}
 use Rattle.cx_script.proofs.WholeLemmas.{one_transcript}
 
@@ -66,18 +65,18 @@ own performs old script ReadBound before after e s = s
 
 -- the fault of a run that was not stopped, and what it wrote
 pub told : (script : Script) (lines : ℕ) (answer : Result Summary RunFault) (before after : Option (List ℕ)) → was_stopped answer ≡ false
-    → Ends Performs fresh_region script lines answer before after → (result_err answer ≡ script.fault) × WroteAll Performs fresh_region script.actions before after
+    → Ends Performs fresh_state script lines answer before after → (result_err answer ≡ script.fault) × WroteAll Performs fresh_state script.actions before after
 told script lines (Ok s) before after e h = (sym h.0, h.2)
-told script lines (Err fault) before after e h = let o = own Performs fresh_region script fault before after e h in (sym o.0, o.1)
+told script lines (Err fault) before after e h = let o = own Performs fresh_state script fault before after e h in (sym o.0, o.1)
 
 same_answer : (script : Script) (lines : ℕ) (answer other : Result Summary RunFault) (before after later : Option (List ℕ)) → was_stopped answer ≡ false → was_stopped other ≡ false
-    → Ends Performs fresh_region script lines answer before after → Ends Performs fresh_region script lines other before later → answer ≡ other
+    → Ends Performs fresh_state script lines answer before after → Ends Performs fresh_state script lines other before later → answer ≡ other
 same_answer script lines (Ok s) (Ok t) before after later e f p q = ap (λ (n : ℕ). let s : Summary = record { lines = n } in let r : Result Summary RunFault = Ok s in r) (p.1 ∙ sym q.1)
-same_answer script lines (Ok s) (Err g) before after later e f p q = let o = own Performs fresh_region script g before later f q in let none = p.0 in let some = o.0 in cc
-same_answer script lines (Err g) (Ok s) before after later e f p q = let o = own Performs fresh_region script g before after e p in let none = q.0 in let some = o.0 in cc
+same_answer script lines (Ok s) (Err g) before after later e f p q = let o = own Performs fresh_state script g before later f q in let none = p.0 in let some = o.0 in cc
+same_answer script lines (Err g) (Ok s) before after later e f p q = let o = own Performs fresh_state script g before after e p in let none = q.0 in let some = o.0 in cc
 same_answer script lines (Err g) (Err h) before after later e f p q =
-    let o = own Performs fresh_region script g before after e p in
-    let m = own Performs fresh_region script h before later f q in
+    let o = own Performs fresh_state script g before after e p in
+    let m = own Performs fresh_state script h before later f q in
     let one = o.0 in let two = m.0 in cc
 
 appended : (text : List ℕ) (after later : Option (List ℕ)) (a b : List ℕ) → a ≡ b → Appends (Some text) after a → Appends (Some text) later b → after ≡ later
@@ -85,21 +84,21 @@ appended text None later a b e p q = absurd p
 appended text (Some x) None a b e p q = absurd q
 appended text (Some x) (Some y) a b e p q = ap Some (p ∙ ap (λ l. text ++ l) e ∙ sym q)
 
-module _ (decides : (old : RegionState) (action : Action) (text other : List ℕ) (new another : RegionState) → Performs old action text new → Performs old action other another → (text ≡ other) × (new ≡ another)) where
-  same_text : (actions : List Action) (text : List ℕ) (after later : Option (List ℕ)) → WroteAll Performs fresh_region actions (Some text) after
-      → WroteAll Performs fresh_region actions (Some text) later → after ≡ later
+module _ (decides : (old : EdfState) (action : Action) (text other : List ℕ) (new another : EdfState) → Performs old action text new → Performs old action other another → (text ≡ other) × (new ≡ another)) where
+  same_text : (actions : List Action) (text : List ℕ) (after later : Option (List ℕ)) → WroteAll Performs fresh_state actions (Some text) after
+      → WroteAll Performs fresh_state actions (Some text) later → after ≡ later
   same_text actions text after later p q =
-      let one = one_transcript Performs decides fresh_region actions p.text q.text p.new q.new p.runs q.runs in
+      let one = one_transcript Performs decides fresh_state actions p.text q.text p.new q.new p.runs q.runs in
       appended text after later p.text q.text one.0 p.written q.written
 
   both : (ending another : Ending) (bytes other : List ℕ) (answer second : Result Summary RunFault) (text : List ℕ) (after later : Option (List ℕ))
       → ending ≡ another → bytes ≡ other → was_stopped answer ≡ false → was_stopped second ≡ false
-      → Ends Performs fresh_region (script_of ending bytes) (line_count ending bytes) answer (Some text) after
-      → Ends Performs fresh_region (script_of another other) (line_count another other) second (Some text) later
+      → Ends Performs fresh_state (script_of ending bytes) (line_count ending bytes) answer (Some text) after
+      → Ends Performs fresh_state (script_of another other) (line_count another other) second (Some text) later
       → (answer ≡ second) × (after ≡ later)
   both ending another bytes other answer second text after later e b f g p q =
-      let moved = subst (λ (k : Ending). Ends Performs fresh_region (script_of k other) (line_count k other) second (Some text) later) (sym e) q in
-      let there = subst (λ (l : List ℕ). Ends Performs fresh_region (script_of ending l) (line_count ending l) second (Some text) later) (sym b) moved in
+      let moved = subst (λ (k : Ending). Ends Performs fresh_state (script_of k other) (line_count k other) second (Some text) later) (sym e) q in
+      let there = subst (λ (l : List ℕ). Ends Performs fresh_state (script_of ending l) (line_count ending l) second (Some text) later) (sym b) moved in
       let first = told (script_of ending bytes) (line_count ending bytes) answer (Some text) after f p in
       let last = told (script_of ending bytes) (line_count ending bytes) second (Some text) later g there in (
         same_answer (script_of ending bytes) (line_count ending bytes) answer second (Some text) after later f g p there,
@@ -123,7 +122,7 @@ past_bound PastBound input bytes after failed p f e =
 
 pub read_bound_is : ReadBoundIsPastTheBound
 read_bound_is input after failed written written_after r =
-    let o = own Performs fresh_region (script_of r.ending r.bytes) ReadBound written written_after refl r.ends in
+    let o = own Performs fresh_state (script_of r.ending r.bytes) ReadBound written written_after refl r.ends in
     past_bound r.ending input r.bytes after failed r.read r.failure o.0
 
 err_is : (answer : Result Summary RunFault) (fault : RunFault) → result_err answer ≡ Some fault → answer ≡ Err fault
@@ -149,7 +148,7 @@ only_failed PastBound e = cc
 
 pub read_is : ReadIsAFailure
 read_is left after failed written written_after r =
-    let o = own Performs fresh_region (script_of r.ending r.bytes) Read written written_after refl r.ends in
+    let o = own Performs fresh_state (script_of r.ending r.bytes) Read written written_after refl r.ends in
     r.failure ∙ only_failed r.ending (has_this r.ending r.bytes (Some Read) o.0)
 
 told_by : (ending : Ending) (left after : Option (List ℕ)) (bytes : List ℕ) (answer : Result Summary RunFault) → Reads most_bytes ending left after bytes → true ≡ is_failure ending

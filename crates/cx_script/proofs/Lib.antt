@@ -1,11 +1,6 @@
-pub mod DeviceLemmas
-pub mod LineLemmas
-pub mod WordLemmas
 pub mod HexLines
 pub mod RunLemmas
 pub mod TakeLemmas
-pub mod TextLemmas
-pub mod EffectLemmas
 pub mod OutcomeLemmas
 pub mod FaultLemmas
 pub mod WholeLemmas
@@ -13,3 +8,4 @@ pub mod ActionLemmas
 pub mod InputLemmas
 pub mod BadLineLemmas
 pub mod PieceLemmas
+pub mod FrontLemmas

@@ -2,16 +2,15 @@
 use Rattle.std.proofs.Common.{◌≡◌, ℕ, Bool, false, lit≤, ◌++◌, List, [], drop, None, Some, Option, Result, Ok, Err, refl, sym, ap, ◌∙◌, subst, append-nil, take-append-drop}
 use Rattle.std.specs.Io.KnownBytes.{Appends, Consumes}
 use Rattle.std.proofs.KnownBytes.{Appends-nil}
-use Rattle.cx_region.specs.Defining.{fresh_region}
-use Rattle.cx_script.specs.Input.{Reads, most_bytes}
+use Rattle.cx_lines.specs.Input.{Reads, most_bytes}
 use Rattle.cx_script.specs.Transcript.{Stops, Runs}
-use Rattle.cx_script.specs.Effects.{Performs}
+use Rattle.cx_actions.specs.Effects.{Performs, fresh_state}
 use Rattle.cx_script.specs.Outcome.{RanScript, HasRead, IsFront}
 use Rattle.cx_script.specs.declared.faults.RunFault.{RunFault}
 use Rattle.cx_script.specs.declared.faults.RunFault.TheVariants.{BadLine, Read, Write, Memory, ReadBound}
 use Rattle.cx_script.specs.declared.faults.Summary.{Summary}
-use Rattle.cx_script.specs.declared.input.Ending.{Ending}
-use Rattle.cx_script.specs.declared.input.Ending.TheVariants.{AtEnd, Failed, PastBound}
+use Rattle.cx_lines.specs.declared.input.Ending.{Ending}
+use Rattle.cx_lines.specs.declared.input.Ending.TheVariants.{AtEnd, Failed, PastBound}
 
 front_consumed : (before after : Option (List ℕ)) (bytes : List ℕ) → Consumes before after bytes → IsFront before bytes
 front_consumed None after bytes p = tt
@@ -41,7 +40,7 @@ some_front None = tt
 some_front (Some x) = (x, refl)
 
 -- where nothing was done
-pub ran_nothing : (before after written last : Option (List ℕ)) (failed : Bool) → last ≡ written → failed ≡ false → RanScript Performs fresh_region before after failed (Err Memory) written last
+pub ran_nothing : (before after written last : Option (List ℕ)) (failed : Bool) → last ≡ written → failed ≡ false → RanScript Performs fresh_state before after failed (Err Memory) written last
 unfolding Stops Runs most_bytes
 ran_nothing before after written last failed e f =
     record {
@@ -50,5 +49,5 @@ ran_nothing before after written last failed e f =
       read = some_front before;
       within = lit≤ tt;
       failure = f;
-      ends = (0, record { text = []; new = fresh_region; runs = (refl, refl); written = subst (λ l. Appends written l []) (sym e) (Appends-nil written) });
+      ends = (0, record { text = []; new = fresh_state; runs = (refl, refl); written = subst (λ l. Appends written l []) (sym e) (Appends-nil written) });
     }

@@ -1,38 +1,40 @@
 -- A run of a script, piece by piece.
-use Rattle.std.proofs.Common.{◌≡◌, ℕ, ◌+◌, ◌-◌, ◌<◌, ◌≤◌, Bool, true, false, List, [], ◌∷◌, ◌++◌, length, take, drop, None, Some, Option, Result, Ok, Err, MatchOption, IsOkAnd, IfErr, OnErr, cond, nat_le, refl, sym, ap, ◌∙◌, subst, append-nil, append_assoc, zero-add, arith, length-append, length-drop}
+use Rattle.std.proofs.Common.{◌≡◌, ℕ, ◌+◌, ◌-◌, ◌<◌, ◌≤◌, Bool, true, false, List, [], ◌∷◌, ◌++◌, length, take, drop, None, Some, Option, Result, Ok, Err, MatchOption, IsOkAnd, IfErr, OnErr, OnOk, cond, nat_le, refl, sym, ap, ◌∙◌, subst, append-nil, append_assoc, zero-add, arith, length-append, length-drop}
 use Rattle.std.specs.Io.KnownBytes.{Appends, Consumes, IsAtEnd, Keeps}
+use Rattle.cx_lines.specs.Devices.{Sends, Told, WroteFront, told}
+use Rattle.cx_lines.specs.Facts.Devices.{front_flushed, sends_flushed, sends_front, sends_nil, sends_trans, sends_written}
 use Rattle.std.specs.Str.Lines.{strip_carriage_return}
-use Rattle.std.proofs.KnownBytes.{Appends-trans, Appends-nil, Consumes-nil, Consumes-trans, Consumes-kept}
+use Rattle.std.proofs.KnownBytes.{Consumes-nil, Consumes-trans, Consumes-kept}
 use borrow.Author.Tests.{leb-true, leb-false}
 use Rattle.std.proofs.lemmas.Grind.{common_steps}
-use Rattle.std.proofs.lemmas.List.{length-take, length-take-le, take-append-drop}
-use Rattle.cx_script.proofs.DeviceLemmas.{read_end}
+use Rattle.std.proofs.lemmas.List.{length-take, length-take-le, take-append-drop, take_all}
+use Rattle.cx_lines.specs.Facts.Devices.{read_end}
 use Rattle.std.proofs.Math.Seq.{take-append-add, take-append_seam}
-use Rattle.cx_script.specs.ImageBlock.{ImageBlock}
+use Rattle.cx_script.specs.declared.blocks.Block.{Block}
 use Rattle.cx_script.specs.Blocks.{step_at, step_in}
-use Rattle.cx_script.specs.Input.{Reads, is_failure, most_bytes}
-use Rattle.cx_script.specs.Lines.{is_too_long, last_met, lines_met}
+use Rattle.cx_lines.specs.Input.{Reads, is_failure, most_bytes}
+use Rattle.cx_lines.specs.Lines.{is_too_long, last_met, lines_met}
 use Rattle.cx_script.specs.Outcome.{RanScript}
 use Rattle.cx_script.specs.Script.{Script, script_from, script_of, line_count, fault_at, before, led_to}
-use Rattle.cx_script.specs.Transcript.{Runs, WroteAll, WroteSome, Stops, Ends}
-use Rattle.cx_script.specs.Parts.Progress.{Acted, TakesLine, behind_done, Came, Stopped, Seen}
-use Rattle.cx_script.specs.Parts.Unbroken.{IsUnbroken}
-use Rattle.cx_script.specs.declared.actions.Action.{Action}
+use Rattle.cx_script.specs.Transcript.{Runs, WroteAll, Stops, Ends, is_write}
+use Rattle.cx_script.specs.Parts.Progress.{Acted, TakesLine, behind_done, Came, Closes, Halts, SentAll, SentSome, Stopped, Seen}
+use Rattle.cx_lines.specs.Unbroken.{IsUnbroken}
+use Rattle.cx_actions.specs.declared.actions.Action.{Action}
 use Rattle.cx_script.specs.declared.faults.RunFault.{RunFault}
 use Rattle.cx_script.specs.declared.faults.RunFault.TheVariants.{BadLine, Read, Write, Memory, ReadBound}
 use Rattle.cx_script.specs.declared.faults.Summary.{Summary}
-use Rattle.cx_script.specs.declared.input.Ending.{Ending}
-use Rattle.cx_script.specs.declared.input.Ending.TheVariants.{AtEnd, Failed, PastBound}
-use Rattle.cx_script.proofs.LineLemmas.{line_met, none_met, begins_long, long_bytes, unbroken_append, BeginsLong}
+use Rattle.cx_lines.specs.declared.input.Ending.{Ending}
+use Rattle.cx_lines.specs.declared.input.Ending.TheVariants.{AtEnd, Failed, PastBound}
+use Rattle.cx_lines.specs.Facts.Lines.{line_met, none_met, begins_long, long_bytes, unbroken_append, BeginsLong}
 use Rattle.cx_script.proofs.OutcomeLemmas.{has_read}
-use Rattle.cx_script.proofs.RunLemmas.{of_line, runs_append, runs_line, led, front_written, reached_start, reached_line, stops_line, ended}
+use Rattle.cx_script.proofs.RunLemmas.{front, of_line, runs_append, runs_line, led, reached_start, reached_line, stops_line, ended}
 
--- a line that is too long leads to nothing
-no_step : (n : ℕ) (block : Option ImageBlock) (line : List ℕ) → is_too_long line ≡ true → step_at n block line ≡ None
+-- a line that is too long is a bad one
+pub no_step : (n : ℕ) (block : Option Block) (line : List ℕ) → is_too_long line ≡ true → step_at n block line ≡ Err (BadLine n)
 unfolding step_at
-no_step n block line e = ap (λ b. cond b None (step_in n block line)) e
+no_step n block line e = ap (λ b. cond b (Err (BadLine n)) (step_in n block line)) e
 
-pub too_long_line : (n : ℕ) (block : Option ImageBlock) (bytes : List ℕ) → 4097 < length bytes → step_at n block (strip_carriage_return bytes) ≡ None
+pub too_long_line : (n : ℕ) (block : Option Block) (bytes : List ℕ) → 4097 < length bytes → step_at n block (strip_carriage_return bytes) ≡ Err (BadLine n)
 too_long_line n block bytes h = no_step n block (strip_carriage_return bytes) (long_bytes bytes h)
 
 behind_append : (a b : List Action) (s : Script) → behind_done a (behind_done b s) ≡ behind_done (a ++ b) s
@@ -43,13 +45,13 @@ before_done None s = refl
 before_done (Some action) s = refl
 
 module _ {S : Type 0} (performs : S → Action → List ℕ → S → Type 0) where
-  pub came_start : (old : S) (n : ℕ) (block : Option ImageBlock) (ahead : List ℕ) (w : Option (List ℕ)) → Came performs old n block ahead w old n block ahead w
+  pub came_start : (old : S) (n : ℕ) (block : Option Block) (ahead : List ℕ) (w : Told) → Came performs old n block ahead w old n block ahead w
   unfolding Runs
   came_start old n block ahead w =
-      record { done = []; text = []; runs = (refl, refl); written = Appends-nil w; splits = λ ending rest. refl; counts = λ ending rest. refl }
+      record { done = []; text = []; runs = (refl, refl); written = sends_nil w; splits = λ ending rest. refl; counts = λ ending rest. refl }
 
   -- more bytes behind both
-  pub came_more : (old mid : S) (n m : ℕ) (block next : Option ImageBlock) (ahead left more : List ℕ) (first after : Option (List ℕ))
+  pub came_more : (old mid : S) (n m : ℕ) (block next : Option Block) (ahead left more : List ℕ) (first after : Told)
       → Came performs old n block ahead first mid m next left after → Came performs old n block (ahead ++ more) first mid m next (left ++ more) after
   came_more old mid n m block next ahead left more first after c =
       record {
@@ -63,7 +65,7 @@ module _ {S : Type 0} (performs : S → Action → List ℕ → S → Type 0) wh
             ∙ ap (λ l. m + length (lines_met ending l)) (sym (append_assoc left more rest));
       }
 
-  pub came_trans : (old mid new : S) (n m k : ℕ) (block next last : Option ImageBlock) (ahead left right : List ℕ) (first after end : Option (List ℕ))
+  pub came_trans : (old mid new : S) (n m k : ℕ) (block next last : Option Block) (ahead left right : List ℕ) (first after end : Told)
       → Came performs old n block ahead first mid m next left after → Came performs mid m next left after new k last right end
       → Came performs old n block ahead first new k last right end
   came_trans old mid new n m k block next last ahead left right first after end c d =
@@ -71,7 +73,7 @@ module _ {S : Type 0} (performs : S → Action → List ℕ → S → Type 0) wh
         done = c.done ++ d.done;
         text = c.text ++ d.text;
         runs = runs_append performs old c.done c.text mid d.done d.text new c.runs d.runs;
-        written = Appends-trans first after end c.text d.text c.written d.written;
+        written = sends_trans first after end c.text d.text c.written d.written;
         splits = λ ending rest. c.splits ending rest ∙ ap (behind_done c.done) (d.splits ending rest)
             ∙ behind_append c.done d.done (script_from ending (k + 1) last (lines_met ending (right ++ rest)));
         counts = λ ending rest. c.counts ending rest ∙ d.counts ending rest;
@@ -84,8 +86,8 @@ module _ {S : Type 0} (performs : S → Action → List ℕ → S → Type 0) wh
   one_more : (n : ℕ) (line : List ℕ) (lines : List (List ℕ)) → n + length (line ∷ lines) ≡ n + 1 + length lines
   one_more n line lines = omega arith
 
-  pub came_line : (old new : S) (n : ℕ) (block next : Option ImageBlock) (line behind : List ℕ) (before after : Option (List ℕ))
-      → IsUnbroken line → TakesLine performs (step_at (n + 1) block (strip_carriage_return line)) (n + 1) old before (Ok tt) new after next
+  pub came_line : (old new : S) (n : ℕ) (block next : Option Block) (line behind : List ℕ) (before after : Told)
+      → IsUnbroken line → TakesLine performs (step_at (n + 1) block (strip_carriage_return line)) old before (Ok tt) new after next
       → Came performs old n block (line ++ 10 ∷ behind) before new (n + 1) next behind after
   unfolding TakesLine Acted script_from
   came_line old new n block next line behind before after u t =
@@ -96,56 +98,56 @@ module _ {S : Type 0} (performs : S → Action → List ℕ → S → Type 0) wh
         runs = runs_line performs old step.action t.3.0 new t.3.1;
         written = t.3.2;
         splits = λ ending rest. ap (λ l. script_from ending (n + 1) block l) (line_ahead ending line behind rest u)
-            ∙ led performs (step_at (n + 1) block (strip_carriage_return line)) step (n + 1) (λ b. script_from ending (n + 1 + 1) b (lines_met ending (behind ++ rest))) t.1
+            ∙ led performs (step_at (n + 1) block (strip_carriage_return line)) step (λ b. script_from ending (n + 1 + 1) b (lines_met ending (behind ++ rest))) t.1
             ∙ before_done step.action (script_from ending (n + 1 + 1) step.block (lines_met ending (behind ++ rest)))
             ∙ ap (λ b. behind_done (of_line step.action) (script_from ending (n + 1 + 1) b (lines_met ending (behind ++ rest)))) (sym t.2);
         counts = λ ending rest. ap (λ l. n + length l) (line_ahead ending line behind rest u) ∙ one_more n (strip_carriage_return line) (lines_met ending (behind ++ rest));
       }
 
   -- ---- what was done before, and how the rest ended
-  wrote_all_more : (old mid : S) (done actions : List Action) (text : List ℕ) (first after last : Option (List ℕ)) → Runs performs old done text mid → Appends first after text
-      → WroteAll performs mid actions after last → WroteAll performs old (done ++ actions) first last
+  wrote_all_more : (old mid : S) (done actions : List Action) (text : List ℕ) (first after last : Told) → Runs performs old done text mid → Sends first after text
+      → SentAll performs mid actions after last → SentAll performs old (done ++ actions) first last
   wrote_all_more old mid done actions text first after last r a w =
-      record { text = text ++ w.text; new = w.new; runs = runs_append performs old done text mid actions w.text w.new r w.runs; written = Appends-trans first after last text w.text a w.written }
+      record { text = text ++ w.text; new = w.new; runs = runs_append performs old done text mid actions w.text w.new r w.runs; written = sends_trans first after last text w.text a w.written }
 
-  wrote_some_more : (old mid : S) (done actions : List Action) (text : List ℕ) (first after last : Option (List ℕ)) → Runs performs old done text mid → Appends first after text
-      → WroteSome performs mid actions after last → WroteSome performs old (done ++ actions) first last
+  wrote_some_more : (old mid : S) (done actions : List Action) (text : List ℕ) (first after last : Told) → Runs performs old done text mid → Sends first after text
+      → SentSome performs mid actions after last → SentSome performs old (done ++ actions) first last
   wrote_some_more old mid done actions text first after last r a w =
-      record { text = text ++ w.text; new = w.new; runs = runs_append performs old done text mid actions w.text w.new r w.runs; written = front_written performs first after last text w.text a w.written }
+      record { text = text ++ w.text; new = w.new; runs = runs_append performs old done text mid actions w.text w.new r w.runs; written = sends_front first after last text w.text a w.written }
 
-  all_of : (old mid : S) (script left : Script) (done : List Action) (text : List ℕ) (first after last : Option (List ℕ)) → script ≡ behind_done done left
-      → Runs performs old done text mid → Appends first after text → WroteAll performs mid left.actions after last → WroteAll performs old script.actions first last
+  all_of : (old mid : S) (script left : Script) (done : List Action) (text : List ℕ) (first after last : Told) → script ≡ behind_done done left
+      → Runs performs old done text mid → Sends first after text → SentAll performs mid left.actions after last → SentAll performs old script.actions first last
   all_of old mid script left done text first after last e r a w =
-      subst (λ (l : List Action). WroteAll performs old l first last) (sym (ap (λ (s : Script). s.actions) e)) (wrote_all_more old mid done left.actions text first after last r a w)
+      subst (λ (l : List Action). SentAll performs old l first last) (sym (ap (λ (s : Script). s.actions) e)) (wrote_all_more old mid done left.actions text first after last r a w)
 
   front_of : (script left : Script) (done : List Action) (k : ℕ) → script ≡ behind_done done left → done ++ take k left.actions ≡ take (length done + k) script.actions
   front_of script left done k e = sym (take-append-add done left.actions k) ∙ ap (λ (s : Script). take (length done + k) s.actions) (sym e)
 
-  own_stops : (old mid : S) (script left : Script) (done : List Action) (text : List ℕ) (fault : RunFault) (first after last : Option (List ℕ)) → script ≡ behind_done done left
-      → Runs performs old done text mid → Appends first after text → (left.fault ≡ Some fault) × WroteAll performs mid left.actions after last
-      → (script.fault ≡ Some fault) × WroteAll performs old script.actions first last
+  own_stops : (old mid : S) (script left : Script) (done : List Action) (text : List ℕ) (fault : RunFault) (first after last : Told) → script ≡ behind_done done left
+      → Runs performs old done text mid → Sends first after text → (left.fault ≡ Some fault) × SentAll performs mid left.actions after last
+      → (script.fault ≡ Some fault) × SentAll performs old script.actions first last
   own_stops old mid script left done text fault first after last e r a s =
       (ap (λ (x : Script). x.fault) e ∙ s.0, all_of old mid script left done text first after last e r a s.1)
 
-  joined_stops : (old mid : S) (script left : Script) (done : List Action) (text : List ℕ) (fault : RunFault) (first after last : Option (List ℕ)) → script ≡ behind_done done left
-      → Runs performs old done text mid → Appends first after text → Stops performs mid left fault after last → Stops performs old script fault first last
-  unfolding Stops
+  joined_stops : (old mid : S) (script left : Script) (done : List Action) (text : List ℕ) (fault : RunFault) (first after last : Told) → script ≡ behind_done done left
+      → Runs performs old done text mid → Sends first after text → Halts performs mid left fault after last → Halts performs old script fault first last
+  unfolding Halts
   joined_stops old mid script left done text Memory first after last e r a s =
-      (length done + s.0, subst (λ (l : List Action). WroteAll performs old l first last) (front_of script left done s.0 e) (wrote_all_more old mid done (take s.0 left.actions) text first after last r a s.1))
+      (length done + s.0, subst (λ (l : List Action). SentAll performs old l first last) (front_of script left done s.0 e) (wrote_all_more old mid done (take s.0 left.actions) text first after last r a s.1))
   joined_stops old mid script left done text Write first after last e r a s =
-      (length done + s.0, subst (λ (l : List Action). WroteSome performs old l first last) (front_of script left done s.0 e) (wrote_some_more old mid done (take s.0 left.actions) text first after last r a s.1))
+      (length done + s.0, subst (λ (l : List Action). SentSome performs old l first last) (front_of script left done s.0 e) (wrote_some_more old mid done (take s.0 left.actions) text first after last r a s.1))
   joined_stops old mid script left done text (BadLine n) first after last e r a s = own_stops old mid script left done text (BadLine n) first after last e r a s
   joined_stops old mid script left done text Read first after last e r a s = own_stops old mid script left done text Read first after last e r a s
   joined_stops old mid script left done text ReadBound first after last e r a s = own_stops old mid script left done text ReadBound first after last e r a s
 
-  joined_ends : (old mid : S) (script left : Script) (done : List Action) (text : List ℕ) (lines : ℕ) (answer : Result Summary RunFault) (first after last : Option (List ℕ)) → script ≡ behind_done done left
-      → Runs performs old done text mid → Appends first after text → Ends performs mid left lines answer after last → Ends performs old script lines answer first last
+  joined_ends : (old mid : S) (script left : Script) (done : List Action) (text : List ℕ) (lines : ℕ) (answer : Result Summary RunFault) (first after last : Told) → script ≡ behind_done done left
+      → Runs performs old done text mid → Sends first after text → Closes performs mid left lines answer after last → Closes performs old script lines answer first last
   joined_ends old mid script left done text lines (Ok s) first after last e r a h =
       (ap (λ (x : Script). x.fault) e ∙ h.0, h.1, all_of old mid script left done text first after last e r a h.2)
   joined_ends old mid script left done text lines (Err fault) first after last e r a h = joined_stops old mid script left done text fault first after last e r a h
 
   -- a run that stopped behind what was done
-  pub came_stopped : (old mid : S) (n m : ℕ) (block next : Option ImageBlock) (ahead left : List ℕ) (fault : RunFault) (first after last : Option (List ℕ))
+  pub came_stopped : (old mid : S) (n m : ℕ) (block next : Option Block) (ahead left : List ℕ) (fault : RunFault) (first after last : Told)
       → Came performs old n block ahead first mid m next left after → Stopped performs mid m next left fault after last → Stopped performs old n block ahead fault first last
   came_stopped old mid n m block next ahead left fault first after last c s =
       record {
@@ -154,91 +156,216 @@ module _ {S : Type 0} (performs : S → Action → List ℕ → S → Type 0) wh
       }
 
   -- a line that could not be taken
-  pub line_stopped : (old new : S) (n : ℕ) (block next : Option ImageBlock) (line behind : List ℕ) (fault : RunFault) (before after : Option (List ℕ))
-      → IsUnbroken line → TakesLine performs (step_at (n + 1) block (strip_carriage_return line)) (n + 1) old before (Err fault) new after next
+  pub line_stopped : (old new : S) (n : ℕ) (block next : Option Block) (line behind : List ℕ) (fault : RunFault) (before after : Told)
+      → IsUnbroken line → TakesLine performs (step_at (n + 1) block (strip_carriage_return line)) old before (Err fault) new after next
       → Stopped performs old n block (line ++ 10 ∷ behind) fault before after
   line_stopped old new n block next line behind fault before after u t =
       record {
         stops = λ ending rest.
             let lines = lines_met ending (behind ++ rest) in
             let whole = script_from ending (n + 1) block (strip_carriage_return line ∷ lines) in
-            subst (λ (l : List (List ℕ)). Stops performs old (script_from ending (n + 1) block l) fault before after) (sym (line_ahead ending line behind rest u))
+            subst (λ (l : List (List ℕ)). Halts performs old (script_from ending (n + 1) block l) fault before after) (sym (line_ahead ending line behind rest u))
             (stops_line performs old old new whole before before after ending (n + 1) block next (strip_carriage_return line) lines fault (reached_start performs old whole before) t);
       }
 
   -- bytes that are too long already
-  long_script : (old : S) (ending : Ending) (n : ℕ) (block : Option ImageBlock) (lines : List (List ℕ)) (before : Option (List ℕ)) → BeginsLong lines
-      → Stops performs old (script_from ending n block lines) (BadLine n) before before
-  unfolding Stops Runs script_from
+  long_script : (old : S) (ending : Ending) (n : ℕ) (block : Option Block) (lines : List (List ℕ)) (before : Told) → BeginsLong lines
+      → Halts performs old (script_from ending n block lines) (BadLine n) before before
+  unfolding Halts Runs script_from
   long_script old ending n block [] before h = absurd h
   long_script old ending n block (line ∷ lines) before h =
-      let bad = ap (λ d. led_to d n (λ next. script_from ending (n + 1) next lines)) (no_step n block line h) in (
+      let bad = ap (λ d. led_to d (λ next. script_from ending (n + 1) next lines)) (no_step n block line h) in (
         ap (λ (s : Script). s.fault) bad,
-        record { text = []; new = old; runs = subst (λ (l : List Action). Runs performs old l [] old) (sym (ap (λ (s : Script). s.actions) bad)) (refl, refl); written = Appends-nil before },
+        record { text = []; new = old; runs = subst (λ (l : List Action). Runs performs old l [] old) (sym (ap (λ (s : Script). s.actions) bad)) (refl, refl); written = sends_nil before },
       )
 
-  pub long_stopped : (old : S) (n : ℕ) (block : Option ImageBlock) (bytes : List ℕ) (before : Option (List ℕ)) → IsUnbroken bytes → is_too_long (strip_carriage_return bytes) ≡ true
+  pub long_stopped : (old : S) (n : ℕ) (block : Option Block) (bytes : List ℕ) (before : Told) → IsUnbroken bytes → is_too_long (strip_carriage_return bytes) ≡ true
       → Stopped performs old n block bytes (BadLine (n + 1)) before before
   long_stopped old n block bytes before u h =
       record { stops = λ ending rest. long_script old ending (n + 1) block (lines_met ending (bytes ++ rest)) before (begins_long ending bytes rest u h) }
 
   -- ---- the end
-  pub finished : (old : S) (n : ℕ) (block : Option ImageBlock) (part : List ℕ) (ending : Ending) (before : Option (List ℕ)) (r : Result Summary RunFault)
+  pub finished : (old : S) (n : ℕ) (block : Option Block) (part : List ℕ) (ending : Ending) (before : Told) (r : Result Summary RunFault)
       → IsUnbroken part → last_met ending part ≡ [] → MatchOption (fault_at ending block) (IsOkAnd r (λ s. s.lines ≡ n)) (λ f. r ≡ Err f)
-      → Ends performs old (script_from ending (n + 1) block (lines_met ending part)) (n + length (lines_met ending part)) r before before
+      → Closes performs old (script_from ending (n + 1) block (lines_met ending part)) (n + length (lines_met ending part)) r before before
   finished old n block part ending before r u e h =
       let none : lines_met ending part ≡ [] = none_met ending part u ∙ e in
       let script = script_from ending (n + 1) block [] in
-      subst (λ (l : List (List ℕ)). Ends performs old (script_from ending (n + 1) block l) (n + length l) r before before) (sym none)
-      (subst (λ (k : ℕ). Ends performs old script k r before before) (let same : n ≡ n + 0 = omega arith in same)
+      subst (λ (l : List (List ℕ)). Closes performs old (script_from ending (n + 1) block l) (n + length l) r before before) (sym none)
+      (subst (λ (k : ℕ). Closes performs old script k r before before) (let same : n ≡ n + 0 = omega arith in same)
       (ended performs old old script before before ending (n + 1) n block (fault_at ending block) r refl (reached_start performs old script before) h))
 
-  pub finished_line : (old new : S) (n m : ℕ) (block next : Option ImageBlock) (part line : List ℕ) (ending : Ending) (before after : Option (List ℕ)) (r : Result Summary RunFault)
-      → IsUnbroken part → last_met ending part ≡ line ∷ [] → TakesLine performs (step_at (n + 1) block line) (n + 1) old before (Ok tt) new after next → m ≡ n + 1
+  pub finished_line : (old new : S) (n m : ℕ) (block next : Option Block) (part line : List ℕ) (ending : Ending) (before after : Told) (r : Result Summary RunFault)
+      → IsUnbroken part → last_met ending part ≡ line ∷ [] → TakesLine performs (step_at (n + 1) block line) old before (Ok tt) new after next → m ≡ n + 1
       → MatchOption (fault_at ending next) (IsOkAnd r (λ s. s.lines ≡ m)) (λ f. r ≡ Err f)
-      → Ends performs old (script_from ending (n + 1) block (lines_met ending part)) (n + length (lines_met ending part)) r before after
+      → Closes performs old (script_from ending (n + 1) block (lines_met ending part)) (n + length (lines_met ending part)) r before after
   finished_line old new n m block next part line ending before after r u e t k h =
       let one : lines_met ending part ≡ line ∷ [] = none_met ending part u ∙ e in
       let script = script_from ending (n + 1) block (line ∷ []) in
       let reached = reached_line performs old old new script before before after ending (n + 1) block next line [] (reached_start performs old script before) t in
-      subst (λ (l : List (List ℕ)). Ends performs old (script_from ending (n + 1) block l) (n + length l) r before after) (sym one)
-      (subst (λ (i : ℕ). Ends performs old script i r before after) k
+      subst (λ (l : List (List ℕ)). Closes performs old (script_from ending (n + 1) block l) (n + length l) r before after) (sym one)
+      (subst (λ (i : ℕ). Closes performs old script i r before after) k
       (ended performs old new script before after ending (n + 1 + 1) m next (fault_at ending next) r refl reached h))
 
-  pub finished_badly : (old new : S) (n : ℕ) (block next : Option ImageBlock) (part line : List ℕ) (ending : Ending) (before after : Option (List ℕ)) (fault : RunFault)
-      → IsUnbroken part → last_met ending part ≡ line ∷ [] → TakesLine performs (step_at (n + 1) block line) (n + 1) old before (Err fault) new after next
-      → Stops performs old (script_from ending (n + 1) block (lines_met ending part)) fault before after
+  pub finished_badly : (old new : S) (n : ℕ) (block next : Option Block) (part line : List ℕ) (ending : Ending) (before after : Told) (fault : RunFault)
+      → IsUnbroken part → last_met ending part ≡ line ∷ [] → TakesLine performs (step_at (n + 1) block line) old before (Err fault) new after next
+      → Halts performs old (script_from ending (n + 1) block (lines_met ending part)) fault before after
   finished_badly old new n block next part line ending before after fault u e t =
       let one : lines_met ending part ≡ line ∷ [] = none_met ending part u ∙ e in
       let script = script_from ending (n + 1) block (line ∷ []) in
-      subst (λ (l : List (List ℕ)). Stops performs old (script_from ending (n + 1) block l) fault before after) (sym one)
+      subst (λ (l : List (List ℕ)). Halts performs old (script_from ending (n + 1) block l) fault before after) (sym one)
       (stops_line performs old old new script before before after ending (n + 1) block next line [] fault (reached_start performs old script before) t)
 
+  -- ---- what waits is written, or a front of it
+  sent_flushed : (old : S) (actions : List Action) (first : Told) (b c : Option (List ℕ)) (waits : List ℕ) → SentAll performs old actions first (told b waits) → Appends b c waits
+      → SentAll performs old actions first (told c [])
+  sent_flushed old actions first b c waits s w = record { text = s.text; new = s.new; runs = s.runs; written = sends_flushed first b c waits s.text s.written w }
+
+  sent_front : (old : S) (actions : List Action) (first : Told) (b c : Option (List ℕ)) (waits : List ℕ) → SentAll performs old actions first (told b waits) → WroteFront b c waits
+      → SentSome performs old actions first (told c [])
+  sent_front old actions first b c waits s w = record { text = s.text; new = s.new; runs = s.runs; written = front_flushed first b c waits [] s.text s.written w }
+
+  all_front : (old : S) (actions : List Action) (first : Told) (b c : Option (List ℕ)) (waits : List ℕ) → SentAll performs old actions first (told b waits) → WroteFront b c waits
+      → SentSome performs old (take (length actions) actions) first (told c [])
+  all_front old actions first b c waits s w =
+      subst (λ (l : List Action). SentSome performs old l first (told c [])) (sym (take_all (length actions) actions (omega arith))) (sent_front old actions first b c waits s w)
+
+  halts_flushed : (old : S) (script : Script) (fault : RunFault) (first : Told) (b c : Option (List ℕ)) (waits : List ℕ) → (fault ≡ Write → ⊥) → Halts performs old script fault first (told b waits)
+      → Appends b c waits → Halts performs old script fault first (told c [])
+  unfolding Halts
+  halts_flushed old script Memory first b c waits n h w = (h.0, sent_flushed old (take h.0 script.actions) first b c waits h.1 w)
+  halts_flushed old script Write first b c waits n h w = absurd (n refl)
+  halts_flushed old script (BadLine m) first b c waits n h w = (h.0, sent_flushed old script.actions first b c waits h.1 w)
+  halts_flushed old script Read first b c waits n h w = (h.0, sent_flushed old script.actions first b c waits h.1 w)
+  halts_flushed old script ReadBound first b c waits n h w = (h.0, sent_flushed old script.actions first b c waits h.1 w)
+
+  halts_front : (old : S) (script : Script) (fault : RunFault) (first : Told) (b c : Option (List ℕ)) (waits : List ℕ) → (fault ≡ Write → ⊥) → Halts performs old script fault first (told b waits)
+      → WroteFront b c waits → Halts performs old script Write first (told c [])
+  unfolding Halts
+  halts_front old script Memory first b c waits n h w = (h.0, sent_front old (take h.0 script.actions) first b c waits h.1 w)
+  halts_front old script Write first b c waits n h w = absurd (n refl)
+  halts_front old script (BadLine m) first b c waits n h w = (length script.actions, all_front old script.actions first b c waits h.1 w)
+  halts_front old script Read first b c waits n h w = (length script.actions, all_front old script.actions first b c waits h.1 w)
+  halts_front old script ReadBound first b c waits n h w = (length script.actions, all_front old script.actions first b c waits h.1 w)
+
+  pub stopped_flushed : (old : S) (n : ℕ) (block : Option Block) (ahead : List ℕ) (fault : RunFault) (first : Told) (b c : Option (List ℕ)) (waits : List ℕ) → (fault ≡ Write → ⊥)
+      → Stopped performs old n block ahead fault first (told b waits) → Appends b c waits → Stopped performs old n block ahead fault first (told c [])
+  stopped_flushed old n block ahead fault first b c waits not s w =
+      record { stops = λ ending rest. halts_flushed old (script_from ending (n + 1) block (lines_met ending (ahead ++ rest))) fault first b c waits not (s.stops ending rest) w }
+
+  pub stopped_front : (old : S) (n : ℕ) (block : Option Block) (ahead : List ℕ) (fault : RunFault) (first : Told) (b c : Option (List ℕ)) (waits : List ℕ) → (fault ≡ Write → ⊥)
+      → Stopped performs old n block ahead fault first (told b waits) → WroteFront b c waits → Stopped performs old n block ahead Write first (told c [])
+  stopped_front old n block ahead fault first b c waits not s w =
+      record { stops = λ ending rest. halts_front old (script_from ending (n + 1) block (lines_met ending (ahead ++ rest))) fault first b c waits not (s.stops ending rest) w }
+
+  -- behind a failed write it doesn't matter what waits
+  halts_write : (old : S) (script : Script) (first : Told) (b : Option (List ℕ)) (waits : List ℕ) → Halts performs old script Write first (told b waits) → Halts performs old script Write first (told b [])
+  unfolding Halts
+  halts_write old script first b waits h = (h.0, record { text = h.1.text; new = h.1.new; runs = h.1.runs; written = h.1.written })
+
+  pub stopped_write : (old : S) (n : ℕ) (block : Option Block) (ahead : List ℕ) (first : Told) (b : Option (List ℕ)) (waits : List ℕ)
+      → Stopped performs old n block ahead Write first (told b waits) → Stopped performs old n block ahead Write first (told b [])
+  stopped_write old n block ahead first b waits s =
+      record { stops = λ ending rest. halts_write old (script_from ending (n + 1) block (lines_met ending (ahead ++ rest))) first b waits (s.stops ending rest) }
+
+  pub came_flushed : (old mid : S) (n m : ℕ) (block next : Option Block) (ahead left : List ℕ) (first : Told) (b c : Option (List ℕ)) (waits : List ℕ)
+      → Came performs old n block ahead first mid m next left (told b waits) → Appends b c waits → Came performs old n block ahead first mid m next left (told c [])
+  came_flushed old mid n m block next ahead left first b c waits d w =
+      record { done = d.done; text = d.text; runs = d.runs; written = sends_flushed first b c waits d.text d.written w; splits = d.splits; counts = d.counts }
+
+  pub came_front : (old mid : S) (n m : ℕ) (block next : Option Block) (ahead left : List ℕ) (first : Told) (b c : Option (List ℕ)) (waits : List ℕ)
+      → Came performs old n block ahead first mid m next left (told b waits) → WroteFront b c waits → Stopped performs old n block ahead Write first (told c [])
+  unfolding Halts
+  came_front old mid n m block next ahead left first b c waits d w =
+      record {
+        stops = λ ending rest.
+            let script = script_from ending (n + 1) block (lines_met ending (ahead ++ rest)) in
+            let done : take (length d.done) script.actions ≡ d.done = front performs script d.done (script_from ending (m + 1) next (lines_met ending (left ++ rest))) (d.splits ending rest) in (
+              length d.done,
+              record {
+                text = d.text;
+                new = mid;
+                runs = subst (λ (l : List Action). Runs performs old l d.text mid) (sym done) d.runs;
+                written = front_flushed first b c waits [] d.text d.written w;
+              },
+            );
+      }
+
+  -- ---- a piece that was taken, by its answer
+  abbrev failed_with : RunFault → Result (Unit {0}) RunFault
+  failed_with fault = Err fault
+
+  unwritten : (fault : RunFault) → is_write (failed_with fault) ≡ false → fault ≡ Write → ⊥
+  unwritten fault e w = let wrote : is_write (failed_with Write) ≡ false = subst (λ f. is_write (failed_with f) ≡ false) w e in cc
+
+  pub served_failed : (r : Result (Unit {0}) RunFault) (old : S) (n : ℕ) (block : Option Block) (ahead : List ℕ) (first : Told) (b : Option (List ℕ)) (waits : List ℕ)
+      → IfErr r (λ fault. Stopped performs old n block ahead fault first (told b waits)) → is_write r ≡ true → IfErr r (λ fault. Stopped performs old n block ahead fault first (told b []))
+  served_failed (Ok done) old n block ahead first b waits s w = tt
+  served_failed (Err Write) old n block ahead first b waits s w = stopped_write old n block ahead first b waits s
+  served_failed (Err (BadLine m)) old n block ahead first b waits s w = cc
+  served_failed (Err Read) old n block ahead first b waits s w = cc
+  served_failed (Err Memory) old n block ahead first b waits s w = cc
+  served_failed (Err ReadBound) old n block ahead first b waits s w = cc
+
+  pub served_front : (r : Result (Unit {0}) RunFault) (old mid : S) (n m : ℕ) (block next : Option Block) (ahead left : List ℕ) (first : Told) (b c : Option (List ℕ)) (waits : List ℕ)
+      → OnOk r (Came performs old n block ahead first mid m next left (told b waits)) → IfErr r (λ fault. Stopped performs old n block ahead fault first (told b waits)) → is_write r ≡ false
+      → WroteFront b c waits → Stopped performs old n block ahead Write first (told c [])
+  served_front (Ok done) old mid n m block next ahead left first b c waits d s e w = came_front old mid n m block next ahead left first b c waits d w
+  served_front (Err fault) old mid n m block next ahead left first b c waits d s e w = stopped_front old n block ahead fault first b c waits (unwritten fault e) s w
+
+  pub served_came : (r : Result (Unit {0}) RunFault) (old mid : S) (n m : ℕ) (block next : Option Block) (ahead left : List ℕ) (first : Told) (b c : Option (List ℕ)) (waits : List ℕ)
+      → OnOk r (Came performs old n block ahead first mid m next left (told b waits)) → Appends b c waits → OnOk r (Came performs old n block ahead first mid m next left (told c []))
+  served_came (Ok done) old mid n m block next ahead left first b c waits d w = came_flushed old mid n m block next ahead left first b c waits d w
+  served_came (Err fault) old mid n m block next ahead left first b c waits d w = tt
+
+  pub served_stopped : (r : Result (Unit {0}) RunFault) (old : S) (n : ℕ) (block : Option Block) (ahead : List ℕ) (first : Told) (b c : Option (List ℕ)) (waits : List ℕ)
+      → IfErr r (λ fault. Stopped performs old n block ahead fault first (told b waits)) → is_write r ≡ false → Appends b c waits
+      → IfErr r (λ fault. Stopped performs old n block ahead fault first (told c []))
+  served_stopped (Ok done) old n block ahead first b c waits s e w = tt
+  served_stopped (Err fault) old n block ahead first b c waits s e w = stopped_flushed old n block ahead fault first b c waits (unwritten fault e) s w
+
+  -- ---- where nothing waits
+  all_written : (old : S) (actions : List Action) (first last : Option (List ℕ)) → SentAll performs old actions (told first []) (told last []) → WroteAll performs old actions first last
+  all_written old actions first last w = record { text = w.text; new = w.new; runs = w.runs; written = sends_written first last w.text w.written }
+
+  pub stopped_written : (old : S) (script : Script) (fault : RunFault) (first last : Option (List ℕ)) → Halts performs old script fault (told first []) (told last []) → Stops performs old script fault first last
+  unfolding Stops Halts
+  stopped_written old script Memory first last h = (h.0, all_written old (take h.0 script.actions) first last h.1)
+  stopped_written old script Write first last h = (h.0, record { text = h.1.text; new = h.1.new; runs = h.1.runs; written = h.1.written })
+  stopped_written old script (BadLine n) first last h = (h.0, all_written old script.actions first last h.1)
+  stopped_written old script Read first last h = (h.0, all_written old script.actions first last h.1)
+  stopped_written old script ReadBound first last h = (h.0, all_written old script.actions first last h.1)
+
+  ends_written : (old : S) (script : Script) (lines : ℕ) (answer : Result Summary RunFault) (first last : Option (List ℕ)) → Closes performs old script lines answer (told first []) (told last [])
+      → Ends performs old script lines answer first last
+  ends_written old script lines (Ok s) first last h = (h.0, h.1, all_written old script.actions first last h.2)
+  ends_written old script lines (Err fault) first last h = stopped_written old script fault first last h
+
   -- ---- from the script's beginning
-  pub seen_start : (start : S) (left : Option (List ℕ)) (n : ℕ) (block : Option ImageBlock) (part : List ℕ) (w : Option (List ℕ)) → n ≡ 0 → block ≡ None → part ≡ []
+  pub seen_start : (start : S) (left : Option (List ℕ)) (n : ℕ) (block : Option Block) (part : List ℕ) (w : Option (List ℕ)) → n ≡ 0 → block ≡ None → part ≡ []
       → Seen performs start left left 0 start n block part w w
   seen_start start left n block part w e b p =
-      let begun : Seen performs start left left 0 start 0 None [] w w = record { seen = []; consumed = Consumes-nil left; len = refl; came = came_start start 0 None [] w } in
+      let begun : Seen performs start left left 0 start 0 None [] w w = record { seen = []; consumed = Consumes-nil left; len = refl; came = came_start start 0 None [] (told w []) } in
       subst (λ (k : ℕ). Seen performs start left left 0 start k block part w w) (sym e)
-      (subst (λ (x : Option ImageBlock). Seen performs start left left 0 start 0 x part w w) (sym b)
+      (subst (λ (x : Option Block). Seen performs start left left 0 start 0 x part w w) (sym b)
       (subst (λ (l : List ℕ). Seen performs start left left 0 start 0 None l w w) (sym p) begun))
 
   -- one piece more, all of it
-  pub seen_piece : (start old new : S) (left now then : Option (List ℕ)) (read more n m : ℕ) (block next : Option ImageBlock) (part last piece : List ℕ) (first before after : Option (List ℕ))
+  pub seen_piece : (start old new : S) (left now then : Option (List ℕ)) (read more n m : ℕ) (block next : Option Block) (part last piece : List ℕ) (first before after : Option (List ℕ))
       → Seen performs start left now read old n block part first before → Consumes now then piece → length piece ≡ more
-      → Came performs old n block (part ++ piece) before new m next last after
+      → Came performs old n block (part ++ piece) (told before []) new m next last (told after [])
       → Seen performs start left then (read + more) new m next last first after
   seen_piece start old new left now then read more n m block next part last piece first before after s c len d =
       record {
         seen = s.seen ++ piece;
         consumed = Consumes-trans left now then s.seen piece s.consumed c;
         len = length-append s.seen piece ∙ ap (λ k. k + length piece) s.len ∙ ap (λ k. read + k) len;
-        came = came_trans start old new 0 n m None block next (s.seen ++ piece) (part ++ piece) last first before after (came_more start old 0 n None block s.seen part piece first before s.came) d;
+        came = came_trans start old new 0 n m None block next (s.seen ++ piece) (part ++ piece) last (told first []) (told before []) (told after []) (came_more start old 0 n None block s.seen part piece (told first []) (told before []) s.came) d;
       }
 
-  ends_from : (start mid : S) (bytes part : List ℕ) (ending : Ending) (m : ℕ) (next : Option ImageBlock) (answer : Result Summary RunFault) (first after last : Option (List ℕ))
-      → Came performs start 0 None bytes first mid m next part after
-      → Ends performs mid (script_from ending (m + 1) next (lines_met ending part)) (m + length (lines_met ending part)) answer after last
+  ends_from : (start mid : S) (bytes part : List ℕ) (ending : Ending) (m : ℕ) (next : Option Block) (answer : Result Summary RunFault) (first after last : Option (List ℕ))
+      → Came performs start 0 None bytes (told first []) mid m next part (told after [])
+      → Closes performs mid (script_from ending (m + 1) next (lines_met ending part)) (m + length (lines_met ending part)) answer (told after []) (told last [])
       → Ends performs start (script_of ending bytes) (line_count ending bytes) answer first last
   unfolding script_of line_count
   ends_from start mid bytes part ending m next answer first after last c h =
@@ -248,24 +375,26 @@ module _ {S : Type 0} (performs : S → Action → List ℕ → S → Type 0) wh
       let count : m + length (lines_met ending part) ≡ length (lines_met ending bytes) =
       ap (λ (l : List ℕ). m + length (lines_met ending l)) (sym (append-nil part)) ∙ sym (c.counts ending []) ∙ zero-add (length (lines_met ending (bytes ++ [])))
       ∙ ap (λ (l : List ℕ). length (lines_met ending l)) (append-nil bytes) in
-      subst (λ (k : ℕ). Ends performs start (script_from ending 1 None (lines_met ending bytes)) k answer first last) count
+      ends_written start (script_from ending 1 None (lines_met ending bytes)) (length (lines_met ending bytes)) answer first last
+      (subst (λ (k : ℕ). Closes performs start (script_from ending 1 None (lines_met ending bytes)) k answer (told first []) (told last [])) count
       (joined_ends start mid (script_from ending 1 None (lines_met ending bytes)) (script_from ending (m + 1) next (lines_met ending part)) c.done c.text (m + length (lines_met ending part)) answer
-      first after last split c.runs c.written h)
+      (told first []) (told after []) (told last []) split c.runs c.written h))
 
-  pub ran_finished : (start mid : S) (left now : Option (List ℕ)) (failed : Bool) (bytes part : List ℕ) (ending : Ending) (m : ℕ) (next : Option ImageBlock) (answer : Result Summary RunFault) (first after last : Option (List ℕ))
+  pub ran_finished : (start mid : S) (left now : Option (List ℕ)) (failed : Bool) (bytes part : List ℕ) (ending : Ending) (m : ℕ) (next : Option Block) (answer : Result Summary RunFault) (first after last : Option (List ℕ))
       → Reads most_bytes ending left now bytes → length bytes ≤ most_bytes → failed ≡ is_failure ending
-      → Came performs start 0 None bytes first mid m next part after
-      → Ends performs mid (script_from ending (m + 1) next (lines_met ending part)) (m + length (lines_met ending part)) answer after last
+      → Came performs start 0 None bytes (told first []) mid m next part (told after [])
+      → Closes performs mid (script_from ending (m + 1) next (lines_met ending part)) (m + length (lines_met ending part)) answer (told after []) (told last [])
       → RanScript performs start left now failed answer first last
   ran_finished start mid left now failed bytes part ending m next answer first after last r few f c h =
       record { bytes = bytes; ending = ending; read = has_read answer ending left now bytes r; within = few; failure = f; ends = ends_from start mid bytes part ending m next answer first after last c h }
 
   -- ---- why no more was read
   -- of bytes that were read in front of some more, where a run stopped in them
-  stops_on : (start : S) (seen rest bytes : List ℕ) (fault : RunFault) (ending : Ending) (first last : Option (List ℕ)) → Stopped performs start 0 None seen fault first last → seen ++ rest ≡ bytes
+  stops_on : (start : S) (seen rest bytes : List ℕ) (fault : RunFault) (ending : Ending) (first last : Option (List ℕ)) → Stopped performs start 0 None seen fault (told first []) (told last []) → seen ++ rest ≡ bytes
       → Ends performs start (script_of ending bytes) (line_count ending bytes) (Err fault) first last
   unfolding script_of
-  stops_on start seen rest bytes fault ending first last s e = subst (λ (l : List ℕ). Stops performs start (script_from ending 1 None (lines_met ending l)) fault first last) e (s.stops ending rest)
+  stops_on start seen rest bytes fault ending first last s e = stopped_written start (script_from ending 1 None (lines_met ending bytes)) fault first last
+      (subst (λ (l : List ℕ). Halts performs start (script_from ending 1 None (lines_met ending l)) fault (told first []) (told last [])) e (s.stops ending rest))
 
   fronts : (most : ℕ) (seen more : List ℕ) → length seen ≤ most → seen ++ take (most - length seen) more ≡ take most (seen ++ more)
   fronts most seen more few =
@@ -273,7 +402,7 @@ module _ {S : Type 0} (performs : S → Action → List ℕ → S → Type 0) wh
       sym (take-append-add seen more (most - length seen)) ∙ ap (λ k. take k (seen ++ more)) whole
 
   ran_by_length : (start : S) (input seen more : List ℕ) (now : Option (List ℕ)) (failed : Bool) (fault : RunFault) (first last : Option (List ℕ)) (b : Bool) → nat_le (length input) most_bytes ≡ b
-      → input ≡ seen ++ more → length seen ≤ most_bytes → failed ≡ false → Stopped performs start 0 None seen fault first last
+      → input ≡ seen ++ more → length seen ≤ most_bytes → failed ≡ false → Stopped performs start 0 None seen fault (told first []) (told last [])
       → RanScript performs start (Some input) now failed (Err fault) first last
   ran_by_length start input seen more now failed fault first last true b e few f s =
       record { bytes = input; ending = AtEnd; read = has_read (Err fault) AtEnd (Some input) now input refl; within = leb-true _ _ b; failure = f; ends = stops_on start seen more input fault AtEnd first last s (sym e) }
@@ -292,7 +421,7 @@ module _ {S : Type 0} (performs : S → Action → List ℕ → S → Type 0) wh
       }
 
   ran_stopped : (start : S) (left now : Option (List ℕ)) (seen extra : List ℕ) (failed : Bool) (fault : RunFault) (first last : Option (List ℕ))
-      → Consumes left now (seen ++ extra) → length seen ≤ most_bytes → failed ≡ false → Stopped performs start 0 None seen fault first last
+      → Consumes left now (seen ++ extra) → length seen ≤ most_bytes → failed ≡ false → Stopped performs start 0 None seen fault (told first []) (told last [])
       → RanScript performs start left now failed (Err fault) first last
   ran_stopped start None now seen extra failed fault first last c few f s =
       record { bytes = seen; ending = PastBound; read = has_read (Err fault) PastBound None now seen tt; within = few; failure = f; ends = stops_on start seen [] seen fault PastBound first last s (append-nil seen) }
@@ -300,26 +429,26 @@ module _ {S : Type 0} (performs : S → Action → List ℕ → S → Type 0) wh
   ran_stopped start (Some input) (Some y) seen extra failed fault first last c few f s =
       ran_by_length start input seen (extra ++ y) (Some y) failed fault first last (nat_le (length input) most_bytes) refl (c ∙ append_assoc seen extra y) few f s
 
-  pub ran_failed : (start mid : S) (left now then : Option (List ℕ)) (failed : Bool) (read m : ℕ) (next : Option ImageBlock) (part : List ℕ) (answer : Result Summary RunFault) (first after last : Option (List ℕ))
+  pub ran_failed : (start mid : S) (left now then : Option (List ℕ)) (failed : Bool) (read m : ℕ) (next : Option Block) (part : List ℕ) (answer : Result Summary RunFault) (first after last : Option (List ℕ))
       → Seen performs start left now read mid m next part first after → Keeps now then → read ≤ 16777216 → failed ≡ true
-      → Ends performs mid (script_from Failed (m + 1) next (lines_met Failed part)) (m + length (lines_met Failed part)) answer after last
+      → Closes performs mid (script_from Failed (m + 1) next (lines_met Failed part)) (m + length (lines_met Failed part)) answer (told after []) (told last [])
       → RanScript performs start left then failed answer first last
   unfolding most_bytes
   ran_failed start mid left now then failed read m next part answer first after last s k few f h =
       ran_finished start mid left then failed s.seen part Failed m next answer first after last (Consumes-kept left now then s.seen s.consumed k) (rw s.len few) f s.came h
 
-  pub ran_at_end : (start mid : S) (left now then : Option (List ℕ)) (failed : Bool) (read n m : ℕ) (buffer : List ℕ) (next : Option ImageBlock) (part : List ℕ) (answer : Result Summary RunFault) (first after last : Option (List ℕ))
+  pub ran_at_end : (start mid : S) (left now then : Option (List ℕ)) (failed : Bool) (read n m : ℕ) (buffer : List ℕ) (next : Option Block) (part : List ℕ) (answer : Result Summary RunFault) (first after last : Option (List ℕ))
       → Seen performs start left now read mid m next part first after → n ≡ 0 → Consumes now then (take n buffer) → IsAtEnd then → read ≤ 16777216 → failed ≡ false
-      → Ends performs mid (script_from AtEnd (m + 1) next (lines_met AtEnd part)) (m + length (lines_met AtEnd part)) answer after last
+      → Closes performs mid (script_from AtEnd (m + 1) next (lines_met AtEnd part)) (m + length (lines_met AtEnd part)) answer (told after []) (told last [])
       → RanScript performs start left then failed answer first last
   unfolding most_bytes
   ran_at_end start mid left now then failed read n m buffer next part answer first after last s e c end few f h =
       ran_finished start mid left then failed s.seen part AtEnd m next answer first after last (read_end left now then s.seen buffer n e s.consumed c end) (rw s.len few) f s.came h
 
   -- a piece that was read of a buffer, whole or in front of the bound
-  pub seen_taken : (start old new : S) (left now then : Option (List ℕ)) (read taken room n m : ℕ) (block next : Option ImageBlock) (part last piece buffer : List ℕ) (first before after : Option (List ℕ))
+  pub seen_taken : (start old new : S) (left now then : Option (List ℕ)) (read taken room n m : ℕ) (block next : Option Block) (part last piece buffer : List ℕ) (first before after : Option (List ℕ))
       → Seen performs start left now read old n block part first before → Consumes now then (take taken buffer) → piece ≡ take room buffer → room ≡ taken → taken ≤ length buffer
-      → Came performs old n block (part ++ piece) before new m next last after
+      → Came performs old n block (part ++ piece) (told before []) new m next last (told after [])
       → Seen performs start left then (read + taken) new m next last first after
   seen_taken start old new left now then read taken room n m block next part last piece buffer first before after s c e same few d =
       let whole : take taken buffer ≡ piece = ap (λ k. take k buffer) (sym same) ∙ sym e in
@@ -330,9 +459,9 @@ module _ {S : Type 0} (performs : S → Action → List ℕ → S → Type 0) wh
   split_taken room taken buffer less few =
       sym (take-append-drop room (take taken buffer)) ∙ ap (λ l. l ++ drop room (take taken buffer)) (grind (arith, common_steps))
 
-  pub ran_piece_stopped : (start old : S) (left now then : Option (List ℕ)) (failed : Bool) (read taken room n : ℕ) (block : Option ImageBlock) (part piece buffer : List ℕ) (fault : RunFault) (first before last : Option (List ℕ))
+  pub ran_piece_stopped : (start old : S) (left now then : Option (List ℕ)) (failed : Bool) (read taken room n : ℕ) (block : Option Block) (part piece buffer : List ℕ) (fault : RunFault) (first before last : Option (List ℕ))
       → Seen performs start left now read old n block part first before → Consumes now then (take taken buffer) → piece ≡ take room buffer → room ≤ taken → taken ≤ length buffer
-      → read + room ≤ 16777216 → failed ≡ false → Stopped performs old n block (part ++ piece) fault before last
+      → read + room ≤ 16777216 → failed ≡ false → Stopped performs old n block (part ++ piece) fault (told before []) (told last [])
       → RanScript performs start left then failed (Err fault) first last
   unfolding most_bytes
   ran_piece_stopped start old left now then failed read taken room n block part piece buffer fault first before last s c e less few bound f d =
@@ -341,7 +470,7 @@ module _ {S : Type 0} (performs : S → Action → List ℕ → S → Type 0) wh
       let consumed = Consumes-trans left now then s.seen (take taken buffer) s.consumed c in
       let all = subst (Consumes left then) (ap (λ l. s.seen ++ l) split ∙ sym (append_assoc s.seen piece extra)) consumed in
       let len : length (s.seen ++ piece) ≡ read + room = length-append s.seen piece ∙ ap (λ k. k + length piece) s.len ∙ ap (λ k. read + k) (ap length e ∙ length-take-le room buffer (omega arith)) in
-      let stopped = came_stopped start old 0 n None block (s.seen ++ piece) (part ++ piece) fault first before last (came_more start old 0 n None block s.seen part piece first before s.came) d in
+      let stopped = came_stopped start old 0 n None block (s.seen ++ piece) (part ++ piece) fault (told first []) (told before []) (told last []) (came_more start old 0 n None block s.seen part piece (told first []) (told before []) s.came) d in
       ran_stopped start left then (s.seen ++ piece) extra failed fault first last all (rw len bound) f stopped
 
   past_reads : (most : ℕ) (left then : Option (List ℕ)) (judged extra : List ℕ) → Consumes left then (judged ++ extra) → length judged ≡ most → 0 < length extra → Reads most PastBound left then judged
@@ -353,10 +482,10 @@ module _ {S : Type 0} (performs : S → Action → List ℕ → S → Type 0) wh
       let more = length-append extra y in
       (rw all (omega (arith, len, total, more, some)), ap (take most) all ∙ ap (λ k. take k (judged ++ (extra ++ y))) (sym len) ∙ take-append_seam judged (extra ++ y))
 
-  pub ran_past : (start old mid : S) (left now then : Option (List ℕ)) (failed : Bool) (read taken room n m : ℕ) (block next : Option ImageBlock) (part last piece buffer : List ℕ) (answer : Result Summary RunFault) (first before after end : Option (List ℕ))
+  pub ran_past : (start old mid : S) (left now then : Option (List ℕ)) (failed : Bool) (read taken room n m : ℕ) (block next : Option Block) (part last piece buffer : List ℕ) (answer : Result Summary RunFault) (first before after end : Option (List ℕ))
       → Seen performs start left now read old n block part first before → Consumes now then (take taken buffer) → piece ≡ take room buffer → room < taken → taken ≤ length buffer
-      → read + room ≡ 16777216 → failed ≡ false → Came performs old n block (part ++ piece) before mid m next last after
-      → Ends performs mid (script_from PastBound (m + 1) next (lines_met PastBound last)) (m + length (lines_met PastBound last)) answer after end
+      → read + room ≡ 16777216 → failed ≡ false → Came performs old n block (part ++ piece) (told before []) mid m next last (told after [])
+      → Closes performs mid (script_from PastBound (m + 1) next (lines_met PastBound last)) (m + length (lines_met PastBound last)) answer (told after []) (told end [])
       → RanScript performs start left then failed answer first end
   unfolding most_bytes
   ran_past start old mid left now then failed read taken room n m block next part last piece buffer answer first before after end s c e less few bound f d h =
@@ -366,25 +495,25 @@ module _ {S : Type 0} (performs : S → Action → List ℕ → S → Type 0) wh
       let all = subst (Consumes left then) (ap (λ l. s.seen ++ l) split ∙ sym (append_assoc s.seen piece extra)) consumed in
       let len : length (s.seen ++ piece) ≡ read + room = length-append s.seen piece ∙ ap (λ k. k + length piece) s.len ∙ ap (λ k. read + k) (ap length e ∙ length-take-le room buffer (omega arith)) in
       let some : 0 < length extra = let a = length-take-le taken buffer few in let b = length-drop room (take taken buffer) in omega (arith, a, b) in
-      let came = came_trans start old mid 0 n m None block next (s.seen ++ piece) (part ++ piece) last first before after (came_more start old 0 n None block s.seen part piece first before s.came) d in
+      let came = came_trans start old mid 0 n m None block next (s.seen ++ piece) (part ++ piece) last (told first []) (told before []) (told after []) (came_more start old 0 n None block s.seen part piece (told first []) (told before []) s.came) d in
       ran_finished start mid left then failed (s.seen ++ piece) last PastBound m next answer first after end (past_reads 16777216 left then (s.seen ++ piece) extra all (len ∙ bound) some) (rw len (omega (arith, bound))) f came h
 
   -- ---- lines of a piece: bytes that were kept, and those in front of an LF
   ahead_of : (part rest bytes behind : List ℕ) → rest ≡ bytes ++ 10 ∷ behind → part ++ rest ≡ (part ++ bytes) ++ 10 ∷ behind
   ahead_of part rest bytes behind e = ap (λ l. part ++ l) e ∙ sym (append_assoc part bytes (10 ∷ behind))
 
-  pub piece_line_stopped : (old mid new : S) (n m : ℕ) (block next last : Option ImageBlock) (ahead part rest bytes behind : List ℕ) (fault : RunFault) (first after end : Option (List ℕ))
+  pub piece_line_stopped : (old mid new : S) (n m : ℕ) (block next last : Option Block) (ahead part rest bytes behind : List ℕ) (fault : RunFault) (first after end : Told)
       → Came performs old n block ahead first mid m next (part ++ rest) after → rest ≡ bytes ++ 10 ∷ behind → IsUnbroken part → IsUnbroken bytes
-      → TakesLine performs (step_at (m + 1) next (strip_carriage_return (part ++ bytes))) (m + 1) mid after (Err fault) new end last
+      → TakesLine performs (step_at (m + 1) next (strip_carriage_return (part ++ bytes))) mid after (Err fault) new end last
       → Stopped performs old n block ahead fault first end
   piece_line_stopped old mid new n m block next last ahead part rest bytes behind fault first after end c e u v t =
       came_stopped old mid n m block next ahead ((part ++ bytes) ++ 10 ∷ behind) fault first after end
       (subst (λ (l : List ℕ). Came performs old n block ahead first mid m next l after) (ahead_of part rest bytes behind e) c)
       (line_stopped mid new m next last (part ++ bytes) behind fault after end (unbroken_append part bytes u v) t)
 
-  pub piece_line : (old mid new : S) (n m k : ℕ) (block next last : Option ImageBlock) (ahead part rest bytes behind empty : List ℕ) (first after end : Option (List ℕ))
+  pub piece_line : (old mid new : S) (n m k : ℕ) (block next last : Option Block) (ahead part rest bytes behind empty : List ℕ) (first after end : Told)
       → Came performs old n block ahead first mid m next (part ++ rest) after → rest ≡ bytes ++ 10 ∷ behind → IsUnbroken part → IsUnbroken bytes
-      → TakesLine performs (step_at (m + 1) next (strip_carriage_return (part ++ bytes))) (m + 1) mid after (Ok tt) new end last → k ≡ m + 1 → empty ≡ []
+      → TakesLine performs (step_at (m + 1) next (strip_carriage_return (part ++ bytes))) mid after (Ok tt) new end last → k ≡ m + 1 → empty ≡ []
       → Came performs old n block ahead first new k last (empty ++ behind) end
   piece_line old mid new n m k block next last ahead part rest bytes behind empty first after end c e u v t lines none =
       subst (λ (i : ℕ). Came performs old n block ahead first new i last (empty ++ behind) end) (sym lines)
@@ -393,7 +522,7 @@ module _ {S : Type 0} (performs : S → Action → List ℕ → S → Type 0) wh
       (subst (λ (l : List ℕ). Came performs old n block ahead first mid m next l after) (ahead_of part rest bytes behind e) c)
       (came_line mid new m next last (part ++ bytes) behind after end (unbroken_append part bytes u v) t)))
 
-  pub kept_stopped : (old mid : S) (n m : ℕ) (block next : Option ImageBlock) (ahead part rest : List ℕ) (r : Result (Unit {0}) RunFault) (first after : Option (List ℕ))
+  pub kept_stopped : (old mid : S) (n m : ℕ) (block next : Option Block) (ahead part rest : List ℕ) (r : Result (Unit {0}) RunFault) (first after : Told)
       → Came performs old n block ahead first mid m next (part ++ rest) after → IsUnbroken part → IsUnbroken rest
       → IfErr r (λ fault. fault ≡ BadLine (m + 1)) → OnErr r (is_too_long (strip_carriage_return (part ++ rest)) ≡ true)
       → IfErr r (λ fault. Stopped performs old n block ahead fault first after)

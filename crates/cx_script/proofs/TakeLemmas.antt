@@ -1,30 +1,65 @@
 -- What becomes of one line.
-use Rattle.std.proofs.Common.{◌≡◌, ℕ, List, None, Some, Option, Result, Ok, Err, refl}
-use Rattle.cx_script.specs.ImageBlock.{ImageBlock}
+use Rattle.std.proofs.Common.{◌≡◌, ℕ, false, List, Option, Result, Ok, Err, refl, sym, ap, subst, []}
+use Rattle.std.specs.Io.KnownBytes.{Appends}
+use Rattle.cx_lines.specs.Devices.{Told, WroteFront, told}
+use Rattle.cx_lines.specs.Facts.Devices.{front_flushed, sends_flushed}
+use Rattle.cx_script.specs.declared.blocks.Block.{Block}
 use Rattle.cx_script.specs.Parts.Progress.{Acted, TakesLine}
-use Rattle.cx_script.specs.declared.actions.Action.{Action}
+use Rattle.cx_script.specs.Transcript.{is_memory, is_write}
+use Rattle.cx_actions.specs.declared.actions.Action.{Action}
 use Rattle.cx_script.specs.declared.blocks.Step.{Step}
 use Rattle.cx_script.specs.declared.faults.RunFault.{RunFault}
 use Rattle.cx_script.specs.declared.faults.RunFault.TheVariants.{BadLine, Read, Write, Memory, ReadBound}
 
+nothing : (before after : Option (List ℕ)) (waits : List ℕ) → told after waits ≡ told before [] → told after [] ≡ told before []
+nothing before after waits e = ap (λ (t : Told). told t.written []) e
+
 module _ {S : Type 0} (performs : S → Action → List ℕ → S → Type 0) where
-  pub line_bad : (due : Option Step) (n : ℕ) (old new : S) (before : Option (List ℕ)) (block : Option ImageBlock) → due ≡ None
-      → TakesLine performs due n old before (Err (BadLine n)) new before block
-  unfolding TakesLine
-  line_bad due n old new before block e = (e, refl, refl)
+  own : (due : Result Step RunFault) (met fault : RunFault) (old : S) (before : Told) (block : Option Block)
+      → met ≡ fault → TakesLine performs due old before (Err met) old before block → TakesLine performs due old before (Err fault) old before block
+  own due met fault old before block e t = subst (λ f. TakesLine performs due old before (Err f) old before block) e t
 
-  pub line_memory : (due : Option Step) (n : ℕ) (old new : S) (before : Option (List ℕ)) (block : Option ImageBlock)
-      → TakesLine performs due n old before (Err Memory) new before block
+  -- a line's own fault, or want of memory
+  pub line_faulty : (due r : Result Step RunFault) (fault : RunFault) (old : S) (before : Told) (block : Option Block)
+      → r ≡ Err fault → (is_memory r ≡ false → r ≡ due) → is_write r ≡ false → TakesLine performs due old before (Err fault) old before block
   unfolding TakesLine
-  line_memory due n old new before block = refl
+  line_faulty due (Ok step) fault old before block e h w = cc
+  line_faulty due (Err (BadLine m)) fault old before block e h w = let same : (BadLine m) ≡ fault = cc in own due (BadLine m) fault old before block same (sym (h refl), refl)
+  line_faulty due (Err Read) fault old before block e h w = let same : Read ≡ fault = cc in own due Read fault old before block same (sym (h refl), refl)
+  line_faulty due (Err ReadBound) fault old before block e h w = let same : ReadBound ≡ fault = cc in own due ReadBound fault old before block same (sym (h refl), refl)
+  line_faulty due (Err Write) fault old before block e h w = cc
+  line_faulty due (Err Memory) fault old before block e h w = let same : Memory ≡ fault = cc in subst (λ f. TakesLine performs due old before (Err f) old before block) same refl
 
-  pub line_acted : (due : Option Step) (step : Step) (n : ℕ) (old new : S) (before after : Option (List ℕ)) (r : Result (Unit {0}) RunFault)
-      → due ≡ Some step → Acted performs step.action old before r new after
-      → TakesLine performs due n old before r new after step.block
+  pub line_acted : (due : Result Step RunFault) (step : Step) (old new : S) (before after : Told) (r : Result (Unit {0}) RunFault)
+      → due ≡ Ok step → Acted performs step.action old before r new after
+      → TakesLine performs due old before r new after step.block
   unfolding TakesLine Acted
-  line_acted due step n old new before after (Ok done) e a = (step, e, refl, a)
-  line_acted due step n old new before after (Err Memory) e a = a
-  line_acted due step n old new before after (Err Write) e a = (step, e, a)
-  line_acted due step n old new before after (Err (BadLine m)) e a = absurd a
-  line_acted due step n old new before after (Err Read) e a = absurd a
-  line_acted due step n old new before after (Err ReadBound) e a = absurd a
+  line_acted due step old new before after (Ok done) e a = (step, e, refl, a)
+  line_acted due step old new before after (Err Memory) e a = a
+  line_acted due step old new before after (Err Write) e a = (step, e, a)
+  line_acted due step old new before after (Err (BadLine m)) e a = absurd a
+  line_acted due step old new before after (Err Read) e a = absurd a
+  line_acted due step old new before after (Err ReadBound) e a = absurd a
+
+  -- ---- a line behind which what waits is written
+  pub line_written : (due : Result Step RunFault) (old new : S) (before after : Option (List ℕ)) (mid : Option (List ℕ)) (waits : List ℕ) (block : Option Block)
+      → TakesLine performs due old (told before []) (Ok tt) new (told mid waits) block → Appends mid after waits
+      → TakesLine performs due old (told before []) (Ok tt) new (told after []) block
+  unfolding TakesLine Acted
+  line_written due old new before after mid waits block t w = (t.0, t.1, t.2, (t.3.0, t.3.1, sends_flushed (told before []) mid after waits t.3.0 t.3.2 w))
+
+  pub line_unwritten : (due : Result Step RunFault) (old new : S) (before after : Option (List ℕ)) (mid : Option (List ℕ)) (waits : List ℕ) (block : Option Block)
+      → TakesLine performs due old (told before []) (Ok tt) new (told mid waits) block → WroteFront mid after waits
+      → TakesLine performs due old (told before []) (Err Write) new (told after []) block
+  unfolding TakesLine Acted
+  line_unwritten due old new before after mid waits block t w = (t.0, t.1, (t.3.0, t.3.1, front_flushed (told before []) mid after waits [] t.3.0 t.3.2 w))
+
+  -- where nothing waited, nothing waits behind a fault
+  pub line_failed : (due : Result Step RunFault) (fault : RunFault) (old new : S) (before after : Option (List ℕ)) (waits : List ℕ) (block : Option Block)
+      → TakesLine performs due old (told before []) (Err fault) new (told after waits) block → TakesLine performs due old (told before []) (Err fault) new (told after []) block
+  unfolding TakesLine Acted
+  line_failed due (BadLine n) old new before after waits block t = (t.0, nothing before after waits t.1)
+  line_failed due Read old new before after waits block t = (t.0, nothing before after waits t.1)
+  line_failed due ReadBound old new before after waits block t = (t.0, nothing before after waits t.1)
+  line_failed due Memory old new before after waits block t = nothing before after waits t
+  line_failed due Write old new before after waits block t = t

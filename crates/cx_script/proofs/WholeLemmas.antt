@@ -2,18 +2,17 @@
 use Rattle.std.proofs.Common.{◌≡◌, ℕ, ◌≤◌, List, [], ◌∷◌, ◌++◌, length, None, Some, Option, Ok, IfSome, ◌==◌, refl, sym, ap, ◌∙◌, subst}
 use Rattle.std.specs.List.{slice_split}
 use Rattle.std.specs.Str.Lines.{lines, lines_of_parts as std_lines_of_parts, strip_carriage_return}
-use Rattle.cx_region.specs.Defining.{fresh_region}
-use Rattle.cx_script.specs.Lines.{lines_met, lines_of_parts}
+use Rattle.cx_lines.specs.Lines.{lines_met, lines_of_parts}
 use Rattle.cx_script.specs.Script.{script_of, line_count}
 use Rattle.cx_script.specs.Transcript.{Runs, Ends}
-use Rattle.cx_script.specs.Input.{Reads, most_bytes}
-use Rattle.cx_script.specs.Effects.{Performs}
+use Rattle.cx_lines.specs.Input.{Reads, most_bytes}
+use Rattle.cx_actions.specs.Effects.{Performs, fresh_state}
 use Rattle.cx_script.specs.Laws.WholeScripts.{IsTranscribed, OkIsTheWholeScript}
 use Rattle.cx_script.proofs.FaultLemmas.{never_faultless}
-use Rattle.cx_script.specs.declared.actions.Action.{Action}
+use Rattle.cx_actions.specs.declared.actions.Action.{Action}
 use Rattle.cx_script.specs.declared.faults.Summary.{Summary}
-use Rattle.cx_script.specs.declared.input.Ending.{Ending}
-use Rattle.cx_script.specs.declared.input.Ending.TheVariants.{AtEnd, Failed, PastBound}
+use Rattle.cx_lines.specs.declared.input.Ending.{Ending}
+use Rattle.cx_lines.specs.declared.input.Ending.TheVariants.{AtEnd, Failed, PastBound}
 
 same_parts : (parts : List (List ℕ)) → lines_of_parts AtEnd parts ≡ std_lines_of_parts parts
 same_parts [] = refl
@@ -27,7 +26,7 @@ same_lines_met bytes = same_parts (slice_split (λ b. b == 10) bytes)
 -- an Ok is the whole script, where the reader tells its bytes
 whole_by : (ending : Ending) (bytes : List ℕ) (left left_after written written_after : Option (List ℕ)) (summary : Summary)
     → Reads most_bytes ending left left_after bytes → length bytes ≤ most_bytes
-    → Ends Performs fresh_region (script_of ending bytes) (line_count ending bytes) (Ok summary) written written_after
+    → Ends Performs fresh_state (script_of ending bytes) (line_count ending bytes) (Ok summary) written written_after
     → IfSome left (λ input. IsTranscribed input summary.lines written written_after)
 unfolding line_count
 whole_by AtEnd bytes None left_after written written_after summary r few e = tt

@@ -1,29 +1,38 @@
 -- Lines and blocks: what each line of a script leads to (own).
-use Rattle.std.specs.Prelude.{ℕ, ◌++◌, if◌then◌else◌, Option, Some, None, List, [], take, codes}
+use Rattle.std.specs.Prelude.{ℕ, ◌++◌, if◌then◌else◌, Option, Some, None, Result, Ok, Err, List, [], take, codes}
+use Rattle.std.specs.Option.{ok_or}
 use Rattle.std.specs.Option.{option_map}
 use Rattle.std.specs.Str.{bytes_eq}
 use Rattle.cx_code.specs.declared.image.Image.{Image}
 use Rattle.cx_script.specs.ImageBlock.{ImageBlock}
+use Rattle.cx_script.specs.declared.blocks.Block.{Block}
+use Rattle.cx_script.specs.declared.blocks.Block.TheVariants as kind
 use Rattle.cx_script.specs.declared.blocks.Step.{Step}
-use Rattle.cx_script.specs.Lines.{is_too_long}
-use Rattle.cx_script.specs.Words.{hex_bytes}
-use Rattle.cx_script.specs.Actions.{line_of}
-use Rattle.cx_script.specs.declared.actions.Action.{Action}
-use Rattle.cx_script.specs.declared.actions.Action.TheVariants as action
-use Rattle.cx_script.specs.declared.actions.Line.{Line}
-use Rattle.cx_script.specs.declared.actions.Line.TheVariants as line
+use Rattle.cx_script.specs.declared.faults.RunFault.{RunFault}
+use Rattle.cx_script.specs.declared.faults.RunFault.TheVariants.{BadLine}
+use Rattle.cx_lines.specs.Lines.{is_too_long}
+use Rattle.cx_actions.specs.Words.{hex_bytes}
+use Rattle.cx_actions.specs.Actions.{line_of}
+use Rattle.cx_actions.specs.declared.actions.Action.{Action}
+use Rattle.cx_actions.specs.declared.actions.Action.TheVariants as action
+use Rattle.cx_actions.specs.declared.actions.Line.{Line}
+use Rattle.cx_actions.specs.declared.actions.Line.TheVariants as line
+
+-- the number of the line that begins a block
+abbrev pub first_line : Block → ℕ
+first_line (kind.Image block) = block.line
 
 -- an image has entry 0 and no relocated words
 abbrev pub image_of : ImageBlock → Image
 image_of block = record { text = block.text; entry = 0; relocs = []; stg_len = block.stg_len }
 
-abbrev pub block_action : ImageBlock → Action
-block_action block = action.Image block.name (image_of block)
+abbrev pub image_action : ImageBlock → Action
+image_action block = action.Image block.name (image_of block)
 
 -- a line outside a block
 abbrev pub step_of : ℕ → Line → Step
 step_of number line.Idle = record { action = None; block = None }
-step_of number (line.Image name stg_len) = record { action = None; block = Some (record { line = number; name = name; stg_len = stg_len; text = [] }) }
+step_of number (line.Image name stg_len) = record { action = None; block = Some (kind.Image (record { line = number; name = name; stg_len = stg_len; text = [] })) }
 step_of number (line.Action a) = record { action = Some a; block = None }
 
 -- No more than 65,537 bytes of a text are kept: one that is longer than 65,536 is BadLength, whatever follows.
@@ -31,20 +40,28 @@ unfoldable pub kept : List ℕ → List ℕ
 kept text = take 65537 text
 
 -- a block with the bytes of one more line
-abbrev pub with_bytes : ImageBlock → List ℕ → Step
-with_bytes block bytes =
-    record { action = None; block = Some (record { line = block.line; name = block.name; stg_len = block.stg_len; text = kept (block.text ++ bytes) }) }
+abbrev pub with_bytes : ImageBlock → List ℕ → Block
+with_bytes block bytes = kind.Image (record { line = block.line; name = block.name; stg_len = block.stg_len; text = kept (block.text ++ bytes) })
 
--- a line inside a block: its end, or hexadecimal digits
-abbrev pub step_within : ImageBlock → List ℕ → Option Step
-step_within block text =
-    if bytes_eq text (codes "/*") then Some (record { action = Some (block_action block); block = None })
-    else option_map (with_bytes block) (hex_bytes text)
+-- a block with one more line, which in an image's is hexadecimal digits; None where it may not have that line
+abbrev pub with_line : Block → List ℕ → Option Block
+with_line (kind.Image block) text = option_map (with_bytes block) (hex_bytes text)
 
-abbrev pub step_in : ℕ → Option ImageBlock → List ℕ → Option Step
-step_in number None text = option_map (step_of number) (line_of text)
-step_in number (Some block) text = step_within block text
+abbrev pub continued : Block → Step
+continued block = record { action = None; block = Some block }
 
--- What the line with this number leads to; None where it is a bad line.
-unfoldable pub step_at : ℕ → Option ImageBlock → List ℕ → Option Step
-step_at number block text = if is_too_long text then None else step_in number block text
+-- what the line that ends a block leads to
+abbrev pub ended : Block → Result Step RunFault
+ended (kind.Image block) = Ok (record { action = Some (image_action block); block = None })
+
+-- a line inside a block: its end, or one more line of it
+abbrev pub step_within : ℕ → Block → List ℕ → Result Step RunFault
+step_within number block text = if bytes_eq text (codes "/*") then ended block else ok_or (option_map continued (with_line block text)) (BadLine number)
+
+abbrev pub step_in : ℕ → Option Block → List ℕ → Result Step RunFault
+step_in number None text = ok_or (option_map (step_of number) (line_of text)) (BadLine number)
+step_in number (Some block) text = step_within number block text
+
+-- What the line with this number leads to: a step, or a fault of its own. That of a bad line is BadLine with its number.
+unfoldable pub step_at : ℕ → Option Block → List ℕ → Result Step RunFault
+step_at number block text = if is_too_long text then Err (BadLine number) else step_in number block text

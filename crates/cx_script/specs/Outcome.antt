@@ -1,14 +1,14 @@
 -- What a run of a script answers, by the bytes that its devices tell (own).
 use Rattle.std.specs.Prelude.{◌≡◌, ℕ, ◌≤◌, Bool, ◌++◌, List, length, Option, Result, Err, IfSome}
-use Rattle.cx_script.specs.Input.{Reads, is_failure, most_bytes}
+use Rattle.cx_lines.specs.Input.{Reads, is_failure, most_bytes}
 use Rattle.cx_script.specs.Script.{script_of, line_count}
 use Rattle.cx_script.specs.Transcript.{Ends}
-use Rattle.cx_script.specs.declared.actions.Action.{Action}
+use Rattle.cx_actions.specs.declared.actions.Action.{Action}
 use Rattle.cx_script.specs.declared.faults.RunFault.{RunFault}
 use Rattle.cx_script.specs.declared.faults.RunFault.TheVariants.{Memory}
 use Rattle.cx_script.specs.declared.faults.Summary.{Summary}
-use Rattle.cx_script.specs.declared.input.Ending.{Ending}
-use Rattle.cx_script.specs.declared.input.Ending.TheVariants.{AtEnd}
+use Rattle.cx_lines.specs.declared.input.Ending.{Ending}
+use Rattle.cx_lines.specs.declared.input.Ending.TheVariants.{AtEnd}
 
 -- the bytes are a front of those that were there
 abbrev pub IsFront : Option (List ℕ) → List ℕ → Type 0

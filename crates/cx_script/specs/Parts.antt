@@ -1,4 +1,2 @@
 -- The vocabulary of private functions.
-pub mod Allowed
-pub mod Unbroken
 pub mod Progress

@@ -1,14 +1,14 @@
 -- What a script asks: its actions in order, up to its first fault (own).
-use Rattle.std.specs.Prelude.{ℕ, ◌+◌, Option, Some, None, List, [], ◌∷◌, length}
-use Rattle.cx_script.specs.declared.actions.Action.{Action}
+use Rattle.std.specs.Prelude.{ℕ, ◌+◌, Option, Some, None, Result, Ok, Err, List, [], ◌∷◌, length}
+use Rattle.cx_actions.specs.declared.actions.Action.{Action}
 use Rattle.cx_script.specs.declared.faults.RunFault.{RunFault}
 use Rattle.cx_script.specs.declared.faults.RunFault.TheVariants as fault
-use Rattle.cx_script.specs.declared.input.Ending.{Ending}
-use Rattle.cx_script.specs.declared.input.Ending.TheVariants.{AtEnd, Failed, PastBound}
-use Rattle.cx_script.specs.Lines.{lines_met}
-use Rattle.cx_script.specs.ImageBlock.{ImageBlock}
+use Rattle.cx_lines.specs.declared.input.Ending.{Ending}
+use Rattle.cx_lines.specs.declared.input.Ending.TheVariants.{AtEnd, Failed, PastBound}
+use Rattle.cx_lines.specs.Lines.{lines_met}
+use Rattle.cx_script.specs.declared.blocks.Block.{Block}
 use Rattle.cx_script.specs.declared.blocks.Step.{Step}
-use Rattle.cx_script.specs.Blocks.{step_at}
+use Rattle.cx_script.specs.Blocks.{first_line, step_at}
 
 pub record Script : Type 0 where
   -- what is done, in order, in front of the fault
@@ -18,9 +18,9 @@ pub record Script : Type 0 where
 
 -- Where no line is left: a block that is not ended is a fault of the line that begins it, if the script was read to its
 -- end. Else that no more was read is the fault.
-unfoldable pub fault_at : Ending → Option ImageBlock → Option RunFault
+unfoldable pub fault_at : Ending → Option Block → Option RunFault
 fault_at AtEnd None = None
-fault_at AtEnd (Some block) = Some (fault.BadLine block.line)
+fault_at AtEnd (Some block) = Some (fault.BadLine (first_line block))
 fault_at Failed block = Some fault.Read
 fault_at PastBound block = Some fault.ReadBound
 
@@ -28,16 +28,16 @@ abbrev pub before : Option Action → Script → Script
 before None script = script
 before (Some action) script = record { actions = action ∷ script.actions; fault = script.fault }
 
--- a bad line ends the script; after any other line come the next ones
-abbrev pub led_to : Option Step → ℕ → (Option ImageBlock → Script) → Script
-led_to None number next = record { actions = []; fault = Some (fault.BadLine number) }
-led_to (Some step) number next = before step.action (next step.block)
+-- a line's fault ends the script; after any other line come the next ones
+abbrev pub led_to : Result Step RunFault → (Option Block → Script) → Script
+led_to (Err fault) next = record { actions = []; fault = Some fault }
+led_to (Ok step) next = before step.action (next step.block)
 
 -- the lines from the one with this number on, the first of them in this block
-unfoldable pub script_from : Ending → ℕ → Option ImageBlock → List (List ℕ) → Script
+unfoldable pub script_from : Ending → ℕ → Option Block → List (List ℕ) → Script
 script_from ending number block [] = record { actions = []; fault = fault_at ending block }
 script_from ending number block (line ∷ lines) =
-    led_to (step_at number block line) number (λ next. script_from ending (number + 1) next lines)
+    led_to (step_at number block line) (λ next. script_from ending (number + 1) next lines)
 
 -- the script that these bytes are
 unfoldable pub script_of : Ending → List ℕ → Script

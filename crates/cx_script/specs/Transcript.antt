@@ -1,9 +1,9 @@
 -- A run of a script: what its actions did in order, and the transcript (own).
 use Rattle.std.specs.Prelude.{◌≡◌, ℕ, Bool, true, false, Option, Some, None, Result, Ok, Err, List, [], ◌∷◌, ◌++◌, take}
 use Rattle.std.specs.Io.KnownBytes.{Appends}
-use Rattle.cx_script.specs.Devices.{WroteFront}
+use Rattle.cx_lines.specs.Devices.{WroteFront}
 use Rattle.cx_script.specs.Script.{Script}
-use Rattle.cx_script.specs.declared.actions.Action.{Action}
+use Rattle.cx_actions.specs.declared.actions.Action.{Action}
 use Rattle.cx_script.specs.declared.faults.RunFault.{RunFault}
 use Rattle.cx_script.specs.declared.faults.RunFault.TheVariants.{Read, Write, Memory}
 use Rattle.cx_script.specs.declared.faults.Summary.{Summary}
@@ -52,3 +52,8 @@ is_write _ = false
 abbrev pub is_read : {A : Type 0} → Result A RunFault → Bool
 is_read (Err Read) = true
 is_read _ = false
+
+-- whether memory was refused
+abbrev pub is_memory : {A : Type 0} → Result A RunFault → Bool
+is_memory (Err Memory) = true
+is_memory _ = false

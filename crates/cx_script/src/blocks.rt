@@ -1,14 +1,16 @@
 //! Lines and blocks: what each line of a script leads to.
 
-ghost use Rattle.std.specs.Prelude.{◌≡◌, ◌≤◌, ◌/◌, ◌++◌, IfOk, IfSome, MatchOption, true, false, length};
-ghost use Rattle.cx_script.specs.Parts.Allowed.{IsAllowed, IsAllowedLine};
-ghost use Rattle.cx_script.specs.Words.{hex_bytes};
-ghost use Rattle.cx_script.specs.Blocks.{block_action, kept, step_at, step_of, step_within, with_bytes};
+ghost use Rattle.std.specs.Prelude.{◌≡◌, ◌≤◌, ◌/◌, ◌++◌, [], None, IfOk, IfSome, MatchOption, true, false, length};
+ghost use Rattle.cx_actions.specs.Allowed.{IsAllowed};
+ghost use Rattle.cx_actions.specs.Words.{hex_bytes};
+ghost use Rattle.cx_script.specs.Blocks.{ended, first_line, image_action, kept, step_at, step_in, step_of, step_within, with_line};
+ghost use Rattle.cx_script.specs.Transcript.{is_memory, is_read, is_write};
 
-use crate::actions::{Action, Line, line_of};
-use crate::lines::is_too_long;
+use crate::faults::RunFault;
+use cx_actions::{Action, Line, line_of};
 use cx_code::{Bytes, Image, Offsets};
 use cx_ebcdic::Name8;
+use cx_lines::is_too_long;
 use std::alloc::{AllocError, Global};
 use std::marker::Model;
 
@@ -18,36 +20,48 @@ const MOST_IN_LINE: usize = 2_048;
 /// The most bytes of a text that are kept: one byte more than an image may have.
 const MOST_KEPT: usize = 65_537;
 
+/// A block, up to some line of it.
+#[derive(Drop)]
+pub enum Block {
+    /// That of an image.
+    Image(ImageBlock),
+}
+
 /// An image's block, up to some line of it.
 #[derive(Drop)]
-pub struct Block {
+pub struct ImageBlock {
     line: usize,
     name: Name8,
     stg_len: u32,
     text: Vec<u8>,
 }
 
-impl Model for Block {
-    ghost use Rattle.cx_script.specs.ImageBlock.{ImageBlock};
+impl Model for ImageBlock {
+    ghost use Rattle.cx_script.specs.ImageBlock.{ImageBlock as Gathered};
 
-    ghost Value = { ImageBlock };
+    ghost Value = { Gathered };
 
     ghost view = { λ block. record { line = block.line; name = block.name; stg_len = block.stg_len; text = block.text.items } };
 }
 
-impl Block {
-    /// The number of the line that begins it.
-    pub fn line(&self) -> usize
-        ensures { result ≡ self.now.line }
+impl ImageBlock {
+    /// A block that has no line yet.
+    fn new(alloc: Global, line: usize, name: Name8, stg_len: u32) -> ImageBlock
+        ensures { result ≡ record { line = line; name = name; stg_len = stg_len; text = [] } }
     {
-        self.line
+        ImageBlock {
+            line,
+            name,
+            stg_len,
+            text: Vec::new(alloc),
+        }
     }
 
     /// What is done at its end.
     fn action(self, alloc: Global) -> Action
-        ensures { result ≡ block_action self }
+        ensures { result ≡ image_action self }
     {
-        let Block {
+        let ImageBlock {
             line: _,
             name,
             stg_len,
@@ -60,6 +74,47 @@ impl Block {
             stg_len,
         };
         Action::Image(name, image)
+    }
+}
+
+impl Block {
+    /// The number of the line that begins it.
+    pub fn line(&self) -> usize
+        ensures { result ≡ first_line self.now }
+    {
+        match self {
+            Block::Image(block) => block.line,
+        }
+    }
+
+    /// What its end leads to.
+    fn end(self, alloc: Global) -> Result<Step, RunFault>
+        ensures value { result ≡ ended self }
+        ensures allowed { IfOk result (λ step. IfSome step.action IsAllowed) }
+        ensures unwritten { is_write result ≡ false }
+        ensures unread { is_read result ≡ false }
+    {
+        match self {
+            Block::Image(block) => Ok(Step {
+                action: Some(block.action(alloc)),
+                block: None,
+            }),
+        }
+    }
+
+    /// The block with one more line, where it may have that line.
+    fn with_line(self, line: &[u8]) -> Result<Option<Block>, AllocError>
+        requires { length line.now ≤ 4096 }
+        ensures { IfOk result (λ block. block ≡ with_line self line.now) }
+    {
+        match self {
+            Block::Image(mut block) => {
+                if !append_line(&mut block.text, line)? {
+                    return Ok(None);
+                }
+                Ok(Some(Block::Image(block)))
+            }
+        }
     }
 }
 
@@ -81,12 +136,7 @@ fn step_of(alloc: Global, number: usize, line: Line) -> Step
         },
         Line::Image(name, stg_len) => Step {
             action: None,
-            block: Some(Block {
-                line: number,
-                name,
-                stg_len,
-                text: Vec::new(alloc),
-            }),
+            block: Some(Block::Image(ImageBlock::new(alloc, number, name, stg_len))),
         },
         Line::Action(action) => Step {
             action: Some(action),
@@ -104,8 +154,15 @@ fn decode_line(line: &[u8], out: &mut [u8]) -> bool
     hex::decode_to_slice(line, out).is_ok()
 }
 
-/// Adds the bytes that a line of hexadecimal digits spells, as far as they are kept; false where it isn't one.
+/// Drops what is not kept of a text.
 #[tactic(auto, unfolding(crate::specs::Blocks::kept))]
+fn keep(text: &mut Vec<u8>)
+    ensures { text.new.items ≡ kept text.old.items }
+{
+    text.truncate(MOST_KEPT);
+}
+
+/// Adds the bytes that a line of hexadecimal digits spells, as far as they are kept; false where it isn't one.
 fn append_line(text: &mut Vec<u8>, line: &[u8]) -> Result<bool, AllocError>
     requires { length line.now ≤ 4096 }
     ensures { IfOk result (λ spelled. MatchOption (hex_bytes line.now) (spelled ≡ false) (λ bytes. (spelled ≡ true) × (text.new.items ≡ kept (text.old.items ++ bytes)))) }
@@ -116,46 +173,63 @@ fn append_line(text: &mut Vec<u8>, line: &[u8]) -> Result<bool, AllocError>
         return Ok(false);
     }
     text.extend_from_slice(out)?;
-    text.truncate(MOST_KEPT);
+    keep(text);
     Ok(true)
 }
 
 /// What a line inside a block leads to.
-fn step_within(alloc: Global, mut block: Block, line: &[u8]) -> Result<Option<Step>, AllocError>
+fn step_within(alloc: Global, number: usize, block: Block, line: &[u8]) -> Result<Step, RunFault>
     requires { length line.now ≤ 4096 }
-    ensures { IfOk result (λ found. found ≡ step_within block line.now) }
+    ensures value { is_memory result ≡ false → result ≡ step_within number block line.now }
+    ensures allowed { IfOk result (λ step. IfSome step.action IsAllowed) }
+    ensures unwritten { is_write result ≡ false }
+    ensures unread { is_read result ≡ false }
 {
     if line == b"/*".as_slice() {
-        return Ok(Some(Step {
-            action: Some(block.action(alloc)),
-            block: None,
-        }));
+        return block.end(alloc);
     }
-    if !append_line(&mut block.text, line)? {
-        return Ok(None);
+    match block.with_line(line)? {
+        Some(block) => Ok(Step {
+            action: None,
+            block: Some(block),
+        }),
+        None => Err(RunFault::BadLine(number)),
     }
-    Ok(Some(Step {
-        action: None,
-        block: Some(block),
-    }))
 }
 
-/// What the line with this number leads to, the first of it in this block; None where it is a bad line.
+/// What a line outside a block leads to, by its text.
+fn step_outside(alloc: Global, number: usize, line: &[u8]) -> Result<Step, RunFault>
+    ensures value { is_memory result ≡ false → result ≡ step_in number None line.now }
+    ensures allowed { IfOk result (λ step. IfSome step.action IsAllowed) }
+    ensures unwritten { is_write result ≡ false }
+    ensures unread { is_read result ≡ false }
+{
+    match line_of(alloc, line)? {
+        Some(line) => Ok(step_of(alloc, number, line)),
+        None => Err(RunFault::BadLine(number)),
+    }
+}
+
+/// What the line with this number leads to, the first of it in this block.
+///
+/// An error is the line's own fault, BadLine with its number where it is a bad line, or Memory where a growth was refused.
 #[tactic(auto, unfolding(crate::specs::Blocks::step_at))]
 pub fn step_at(
     alloc: Global,
     number: usize,
     block: Option<Block>,
     line: &[u8],
-) -> Result<Option<Step>, AllocError>
-    ensures value { IfOk result (λ found. found ≡ step_at number block line.now) }
-    ensures allowed { IfOk result (λ found. IfSome found (λ step. IfSome step.action IsAllowed)) }
+) -> Result<Step, RunFault>
+    ensures value { is_memory result ≡ false → result ≡ step_at number block line.now }
+    ensures allowed { IfOk result (λ step. IfSome step.action IsAllowed) }
+    ensures unwritten { is_write result ≡ false }
+    ensures unread { is_read result ≡ false }
 {
     if is_too_long(line) {
-        return Ok(None);
+        return Err(RunFault::BadLine(number));
     }
     match block {
-        Some(block) => step_within(alloc, block, line),
-        None => Ok(line_of(alloc, line)?.map(|line| step_of(alloc, number, line))),
+        Some(block) => step_within(alloc, number, block, line),
+        None => step_outside(alloc, number, line),
     }
 }

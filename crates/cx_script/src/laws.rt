@@ -2,18 +2,19 @@
 
 ghost use Rattle.std.specs.Prelude.{◌≡◌, ℕ, List, Option, Ok, IfSome};
 ghost use Rattle.std.specs.Str.Lines.{lines};
-ghost use Rattle.cx_script.specs.Lines.{lines_met};
+ghost use Rattle.cx_lines.specs.Lines.{lines_met};
 ghost use Rattle.cx_script.specs.Outcome.{RanScript};
-ghost use Rattle.cx_region.specs.State.{RegionState};
-ghost use Rattle.cx_script.specs.Effects.{Performs};
+ghost use Rattle.cx_edf.specs.State.{EdfState};
+ghost use Rattle.cx_actions.specs.Effects.{Performs};
 ghost use Rattle.cx_script.specs.Transcript.{Runs};
 ghost use Rattle.cx_script.specs.Laws.WholeScripts.{OkIsTheWholeScript};
+ghost use Rattle.cx_script.specs.Laws.Fronts.{FrontsAreScripts};
 ghost use Rattle.cx_script.specs.Laws.BadLines.{BadLinesAreBad};
 ghost use Rattle.cx_script.specs.Laws.Events.{ScriptsRunTheirEvents};
 ghost use Rattle.cx_script.specs.Laws.Inputs.{FailuresAreTold, InputsDecide, PastTheBoundIsReadBound, ReadBoundIsPastTheBound, ReadIsAFailure};
-ghost use Rattle.cx_script.specs.declared.actions.Action.{Action};
+ghost use Rattle.cx_actions.specs.declared.actions.Action.{Action};
 ghost use Rattle.cx_script.specs.declared.faults.Summary.{Summary};
-ghost use Rattle.cx_script.specs.declared.input.Ending.TheVariants.{AtEnd};
+ghost use Rattle.cx_lines.specs.declared.input.Ending.TheVariants.{AtEnd};
 
 /// The lines of a script that is read to its end are those that the standard library cuts a text into: an LF
 /// ends each, one CR before it is dropped, and bytes behind the last LF are a line too.
@@ -40,30 +41,36 @@ pub fn the_input_decides()
     an_action_has_one_outcome();
 }
 
+/// A front of a script is a script: the actions that the lines complete in it give, and a fault met there, are those of
+/// the whole, however it goes on and however no more of it is read. So the pieces in which a script is read don't matter.
+pub fn fronts_are_scripts()
+    ensures { FrontsAreScripts }
+{}
+
 /// A line that is told as BadLine is one of the script's: bad where it stands, or the beginning of a block that the script's
 /// end leaves open. No line in front of it is bad, and exactly what these complete is done.
 pub fn bad_lines_are_bad()
     ensures { BadLinesAreBad }
 {}
 
-/// An action on a region has one outcome: what is written for it, and the region after it.
+/// An action on a region under EDF has one outcome: what is written for it, and the state after it.
 pub fn an_action_has_one_outcome()
-    ensures { (old : RegionState) (action : Action) (text other : List ℕ) (new another : RegionState) →
+    ensures { (old : EdfState) (action : Action) (text other : List ℕ) (new another : EdfState) →
         Performs old action text new → Performs old action other another → (text ≡ other) × (new ≡ another) }
 {
-    cx_region::region_laws::events_decide();
+    cx_edf::edf_laws::edf_events_decide();
 }
 
-/// The transcript of actions on a region is one, and so is the region behind them.
+/// The transcript of actions on a region under EDF is one, and so is the state behind them.
 pub fn a_transcript_is_one()
-    ensures { (old : RegionState) (actions : List Action) (text other : List ℕ) (new another : RegionState) →
+    ensures { (old : EdfState) (actions : List Action) (text other : List ℕ) (new another : EdfState) →
         Runs Performs old actions text new → Runs Performs old actions other another → (text ≡ other) × (new ≡ another) }
 {
     an_action_has_one_outcome();
 }
 
-/// A run of a script's actions is a run of its events: the region behind it is that behind the events that the actions give,
-/// in order, and each reply is the one that was written.
+/// A run of a script's actions is a run of its events under EDF: the state behind it is that behind the events that the
+/// actions give, in order, and each answer is the one that was written.
 pub fn a_script_runs_its_events()
     ensures { ScriptsRunTheirEvents }
 {}

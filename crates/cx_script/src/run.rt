@@ -3,25 +3,26 @@
 ghost use Rattle.std.specs.Prelude.{◌≡◌, ◌+◌, ◌++◌, ◌<◌, ◌≤◌, ◌^◌, ℕ, List, IfOk, IfErr, IfSome, IsOkAnd, OnOk, OnErr, MatchOption, Err, None, [], true, false, length};
 ghost use Rattle.std.specs.Str.Lines.{strip_carriage_return};
 ghost use Rattle.cx_script.specs.Blocks.{step_at};
-ghost use Rattle.cx_script.specs.Input.{is_failure};
-ghost use Rattle.cx_script.specs.Lines.{is_too_long, lines_met};
+ghost use Rattle.cx_lines.specs.Input.{is_failure};
+ghost use Rattle.cx_lines.specs.Lines.{is_too_long, lines_met};
 ghost use Rattle.cx_script.specs.Outcome.{RanScript};
 ghost use Rattle.cx_script.specs.Script.{fault_at, script_from};
-ghost use Rattle.cx_script.specs.Transcript.{Ends, is_read, is_write};
-ghost use Rattle.cx_script.specs.Parts.Allowed.{IsAllowed};
-ghost use Rattle.cx_script.specs.Parts.Progress.{Acted, Came, Stopped, TakesLine};
-ghost use Rattle.cx_script.specs.Parts.Unbroken.{IsUnbroken};
-ghost use Rattle.cx_script.specs.declared.actions.Action.{Action};
+ghost use Rattle.cx_script.specs.Transcript.{is_read, is_write};
+ghost use Rattle.cx_actions.specs.Allowed.{IsAllowed};
+ghost use Rattle.cx_script.specs.Parts.Progress.{Acted, Came, Closes, Stopped, TakesLine};
+ghost use Rattle.cx_lines.specs.Devices.{told};
+ghost use Rattle.cx_lines.specs.Unbroken.{IsUnbroken};
+ghost use Rattle.cx_actions.specs.declared.actions.Action.{Action};
 ghost use Rattle.cx_script.specs.declared.faults.RunFault.TheVariants.{BadLine};
 
-use crate::actions::Action;
 use crate::blocks::{Block, step_at};
-use crate::devices::{ScriptIn, ScriptOut};
 use crate::faults::{RunFault, Summary};
-use crate::input::Ending;
-use crate::lines::{in_front, is_too_long, last_line, split_line, strip_carriage_return};
-use crate::output::write_all;
 use arrayvec::ArrayVec;
+use cx_actions::{Action, Stage};
+use cx_lines::{
+    Ending, ScriptIn, ScriptOut, Waiting, in_front, is_too_long, last_line, split_line,
+    strip_carriage_return,
+};
 use std::alloc::{AllocError, Global};
 
 /// How many bytes are asked for at once.
@@ -33,28 +34,18 @@ const MOST_KEPT: usize = 4_097;
 /// The most bytes that a script may have.
 const MOST_BYTES: usize = 16_777_216;
 
-/// What the actions of a script are performed on.
-pub trait Stage {
-    /// One action: the state before, the action, what is written for it, and the state after.
-    ghost performs: { Self → Action → List ℕ → Self → Type 0 };
-
-    /// Performs an action, and gives what is written for it.
-    fn perform(&mut self, alloc: Global, action: Action) -> Result<Vec<u8>, AllocError>
-        requires { IsAllowed action }
-        ensures { IfOk result (λ text. performs self.old action text.items self.new) };
-}
-
-/// Performs the action of a line, where it has one, and writes what is to be written.
-#[tactic(auto, unfolding(crate::specs::Parts::Progress::Acted))]
+/// Performs the action of a line, where it has one, and puts its text behind what waits to be written.
+#[tactic(auto, unfolding(crate::specs::Parts::Progress::Acted), using(cx_lines::specs::Facts::Devices::sends_nil))]
 fn act<P: Stage, W: ScriptOut>(
     stage: &mut P,
     alloc: Global,
+    waiting: &mut Waiting,
     writer: &mut W,
     action: Option<Action>,
 ) -> Result<(), RunFault>
     requires allowed { IfSome action IsAllowed }
     requires failure { W.has_failed writer.old ≡ false }
-    ensures acted { Acted P.performs action stage.old (W.written writer.old) result stage.new (W.written writer.new) }
+    ensures acted { Acted P.performs action stage.old (told (W.written writer.old) waiting.old) result stage.new (told (W.written writer.new) waiting.new) }
     ensures failure { W.has_failed writer.new ≡ is_write result }
     ensures unread { is_read result ≡ false }
 {
@@ -62,23 +53,25 @@ fn act<P: Stage, W: ScriptOut>(
         return Ok(());
     };
     let text = stage.perform(alloc, action)?;
-    match write_all(writer, text.as_slice()) {
+    match waiting.put(writer, text.as_slice()) {
         Ok(()) => Ok(()),
         Err(_) => Err(RunFault::Write),
     }
 }
 
-/// Lines that were taken: what they were performed on, how many they are, and the block that the next one is in.
+/// Lines that were taken: what they were performed on, the texts that wait to be written, how many they are, and the block
+/// that the next one is in.
 #[derive(Drop)]
 pub struct Progress<P> {
     stage: P,
+    waiting: Waiting,
     lines: usize,
     block: Option<Block>,
 }
 
 impl<P: Stage + Drop> Progress<P> {
-    /// Takes one complete line: does what it asks, and writes what is to be written.
-    #[tactic(auto, using(crate::proofs::TakeLemmas::line_bad, crate::proofs::TakeLemmas::line_memory, crate::proofs::TakeLemmas::line_acted))]
+    /// Takes one complete line: does what it asks, and puts its text behind what waits.
+    #[tactic(auto, using(crate::proofs::TakeLemmas::line_faulty, crate::proofs::TakeLemmas::line_acted))]
     fn take_line<W: ScriptOut>(
         &mut self,
         alloc: Global,
@@ -87,18 +80,51 @@ impl<P: Stage + Drop> Progress<P> {
     ) -> Result<(), RunFault>
         requires lines { self.old.lines < 2 ^ 32 }
         requires failure { W.has_failed writer.old ≡ false }
-        ensures taken { TakesLine P.performs (step_at (self.old.lines + 1) self.old.block line.now) (self.old.lines + 1) self.old.stage
-            (W.written writer.old) result self.new.stage (W.written writer.new) self.new.block }
+        ensures taken { TakesLine P.performs (step_at (self.old.lines + 1) self.old.block line.now) self.old.stage
+            (told (W.written writer.old) self.old.waiting) result self.new.stage (told (W.written writer.new) self.new.waiting) self.new.block }
         ensures lines { self.new.lines ≡ self.old.lines + 1 }
         ensures failure { W.has_failed writer.new ≡ is_write result }
         ensures unread { is_read result ≡ false }
     {
         self.lines += 1;
-        let Some(step) = step_at(alloc, self.lines, self.block.take(), line)? else {
-            return Err(RunFault::BadLine(self.lines));
+        let step = match step_at(alloc, self.lines, self.block.take(), line) {
+            Ok(step) => step,
+            Err(fault) => return Err(fault),
         };
         self.block = step.block;
-        act(&mut self.stage, alloc, writer, step.action)
+        act(
+            &mut self.stage,
+            alloc,
+            &mut self.waiting,
+            writer,
+            step.action,
+        )
+    }
+
+    /// Takes one complete line where nothing waits, and writes its text.
+    #[tactic(auto, using(crate::proofs::TakeLemmas::line_written, crate::proofs::TakeLemmas::line_unwritten, crate::proofs::TakeLemmas::line_failed))]
+    fn take_last<W: ScriptOut>(
+        &mut self,
+        alloc: Global,
+        writer: &mut W,
+        line: &[u8],
+    ) -> Result<(), RunFault>
+        requires lines { self.old.lines < 2 ^ 32 }
+        requires waits { self.old.waiting ≡ [] }
+        requires failure { W.has_failed writer.old ≡ false }
+        ensures taken { TakesLine P.performs (step_at (self.old.lines + 1) self.old.block line.now) self.old.stage
+            (told (W.written writer.old) []) result self.new.stage (told (W.written writer.new) []) self.new.block }
+        ensures lines { self.new.lines ≡ self.old.lines + 1 }
+        ensures failure { W.has_failed writer.new ≡ is_write result }
+        ensures unread { is_read result ≡ false }
+    {
+        if let Err(fault) = self.take_line(alloc, writer, line) {
+            return Err(fault);
+        }
+        if self.waiting.flush(writer).is_err() {
+            return Err(RunFault::Write);
+        }
+        Ok(())
     }
 
     /// The answer where no line is left.
@@ -131,6 +157,7 @@ impl<P: Stage + Drop> Run<P> {
     /// A run that has taken no line.
     pub fn new(stage: P) -> Run<P>
         ensures stage { result.progress.stage ≡ stage }
+        ensures waits { result.progress.waiting ≡ [] }
         ensures lines { result.progress.lines ≡ 0 }
         ensures block { result.progress.block ≡ None }
         ensures part { result.part.items ≡ [] }
@@ -138,6 +165,7 @@ impl<P: Stage + Drop> Run<P> {
         Run {
             progress: Progress {
                 stage,
+                waiting: Waiting::new(),
                 lines: 0,
                 block: None,
             },
@@ -156,7 +184,8 @@ impl<P: Stage + Drop> Run<P> {
         requires lines { self.old.progress.lines < 2 ^ 32 }
         requires failure { W.has_failed writer.old ≡ false }
         ensures taken { TakesLine P.performs (step_at (self.old.progress.lines + 1) self.old.progress.block (strip_carriage_return (self.old.part.items ++ bytes.now)))
-            (self.old.progress.lines + 1) self.old.progress.stage (W.written writer.old) result self.new.progress.stage (W.written writer.new) self.new.progress.block }
+            self.old.progress.stage (told (W.written writer.old) self.old.progress.waiting) result self.new.progress.stage
+            (told (W.written writer.new) self.new.progress.waiting) self.new.progress.block }
         ensures lines { self.new.progress.lines ≡ self.old.progress.lines + 1 }
         ensures part { OnOk result (self.new.part.items ≡ []) }
         ensures failure { W.has_failed writer.new ≡ is_write result }
@@ -175,7 +204,7 @@ impl<P: Stage + Drop> Run<P> {
     }
 
     /// Keeps bytes of a line that is not ended yet; a bad line where they are too many already.
-    #[tactic(auto, using(crate::proofs::LineLemmas::long_bytes))]
+    #[tactic(auto, using(cx_lines::specs::Facts::Lines::long_bytes))]
     fn keep(&mut self, bytes: &[u8]) -> Result<(), RunFault>
         requires { self.old.progress.lines < 2 ^ 32 }
         ensures part { OnOk result (self.new.part.items ≡ self.old.part.items ++ bytes.now) }
@@ -194,7 +223,7 @@ impl<P: Stage + Drop> Run<P> {
     }
 
     /// Takes the lines that end in a piece of the script, and keeps the bytes behind the last.
-    #[tactic(auto, using(crate::proofs::LineLemmas::unbroken_nil, crate::proofs::LineLemmas::unbroken_append))]
+    #[tactic(auto, using(cx_lines::specs::Facts::Lines::unbroken_nil, cx_lines::specs::Facts::Lines::unbroken_append))]
     fn take_piece<W: ScriptOut>(
         &mut self,
         alloc: Global,
@@ -204,13 +233,14 @@ impl<P: Stage + Drop> Run<P> {
         requires lines { self.old.progress.lines + length piece.now < 2 ^ 32 }
         requires unbroken { IsUnbroken self.old.part.items }
         requires failure { W.has_failed writer.old ≡ false }
-        ensures came { OnOk result (Came P.performs self.old.progress.stage self.old.progress.lines self.old.progress.block (self.old.part.items ++ piece.now) (W.written writer.old)
-            self.new.progress.stage self.new.progress.lines self.new.progress.block self.new.part.items (W.written writer.new)) }
+        ensures came { OnOk result (Came P.performs self.old.progress.stage self.old.progress.lines self.old.progress.block (self.old.part.items ++ piece.now)
+            (told (W.written writer.old) self.old.progress.waiting) self.new.progress.stage self.new.progress.lines self.new.progress.block self.new.part.items
+            (told (W.written writer.new) self.new.progress.waiting)) }
         ensures unbroken { OnOk result (IsUnbroken self.new.part.items) }
         ensures short { OnOk result (is_too_long (strip_carriage_return self.new.part.items) ≡ false) }
         ensures lines { OnOk result (self.new.progress.lines ≤ self.old.progress.lines + length piece.now) }
         ensures err { IfErr result (λ fault. Stopped P.performs self.old.progress.stage self.old.progress.lines self.old.progress.block (self.old.part.items ++ piece.now) fault
-            (W.written writer.old) (W.written writer.new)) }
+            (told (W.written writer.old) self.old.progress.waiting) (told (W.written writer.new) self.new.progress.waiting)) }
         ensures failure { W.has_failed writer.new ≡ is_write result }
         ensures unread { is_read result ≡ false }
     {
@@ -224,6 +254,38 @@ impl<P: Stage + Drop> Run<P> {
         self.keep(rest)
     }
 
+    /// Takes a piece of the script, and writes what waits then: no more is read, and no fault is answered, before.
+    fn serve<W: ScriptOut>(
+        &mut self,
+        alloc: Global,
+        writer: &mut W,
+        piece: &[u8],
+    ) -> Result<(), RunFault>
+        requires lines { self.old.progress.lines + length piece.now < 2 ^ 32 }
+        requires unbroken { IsUnbroken self.old.part.items }
+        requires waits { self.old.progress.waiting ≡ [] }
+        requires failure { W.has_failed writer.old ≡ false }
+        ensures came { OnOk result (Came P.performs self.old.progress.stage self.old.progress.lines self.old.progress.block (self.old.part.items ++ piece.now)
+            (told (W.written writer.old) []) self.new.progress.stage self.new.progress.lines self.new.progress.block self.new.part.items (told (W.written writer.new) [])) }
+        ensures unbroken { OnOk result (IsUnbroken self.new.part.items) }
+        ensures short { OnOk result (is_too_long (strip_carriage_return self.new.part.items) ≡ false) }
+        ensures lines { OnOk result (self.new.progress.lines ≤ self.old.progress.lines + length piece.now) }
+        ensures waits { OnOk result (self.new.progress.waiting ≡ []) }
+        ensures err { IfErr result (λ fault. Stopped P.performs self.old.progress.stage self.old.progress.lines self.old.progress.block (self.old.part.items ++ piece.now) fault
+            (told (W.written writer.old) []) (told (W.written writer.new) [])) }
+        ensures failure { W.has_failed writer.new ≡ is_write result }
+        ensures unread { is_read result ≡ false }
+    {
+        let answer = self.take_piece(alloc, writer, piece);
+        if writer.failed() {
+            return answer;
+        }
+        if self.progress.waiting.flush(writer).is_err() {
+            return Err(RunFault::Write);
+        }
+        answer
+    }
+
     /// Ends the run where no more is read: the bytes that are kept may be a line yet.
     fn finish<W: ScriptOut>(
         mut self,
@@ -234,16 +296,17 @@ impl<P: Stage + Drop> Run<P> {
         requires lines { self.progress.lines < 2 ^ 32 }
         requires unbroken { IsUnbroken self.part.items }
         requires short { is_too_long (strip_carriage_return self.part.items) ≡ false }
+        requires waits { self.progress.waiting ≡ [] }
         requires failure { W.has_failed writer.old ≡ false }
-        ensures ends { Ends P.performs self.progress.stage (script_from ending (self.progress.lines + 1) self.progress.block (lines_met ending self.part.items))
-            (self.progress.lines + length (lines_met ending self.part.items)) result (W.written writer.old) (W.written writer.new) }
+        ensures ends { Closes P.performs self.progress.stage (script_from ending (self.progress.lines + 1) self.progress.block (lines_met ending self.part.items))
+            (self.progress.lines + length (lines_met ending self.part.items)) result (told (W.written writer.old) []) (told (W.written writer.new) []) }
         ensures failure { W.has_failed writer.new ≡ is_write result }
         ensures read { is_read result ≡ is_failure ending }
     {
         let Some(line) = last_line(self.part.as_slice(), ending) else {
             return self.progress.end(ending);
         };
-        if let Err(fault) = self.progress.take_line(alloc, writer, line) {
+        if let Err(fault) = self.progress.take_last(alloc, writer, line) {
             return Err(fault);
         }
         self.progress.end(ending)
@@ -259,6 +322,7 @@ impl<P: Stage + Drop> Run<P> {
         requires lines { self.progress.lines ≡ 0 }
         requires block { self.progress.block ≡ None }
         requires part { self.part.items ≡ [] }
+        requires waits { self.progress.waiting ≡ [] }
         requires reader { R.has_failed reader.old ≡ false }
         requires writer { W.has_failed writer.old ≡ false }
         ensures ran { RanScript P.performs self.progress.stage (R.left reader.old) (R.left reader.new) (R.has_failed reader.new) result
@@ -277,7 +341,7 @@ impl<P: Stage + Drop> Run<P> {
             }
             let room = taken.min(MOST_BYTES - read);
             let piece = in_front(&buffer, room);
-            if let Err(fault) = self.take_piece(alloc, writer, piece) {
+            if let Err(fault) = self.serve(alloc, writer, piece) {
                 return Err(fault);
             }
             if room < taken {

@@ -1,21 +1,22 @@
 //! A script from its reader to its transcript.
 
 ghost use Rattle.std.specs.Prelude.{◌≡◌, false};
-ghost use Rattle.cx_region.specs.Defining.{fresh_region};
-ghost use Rattle.cx_script.specs.Effects.{Performs};
+ghost use Rattle.cx_actions.specs.Effects.{Performs, fresh_state};
 ghost use Rattle.cx_script.specs.Outcome.{RanScript};
 ghost use Rattle.cx_script.specs.Transcript.{is_read, is_write};
 
-use crate::devices::{ScriptIn, ScriptOut};
 use crate::faults::{RunFault, Summary};
 use crate::run::Run;
+use cx_edf::Debugged;
+use cx_lines::{ScriptIn, ScriptOut};
+use cx_pages::PagedStore;
 use cx_region::Region;
-use cx_storage::FlatStore;
 use std::alloc::Global;
 
-/// Runs a script: does what its lines ask, in order, on a fresh region, and writes the transcript. Each line is done, and
-/// its text written, as soon as it is read: no more is read before. Of the script the unfinished line or block alone is
-/// held.
+/// Runs a script: does what its lines ask, in order, on a fresh region, and writes the transcript. It is read in pieces of at
+/// most 4,096 bytes. The lines that are complete in a piece are done, and their texts written, before more is read and before
+/// a fault is answered; at most 16,384 bytes of texts wait to be written in one. Of the script the unfinished line or block
+/// alone is held.
 ///
 /// Neither device may have failed. The fault that comes first in the script is answered, and everything
 /// in front of it is done and written: BadLine with the line's number; Read where a read failed, and
@@ -30,13 +31,13 @@ pub fn run_script<R: ScriptIn, W: ScriptOut>(
 ) -> Result<Summary, RunFault>
     requires reader { R.has_failed reader.old ≡ false }
     requires writer { W.has_failed writer.old ≡ false }
-    ensures ran { RanScript Performs fresh_region (R.left reader.old) (R.left reader.new) (R.has_failed reader.new) result
+    ensures ran { RanScript Performs fresh_state (R.left reader.old) (R.left reader.new) (R.has_failed reader.new) result
         (W.written writer.old) (W.written writer.new) }
     ensures read { R.has_failed reader.new ≡ is_read result }
     ensures write { W.has_failed writer.new ≡ is_write result }
 {
-    let Ok(region) = Region::new(alloc, FlatStore::new(alloc)) else {
+    let Ok(region) = Region::new(alloc, PagedStore::new(alloc)) else {
         return Err(RunFault::Memory);
     };
-    Run::new(region).run(alloc, reader, writer)
+    Run::new(Debugged::new(alloc, region)).run(alloc, reader, writer)
 }

@@ -2,9 +2,13 @@
 #![tactic(auto)]
 
 #[cfg(test)]
+mod blocks;
+#[cfg(test)]
 mod bound;
 #[cfg(test)]
 mod devices;
+#[cfg(test)]
+mod full;
 #[cfg(test)]
 mod lines;
 #[cfg(test)]

@@ -77,6 +77,45 @@ fn pieces_of_each_length(rt: HostRuntime) {
     }
 }
 
+/// A reader that gives pieces of lengths that a generator draws: 1 to 48 bytes.
+#[derive(Drop)]
+struct Drawn<'a> {
+    rest: &'a [u8],
+    seed: u32,
+}
+
+impl<'a> ScriptIn for Drawn<'a> {
+    ghost left = { λ _. None };
+
+    ghost has_failed = { λ _. false };
+
+    fn read(&mut self, buffer: &mut [u8]) -> Result<usize, DeviceFault> {
+        self.seed = self.seed.wrapping_mul(1_103_515_245).wrapping_add(12_345);
+        let drawn = (self.seed / 65_536 % 48) as usize + 1;
+        let n = buffer.len().min(self.rest.len()).min(drawn);
+        let (front, behind) = self.rest.split_at(n);
+        buffer[..n].copy_from_slice(front);
+        self.rest = behind;
+        Ok(n)
+    }
+
+    fn failed(&self) -> bool {
+        false
+    }
+}
+
+#[test]
+fn pieces_of_drawn_lengths(rt: HostRuntime) {
+    for seed in 0..500 {
+        let mut buffer = [0; 512];
+        let mut output = MemoryOut::new(&mut buffer);
+        let mut input = Drawn { rest: SCRIPT, seed };
+        let ran = run_script(rt.alloc(), &mut input, &mut output);
+        assert_eq!(rt; ran, Ok(Summary { lines: 12 }), "drawn from {seed}");
+        assert_eq!(rt; output.text(), TRANSCRIPT, "drawn from {seed}");
+    }
+}
+
 /// A bad line is told where it stands, and what is in front of it is done.
 #[test]
 fn bad_lines_in_pieces(rt: HostRuntime) {
@@ -123,6 +162,18 @@ fn long_lines_in_pieces(rt: HostRuntime) -> Result<(), Fail> {
                 expect_pieces(&rt, &script, (first, 1), answer, b"");
             }
         }
+    }
+    Ok(())
+}
+
+/// A line that is as long as it may be, and one that is longer, cut at every place.
+#[test]
+fn long_lines_are_cut_at_every_place(rt: HostRuntime) -> Result<(), Fail> {
+    let longest = comment(&rt, 4096, b"\r\n")?;
+    let longer = comment(&rt, 4097, b"\n")?;
+    for first in 1..4098 {
+        expect_pieces(&rt, &longest, (first, 4096), Ok(Summary { lines: 1 }), b"");
+        expect_pieces(&rt, &longer, (first, 4096), Err(RunFault::BadLine(1)), b"");
     }
     Ok(())
 }

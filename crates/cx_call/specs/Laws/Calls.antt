@@ -1,13 +1,16 @@
 -- What an argument list in storage has where it is a call's, whatever the order of the tests.
-use Rattle.std.specs.Prelude.{◌≡◌, ℕ, ◌+◌, ◌*◌, ◌/◌, ◌%◌, ◌^◌, ◌<◌, ◌≤◌, ◌↔◌, ◌==◌, List, [], ◌∷◌, length, count_by, slice_get, Option, Some, is_some, IsSomeAnd, Ok, MatchBool, IsTrue, if◌then◌else◌}
+use Rattle.std.specs.Prelude.{◌≡◌, ℕ, ◌+◌, ◌*◌, ◌/◌, ◌%◌, ◌^◌, ◌<◌, ◌≤◌, ◌↔◌, ◌==◌, List, [], ◌∷◌, length, count_by, slice_get, take, Option, Some, None, is_some, IsSomeAnd, Ok, MatchBool, IsTrue, if◌then◌else◌}
 use Rattle.std.specs.Option.{option_map, option_and_then}
 use Rattle.cx_command.specs.declared.options.CommandOption.{CommandOption}
+use Rattle.cx_command.specs.declared.legal.ListedCondition.{ListedCondition}
+use Rattle.cx_command.specs.Conditions.{entry_of}
 use Rattle.cx_command.specs.Commands.{row_of}
 use Rattle.cx_command.specs.Legal.{is_legal, is_legal_list, lists_conditions}
 use Rattle.cx_storage.specs.Storage.{Storage, span, IsSound}
 use Rattle.cx_storage.specs.Address.{along}
 use Rattle.cx_storage.specs.Word.{word_at}
 use Rattle.cx_call.specs.Call.{Call, call_of, has_high_bit, has_label, has_resp, listed_in, place_of, resp_place}
+use Rattle.cx_call.specs.Listed.{listed_of}
 use Rattle.cx_command.specs.Arguments.{arguments_in}
 use Rattle.cx_storage.specs.Address.{address_in}
 
@@ -43,11 +46,29 @@ pub record IsCallAt (s : Storage) (list : ℕ) (call : Call) : Type 0 where
 abbrev pub CallIsRead : Type 0
 CallIsRead = (s : Storage) (list : ℕ) (call : Call) → IsSound s → list < 2 ^ 24 → (call_of s list ≡ Ok call) ↔ IsCallAt s list call
 
--- The k-th present option with an argument has the k-th address.
+-- The k-th present option with an argument has the k-th address: that in word k + 1.
 abbrev pub ArgumentsHavePlaces : Type 0
 ArgumentsHavePlaces = (s : Storage) (list : ℕ) (call : Call) (k : ℕ) (option : CommandOption) → IsCallAt s list call
-    → slice_get (arguments_of call) k ≡ Some option → (k < length call.places) × (place_of call option.name ≡ slice_get call.places k)
+    → slice_get (arguments_of call) k ≡ Some option
+    → (k < length call.places) × (place_of call option.name ≡ slice_get call.places k)
+    × (place_of call option.name ≡ option_map address_in (list_word s list (k + 1)))
 
--- RESP has an address exactly where it is there.
+-- how many of the conditions before one have a label
+abbrev pub labels_before : Call → ℕ → ℕ
+labels_before call k = count_by has_label (take k call.conditions)
+
+-- The k-th listed condition is the one of its number, and has its label where it says so: in the word behind those of the
+-- labels before it.
+abbrev pub LabelsHavePlaces : Type 0
+LabelsHavePlaces = (s : Storage) (list : ℕ) (call : Call) (k : ℕ) (listed : ListedCondition) → IsCallAt s list call
+    → slice_get call.conditions k ≡ Some listed
+    → IsSomeAnd (slice_get (listed_of call) k) (λ found. ((entry_of found.condition).number ≡ listed.number)
+    × (is_some found.label ≡ has_label listed)
+    × (found.label ≡ (if has_label listed then option_map address_in (list_word s list (labels_before call k + 1)) else None)))
+
+-- RESP has an address exactly where it is there: that in the word behind those of the options and of the labels, the last.
 abbrev pub RespHasItsPlace : Type 0
-RespHasItsPlace = (s : Storage) (list : ℕ) (call : Call) → IsCallAt s list call → is_some (resp_place call) ≡ has_resp call.second
+RespHasItsPlace = (s : Storage) (list : ℕ) (call : Call) → IsCallAt s list call
+    → (is_some (resp_place call) ≡ has_resp call.second)
+    × (resp_place call ≡ (if has_resp call.second
+    then option_map address_in (list_word s list (length (arguments_of call) + count_by has_label call.conditions + 1)) else None))

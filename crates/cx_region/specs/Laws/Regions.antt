@@ -1,5 +1,5 @@
 -- What follows from the definitions of events and runs.
-use Rattle.std.specs.Prelude.{◌≡◌, ◌≢◌, ℕ, Bool, true, false, List, ◌++◌, length, take, drop, Result, Err}
+use Rattle.std.specs.Prelude.{Bool, true, ◌≡◌, ◌≢◌, ℕ, false, MatchOption, List, ◌++◌, length, take, drop, Result, Err}
 use Rattle.std.specs.Map.{keys_of}
 use Rattle.cx_code.specs.declared.image.Image.{Image}
 use Rattle.cx_load.specs.declared.program.Loaded.{Loaded}
@@ -8,11 +8,15 @@ use Rattle.cx_region.specs.declared.replies.Event.{Event}
 use Rattle.cx_region.specs.declared.replies.KeyReply.{KeyReply}
 use Rattle.cx_region.specs.declared.replies.KeyReply.TheVariants as key
 use Rattle.cx_region.specs.declared.replies.Reply.{Reply}
-use Rattle.cx_region.specs.declared.replies.TurnReply.{TurnReply}
-use Rattle.cx_region.specs.declared.replies.TurnReply.TheVariants as turn
-use Rattle.cx_region.specs.State.{RegionState, Input}
+use Rattle.cx_state.specs.declared.replies.TurnReply.{TurnReply}
+use Rattle.cx_state.specs.declared.replies.TurnReply.TheVariants as turn
+use Rattle.cx_region.specs.State.{RegionState}
+use Rattle.cx_state.specs.State.{Input}
 use Rattle.cx_region.specs.Names.{is_name4}
 use Rattle.cx_region.specs.Tables.{terminal_of}
+use Rattle.cx_region.specs.Sound.{IsSound}
+use Rattle.cx_service.specs.Resources.{without_owner}
+use Rattle.cx_task.specs.Laws.HalfTurns.{others_areas}
 use Rattle.cx_region.specs.Defining.{DefinesProgram, DefinesTransaction, DefinesTerminal}
 use Rattle.cx_region.specs.Attach.{Keyed, next_number}
 use Rattle.cx_region.specs.Turn.{Turned}
@@ -65,6 +69,11 @@ pub record TurnKeeps (old : RegionState) (name : List ℕ) (new : RegionState) :
   pub date : new.date ≡ old.date
   pub counter : new.counter ≡ old.counter
 
+-- what a turn of a terminal of a sound region leaves beside: the areas and the resources of all others, both ways
+pub record TurnKeepsOthers (old : RegionState) (name : List ℕ) (new : RegionState) : Type 0 where
+  pub areas : MatchOption (terminal_of old name) (new.storage ≡ old.storage) (λ terminal. others_areas terminal.slot new.storage ≡ others_areas terminal.slot old.storage)
+  pub resources : MatchOption (terminal_of old name) (new.resources ≡ old.resources) (λ terminal. without_owner new.resources terminal.slot ≡ without_owner old.resources terminal.slot)
+
 -- the counter of tasks after a key that was answered so: the next number, where a task was attached
 abbrev pub counter_after : KeyReply → ℕ → ℕ
 counter_after key.Attached counter = next_number counter
@@ -85,6 +94,9 @@ pub record KeyKeeps (old : RegionState) (name : List ℕ) (reply : KeyReply) (ne
 
 abbrev pub TurnsKeepToTheirTask : Type 0
 TurnsKeepToTheirTask = (old : RegionState) (name : List ℕ) (reply : TurnReply) (new : RegionState) → Turned old name reply new → TurnKeeps old name new
+
+abbrev pub TurnsKeepOthers : Type 0
+TurnsKeepOthers = (old : RegionState) (name : List ℕ) (reply : TurnReply) (new : RegionState) → IsSound old → Turned old name reply new → TurnKeepsOthers old name new
 
 abbrev pub KeysKeepToTheirTerminal : Type 0
 KeysKeepToTheirTerminal = (old : RegionState) (name : List ℕ) (input : Input) (reply : KeyReply) (new : RegionState) → Keyed old name input reply new → KeyKeeps old name reply new

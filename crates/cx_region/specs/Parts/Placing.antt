@@ -3,12 +3,14 @@ use Rattle.std.specs.Prelude.{◌≡◌, ℕ, ◌^◌, ◌<◌, ◌==◌, true, 
 use Rattle.std.specs.List.{AllByRecursion}
 use Rattle.cx_ebcdic.specs.declared.aids.Aid.{Aid}
 use Rattle.cx_storage.specs.Storage.{Storage, is_of_other_slot}
-use Rattle.cx_region.specs.State.{Input}
+use Rattle.cx_state.specs.State.{Input, TaskState}
 use Rattle.cx_region.specs.declared.attach.StartFault.{StartFault}
 use Rattle.cx_region.specs.declared.attach.StartFault.TheVariants.{Memory, NoStorage}
-use Rattle.cx_region.specs.declared.asking.Places.{Places}
 use Rattle.cx_region.specs.declared.asking.Start.{Start}
-use Rattle.cx_region.specs.Attach.{HasNoPlaces, IsTaskPlace, system_owner}
+use Rattle.cx_state.specs.Areas.{IsTaskPlace, system_owner}
+use Rattle.cx_state.specs.declared.verdict.NewLevel.{NewLevel}
+use Rattle.cx_region.specs.Attach.{ArePlaced, HasNoPlaces, TaskAreas, with_task_areas}
+use Rattle.cx_region.specs.Parts.Asking.{level_of, task_of_start}
 use Rattle.cx_command.specs.Eib.{eib_len}
 
 -- no place for so many bytes; or there is one, and a growth was refused
@@ -26,7 +28,7 @@ AreFaultsOf storage start NoStorage = HasNoPlaces storage (system_owner start.sl
 AreFaultsOf storage start (Memory refused) = IsTaskPlace storage eib_len None → ⊥
 
 -- addresses of 24 bits
-pub record ArePlacesBelow (places : Places) : Type 0 where
+pub record ArePlacesBelow (places : TaskAreas) : Type 0 where
   pub eib : places.eib < 2 ^ 24
   pub commarea : IfSome places.commarea (λ a. a < 2 ^ 24)
   pub stg : places.stg < 2 ^ 24
@@ -38,3 +40,12 @@ IsSlotFree storage slot = AllByRecursion (λ held. is_of_other_slot slot held.ar
 -- an input by its parts
 abbrev pub input_of : Aid → List ℕ → Input
 input_of aid bytes = record { aid = aid; bytes = bytes }
+
+-- a task that is ready to be attached: its areas are made, and it, its level and its input are there
+pub record IsReady (storage : Storage) (start : Start) (number : ℕ) (input : Input) (places : TaskAreas) (level : NewLevel) (task : TaskState) (held : Input) (after : Storage) : Type 0 where
+  pub placed : ArePlaced storage (system_owner start.slot) start.calen start.loaded.stg_len places
+  pub made : after ≡ with_task_areas storage (system_owner start.slot) start.calen start.loaded.stg_len places
+  pub addresses : ArePlacesBelow places
+  pub level_is : level ≡ level_of start places
+  pub task_is : task ≡ task_of_start start number places
+  pub input_is : held ≡ input

@@ -1,32 +1,32 @@
 -- Which line a bad line is, and what was done before it.
-use Rattle.std.specs.Prelude.{◌≡◌, ℕ, ◌+◌, ◌-◌, ◌≤◌, ◌⊎◌, true, false, codes, List, [], ◌∷◌, length, take, slice_get, Option, Some, None, IsSomeAnd}
+use Rattle.std.specs.Prelude.{◌≡◌, ℕ, ◌+◌, ◌-◌, ◌≤◌, ◌⊎◌, true, false, codes, List, [], ◌∷◌, length, take, slice_get, Option, Some, None, Result, Ok, Err, IsSomeAnd}
 use Rattle.std.specs.Str.{bytes_eq}
-use Rattle.cx_script.specs.Actions.{line_of}
-use Rattle.cx_script.specs.Blocks.{step_at}
-use Rattle.cx_script.specs.ImageBlock.{ImageBlock}
-use Rattle.cx_script.specs.Lines.{is_too_long, lines_met}
+use Rattle.cx_actions.specs.Actions.{line_of}
+use Rattle.cx_script.specs.Blocks.{first_line, step_at, with_line}
+use Rattle.cx_script.specs.declared.blocks.Block.{Block}
+use Rattle.cx_lines.specs.Lines.{is_too_long, lines_met}
 use Rattle.cx_script.specs.Script.{Script, script_from, script_of}
-use Rattle.cx_script.specs.Words.{hex_bytes}
 use Rattle.cx_script.specs.declared.blocks.Step.{Step}
+use Rattle.cx_script.specs.declared.faults.RunFault.{RunFault}
 use Rattle.cx_script.specs.declared.faults.RunFault.TheVariants.{BadLine, Read}
-use Rattle.cx_script.specs.declared.input.Ending.{Ending}
-use Rattle.cx_script.specs.declared.input.Ending.TheVariants.{AtEnd, Failed}
+use Rattle.cx_lines.specs.declared.input.Ending.{Ending}
+use Rattle.cx_lines.specs.declared.input.Ending.TheVariants.{AtEnd, Failed}
 
 -- the block that a line leaves to the next one
-abbrev pub block_after : Option Step → Option ImageBlock
-block_after None = None
-block_after (Some step) = step.block
+abbrev pub block_after : Result Step RunFault → Option Block
+block_after (Err fault) = None
+block_after (Ok step) = step.block
 
 -- the block that the line behind these lines is in; the first of them has this number, and is in this block
-unfoldable pub block_behind : ℕ → Option ImageBlock → List (List ℕ) → Option ImageBlock
+unfoldable pub block_behind : ℕ → Option Block → List (List ℕ) → Option Block
 block_behind number block [] = block
 block_behind number block (line ∷ lines) = block_behind (number + 1) (block_after (step_at number block line)) lines
 
 -- A bad line where it stands: it is too long; or it is no line of a script outside a block, and in one neither the
--- block's end nor pairs of hexadecimal digits.
-abbrev pub IsBadIn : Option ImageBlock → List ℕ → Type 0
+-- block's end nor a line that the block may have.
+abbrev pub IsBadIn : Option Block → List ℕ → Type 0
 IsBadIn None line = (is_too_long line ≡ true) ⊎ (line_of line ≡ None)
-IsBadIn (Some block) line = (is_too_long line ≡ true) ⊎ ((bytes_eq line (codes "/*") ≡ false) × (hex_bytes line ≡ None))
+IsBadIn (Some block) line = (is_too_long line ≡ true) ⊎ ((bytes_eq line (codes "/*") ≡ false) × (with_line block line ≡ None))
 
 -- the line with this number is bad where it stands
 abbrev pub IsBadThere : List (List ℕ) → ℕ → Type 0
@@ -34,7 +34,7 @@ IsBadThere lines number = IsSomeAnd (slice_get lines (number - 1)) (IsBadIn (blo
 
 -- it begins a block that the script's end leaves without its own
 abbrev pub IsLeftOpen : Ending → List (List ℕ) → ℕ → Type 0
-IsLeftOpen ending lines number = (ending ≡ AtEnd) × IsSomeAnd (block_behind 1 None lines) (λ block. block.line ≡ number)
+IsLeftOpen ending lines number = (ending ≡ AtEnd) × IsSomeAnd (block_behind 1 None lines) (λ block. first_line block ≡ number)
 
 -- A bad line of these lines: it is one of them, and bad; those in front of it are not, and exactly what they complete
 -- is done.

@@ -1,52 +1,57 @@
--- A run of a script is a run of its events.
+-- A run of a script is a run of its events under EDF.
 use Rattle.std.specs.Prelude.{◌≡◌, ℕ, List, [], ◌∷◌, Option, Some, None}
 use Rattle.std.specs.List.{filter_map, flat_map}
 use Rattle.cx_code.specs.declared.image.Image.{Image}
 use Rattle.cx_load.specs.Facts.Cascade.{fault_of}
 use Rattle.cx_load.specs.declared.fault.ImageFault.{ImageFault}
-use Rattle.cx_region.specs.State.{RegionState}
-use Rattle.cx_region.specs.Events.{Run}
-use Rattle.cx_region.specs.declared.replies.Event.{Event}
 use Rattle.cx_region.specs.declared.replies.Event.TheVariants as event
-use Rattle.cx_region.specs.declared.replies.Reply.{Reply}
-use Rattle.cx_script.specs.Texts.{reply_text}
+use Rattle.cx_edf.specs.declared.answers.Answer.{Answer}
+use Rattle.cx_edf.specs.declared.answers.EdfEvent.{EdfEvent}
+use Rattle.cx_edf.specs.declared.answers.EdfEvent.TheVariants as edf_event
+use Rattle.cx_edf.specs.State.{EdfState}
+use Rattle.cx_edf.specs.Runs.{Trace, last_state}
+use Rattle.cx_actions.specs.Texts.{answer_text}
 use Rattle.cx_script.specs.Transcript.{Runs}
-use Rattle.cx_script.specs.Effects.{Performs}
-use Rattle.cx_script.specs.declared.actions.Action.{Action}
-use Rattle.cx_script.specs.declared.actions.Action.TheVariants as action
+use Rattle.cx_actions.specs.Effects.{Performs}
+use Rattle.cx_actions.specs.declared.actions.Action.{Action}
+use Rattle.cx_actions.specs.declared.actions.Action.TheVariants as action
 
--- the event that an action gives: an image gives one where it has no fault, a screen none
-abbrev pub program_event : Option ImageFault → List ℕ → Image → Option Event
-program_event None name image = Some (event.Program name image)
+-- the event that an action gives: an image gives one where it has no fault, what is shown none
+abbrev pub program_event : Option ImageFault → List ℕ → Image → Option EdfEvent
+program_event None name image = Some (edf_event.Plain (event.Program name image))
 program_event (Some fault) name image = None
 
-abbrev pub event_of : Action → Option Event
+abbrev pub event_of : Action → Option EdfEvent
 event_of (action.Image name image) = program_event (fault_of image) name image
 event_of (action.Event event) = Some event
 event_of (action.Screen name) = None
+event_of (action.Display name) = None
+event_of (action.Previous name k) = None
 
-abbrev pub events_of : List Action → List Event
+abbrev pub events_of : List Action → List EdfEvent
 events_of actions = filter_map event_of actions
 
--- the text of an action that gives an event is that of the event's reply
-abbrev pub IsToldBy : Option Event → List Reply → List ℕ → (List Reply → Type 0) → Type 0
-IsToldBy None replies text Rest = Rest replies
+-- the text of an action that gives an event is that of the event's answer
+abbrev pub IsToldBy : Option EdfEvent → List Answer → List ℕ → (List Answer → Type 0) → Type 0
+IsToldBy None answers text Rest = Rest answers
 IsToldBy (Some event) [] text Rest = ⊥
-IsToldBy (Some event) (reply ∷ replies) text Rest = (text ≡ reply_text event reply) × Rest replies
+IsToldBy (Some event) (answer ∷ answers) text Rest = (text ≡ answer_text event answer) × Rest answers
 
--- the replies, in order, are those that the texts of these actions tell
-unfoldable pub AreTold : List Action → List Reply → List (List ℕ) → Type 0
+-- the answers, in order, are those that the texts of these actions tell
+unfoldable pub AreTold : List Action → List Answer → List (List ℕ) → Type 0
 AreTold [] [] [] = Unit {0}
-AreTold (action ∷ actions) replies (text ∷ texts) = IsToldBy (event_of action) replies text (λ left. AreTold actions left texts)
+AreTold (action ∷ actions) answers (text ∷ texts) = IsToldBy (event_of action) answers text (λ left. AreTold actions left texts)
 AreTold _ _ _ = ⊥
 
--- the region behind the actions is that behind a run of their events, and each reply is the one that was written
-pub record IsRun (old : RegionState) (actions : List Action) (written : List ℕ) (new : RegionState) : Type 0 where
-  pub replies : List Reply
-  pub run : Run old (events_of actions) replies new
+-- the state behind the actions is that behind their events, in order, with the answers that were written
+pub record IsRun (old : EdfState) (actions : List Action) (written : List ℕ) (new : EdfState) : Type 0 where
+  pub answers : List Answer
+  pub states : List EdfState
+  pub trace : Trace old (events_of actions) answers states
+  pub ends : last_state old states ≡ new
   pub texts : List (List ℕ)
   pub whole : written ≡ flat_map (λ text. text) texts
-  pub told : AreTold actions replies texts
+  pub told : AreTold actions answers texts
 
 abbrev pub ScriptsRunTheirEvents : Type 0
-ScriptsRunTheirEvents = (old : RegionState) (actions : List Action) (text : List ℕ) (new : RegionState) → Runs Performs old actions text new → IsRun old actions text new
+ScriptsRunTheirEvents = (old : EdfState) (actions : List Action) (text : List ℕ) (new : EdfState) → Runs Performs old actions text new → IsRun old actions text new

@@ -2,15 +2,14 @@
 use Rattle.std.specs.Prelude.{◌≡◌, ℕ, ◌<◌, Bool, true, false, List, length, take, Option, Some, Result, Err}
 use Rattle.std.specs.Io.KnownBytes.{Consumes}
 use Rattle.std.specs.Result.{result_err}
-use Rattle.cx_region.specs.Defining.{fresh_region}
-use Rattle.cx_script.specs.Effects.{Performs}
-use Rattle.cx_script.specs.Input.{most_bytes}
+use Rattle.cx_actions.specs.Effects.{Performs, fresh_state}
+use Rattle.cx_lines.specs.Input.{most_bytes}
 use Rattle.cx_script.specs.Outcome.{RanScript}
 use Rattle.cx_script.specs.Script.{script_of}
 use Rattle.cx_script.specs.declared.faults.RunFault.{RunFault}
 use Rattle.cx_script.specs.declared.faults.RunFault.TheVariants.{Read, Write, Memory, ReadBound}
 use Rattle.cx_script.specs.declared.faults.Summary.{Summary}
-use Rattle.cx_script.specs.declared.input.Ending.TheVariants.{Failed, PastBound}
+use Rattle.cx_lines.specs.declared.input.Ending.TheVariants.{Failed, PastBound}
 
 -- the run was stopped by want of memory, or by the writer
 abbrev pub was_stopped : Result Summary RunFault → Bool
@@ -22,8 +21,8 @@ was_stopped _ = false
 -- answer and one transcript.
 abbrev pub InputsDecide : Type 0
 InputsDecide = (input : List ℕ) (left_after later : Option (List ℕ)) (failed : Bool) (answer other : Result Summary RunFault) (text : List ℕ) (written_after written_later : Option (List ℕ))
-    → RanScript Performs fresh_region (Some input) left_after failed answer (Some text) written_after
-    → RanScript Performs fresh_region (Some input) later failed other (Some text) written_later
+    → RanScript Performs fresh_state (Some input) left_after failed answer (Some text) written_after
+    → RanScript Performs fresh_state (Some input) later failed other (Some text) written_later
     → (failed ≡ true → left_after ≡ later) → was_stopped answer ≡ false → was_stopped other ≡ false
     → (answer ≡ other) × (written_after ≡ written_later)
 
@@ -36,17 +35,17 @@ pub record IsPastBound (input : List ℕ) (failed : Bool) : Type 0 where
 -- ReadBound comes exactly there
 abbrev pub ReadBoundIsPastTheBound : Type 0
 ReadBoundIsPastTheBound = (input : List ℕ) (left_after : Option (List ℕ)) (failed : Bool) (written written_after : Option (List ℕ))
-    → RanScript Performs fresh_region (Some input) left_after failed (Err ReadBound) written written_after → IsPastBound input failed
+    → RanScript Performs fresh_state (Some input) left_after failed (Err ReadBound) written written_after → IsPastBound input failed
 
 abbrev pub PastTheBoundIsReadBound : Type 0
 PastTheBoundIsReadBound = (input : List ℕ) (left_after : Option (List ℕ)) (failed : Bool) (answer : Result Summary RunFault) (written written_after : Option (List ℕ))
-    → RanScript Performs fresh_region (Some input) left_after failed answer written written_after → IsPastBound input failed → was_stopped answer ≡ false
+    → RanScript Performs fresh_state (Some input) left_after failed answer written written_after → IsPastBound input failed → was_stopped answer ≡ false
     → answer ≡ Err ReadBound
 
 -- Read comes only where a read failed
 abbrev pub ReadIsAFailure : Type 0
 ReadIsAFailure = (left left_after : Option (List ℕ)) (failed : Bool) (written written_after : Option (List ℕ))
-    → RanScript Performs fresh_region left left_after failed (Err Read) written written_after → failed ≡ true
+    → RanScript Performs fresh_state left left_after failed (Err Read) written written_after → failed ≡ true
 
 -- where a read failed, the answer is the first fault of the lines that were read, or Read where they have none
 pub record IsTold (left left_after : Option (List ℕ)) (answer : Result Summary RunFault) : Type 0 where
@@ -56,4 +55,4 @@ pub record IsTold (left left_after : Option (List ℕ)) (answer : Result Summary
 
 abbrev pub FailuresAreTold : Type 0
 FailuresAreTold = (left left_after : Option (List ℕ)) (answer : Result Summary RunFault) (written written_after : Option (List ℕ))
-    → RanScript Performs fresh_region left left_after true answer written written_after → was_stopped answer ≡ false → IsTold left left_after answer
+    → RanScript Performs fresh_state left left_after true answer written written_after → was_stopped answer ≡ false → IsTold left left_after answer

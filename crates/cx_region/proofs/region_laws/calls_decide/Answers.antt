@@ -14,4 +14,4 @@ pub returns-clause-keys : goal.returns-clause-keys
 returns-clause-keys c = key_decides
 
 pub returns-clause-turns : goal.returns-clause-turns
-returns-clause-turns c = turn_decides c.runs_decide.ensures
+returns-clause-turns c = turn_decides c.half_turns_decide.ensures

@@ -1,35 +1,42 @@
-use Rattle.std.proofs.Common.{ap}
-use Rattle.cx_region.specs.State.{RegionState}
+use Rattle.std.proofs.Common.{rules}
 use Rattle.cx_region.specs.Parts.Placing.{input_of}
-use Rattle.cx_region.proofs.SoundAttach.{asked_start, attached_is, entries_at, placed_in, sound_attached, start_free, start_program, storage_at}
+use Rattle.cx_region.proofs.SoundAttach.{asked_start, grows_seen, keyed_attach, keyed_seen, keyed_unplaced, on_refusal, sound_attach, start_free, start_grows, start_program}
 use Rattle.cx_region.proofs.state.Region.attach_task.Goals as goal
 
 pub prepare-prepared-requires-clause-program : goal.prepare-prepared-requires-clause-program
 prepare-prepared-requires-clause-program g c =
-    start_program _ c.args.name c.args.start.now c.self.invariant (asked_start _ c.args.name c.args.bytes.now c.args.start.now (rw c.self.view_is c.requires.asked))
+    start_program _ c.args.name c.args.bytes.now c.args.start.now c.self.invariant (asked_start _ c.args.name c.args.bytes.now c.args.start.now (rw c.self.view_is c.requires.asked))
 
 pub prepare-prepared-requires-clause-free : goal.prepare-prepared-requires-clause-free
 prepare-prepared-requires-clause-free g c =
-    start_free _ c.args.name c.args.start.now c.self.invariant (asked_start _ c.args.name c.args.bytes.now c.args.start.now (rw c.self.view_is c.requires.asked))
+    start_free _ c.args.name c.args.bytes.now c.args.start.now c.self.invariant (asked_start _ c.args.name c.args.bytes.now c.args.start.now (rw c.self.view_is c.requires.asked))
+
+pub returns-in-Err-NoStorage-clause-keyed : goal.returns-in-Err-NoStorage-clause-keyed
+returns-in-Err-NoStorage-clause-keyed g c =
+    keyed_seen _ _ c.args.name _ _ _ c.self.view_is
+    (keyed_unplaced _ c.args.name c.args.start.now (input_of c.args.aid c.args.bytes.now) (asked_start _ c.args.name c.args.bytes.now c.args.start.now (rw c.self.view_is c.requires.asked)) _
+    (search rules)
+    c.prepare-prepared.ensures.rest (on_refusal _ _ _ c.in-Err-NoStorage.is c.prepare-prepared.ensures.err))
+
+pub returns-in-Err-Memory-clause-grows : goal.returns-in-Err-Memory-clause-grows
+returns-in-Err-Memory-clause-grows g c =
+    grows_seen _ _ c.args.name c.args.bytes.now c.self.view_is
+    (start_grows _ c.args.name c.args.bytes.now c.args.start.now (asked_start _ c.args.name c.args.bytes.now c.args.start.now (rw c.self.view_is c.requires.asked))
+    (search rules))
 
 pub invariant_of-self-2 : goal.invariant_of-self-2
 invariant_of-self-2 g c =
-    rw c.next_number-number.ensures
-    (sound_attached _ c.args.name c.args.start.now (input_of c.args.aid c.args.bytes.now) c.in-Ok.ready.places _ _ _ _ c.self.invariant
-    (asked_start _ c.args.name c.args.bytes.now c.args.start.now (rw c.self.view_is c.requires.asked))
-    (g.met.S.Store.sound c.fill_from.new.store) c.in-Ok.ensures.placed
-    (storage_at _ _ _ c.in-Ok.ready.places _ _ c.fill_from.ensures c.in-Ok.ensures.after)
-    (entries_at _ c.self.inside.counter c.args.name c.args.start.now _ _ _ _ c.in-Ok.ready.places _ c.start_at.ensures c.in-Ok.ensures.input c.in-Ok.ensures.task c.next_number-number.ensures))
+    sound_attach _ c.args.name c.args.bytes.now c.args.start.now (asked_start _ c.args.name c.args.bytes.now c.args.start.now (rw c.self.view_is c.requires.asked))
+    (input_of c.args.aid c.args.bytes.now) _ _ c.in-Ok.ready.places c.in-Ok.ready.level _ _ _ c.fill_from.new.shared _ c.self.invariant c.fill_from.ensures.sound c.in-Ok.ensures.ready c.next_number-number.ensures
+    c.prepare-prepared.ensures.rest c.fill_from.ensures.rest c.fill_from.ensures.filled c.start_at.ensures
 
-pub returns-clause-attached : goal.returns-clause-attached
-returns-clause-attached g c = (
-  c.in-Ok.ready.places,
-  placed_in _ _ _ _ _ c.in-Ok.ready.places (ap (λ (r : RegionState). r.storage) c.self.view_is) c.in-Ok.ensures.placed,
-  attached_is _ _ c.args.name c.args.start.now (input_of c.args.aid c.args.bytes.now) c.in-Ok.ready.places _ _ _ _ _ _ c.self.view_is c.next_number-number.ensures
-      c.bytes.ensures.value c.bytes-2.ensures.value c.code.ensures
-      (storage_at _ _ _ c.in-Ok.ready.places _ _ c.fill_from.ensures c.in-Ok.ensures.after)
-      (entries_at _ c.self.inside.counter c.args.name c.args.start.now _ _ _ _ c.in-Ok.ready.places _ c.start_at.ensures c.in-Ok.ensures.input c.in-Ok.ensures.task c.next_number-number.ensures),
-)
+pub returns-clause-keyed : goal.returns-clause-keyed
+returns-clause-keyed g c =
+    keyed_seen _ _ c.args.name _ _ _ c.self.view_is
+    (keyed_attach _ c.args.name c.args.start.now (input_of c.args.aid c.args.bytes.now) _ (asked_start _ c.args.name c.args.bytes.now c.args.start.now (rw c.self.view_is c.requires.asked))
+    _ _ _ c.in-Ok.ready.places c.in-Ok.ready.level _ _ _ c.fill_from.new.shared _ c.in-Ok.ensures.ready c.next_number-number.ensures
+    c.bytes.ensures.value c.bytes-2.ensures.value c.code.ensures
+    c.prepare-prepared.ensures.rest c.fill_from.ensures.rest c.fill_from.ensures.filled c.start_at.ensures)
 
 pub returns-clause-sound : goal.returns-clause-sound
 returns-clause-sound g c = invariant_of-self-2 g c

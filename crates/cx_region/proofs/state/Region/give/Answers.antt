@@ -1,9 +1,19 @@
-use Rattle.cx_region.proofs.SoundAttach.{asked_give, sound_given}
+use Rattle.cx_region.proofs.EventLemmas.{on_err}
+use Rattle.cx_region.proofs.SoundAttach.{asked_give, given_grows, grows_seen, keyed_give, keyed_seen, sound_give}
 use Rattle.cx_region.proofs.state.Region.give.Goals as goal
+
+pub returns-in_err-input-clause-grows : goal.returns-in_err-input-clause-grows
+returns-in_err-input-clause-grows g c =
+    on_err _ _ (grows_seen _ _ c.args.name c.args.bytes.now c.self.view_is (given_grows _ c.args.name c.args.bytes.now (asked_give _ c.args.name c.args.bytes.now (rw c.self.view_is c.requires.asked))))
 
 pub invariant_of-self : goal.invariant_of-self
 invariant_of-self g c =
-    sound_given _ c.args.name _ _ c.self.invariant (asked_give _ c.args.name c.args.bytes.now (rw c.self.view_is c.requires.asked)) c.give_at.ensures
+    sound_give _ c.args.name (asked_give _ c.args.name c.args.bytes.now (rw c.self.view_is c.requires.asked)) _ _ c.self.invariant c.give_at.ensures
+
+pub returns-clause-keyed : goal.returns-clause-keyed
+returns-clause-keyed g c =
+    keyed_seen _ _ c.args.name _ _ _ c.self.view_is
+    (keyed_give _ c.args.name (asked_give _ c.args.name c.args.bytes.now (rw c.self.view_is c.requires.asked)) _ _ _ c.give_at.ensures c.in_ok-input.ensures)
 
 pub returns-clause-sound : goal.returns-clause-sound
 returns-clause-sound g c = invariant_of-self g c

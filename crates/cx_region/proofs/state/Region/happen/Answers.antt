@@ -1,6 +1,6 @@
 use Rattle.std.proofs.Common.{Err, ap, sym, subst, ◌∙◌}
 use Rattle.cx_region.specs.Events.{MayTakeMemory}
-use Rattle.cx_region.proofs.EventLemmas.{key_memory, on_err, program_memory, terminal_memory, transaction_memory, turn_memory}
+use Rattle.cx_region.proofs.EventLemmas.{program_memory, terminal_memory, transaction_memory}
 use Rattle.cx_region.proofs.state.Region.happen.Goals as goal
 
 pub returns-in-Err-Memory-clause-memory : goal.returns-in-Err-Memory-clause-memory
@@ -17,12 +17,3 @@ pub returns-in-Err-Memory-define_terminal-clause-memory : goal.returns-in-Err-Me
 returns-in-Err-Memory-define_terminal-clause-memory g c =
     subst (MayTakeMemory c.args.self.now) (sym c.in-Terminal.is)
     (terminal_memory _ _ _ c.define_terminal.ensures.refused (c.in-Err-Memory-define_terminal.is ∙ ap Err c.in-Err-Memory-define_terminal.field-0-is))
-
-pub returns-in_err-reply-in-Key-clause-memory : goal.returns-in_err-reply-in-Key-clause-memory
-returns-in_err-reply-in-Key-clause-memory g c =
-    let grows = rw c.as_slice.ensures at c.in_err-reply-in-Key.ensures.tested in
-    on_err _ _ (subst (MayTakeMemory c.args.self.now) (sym c.in-Key.is) (key_memory _ _ _ _ grows))
-
-pub returns-in_err-reply-in-Turn-clause-memory : goal.returns-in_err-reply-in-Turn-clause-memory
-returns-in_err-reply-in-Turn-clause-memory g c =
-    on_err _ _ (subst (MayTakeMemory c.args.self.now) (sym c.in-Turn.is) (turn_memory _ _ _ _ c.turn.ensures.succeeds c.in_err-reply-in-Turn.was))

@@ -15,4 +15,4 @@ returns-in-Err-clause-ends g c =
 pub returns-clause-ends : goal.returns-clause-ends
 returns-clause-ends g c =
     let one = rw c.as_slice.ensures.value at c.in-Some.ensures in
-    finished_line g.P.Stage.performs _ _ _ _ _ _ _ _ _ _ _ _ c.requires.unbroken (sym one) c.in_default-take_line.ensures.taken c.in_default-take_line.ensures.lines c.end-2.ensures.value
+    finished_line g.P.Stage.performs _ _ _ _ _ _ _ _ _ _ _ _ c.requires.unbroken (sym one) c.in_default-take_last.ensures.taken c.in_default-take_last.ensures.lines c.end-2.ensures.value

@@ -1,5 +1,5 @@
 use Rattle.std.proofs.Common.{ℕ, arith, ap, length, length-append}
-use Rattle.cx_script.proofs.LineLemmas.{unbroken_nil}
+use Rattle.cx_lines.specs.Facts.Lines.{unbroken_nil}
 use Rattle.cx_script.proofs.PieceLemmas.{came_start, kept_stopped, piece_line, piece_line_stopped}
 use Rattle.cx_script.proofs.run.Run.take_piece.Goals as goal
 
@@ -24,4 +24,5 @@ lines-preserved g c =
 
 pub returns-clause-err : goal.returns-clause-err
 returns-clause-err g c =
-    kept_stopped g.P.Stage.performs _ _ _ _ _ _ _ _ _ _ _ _ c.lines.invariant.3 c.lines.invariant.1 c.in_default.ensures.none c.keep.ensures.fault c.keep.ensures.long
+    rw c.keep.ensures.progress
+    (kept_stopped g.P.Stage.performs _ _ _ _ _ _ _ _ _ _ _ _ c.lines.invariant.3 c.lines.invariant.1 c.in_default.ensures.none c.keep.ensures.fault c.keep.ensures.long)

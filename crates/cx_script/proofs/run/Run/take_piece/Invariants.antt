@@ -1,6 +1,7 @@
 use Rattle.std.proofs.Common.{◌≡◌, ◌+◌, ◌≤◌, ◌++◌, false, length}
+use Rattle.cx_lines.specs.Devices.{told}
 use Rattle.cx_script.specs.Parts.Progress.{Came}
-use Rattle.cx_script.specs.Parts.Unbroken.{IsUnbroken}
+use Rattle.cx_lines.specs.Unbroken.{IsUnbroken}
 use Rattle.cx_script.proofs.run.Run.take_piece.Given as goal
 
 abbrev pub invariant-lines : goal.invariant-lines
@@ -9,7 +10,8 @@ invariant-lines g l =
     × IsUnbroken l.self.part.items
     × (l.self.progress.lines + length l.rest ≤ l.initial.self.progress.lines + length l.piece)
     × Came g.P.Stage.performs l.initial.self.progress.stage l.initial.self.progress.lines l.initial.self.progress.block (l.initial.self.part.items ++ l.piece)
-    (g.W.ScriptOut.written l.initial.writer) l.self.progress.stage l.self.progress.lines l.self.progress.block (l.self.part.items ++ l.rest) (g.W.ScriptOut.written l.writer)
+    (told (g.W.ScriptOut.written l.initial.writer) l.initial.self.progress.waiting) l.self.progress.stage l.self.progress.lines l.self.progress.block (l.self.part.items ++ l.rest)
+    (told (g.W.ScriptOut.written l.writer) l.self.progress.waiting)
 
 abbrev pub decreases-lines : goal.decreases-lines
 decreases-lines g l = length l.rest

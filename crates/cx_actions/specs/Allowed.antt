@@ -1,0 +1,15 @@
+-- Which actions may be asked of a region (own).
+use Rattle.cx_edf.specs.Runs.{IsAllowedEdf}
+use Rattle.cx_actions.specs.declared.actions.Action.{Action}
+use Rattle.cx_actions.specs.declared.actions.Action.TheVariants as action
+use Rattle.cx_actions.specs.declared.actions.Line.{Line}
+use Rattle.cx_actions.specs.declared.actions.Line.TheVariants as line
+
+-- an event as the region takes it
+abbrev pub IsAllowed : Action → Type 0
+IsAllowed (action.Event event) = IsAllowedEdf event
+IsAllowed _ = Unit {0}
+
+abbrev pub IsAllowedLine : Line → Type 0
+IsAllowedLine (line.Action a) = IsAllowed a
+IsAllowedLine _ = Unit {0}

@@ -1,0 +1,6 @@
+-- The definitions, in reading order.
+pub mod Words
+pub mod Actions
+pub mod Allowed
+pub mod Texts
+pub mod Effects

@@ -1,0 +1,131 @@
+//! What actions do to a region under EDF.
+
+ghost use Rattle.std.specs.Prelude.{◌≡◌, ℕ, List, IfOk};
+ghost use Rattle.cx_edf.specs.Runs.{IsAllowedEdf};
+ghost use Rattle.cx_actions.specs.Allowed.{IsAllowed};
+ghost use Rattle.cx_actions.specs.declared.actions.Action.{Action};
+ghost use Rattle.cx_actions.specs.Effects.{Performs, Replies, main_page_back, page_of, screen_of, shown_page};
+ghost use Rattle.cx_actions.specs.Texts.{display_text, screen_text};
+ghost use Rattle.cx_actions.specs.declared.actions.Action.TheVariants as action;
+
+use crate::actions::Action;
+use crate::texts::{answer_text, display_text, refused_image, screen_text};
+use cx_code::Image;
+use cx_ebcdic::{Name4, Name8};
+use cx_edf::{Debugged, Display, EdfEvent, PageName};
+use cx_load::check;
+use cx_region::Event;
+use cx_storage::Store;
+use cx_text::Page;
+use std::alloc::{AllocError, Global};
+
+/// What the actions of a script are performed on.
+pub trait Stage {
+    /// One action: the state before, the action, what is written for it, and the state after.
+    ghost performs: { Self → Action → List ℕ → Self → Type 0 };
+
+    /// Performs an action, and gives what is written for it.
+    fn perform(&mut self, alloc: Global, action: Action) -> Result<Vec<u8>, AllocError>
+        requires { IsAllowed action }
+        ensures { IfOk result (λ text. performs self.old action text.items self.new) };
+}
+
+/// Does an event, and gives the text of its answer.
+#[tactic(auto, using(crate::proofs::EffectLemmas::event_replied))]
+fn do_event<S: Store + Drop>(
+    region: &mut Debugged<S>,
+    alloc: Global,
+    event: &EdfEvent,
+) -> Result<Vec<u8>, AllocError>
+    requires { IsAllowedEdf event.now }
+    ensures { IfOk result (λ text. Replies region.old event.now text.items region.new) }
+{
+    let answer = region.happen(event)?;
+    answer_text(alloc, event, answer)
+}
+
+/// Defines a program from an image, which is checked before.
+#[tactic(auto, using(crate::proofs::EffectLemmas::image_refused, crate::proofs::EffectLemmas::image_defined))]
+fn define_image<S: Store + Drop>(
+    region: &mut Debugged<S>,
+    alloc: Global,
+    name: Name8,
+    image: Image,
+) -> Result<Vec<u8>, AllocError>
+    ensures { IfOk result (λ text. Performs region.old (action.Image name image) text.items region.new) }
+{
+    match check(image) {
+        Ok(checked) => do_event(
+            region,
+            alloc,
+            &EdfEvent::Plain(Event::Program(name, checked)),
+        ),
+        Err((_, fault)) => refused_image(alloc, name, fault),
+    }
+}
+
+/// Shows the screen of a terminal.
+fn show_screen<S: Store + Drop>(
+    region: &Debugged<S>,
+    alloc: Global,
+    name: Name4,
+) -> Result<Vec<u8>, AllocError>
+    ensures { IfOk result (λ text. text.items ≡ screen_text name (screen_of region.now.region name)) }
+{
+    screen_text(alloc, name, region.screen(name))
+}
+
+/// The page of a display that has this name.
+fn page_of(display: &Display, page: PageName) -> &Page
+    ensures { result.now ≡ page_of display.now page }
+{
+    match page {
+        PageName::Main => &display.main,
+        PageName::Storage => &display.storage,
+        PageName::User => &display.user,
+    }
+}
+
+/// Shows the page that EDF shows at a terminal.
+fn show_display<S: Store + Drop>(
+    region: &Debugged<S>,
+    alloc: Global,
+    name: Name4,
+) -> Result<Vec<u8>, AllocError>
+    ensures { IfOk result (λ text. text.items ≡ display_text name (shown_page region.now name)) }
+{
+    match region.display(name) {
+        Some((display, view)) => display_text(alloc, name, Some(page_of(display, view.page))),
+        None => display_text(alloc, name, None),
+    }
+}
+
+/// Shows the main page of the display that is so many before a terminal's newest.
+fn show_previous<S: Store + Drop>(
+    region: &Debugged<S>,
+    alloc: Global,
+    name: Name4,
+    back: usize,
+) -> Result<Vec<u8>, AllocError>
+    ensures { IfOk result (λ text. text.items ≡ display_text name (main_page_back region.now name back)) }
+{
+    match region.previous(name, back) {
+        Some(display) => display_text(alloc, name, Some(&display.main)),
+        None => display_text(alloc, name, None),
+    }
+}
+
+impl<S: Store + Drop> Stage for Debugged<S> {
+    ghost performs = { Performs };
+
+    #[tactic(auto, using(crate::proofs::EffectLemmas::event_done, crate::proofs::EffectLemmas::screen_shown, crate::proofs::EffectLemmas::display_shown, crate::proofs::EffectLemmas::previous_shown))]
+    fn perform(&mut self, alloc: Global, action: Action) -> Result<Vec<u8>, AllocError> {
+        match action {
+            Action::Image(name, image) => define_image(self, alloc, name, image),
+            Action::Event(event) => do_event(self, alloc, &event),
+            Action::Screen(name) => show_screen(self, alloc, name),
+            Action::Display(name) => show_display(self, alloc, name),
+            Action::Previous(name, back) => show_previous(self, alloc, name, back),
+        }
+    }
+}

@@ -1,0 +1,10 @@
+//! What the lines of a script ask, what it does to a region, and what is written for it.
+#![tactic(auto)]
+
+mod actions;
+mod effects;
+mod texts;
+mod words;
+
+pub use actions::{Action, Line, Verb, line_of};
+pub use effects::Stage;

@@ -1,0 +1,105 @@
+//! What a command reports: in the EXEC interface block, and then in RESP's word.
+ghost use Rattle.std.specs.Prelude.{◌≡◌, ◌<◌, ◌^◌, Some, None, IfSome};
+ghost use Rattle.cx_call.specs.Answer.{answered, one_byte, resource_of, with_eib, with_resp, with_set};
+
+use crate::call::Call;
+use crate::eib::{put, put_calen};
+use crate::inputs::name8;
+use cx_command::{EibField, OptionName};
+use cx_ebcdic::Name8;
+use cx_storage::Store;
+
+/// What a command reports.
+#[derive(Clone, Copy, Debug, PartialEq, Eq)]
+pub struct Answer {
+    /// The function value of the command behind which the program goes on.
+    pub function: u16,
+    /// The condition's number.
+    pub condition: u8,
+    /// The resource that EIBRSRCE names, where the command has one.
+    pub resource: Option<Name8>,
+    /// The EIBAID that the command sets, if it sets one: the code of a key.
+    pub aid: Option<u8>,
+    /// The EIBCALEN that it sets, if it sets one.
+    pub calen: Option<u16>,
+}
+
+/// The resource that EIBRSRCE names: the program or the queue of the commands that have one. None for all other
+/// commands, and where one of the name's bytes is in no area.
+#[tactic(auto, unfolding(crate::specs::Answer::resource_of))]
+pub fn resource<S: Store>(store: &S, call: &Call) -> Option<Name8>
+    ensures { result ≡ resource_of (S.storage store.now) call.now }
+{
+    let program = name8(store, call, OptionName::Program);
+    let queue = name8(store, call, OptionName::Queue);
+    program.or(queue)
+}
+
+/// Writes EIBRSRCE, where the command has a resource.
+#[tactic(auto, unfolding(crate::specs::Answer::with_set))]
+fn put_resource<S: Store>(store: &mut S, eib: u32, resource: Option<Name8>)
+    requires { eib < 2 ^ 24 }
+    ensures { S.storage store.new ≡ with_set (S.storage store.old) eib EibField.Rsrce resource }
+{
+    if let Some(resource) = resource {
+        put(store, eib, EibField::Rsrce, &resource.bytes());
+    }
+}
+
+/// Writes EIBAID, where the command sets it.
+#[tactic(auto, unfolding(crate::specs::Answer::with_set))]
+fn put_aid<S: Store>(store: &mut S, eib: u32, aid: Option<u8>)
+    requires { eib < 2 ^ 24 }
+    ensures { S.storage store.new ≡ with_set (S.storage store.old) eib EibField.Aid (one_byte aid) }
+{
+    if let Some(aid) = aid {
+        put(store, eib, EibField::Aid, &[aid]);
+    }
+}
+
+/// Writes the fields of the EIB that a command reports in.
+#[tactic(auto, unfolding(crate::specs::Answer::with_eib))]
+fn put_eib<S: Store>(store: &mut S, eib: u32, answer: &Answer)
+    requires { eib < 2 ^ 24 }
+    ensures { S.storage store.new ≡ with_eib (S.storage store.old) eib answer.now }
+{
+    put(store, eib, EibField::Fn, &answer.function.to_be_bytes());
+    put(
+        store,
+        eib,
+        EibField::Rcode,
+        &[answer.condition, 0, 0, 0, 0, 0],
+    );
+    put(
+        store,
+        eib,
+        EibField::Resp,
+        &u32::from(answer.condition).to_be_bytes(),
+    );
+    put_resource(store, eib, answer.resource);
+    put_aid(store, eib, answer.aid);
+    put_calen(store, eib, answer.calen);
+}
+
+/// Writes RESP's word, where RESP is there.
+#[tactic(auto, unfolding(crate::specs::Answer::with_resp))]
+fn put_resp<S: Store>(store: &mut S, place: Option<u32>, condition: u8)
+    requires { IfSome place (λ place. place < 2 ^ 24) }
+    ensures { S.storage store.new ≡ with_resp (S.storage store.old) place condition }
+{
+    if let Some(place) = place {
+        store.write(place, &u32::from(condition).to_be_bytes());
+    }
+}
+
+/// Writes a command's report: into the EIB at an address (below 2^24) EIBFN, EIBRCODE and EIBRESP, and EIBRSRCE, EIBAID
+/// and EIBCALEN where the command sets them; then RESP's word, over whatever stands there. Each is written where all its
+/// bytes are in storage. No other byte changes.
+#[tactic(auto, unfolding(crate::specs::Answer::answered))]
+pub fn put_answer<S: Store>(store: &mut S, eib: u32, call: &Call, answer: &Answer)
+    requires { eib < 2 ^ 24 }
+    ensures { S.storage store.new ≡ answered (S.storage store.old) eib call.now answer.now }
+{
+    put_eib(store, eib, answer);
+    put_resp(store, call.resp(), answer.condition);
+}

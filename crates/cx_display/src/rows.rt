@@ -1,0 +1,92 @@
+//! Bytes of storage as a display shows them.
+ghost use Rattle.std.specs.Prelude.{◌≡◌, ◌<◌};
+ghost use Rattle.cx_display.specs.Texts.{character_at, character_group, character_of, hex_at, hex_group, hex_of};
+
+use cx_region::Region;
+use cx_storage::{Store, along};
+use cx_text::{hexadecimal, in_columns, shown_byte};
+
+/// A byte in hexadecimal; an absent one is two hyphens.
+#[tactic(auto, unfolding(crate::specs::Texts::hex_of))]
+fn hex_of(byte: Option<u8>) -> [u8; 2]
+    ensures { result ≡ hex_of byte }
+{
+    match byte {
+        Some(byte) => hexadecimal::<2>(u32::from(byte)),
+        None => *b"--",
+    }
+}
+
+/// The character of a byte; that of an absent one is a hyphen.
+#[tactic(auto, unfolding(crate::specs::Texts::character_of))]
+fn character_of(byte: Option<u8>) -> [u8; 1]
+    ensures { result ≡ character_of byte }
+{
+    match byte {
+        Some(byte) => [shown_byte(byte)],
+        None => *b"-",
+    }
+}
+
+/// A byte of a row of so many, in hexadecimal; blanks stand for one behind its end.
+#[tactic(auto, unfolding(crate::specs::Texts::hex_at))]
+pub(crate) fn hex_at<S: Store + Drop>(
+    region: &Region<S>,
+    address: u32,
+    count: u32,
+    k: u32,
+) -> [u8; 2]
+    ensures { result ≡ hex_at region.now.storage address count k }
+{
+    if k >= count {
+        return *b"  ";
+    }
+    hex_of(region.byte(along(address, k)))
+}
+
+/// The character of a byte of a row of so many; a blank stands for one behind its end.
+#[tactic(auto, unfolding(crate::specs::Texts::character_at))]
+fn character_at<S: Store + Drop>(region: &Region<S>, address: u32, count: u32, k: u32) -> [u8; 1]
+    ensures { result ≡ character_at region.now.storage address count k }
+{
+    if k >= count {
+        return *b" ";
+    }
+    character_of(region.byte(along(address, k)))
+}
+
+/// Four bytes of a row of so many, in hexadecimal.
+#[tactic(auto, unfolding(crate::specs::Texts::hex_group))]
+pub(crate) fn hex_group<S: Store + Drop>(
+    region: &Region<S>,
+    address: u32,
+    count: u32,
+    k: u32,
+) -> [u8; 8]
+    requires { k < 16 }
+    ensures { result ≡ hex_group region.now.storage address count k }
+{
+    let a = hex_at(region, address, count, k);
+    let b = hex_at(region, address, count, k + 1);
+    let c = hex_at(region, address, count, k + 2);
+    let d = hex_at(region, address, count, k + 3);
+    in_columns::<8>(&[&a, &b, &c, &d])
+}
+
+/// The characters of four bytes of a row of so many.
+#[tactic(auto, unfolding(crate::specs::Texts::character_group))]
+pub(crate) fn character_group<S: Store + Drop>(
+    region: &Region<S>,
+    address: u32,
+    count: u32,
+    k: u32,
+) -> [u8; 4]
+    requires { k < 16 }
+    ensures { result ≡ character_group region.now.storage address count k }
+{
+    let a = character_at(region, address, count, k);
+    let b = character_at(region, address, count, k + 1);
+    let c = character_at(region, address, count, k + 2);
+    let d = character_at(region, address, count, k + 3);
+    in_columns::<4>(&[&a, &b, &c, &d])
+}

@@ -1,0 +1,31 @@
+use Rattle.std.proofs.Common.{Err, arith, subst, ◌≡◌, Result, Ok, IsOk}
+use Rattle.cx_region.specs.Sound.{IsSound}
+use Rattle.cx_edf.specs.State.{EdfState}
+use Rattle.cx_edf.proofs.RunLemmas.{run_more, run_none, run_stopped, run_unbegun}
+use Rattle.cx_edf.proofs.debugged.Debugged.run.Goals as goal
+
+not_ok : {A E : Type 0} (r : Result A E) (e : E) → r ≡ Err e → IsOk r → ⊥
+not_ok (Ok a) e is ok = cc
+not_ok (Err f) e is ok = cc
+
+pub returns-in_default-clause-stopped : goal.returns-in_default-clause-stopped
+returns-in_default-clause-stopped g c =
+    run_unbegun c.args.self.now c.args.events.now (λ none. not_ok c.with_capacity.result _ c.in_default.is (c.with_capacity.ensures.succeeds none))
+
+pub loop-i-init : goal.loop-i-init
+loop-i-init g c =
+    (rw c.in-Ok.ensures.items (run_none c.args.self.now c.args.events.now), subst (λ (s : EdfState). IsSound s.region) c.self.view_is c.self.invariant, c.in-Ok.ensures.len, c.in-Ok.ensures.capacity)
+
+pub loop-i-preserved : goal.loop-i-preserved
+loop-i-preserved g c = (
+  rw c.push_reserved.ensures.items
+      (run_more c.args.self.now c.loop-i.self c.happen.new.self c.args.events.now c.loop-i.i c.index-events-i.result _ c.in-Ok-happen.given c.loop-i-test.true c.index-events-i.is c.loop-i.invariant.0 c.in-Ok-happen.ensures.happens),
+  c.in-Ok-happen.ensures.sound,
+  omega (arith, c.push_reserved.ensures.len, c.loop-i.invariant.2),
+  rw c.push_reserved.ensures.capacity c.loop-i.invariant.3,
+)
+
+pub returns-in_default-happen-clause-stopped : goal.returns-in_default-happen-clause-stopped
+returns-in_default-happen-clause-stopped g c =
+    run_stopped c.args.self.now c.loop-i.self c.happen.new.self c.args.events.now c.loop-i.i c.index-events-i.result _ c.loop-i-test.true c.index-events-i.is
+    c.loop-i.invariant.0 c.in_default-happen.ensures.err c.in_default-happen.ensures.memory

@@ -1,0 +1,21 @@
+-- A region under EDF (own).
+use Rattle.std.specs.Prelude.{ℕ, Bool, ◌&&◌, List, Option, is_some}
+use Rattle.cx_region.specs.State.{RegionState}
+use Rattle.cx_region.specs.Tables.{task_of}
+use Rattle.cx_edf.specs.Sessions.{SessionState, Sessions, is_stopped_in, session_in}
+
+pub record EdfState : Type 0 where
+  pub region : RegionState
+  pub sessions : Sessions
+
+-- the session of a terminal
+abbrev pub session_at : EdfState → List ℕ → Option SessionState
+session_at state name = session_in state.sessions name
+
+-- a terminal is in Stopped
+abbrev pub stopped_at : EdfState → List ℕ → Bool
+stopped_at state name = is_stopped_in state.sessions name
+
+-- a terminal is in Stopped, and has a live task: its turns are held
+abbrev pub holds : EdfState → List ℕ → Bool
+holds state name = stopped_at state name && is_some (task_of state.region name)

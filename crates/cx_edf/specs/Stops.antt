@@ -1,0 +1,96 @@
+-- Where a task stops under suppression (own).
+use Rattle.std.specs.Prelude.{ℕ, Bool, true, false, ◌||◌, ◌&&◌, ◌==◌, List, [], ◌∷◌, length, fold, codes, Option, Some, None, if◌then◌else◌}
+use Rattle.std.specs.List.{find, list_all, slice_split, zip}
+use Rattle.std.specs.Option.{option_map}
+use Rattle.cx_ebcdic.specs.Characters.{shown_as}
+use Rattle.cx_command.specs.declared.conditions.Condition.{Condition}
+use Rattle.cx_command.specs.declared.conditions.Condition.TheVariants as condition
+use Rattle.cx_display.specs.declared.stops.Kind.{Kind}
+use Rattle.cx_display.specs.declared.stops.Kind.TheVariants as kind
+use Rattle.cx_display.specs.declared.stops.Ending.TheVariants as ending
+use Rattle.cx_edf.specs.declared.stop_words.StopWord.{StopWord}
+use Rattle.cx_edf.specs.declared.stop_words.StopWord.TheVariants as word
+use Rattle.cx_edf.specs.declared.stop_words.Stops.{Stops}
+
+-- a stop condition as an operator enters it
+abbrev pub stop_word_name : StopWord → List ℕ
+stop_word_name word.Abend = codes "ABEND"
+stop_word_name word.End = codes "END"
+stop_word_name word.Error = codes "ERROR"
+stop_word_name word.Invreq = codes "INVREQ"
+stop_word_name word.Nospace = codes "NOSPACE"
+stop_word_name word.Lengerr = codes "LENGERR"
+stop_word_name word.Itemerr = codes "ITEMERR"
+stop_word_name word.Pgmiderr = codes "PGMIDERR"
+stop_word_name word.Nostg = codes "NOSTG"
+stop_word_name word.Qiderr = codes "QIDERR"
+stop_word_name word.Enqbusy = codes "ENQBUSY"
+
+abbrev pub stop_words : List StopWord
+stop_words =
+    word.Abend ∷ word.End ∷ word.Error ∷ word.Invreq ∷ word.Nospace ∷ word.Lengerr ∷ word.Itemerr ∷ word.Pgmiderr ∷ word.Nostg ∷ word.Qiderr ∷ word.Enqbusy ∷ []
+
+-- bytes are shown as a text: they are as many, and each is shown as its character
+abbrev pub is_shown_as : List ℕ → List ℕ → Bool
+is_shown_as text bytes = (length bytes == length text) && list_all (λ p. shown_as p.0 == p.1) (zip bytes text)
+
+-- the stop condition that bytes spell
+unfoldable pub stop_word_of : List ℕ → Option StopWord
+stop_word_of bytes = find (λ w. is_shown_as (stop_word_name w) bytes) stop_words
+
+-- no stop condition, and those of a new session: ABEND alone
+abbrev pub no_stops : Stops
+no_stops =
+    record { abend = false; end = false; error = false; invreq = false; nospace = false; lengerr = false; itemerr = false; pgmiderr = false; nostg = false; qiderr = false; enqbusy = false }
+
+abbrev pub stops_at_first : Stops
+stops_at_first = record no_stops { abend = true }
+
+-- these and one more
+abbrev pub with_stop : Stops → StopWord → Stops
+with_stop stops word.Abend = record stops { abend = true }
+with_stop stops word.End = record stops { end = true }
+with_stop stops word.Error = record stops { error = true }
+with_stop stops word.Invreq = record stops { invreq = true }
+with_stop stops word.Nospace = record stops { nospace = true }
+with_stop stops word.Lengerr = record stops { lengerr = true }
+with_stop stops word.Itemerr = record stops { itemerr = true }
+with_stop stops word.Pgmiderr = record stops { pgmiderr = true }
+with_stop stops word.Nostg = record stops { nostg = true }
+with_stop stops word.Qiderr = record stops { qiderr = true }
+with_stop stops word.Enqbusy = record stops { enqbusy = true }
+
+-- whether a condition is named
+abbrev pub names : Stops → Condition → Bool
+names stops condition.Normal = false
+names stops condition.Error = stops.error
+names stops condition.Invreq = stops.invreq
+names stops condition.Nospace = stops.nospace
+names stops condition.Lengerr = stops.lengerr
+names stops condition.Itemerr = stops.itemerr
+names stops condition.Pgmiderr = stops.pgmiderr
+names stops condition.Nostg = stops.nostg
+names stops condition.Qiderr = stops.qiderr
+names stops condition.Enqbusy = stops.enqbusy
+
+-- What is taken under suppression: after NORMAL nothing, after another condition what is named, or all where ERROR is.
+unfoldable pub takes : Stops → Kind → Bool
+takes stops kind.Before = false
+takes stops (kind.After condition.Normal) = false
+takes stops (kind.After c) = stops.error || names stops c
+takes stops (kind.Exit code) = stops.abend
+takes stops (kind.Over ending.Ended) = stops.end
+takes stops (kind.Over (ending.Abended code)) = stops.abend
+
+-- the words of a text are its parts between blanks
+abbrev pub is_blank : ℕ → Bool
+is_blank byte = byte == 0x40
+
+-- stop conditions and that of one more part: an empty part is none, and there are none where a word isn't one
+abbrev pub with_part : Option Stops → List ℕ → Option Stops
+with_part None part = None
+with_part (Some stops) part = if length part == 0 then Some stops else option_map (with_stop stops) (stop_word_of part)
+
+-- the stop conditions that a text names
+unfoldable pub stops_named : List ℕ → Option Stops
+stops_named text = fold with_part (Some no_stops) (slice_split is_blank text)

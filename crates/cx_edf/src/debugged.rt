@@ -1,0 +1,260 @@
+//! A region under EDF.
+ghost use Rattle.std.specs.Prelude.{◌≡◌, ◌≢◌, ◌≤◌, [], false, true, length, is_some, None, Ok, Err, IfOk, IfErr, IsErrOf, IsOk, IsSomeAnd, MatchOption, OnErr, option_map};
+ghost use Rattle.std.specs.Option.{option_and_then, option_copied};
+ghost use Rattle.cx_storage.specs.Storage.{byte_at};
+ghost use Rattle.cx_region.specs.Events.{IsAllowed, MayTakeMemory};
+ghost use Rattle.cx_region.specs.Looking.{Shows};
+ghost use Rattle.cx_region.specs.Sound.{IsSound};
+ghost use Rattle.cx_region.specs.Tables.{task_of, terminal_of};
+ghost use Rattle.cx_region.specs.declared.replies.Event.TheVariants as event;
+ghost use Rattle.cx_region.specs.declared.replies.Reply.TheVariants as reply;
+ghost use Rattle.cx_edf.specs.Answers.{key_answer, turn_answer};
+ghost use Rattle.cx_edf.specs.Runs.{MayTakeEdf};
+ghost use Rattle.cx_edf.specs.Sessions.{nth_back, shown_of};
+ghost use Rattle.cx_edf.specs.State.{holds, session_at, stopped_at};
+ghost use Rattle.cx_edf.specs.Steps.{EdfHappens, Through};
+ghost use Rattle.cx_edf.specs.declared.answers.EdfEvent.TheVariants as edf_event;
+ghost use Rattle.cx_edf.specs.declared.answers.Answer.TheVariants as answer;
+
+use crate::answers::{Answer, EdfReply, KeyAnswer, TurnAnswer};
+use crate::modes::View;
+use crate::sessions::Session;
+use crate::{below, table};
+use cx_display::Display;
+use cx_ebcdic::{Aid, Name4, Name8};
+use cx_load::{CheckedImage, Loaded};
+use cx_region::{DefineFault, Event, Region, TaskInfo};
+use cx_service::Screen;
+use cx_storage::Store;
+use indexmap::IndexMap;
+use std::alloc::{AllocError, Global};
+use std::marker::Model;
+
+/// A region under EDF: each terminal is Off, or has a session.
+#[derive(Drop)]
+pub struct Debugged<S: Store + Drop> {
+    pub(crate) alloc: Global,
+    pub(crate) region: Region<S>,
+    pub(crate) sessions: IndexMap<Name4, Session>,
+}
+
+impl<S: Store + Drop> Model for Debugged<S> {
+    ghost use Rattle.cx_region.specs.Sound.{IsSound};
+    ghost use Rattle.cx_edf.specs.State.{EdfState};
+
+    ghost Value = { EdfState };
+
+    ghost view = { λ d. record { region = d.region; sessions = d.sessions.entries } };
+
+    ghost invariant = { λ d. IsSound d.region };
+}
+
+impl<S: Store + Drop> Debugged<S> {
+    /// The region, with EDF Off at each terminal. It takes no memory.
+    pub fn new(alloc: Global, region: Region<S>) -> Debugged<S>
+        requires { IsSound region }
+        ensures region { result.region ≡ region }
+        ensures off { result.sessions ≡ [] }
+    {
+        Debugged {
+            alloc,
+            region,
+            sessions: IndexMap::new(alloc),
+        }
+    }
+
+    /// A key of a terminal with the bytes that it sends, at most 1,920. In Stopped it is EDF's; else it is the region's.
+    ///
+    /// ENTER lets the task go on, PF3 ends the session, PF4 goes on under suppression. PF5 and PF6 show the storage or the
+    /// user page, or the main page where that page is shown; PF10 shows the display before. PF9 takes the words that are
+    /// sent as stop conditions: ABEND, END, or a condition. Any other key has no effect.
+    ///
+    /// An error comes only where the region's key was refused a growth. Then all is as before.
+    #[tactic(auto, unfolding(crate::specs::Steps::EdfHappens, crate::specs::Runs::MayTakeEdf, crate::specs::Erasure::is_own))]
+    pub fn key(&mut self, name: Name4, aid: Aid, bytes: &[u8]) -> Result<KeyAnswer, AllocError>
+        requires { length bytes.now ≤ 1920 }
+        ensures happens { IfOk result (λ given. EdfHappens self.old (edf_event.Plain (event.Key name aid bytes.now)) (key_answer given) self.new) }
+        ensures memory { OnErr result (MayTakeEdf self.old (edf_event.Plain (event.Key name aid bytes.now))) }
+        ensures succeeds { stopped_at self.old name ≡ true → IsOk result }
+        ensures err { OnErr result (self.new ≡ self.old) }
+        ensures sound { IsSound self.new.region }
+    {
+        if table::is_stopped(&self.sessions, name) {
+            table::key(&mut self.sessions, name, aid, bytes);
+            return Ok(KeyAnswer::ToEdf);
+        }
+        let reply = below::key(&mut self.region, name, aid, bytes)?;
+        Ok(KeyAnswer::Region(reply))
+    }
+
+    /// A turn of a terminal. In Stopped with a live task it is Held, and nothing is done; else it is the region's, and where
+    /// its reply is a stop that the mode takes, the terminal is stopped, with a display of the region as it is then.
+    ///
+    /// An error comes only where the region's turn was refused a growth. Then all is as before.
+    #[tactic(auto, unfolding(crate::specs::Steps::EdfHappens, crate::specs::Runs::MayTakeEdf, crate::specs::Erasure::is_own))]
+    pub fn turn(&mut self, name: Name4) -> Result<TurnAnswer, AllocError>
+        ensures happens { IfOk result (λ given. EdfHappens self.old (edf_event.Plain (event.Turn name)) (turn_answer given) self.new) }
+        ensures memory { OnErr result (MayTakeEdf self.old (edf_event.Plain (event.Turn name))) }
+        ensures held { holds self.old name ≡ true → IsOk result }
+        ensures err { OnErr result (self.new ≡ self.old) }
+        ensures sound { IsSound self.new.region }
+    {
+        if table::is_stopped(&self.sessions, name) && below::has_task(&self.region, name) {
+            return Ok(TurnAnswer::Held);
+        }
+        let reply = below::turn(&mut self.region, name)?;
+        table::note(&mut self.sessions, &self.region, name, &reply);
+        Ok(TurnAnswer::Region(reply))
+    }
+
+    /// Begins a session of a terminal that is Off, with room for its ten displays: its task stops from its next turn on.
+    /// Else it is answered NoSuchTerminal or AlreadyOn.
+    ///
+    /// An error comes only where memory for the session was refused. Then all is as before.
+    #[tactic(auto, unfolding(crate::specs::Steps::EdfHappens, crate::specs::Runs::MayTakeEdf, crate::specs::Erasure::is_own))]
+    pub fn edf_on(&mut self, name: Name4) -> Result<EdfReply, AllocError>
+        ensures happens { IfOk result (λ given. EdfHappens self.old (edf_event.On name) (answer.Edf given) self.new) }
+        ensures memory { OnErr result (MayTakeEdf self.old (edf_event.On name)) }
+        ensures err { OnErr result (self.new ≡ self.old) }
+        ensures sound { IsSound self.new.region }
+    {
+        if self.region.screen(name).is_none() {
+            return Ok(EdfReply::NoSuchTerminal);
+        }
+        if self.sessions.contains_key(&name) {
+            return Ok(EdfReply::AlreadyOn);
+        }
+        table::begin(self.alloc, &mut self.sessions, name)?;
+        Ok(EdfReply::Started)
+    }
+
+    /// Ends the session of a terminal, in any mode, and drops its displays. Where there is none it is answered
+    /// NoSuchTerminal or NotOn. It takes no memory.
+    #[tactic(auto, unfolding(crate::specs::Steps::EdfHappens, crate::specs::Runs::MayTakeEdf, crate::specs::Erasure::is_own))]
+    pub fn edf_off(&mut self, name: Name4) -> EdfReply
+        ensures happens { EdfHappens self.old (edf_event.Off name) (answer.Edf result) self.new }
+        ensures sound { IsSound self.new.region }
+    {
+        if self.region.screen(name).is_none() {
+            return EdfReply::NoSuchTerminal;
+        }
+        if !self.sessions.contains_key(&name) {
+            return EdfReply::NotOn;
+        }
+        table::end(&mut self.sessions, name);
+        EdfReply::Closed
+    }
+
+    /// Does an event of the region that EDF never takes: a definition, or the clock.
+    #[tactic(auto, unfolding(crate::specs::Steps::EdfHappens))]
+    pub(crate) fn pass(&mut self, event: &Event) -> Result<Answer, AllocError>
+        requires { IsAllowed event.now }
+        ensures passed { IfOk result (λ given. Through self.old event.now given self.new) }
+        ensures memory { OnErr result (MayTakeMemory self.old.region event.now) }
+        ensures err { OnErr result (self.new ≡ self.old) }
+        ensures sound { IsSound self.new.region }
+    {
+        let reply = self.region.happen(event)?;
+        Ok(Answer::Region(reply))
+    }
+
+    /// Loads a program and defines it by its name, as the region does.
+    ///
+    /// The faults are the region's, and so is when each comes. Then all is as before.
+    #[tactic(auto, unfolding(crate::specs::Steps::EdfHappens))]
+    pub fn define_program(
+        &mut self,
+        name: Name8,
+        image: &CheckedImage,
+    ) -> Result<Loaded, DefineFault>
+        ensures defined { IfOk result (λ loaded. EdfHappens self.old (edf_event.Plain (event.Program name image.now)) (answer.Region (reply.Program (Ok loaded))) self.new) }
+        ensures refused { IfErr result (λ fault. fault ≢ DefineFault.Memory
+            → EdfHappens self.old (edf_event.Plain (event.Program name image.now)) (answer.Region (reply.Program (Err fault))) self.new) }
+        ensures memory { IsErrOf result DefineFault.Memory → MayTakeMemory self.old.region (event.Program name image.now) }
+        ensures err { OnErr result (self.new ≡ self.old) }
+        ensures sound { IsSound self.new.region }
+    {
+        below::program(&mut self.region, name, image)
+    }
+
+    /// Defines a transaction by its name and that of its program, as the region does.
+    ///
+    /// The faults are the region's, and so is when each comes. Then all is as before.
+    #[tactic(auto, unfolding(crate::specs::Steps::EdfHappens))]
+    pub fn define_transaction(&mut self, name: Name4, program: Name8) -> Result<(), DefineFault>
+        ensures defined { IfOk result (λ done. EdfHappens self.old (edf_event.Plain (event.Transaction name program)) (answer.Region (reply.Transaction (Ok done))) self.new) }
+        ensures refused { IfErr result (λ fault. fault ≢ DefineFault.Memory
+            → EdfHappens self.old (edf_event.Plain (event.Transaction name program)) (answer.Region (reply.Transaction (Err fault))) self.new) }
+        ensures memory { IsErrOf result DefineFault.Memory → MayTakeMemory self.old.region (event.Transaction name program) }
+        ensures err { OnErr result (self.new ≡ self.old) }
+        ensures sound { IsSound self.new.region }
+    {
+        below::transaction(&mut self.region, name, program)
+    }
+
+    /// Defines a terminal by its name, as the region does: EDF is Off there.
+    ///
+    /// The faults are the region's, and so is when each comes. Then all is as before.
+    #[tactic(auto, unfolding(crate::specs::Steps::EdfHappens))]
+    pub fn define_terminal(&mut self, name: Name4) -> Result<(), DefineFault>
+        ensures defined { IfOk result (λ done. EdfHappens self.old (edf_event.Plain (event.Terminal name)) (answer.Region (reply.Terminal (Ok done))) self.new) }
+        ensures refused { IfErr result (λ fault. fault ≢ DefineFault.Memory
+            → EdfHappens self.old (edf_event.Plain (event.Terminal name)) (answer.Region (reply.Terminal (Err fault))) self.new) }
+        ensures memory { IsErrOf result DefineFault.Memory → MayTakeMemory self.old.region (event.Terminal name) }
+        ensures err { OnErr result (self.new ≡ self.old) }
+        ensures sound { IsSound self.new.region }
+    {
+        below::terminal(&mut self.region, name)
+    }
+
+    /// Sets the clock, for the tasks attached later: the time as hhmmss (at most 999,999) and the date as yyddd (at most
+    /// 99,999). It takes no memory.
+    #[tactic(auto, unfolding(crate::specs::Steps::EdfHappens))]
+    pub fn set_clock(&mut self, time: u32, date: u32)
+        requires time { time ≤ 999999 }
+        requires date { date ≤ 99999 }
+        ensures happens { EdfHappens self.old (edf_event.Plain (event.Clock time date)) (answer.Region reply.Clock) self.new }
+        ensures sound { IsSound self.new.region }
+    {
+        below::clock(&mut self.region, time, date);
+    }
+
+    /// The screen of a terminal; None where there is no such terminal. It takes no memory.
+    pub fn screen(&self, name: Name4) -> Option<&Screen>
+        ensures { option_copied result ≡ option_map (λ terminal. terminal.screen) (terminal_of self.now.region name) }
+    {
+        self.region.screen(name)
+    }
+
+    /// The live task of a terminal; None where there is none, or no such terminal. It takes no memory.
+    pub fn task(&self, name: Name4) -> Option<TaskInfo>
+        ensures { MatchOption (task_of self.now.region name) (result ≡ None) (λ task. IsSomeAnd result (Shows task)) }
+    {
+        self.region.task(name)
+    }
+
+    /// The byte at an address; None where no area has it, and from 2^24 on. It takes no memory.
+    pub fn byte(&self, address: u32) -> Option<u8>
+        ensures { result ≡ byte_at self.now.region.storage address }
+    {
+        self.region.byte(address)
+    }
+
+    /// In Stopped the display that is shown, and which of its pages; None in any other mode. It takes no memory.
+    pub fn display(&self, name: Name4) -> Option<(&Display, View)>
+        ensures shown { option_map (λ p. (p.0.now, p.1)) result ≡ option_and_then shown_of (session_at self.now name) }
+        ensures stopped { is_some result ≡ stopped_at self.now name }
+    {
+        let session = self.sessions.get(&name)?;
+        session.shown()
+    }
+
+    /// The display that is so many before the newest one of a terminal's session, 0 being the newest; None past the oldest,
+    /// and where EDF is Off. It takes no memory.
+    pub fn previous(&self, name: Name4, back: usize) -> Option<&Display>
+        ensures { option_copied result ≡ option_and_then (λ session. nth_back session.displays back) (session_at self.now name) }
+    {
+        let session = self.sessions.get(&name)?;
+        session.previous(back)
+    }
+}

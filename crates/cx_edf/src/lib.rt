@@ -1,0 +1,20 @@
+//! EDF: tasks of a region stopped before and after each command, and what was seen of them there.
+#![tactic(auto)]
+
+mod answers;
+mod below;
+mod debugged;
+pub mod edf_laws;
+mod modes;
+mod run;
+mod sessions;
+mod stop_words;
+mod table;
+
+pub use answers::{Answer, EdfEvent, EdfReply, KeyAnswer, TurnAnswer};
+pub use cx_display::{Display, Ending, Kind};
+pub use debugged::Debugged;
+pub use modes::{Mode, PageName, View};
+#[doc(hidden)]
+pub use sessions::Session;
+pub use stop_words::{StopWord, Stops};

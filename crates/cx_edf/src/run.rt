@@ -1,0 +1,115 @@
+//! Events under EDF, and runs of them.
+ghost use Rattle.std.specs.Prelude.{◌≡◌, IfOk, IfErr, OnErr};
+ghost use Rattle.cx_region.specs.Events.{IsAllowed};
+ghost use Rattle.cx_region.specs.Sound.{IsSound};
+ghost use Rattle.cx_edf.specs.Answers.{key_answer, turn_answer};
+ghost use Rattle.cx_edf.specs.Steps.{EdfHappens};
+ghost use Rattle.cx_edf.specs.Runs.{AreAllowedEdf, EdfRun, EdfRunStopped, IsAllowedEdf, MayTakeEdf};
+ghost use Rattle.cx_edf.specs.declared.answers.EdfEvent.TheVariants as edf_event;
+
+use crate::answers::{Answer, EdfEvent, KeyAnswer, TurnAnswer};
+use crate::debugged::Debugged;
+use cx_region::{Event, Reply, RunStop};
+use cx_storage::Store;
+use std::alloc::AllocError;
+
+/// The answer of a key, as an event's.
+fn of_key(given: KeyAnswer) -> Answer
+    ensures { result ≡ key_answer given }
+{
+    match given {
+        KeyAnswer::Region(reply) => Answer::Region(Reply::Key(reply)),
+        KeyAnswer::ToEdf => Answer::ToEdf,
+    }
+}
+
+/// The answer of a turn, as an event's.
+fn of_turn(given: TurnAnswer) -> Answer
+    ensures { result ≡ turn_answer given }
+{
+    match given {
+        TurnAnswer::Region(reply) => Answer::Region(Reply::Turn(reply)),
+        TurnAnswer::Held => Answer::Held,
+    }
+}
+
+impl<S: Store + Drop> Debugged<S> {
+    /// Does one event: the call that it names. What that call takes is asked of it: a clock as for `set_clock`, at most
+    /// 1,920 bytes of a key. A refusal of the call is its answer.
+    ///
+    /// An error comes only where a growth was refused, no refusal is due, and the event may take memory. Then all is as
+    /// before.
+    #[tactic(auto, unfolding(crate::specs::Steps::EdfHappens, crate::specs::Runs::MayTakeEdf, crate::specs::Erasure::is_own))]
+    pub fn happen(&mut self, event: &EdfEvent) -> Result<Answer, AllocError>
+        requires { IsAllowedEdf event.now }
+        ensures happens { IfOk result (λ given. EdfHappens self.old event.now given self.new) }
+        ensures memory { OnErr result (MayTakeEdf self.old event.now) }
+        ensures err { OnErr result (self.new ≡ self.old) }
+        ensures sound { IsSound self.new.region }
+    {
+        match event {
+            EdfEvent::On(name) => {
+                let reply = self.edf_on(*name)?;
+                Ok(Answer::Edf(reply))
+            }
+            EdfEvent::Off(name) => {
+                let reply = self.edf_off(*name);
+                Ok(Answer::Edf(reply))
+            }
+            EdfEvent::Plain(plain) => self.plain(plain),
+        }
+    }
+
+    /// Does one event of the region.
+    #[tactic(auto, unfolding(crate::specs::Steps::EdfHappens, crate::specs::Runs::MayTakeEdf, crate::specs::Erasure::is_own))]
+    fn plain(&mut self, event: &Event) -> Result<Answer, AllocError>
+        requires { IsAllowed event.now }
+        ensures happens { IfOk result (λ given. EdfHappens self.old (edf_event.Plain event.now) given self.new) }
+        ensures memory { OnErr result (MayTakeEdf self.old (edf_event.Plain event.now)) }
+        ensures err { OnErr result (self.new ≡ self.old) }
+        ensures sound { IsSound self.new.region }
+    {
+        match event {
+            Event::Key(name, aid, bytes) => {
+                let given = self.key(*name, *aid, bytes.as_slice())?;
+                Ok(of_key(given))
+            }
+            Event::Turn(name) => {
+                let given = self.turn(*name)?;
+                Ok(of_turn(given))
+            }
+            Event::Program(_, _) => self.pass(event),
+            Event::Transaction(_, _) => self.pass(event),
+            Event::Terminal(_) => self.pass(event),
+            Event::Clock(_, _) => self.pass(event),
+        }
+    }
+
+    /// Does events in order, and answers what each is answered. What each call takes is asked of each event: a clock as for
+    /// `set_clock`, at most 1,920 bytes of a key.
+    ///
+    /// EDF is transparent: the events that aren't EDF's own are a run of the region alone, with the region's replies, up to
+    /// each event; and the displays that are kept of each terminal are the last ten of its session, each of the region as it
+    /// was right after its own half-turn.
+    ///
+    /// It stops where a growth was refused: in front of the first event, where there is no memory for the answers, else at
+    /// an event that may take memory. The state is as the events done left it.
+    pub fn run(&mut self, events: &[EdfEvent]) -> Result<Vec<Answer>, RunStop>
+        requires { AreAllowedEdf events.now }
+        ensures ok { IfOk result (λ answers. EdfRun self.old events.now answers.items self.new) }
+        ensures stopped { IfErr result (λ stop. EdfRunStopped self.old events.now stop.done self.new) }
+        ensures sound { IsSound self.new.region }
+    {
+        let alloc = self.alloc;
+        let Ok(mut answers) = Vec::with_capacity(alloc, events.len()) else {
+            return Err(RunStop { done: 0 });
+        };
+        for (i, event) in events.iter().enumerate() {
+            let Ok(given) = self.happen(event) else {
+                return Err(RunStop { done: i });
+            };
+            answers.push_reserved(given);
+        }
+        Ok(answers)
+    }
+}

@@ -1,0 +1,193 @@
+//! Sessions.
+ghost use Rattle.std.specs.Prelude.{◌≡◌, ◌≢◌, ◌<◌, ◌^◌, None, Some, IfOk, IsTrue, is_some, length};
+ghost use Rattle.std.specs.Option.{option_copied, option_map};
+ghost use Rattle.cx_display.specs.Displays.{display_of};
+ghost use Rattle.cx_edf.specs.Sessions.{after_key, after_reply, fresh_session, is_stopped, nth_back, older, shown_of, stop_of, stopped, takes_in, turned_to};
+
+use crate::modes::{Mode, PageName, View};
+use crate::stop_words::Stops;
+use circular_buffer::HeapCircularBuffer;
+use cx_command::Condition;
+use cx_display::{Display, Ending, Kind};
+use cx_ebcdic::{Aid, Name4};
+use cx_region::{Region, TurnReply};
+use cx_storage::Store;
+use std::alloc::{AllocError, Global};
+use std::marker::Model;
+
+/// The most displays that a session keeps.
+const MOST_DISPLAYS: usize = 10;
+
+/// A session of a terminal: its mode, its stop conditions, what is shown, and the last displays.
+#[derive(Drop)]
+pub struct Session {
+    mode: Mode,
+    stops: Stops,
+    view: View,
+    displays: HeapCircularBuffer<Display>,
+}
+
+impl Model for Session {
+    ghost use Rattle.std.specs.Prelude.{◌≡◌, length};
+    ghost use Rattle.cx_edf.specs.Sessions.{IsShowing, SessionState};
+
+    ghost Value = { SessionState };
+
+    ghost view = { λ s. record { mode = s.mode; stops = s.stops; view = s.view; displays = s.displays.items } };
+
+    ghost invariant = { λ s. (s.displays.capacity ≡ 10) × IsShowing s.mode s.view (length s.displays.items) };
+}
+
+impl Session {
+    /// A session as EDF ON makes it, with room for ten displays.
+    ///
+    /// An error comes only where memory for these was refused.
+    pub(crate) fn new(alloc: Global) -> Result<Session, AllocError>
+        ensures { IfOk result (λ session. session ≡ fresh_session) }
+    {
+        let displays = HeapCircularBuffer::with_capacity(alloc, MOST_DISPLAYS)?;
+        Ok(Session {
+            mode: Mode::Free,
+            stops: Stops::at_first(),
+            view: View::NEWEST,
+            displays,
+        })
+    }
+
+    /// Whether it is in Stopped.
+    pub(crate) fn is_stopped(&self) -> bool
+        ensures { result ≡ is_stopped self.now.mode }
+    {
+        matches!(self.mode, Mode::Stopped(_))
+    }
+
+    /// Whether it takes a stop.
+    pub(crate) fn takes(&self, kind: &Kind) -> bool
+        ensures { result ≡ takes_in self.now.mode self.now.stops kind.now }
+    {
+        match self.mode {
+            Mode::Free => true,
+            Mode::Stopped(_) => false,
+            Mode::Suppressed => self.stops.takes(kind),
+        }
+    }
+
+    /// The display that is so many before the newest; None past the oldest.
+    pub(crate) fn previous(&self, back: usize) -> Option<&Display>
+        ensures { option_copied result ≡ nth_back self.now.displays back }
+    {
+        self.displays.nth_back(back)
+    }
+
+    /// In Stopped the display that is shown, and the view of it.
+    pub(crate) fn shown(&self) -> Option<(&Display, View)>
+        ensures shown { option_map (λ p. (p.0.now, p.1)) result ≡ shown_of self.now }
+        ensures stopped { is_some result ≡ is_stopped self.now.mode }
+    {
+        if !self.is_stopped() {
+            return None;
+        }
+        let display = self.previous(self.view.back)?;
+        Some((display, self.view))
+    }
+
+    /// Stops it, with the display taken there.
+    pub(crate) fn stop(&mut self, kind: Kind, display: Display)
+        ensures { self.new ≡ stopped self.old kind display }
+    {
+        self.displays.push_back(display);
+        self.mode = Mode::Stopped(kind);
+        self.view = View::NEWEST;
+    }
+
+    /// What a turn's reply does, where the region is as it was after the turn: at a stop that the session takes, it stops,
+    /// with the display of the terminal.
+    #[tactic(auto, unfolding(crate::specs::Sessions::after_reply))]
+    pub(crate) fn note<S: Store + Drop>(
+        &mut self,
+        region: &Region<S>,
+        name: Name4,
+        reply: &TurnReply,
+    )
+        ensures { self.new ≡ after_reply self.old reply.now (display_of region.now name) }
+    {
+        let Some(kind) = stop_of(reply) else {
+            return;
+        };
+        if self.takes(&kind) {
+            let display = Display::take(region, name, &kind);
+            self.stop(kind, display);
+        }
+    }
+
+    /// What a key other than PF3 does in Stopped.
+    #[tactic(auto, unfolding(crate::specs::Sessions::after_key))]
+    pub(crate) fn press(&mut self, aid: Aid, bytes: &[u8])
+        requires { IsTrue (is_stopped self.old.mode) }
+        ensures { aid ≢ Aid.Pf3 → after_key self.old aid bytes.now ≡ Some self.new }
+    {
+        match aid {
+            Aid::Enter => self.mode = Mode::Free,
+            Aid::Pf4 => self.mode = Mode::Suppressed,
+            Aid::Pf5 => self.view.page = turned_to(PageName::Storage, self.view.page),
+            Aid::Pf6 => self.view.page = turned_to(PageName::User, self.view.page),
+            Aid::Pf9 => self.stops = Stops::named(bytes).unwrap_or(self.stops),
+            Aid::Pf10 => self.view = older(self.view, self.displays.len()),
+            _ => (),
+        }
+    }
+}
+
+impl View {
+    ghost use Rattle.cx_edf.specs.Sessions.{newest};
+
+    /// The main page of the newest display.
+    pub const NEWEST: View = View {
+        back: 0,
+        page: PageName::Main,
+    };
+}
+
+/// The page that a key asks for, or the main page if that very page is shown.
+fn turned_to(asked: PageName, shown: PageName) -> PageName
+    ensures { result ≡ turned_to asked shown }
+{
+    match (asked, shown) {
+        (PageName::Storage, PageName::Storage) => PageName::Main,
+        (PageName::User, PageName::User) => PageName::Main,
+        _ => asked,
+    }
+}
+
+/// The display before the shown one of so many; at the oldest no change.
+fn older(view: View, kept: usize) -> View
+    requires { kept < 2 ^ 63 }
+    ensures { result ≡ older view kept }
+{
+    if view.back >= kept || view.back + 1 >= kept {
+        return view;
+    }
+    View {
+        back: view.back + 1,
+        page: PageName::Main,
+    }
+}
+
+/// Where a turn's reply stops the task.
+pub(crate) fn stop_of(reply: &TurnReply) -> Option<Kind>
+    ensures { result ≡ stop_of reply.now }
+{
+    match reply {
+        TurnReply::AtCommand => Some(Kind::Before),
+        TurnReply::Performed(condition) => Some(Kind::After(*condition)),
+        TurnReply::TookLabel(condition) => Some(Kind::After(*condition)),
+        TurnReply::Entered => Some(Kind::After(Condition::Normal)),
+        TurnReply::Returned => Some(Kind::After(Condition::Normal)),
+        TurnReply::TookExit(code) => Some(Kind::Exit(*code)),
+        TurnReply::Ended => Some(Kind::Over(Ending::Ended)),
+        TurnReply::Abended(code) => Some(Kind::Over(Ending::Abended(*code))),
+        TurnReply::Waiting => None,
+        TurnReply::Idle => None,
+        TurnReply::NoSuchTerminal => None,
+    }
+}

@@ -1,0 +1,219 @@
+//! Where a task stops under suppression.
+ghost use Rattle.std.specs.Prelude.{◌≡◌, ◌==◌, false, map};
+ghost use Rattle.std.specs.List.{find, list_all, zip};
+ghost use Rattle.std.specs.Str.{bytes_eq};
+ghost use Rattle.cx_ebcdic.specs.Characters.{shown_as};
+ghost use Rattle.cx_edf.specs.Stops.{is_shown_as, names, stop_word_name, stop_word_of, stops_at_first, stops_named, takes, with_part, with_stop};
+
+use cx_command::Condition;
+use cx_display::{Ending, Kind};
+use cx_text::shown_byte;
+
+/// A stop condition: what a task stops at under suppression.
+#[derive(Clone, Copy, Debug, PartialEq, Eq)]
+pub enum StopWord {
+    Abend,
+    End,
+    Error,
+    Invreq,
+    Nospace,
+    Lengerr,
+    Itemerr,
+    Pgmiderr,
+    Nostg,
+    Qiderr,
+    Enqbusy,
+}
+
+impl StopWord {
+    /// All stop conditions.
+    const ALL: [StopWord; 11] = [
+        StopWord::Abend,
+        StopWord::End,
+        StopWord::Error,
+        StopWord::Invreq,
+        StopWord::Nospace,
+        StopWord::Lengerr,
+        StopWord::Itemerr,
+        StopWord::Pgmiderr,
+        StopWord::Nostg,
+        StopWord::Qiderr,
+        StopWord::Enqbusy,
+    ];
+
+    /// The word as an operator enters it, as `PGMIDERR`.
+    pub fn name(self) -> &'static str
+        ensures { result.now ≡ stop_word_name self }
+    {
+        match self {
+            StopWord::Abend => "ABEND",
+            StopWord::End => "END",
+            StopWord::Error => "ERROR",
+            StopWord::Invreq => "INVREQ",
+            StopWord::Nospace => "NOSPACE",
+            StopWord::Lengerr => "LENGERR",
+            StopWord::Itemerr => "ITEMERR",
+            StopWord::Pgmiderr => "PGMIDERR",
+            StopWord::Nostg => "NOSTG",
+            StopWord::Qiderr => "QIDERR",
+            StopWord::Enqbusy => "ENQBUSY",
+        }
+    }
+}
+
+/// The stop conditions of a session: each is on or off.
+#[derive(Clone, Copy, Debug, PartialEq, Eq)]
+pub struct Stops {
+    pub abend: bool,
+    pub end: bool,
+    pub error: bool,
+    pub invreq: bool,
+    pub nospace: bool,
+    pub lengerr: bool,
+    pub itemerr: bool,
+    pub pgmiderr: bool,
+    pub nostg: bool,
+    pub qiderr: bool,
+    pub enqbusy: bool,
+}
+
+impl Stops {
+    /// None.
+    pub const NONE: Stops = Stops {
+        abend: false,
+        end: false,
+        error: false,
+        invreq: false,
+        nospace: false,
+        lengerr: false,
+        itemerr: false,
+        pgmiderr: false,
+        nostg: false,
+        qiderr: false,
+        enqbusy: false,
+    };
+
+    /// Those that a session begins with: ABEND alone.
+    pub(crate) fn at_first() -> Stops
+        ensures { result ≡ stops_at_first }
+    {
+        Stops {
+            abend: true,
+            ..Stops::NONE
+        }
+    }
+
+    /// These and one more.
+    fn with(self, word: StopWord) -> Stops
+        ensures { result ≡ with_stop self word }
+    {
+        let mut stops = self;
+        match word {
+            StopWord::Abend => stops.abend = true,
+            StopWord::End => stops.end = true,
+            StopWord::Error => stops.error = true,
+            StopWord::Invreq => stops.invreq = true,
+            StopWord::Nospace => stops.nospace = true,
+            StopWord::Lengerr => stops.lengerr = true,
+            StopWord::Itemerr => stops.itemerr = true,
+            StopWord::Pgmiderr => stops.pgmiderr = true,
+            StopWord::Nostg => stops.nostg = true,
+            StopWord::Qiderr => stops.qiderr = true,
+            StopWord::Enqbusy => stops.enqbusy = true,
+        }
+        stops
+    }
+
+    /// Whether a condition is among these by its own name.
+    pub fn names(self, condition: Condition) -> bool
+        ensures { result ≡ names self condition }
+    {
+        match condition {
+            Condition::Normal => false,
+            Condition::Error => self.error,
+            Condition::Invreq => self.invreq,
+            Condition::Nospace => self.nospace,
+            Condition::Lengerr => self.lengerr,
+            Condition::Itemerr => self.itemerr,
+            Condition::Pgmiderr => self.pgmiderr,
+            Condition::Nostg => self.nostg,
+            Condition::Qiderr => self.qiderr,
+            Condition::Enqbusy => self.enqbusy,
+        }
+    }
+
+    /// Whether a task stops there under suppression: after a condition that is named, or any but NORMAL where ERROR is;
+    /// where an exit took an abend, or the task ended by one, where ABEND is named; where it ended else, for END.
+    #[tactic(auto, unfolding(crate::specs::Stops::takes))]
+    pub fn takes(self, kind: &Kind) -> bool
+        ensures { result ≡ takes self kind.now }
+    {
+        match kind {
+            Kind::Before => false,
+            Kind::After(Condition::Normal) => false,
+            Kind::After(condition) => self.error || self.names(*condition),
+            Kind::Exit(_) => self.abend,
+            Kind::Over(Ending::Abended(_)) => self.abend,
+            Kind::Over(Ending::Ended) => self.end,
+        }
+    }
+
+    /// The stop conditions that the words of a text name: its parts between blanks. None where a word isn't one.
+    #[tactic(auto, unfolding(crate::specs::Stops::stops_named))]
+    pub(crate) fn named(text: &[u8]) -> Option<Stops>
+        ensures { result ≡ stops_named text.now }
+    {
+        text.split(|byte| *byte == BLANK)
+            .fold(Some(Stops::NONE), with_part)
+    }
+}
+
+/// The code of a blank.
+const BLANK: u8 = 0x40;
+
+/// Stop conditions and that of one more part of a text: an empty part is none.
+fn with_part(stops: Option<Stops>, part: &[u8]) -> Option<Stops>
+    ensures { result ≡ with_part stops part.now }
+{
+    let stops = stops?;
+    if part.is_empty() {
+        return Some(stops);
+    }
+    let word = spelled(part)?;
+    Some(stops.with(word))
+}
+
+/// The stop condition that bytes spell.
+#[tactic(auto, unfolding(crate::specs::Stops::stop_word_of))]
+fn spelled(bytes: &[u8]) -> Option<StopWord>
+    ensures { result ≡ stop_word_of bytes.now }
+{
+    shown_among(&StopWord::ALL, bytes)
+}
+
+/// The first of some stop conditions that bytes spell.
+fn shown_among(words: &[StopWord], bytes: &[u8]) -> Option<StopWord>
+    ensures { result ≡ find (λ word. is_shown_as (stop_word_name word) bytes.now) words.now }
+{
+    words
+        .iter()
+        .copied()
+        .find(|word| is_shown(bytes, word.name().as_bytes()))
+}
+
+/// Whether bytes are shown as a text.
+fn is_shown(bytes: &[u8], text: &[u8]) -> bool
+    ensures { result ≡ is_shown_as text.now bytes.now }
+{
+    bytes.len() == text.len() && agrees(bytes, text)
+}
+
+/// Whether each byte is shown as its character, as far as there are both.
+fn agrees(bytes: &[u8], text: &[u8]) -> bool
+    ensures { result ≡ list_all (λ p. shown_as p.0 == p.1) (zip bytes.now text.now) }
+{
+    bytes
+        .iter()
+        .zip(text)
+        .all(|pair| shown_byte(*pair.0) == *pair.1)
+}

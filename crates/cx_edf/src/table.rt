@@ -1,0 +1,92 @@
+//! The table of sessions.
+ghost use Rattle.std.specs.Prelude.{◌≡◌, ◌≢◌, false, not, IsTrue, None, Some, IfOk, OnOk, OnErr, is_some};
+ghost use Rattle.std.specs.Option.{option_copied, option_and_then, option_map_or};
+ghost use Rattle.std.specs.List.{IsDistinct};
+ghost use Rattle.std.specs.Map.{keys_of};
+ghost use Rattle.indexmap.specs.IndexMap.{insert_entry};
+ghost use Rattle.cx_display.specs.Displays.{display_of};
+ghost use Rattle.cx_region.specs.Names.{is_name4};
+ghost use Rattle.cx_edf.specs.Sessions.{SessionState, after_key, fresh_session, is_stopped, is_stopped_in, session_in, with_session};
+ghost use Rattle.cx_edf.specs.Steps.{sessions_after_key, sessions_after_turn};
+ghost use Rattle.cx_region.specs.declared.replies.Reply.TheVariants as reply;
+
+use crate::sessions::Session;
+use cx_ebcdic::{Aid, Name4};
+use cx_region::{Region, TurnReply};
+use cx_storage::Store;
+use indexmap::IndexMap;
+use std::alloc::{AllocError, Global};
+
+/// Begins a session of a terminal that has none.
+pub(crate) fn begin(
+    alloc: Global,
+    sessions: &mut IndexMap<Name4, Session>,
+    name: Name4,
+) -> Result<(), AllocError>
+    ensures begun { OnOk result (sessions.new.entries ≡ with_session sessions.old.entries name (Some fresh_session)) }
+    ensures err { OnErr result (sessions.new.entries ≡ sessions.old.entries) }
+{
+    let session = Session::new(alloc)?;
+    sessions.insert(name, session)?;
+    Ok(())
+}
+
+/// Ends the session of a terminal.
+pub(crate) fn end(sessions: &mut IndexMap<Name4, Session>, name: Name4)
+    ensures { sessions.new.entries ≡ with_session sessions.old.entries name None }
+{
+    sessions.retain(
+        |other: &Name4, session: &mut Session| -> bool
+            ensures { (result ≡ not (is_name4 name other.now)) × (session.new ≡ session.old) }
+        { name != *other },
+    );
+}
+
+/// A key in Stopped, other than PF3.
+fn press(sessions: &mut IndexMap<Name4, Session>, name: Name4, aid: Aid, bytes: &[u8])
+    requires { (session : SessionState) → session_in sessions.old.entries name ≡ Some session → IsTrue (is_stopped session.mode) }
+    ensures { aid ≢ Aid.Pf3 → (session : SessionState) → session_in sessions.old.entries name ≡ Some session
+        → sessions.new.entries ≡ sessions_after_key sessions.old.entries name aid bytes.now }
+{
+    let Some(session) = sessions.get_mut(&name) else {
+        return;
+    };
+    session.press(aid, bytes);
+}
+
+/// Whether a terminal is in Stopped.
+pub(crate) fn is_stopped(sessions: &IndexMap<Name4, Session>, name: Name4) -> bool
+    ensures { result ≡ is_stopped_in sessions.now.entries name }
+{
+    match sessions.get(&name) {
+        Some(session) => session.is_stopped(),
+        None => false,
+    }
+}
+
+/// A key of a terminal in Stopped.
+#[tactic(auto, unfolding(crate::specs::Sessions::after_key))]
+pub(crate) fn key(sessions: &mut IndexMap<Name4, Session>, name: Name4, aid: Aid, bytes: &[u8])
+    requires { IsTrue (is_stopped_in sessions.old.entries name) }
+    ensures { sessions.new.entries ≡ sessions_after_key sessions.old.entries name aid bytes.now }
+{
+    match aid {
+        Aid::Pf3 => end(sessions, name),
+        _ => press(sessions, name, aid, bytes),
+    }
+}
+
+/// A turn's reply at a terminal, where the region is as it was after the turn.
+pub(crate) fn note<S: Store + Drop>(
+    sessions: &mut IndexMap<Name4, Session>,
+    region: &Region<S>,
+    name: Name4,
+    turn: &TurnReply,
+)
+    ensures { sessions.new.entries ≡ sessions_after_turn sessions.old.entries name (reply.Turn turn.now) region.now }
+{
+    let Some(session) = sessions.get_mut(&name) else {
+        return;
+    };
+    session.note(region, name, turn);
+}

@@ -1,0 +1,3 @@
+-- Lemmas that other crates cite.
+pub mod Lines
+pub mod Devices

@@ -1,0 +1,19 @@
+//! ADDRESS.
+ghost use Rattle.std.specs.Prelude.{◌≡◌};
+ghost use Rattle.cx_rows.specs.Address.{address_row};
+
+use cx_call::{Outputs, Source};
+use cx_command::{Condition, OptionName};
+use cx_state::{Change, Verdict};
+
+/// The address of the common work area.
+const COMMON_WORK_AREA: u32 = 0x1000;
+
+/// How an ADDRESS is judged.
+#[tactic(auto, unfolding(crate::specs::Address::address_row))]
+pub(crate) fn judge_address() -> Verdict
+    ensures { result ≡ address_row }
+{
+    let outputs = Outputs::none().with(OptionName::Cwa, Source::Word(COMMON_WORK_AREA));
+    Verdict::Meets(Condition::Normal, outputs, Change::Nothing)
+}

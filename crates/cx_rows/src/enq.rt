@@ -1,0 +1,62 @@
+//! ENQ.
+ghost use Rattle.std.specs.Prelude.{◌≡◌, IsFalse};
+ghost use Rattle.cx_rows.specs.Enq.{enq_row, enqueues, is_wrong_length, resource_named};
+
+use crate::common::{does, only};
+use crate::services::unless;
+use cx_call::{Call, measured, read_argument};
+use cx_command::{Condition, OptionName};
+use cx_service::{Enqueues, ResourceName};
+use cx_state::{Change, Made, Verdict};
+use cx_storage::Store;
+
+/// The most bytes of a resource's name.
+const MOST_NAME: usize = 255;
+
+/// Whether LENGTH is there and names nothing: outside 1 to 255.
+pub(crate) fn is_wrong_length<S: Store>(store: &S, call: &Call) -> bool
+    ensures { result ≡ is_wrong_length (S.storage store.now) call.now }
+{
+    let len = usize::from(measured(store, call));
+    call.has(OptionName::Length) && (len == 0 || len > MOST_NAME)
+}
+
+/// The resource's name: as many bytes as LENGTH says, or the address.
+#[tactic(auto, unfolding(crate::specs::Enq::resource_named))]
+pub(crate) fn resource_named<S: Store>(store: &S, call: &Call) -> Option<ResourceName>
+    requires { IsFalse (is_wrong_length (S.storage store.now) call.now) }
+    ensures { result ≡ resource_named (S.storage store.now) call.now }
+{
+    if !call.has(OptionName::Length) {
+        return call.place(OptionName::Resource).map(ResourceName::Address);
+    }
+    let len = measured(store, call) as usize;
+    let mut buffer = [0; MOST_NAME];
+    let bytes = &mut buffer[..len];
+    if !read_argument(store, call, OptionName::Resource, bytes) {
+        return None;
+    }
+    ResourceName::from_bytes(bytes).ok()
+}
+
+/// An ENQ upon a resource of that name.
+fn enqueues(resources: &Enqueues, slot: u8, name: ResourceName) -> Verdict
+    ensures { result ≡ enqueues resources.now slot name }
+{
+    let tested = resources.can_enq(slot, &name);
+    unless(tested, does(Change::Makes(Made::Enqueues(name))))
+}
+
+/// How an ENQ is judged.
+#[tactic(auto, unfolding(crate::specs::Enq::enq_row))]
+pub(crate) fn judge_enq<S: Store>(store: &S, resources: &Enqueues, slot: u8, call: &Call) -> Verdict
+    ensures { result ≡ enq_row (S.storage store.now) resources.now slot call.now }
+{
+    if is_wrong_length(store, call) {
+        return only(Condition::Lengerr);
+    }
+    match resource_named(store, call) {
+        Some(name) => enqueues(resources, slot, name),
+        None => only(Condition::Lengerr),
+    }
+}

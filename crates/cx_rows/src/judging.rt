@@ -1,0 +1,94 @@
+//! How a call is judged, by the row of its command.
+ghost use Rattle.std.specs.Prelude.{◌≡◌, true};
+ghost use Rattle.cx_call.specs.Inputs.{are_inputs_there};
+ghost use Rattle.cx_service.specs.Queues.{AreSoundQueues};
+ghost use Rattle.cx_state.specs.State.{reach};
+ghost use Rattle.cx_state.specs.Verdicts.{Fits};
+ghost use Rattle.cx_rows.specs.Common.{AreSoundPrograms};
+ghost use Rattle.cx_rows.specs.Judged.{Judged};
+
+use crate::abending::judge_abend;
+use crate::address::judge_address;
+use crate::deleteq_ts::judge_deleteq_ts;
+use crate::deq::judge_deq;
+use crate::enq::judge_enq;
+use crate::freemain::judge_freemain;
+use crate::getmain::judge_getmain;
+use crate::handle_abend::judge_handle_abend;
+use crate::handling::{judge_handle, judge_ignore, judge_pop, judge_push};
+use crate::link::judge_link;
+use crate::readq_ts::judge_readq_ts;
+use crate::receive::judge_receive;
+use crate::returning::judge_return;
+use crate::send_text::judge_send_text;
+use crate::suspend::judge_suspend;
+use crate::writeq_ts::judge_writeq_ts;
+use crate::xctl::judge_xctl;
+use cx_call::{Call, measured};
+use cx_command::Command;
+use cx_ebcdic::Name8;
+use cx_service::Queues;
+use cx_state::{Shared, Station, Task, Verdict};
+use cx_storage::Store;
+
+/// How a call is judged, before anything changes. It takes no memory.
+#[tactic(auto, using(crate::specs::Facts::Fits::judged_fits))]
+pub fn judge<S: Store + Drop>(
+    call: &Call,
+    shared: &Shared<S>,
+    station: &Station,
+    task: &Task,
+) -> Verdict
+    requires { AreSoundPrograms shared.now.programs }
+    ensures judged { Judged call.now (reach shared.now station.now task.now) result }
+    ensures fits { are_inputs_there shared.now.storage call.now ≡ true → Fits result (reach shared.now station.now task.now) }
+{
+    call.addresses_are_below();
+    queues_are_sound(&shared.queues);
+    by_row(call, shared, station, task)
+}
+
+/// The queues are within their limits, as always.
+fn queues_are_sound(queues: &Queues)
+    ensures { AreSoundQueues queues.now }
+{
+    // A look at them is what tells it.
+    queues.items(Name8::from_bytes([0; 8]));
+}
+
+/// By the row of the command.
+#[tactic(auto, unfolding(crate::specs::Judged::Judged))]
+fn by_row<S: Store + Drop>(
+    call: &Call,
+    shared: &Shared<S>,
+    station: &Station,
+    task: &Task,
+) -> Verdict
+    requires { AreSoundPrograms shared.now.programs }
+    ensures { Judged call.now (reach shared.now station.now task.now) result }
+{
+    let store = &shared.store;
+    let level = task.levels.current();
+    match call.command() {
+        Command::Address => judge_address(),
+        Command::HandleCondition => judge_handle(call),
+        Command::IgnoreCondition => judge_ignore(call),
+        Command::PushHandle => judge_push(&level.handles),
+        Command::PopHandle => judge_pop(&level.handles),
+        Command::Receive => judge_receive(&station.input, measured(store, call)),
+        Command::WriteqTs => judge_writeq_ts(store, &shared.queues, call),
+        Command::ReadqTs => judge_readq_ts(store, &shared.queues, call),
+        Command::DeleteqTs => judge_deleteq_ts(store, &shared.queues, call),
+        Command::Getmain => judge_getmain(store, call),
+        Command::Freemain => judge_freemain(store, station.slot, call),
+        Command::Link => judge_link(store, &shared.programs, &task.levels, call),
+        Command::Xctl => judge_xctl(store, &shared.programs, call),
+        Command::Return => judge_return(store, &task.levels, call),
+        Command::Abend => judge_abend(store, call),
+        Command::HandleAbend => judge_handle_abend(call),
+        Command::Enq => judge_enq(store, &shared.enqueues, station.slot, call),
+        Command::Deq => judge_deq(store, call),
+        Command::Suspend => judge_suspend(),
+        Command::SendText => judge_send_text(store, call),
+    }
+}

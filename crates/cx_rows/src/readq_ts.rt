@@ -1,0 +1,128 @@
+//! READQ TS.
+ghost use Rattle.std.specs.Prelude.{◌≡◌, ◌<◌, ◌≤◌, None};
+ghost use Rattle.cx_service.specs.Queues.{read_fault};
+ghost use Rattle.cx_rows.specs.Common.{AtPlace};
+ghost use Rattle.cx_rows.specs.ReadqTs.{Reads, ReadsItem, ReadsQueue, ReadqRow, item_asked, reading_of, reads_into, reads_to};
+
+use crate::common::{only, task_place};
+use crate::services::unless;
+use cx_call::{Call, Outputs, Source, halfword, is_length_negative, measured, name8};
+use cx_command::{Condition, OptionName};
+use cx_ebcdic::Name8;
+use cx_service::{Queues, ServiceFault};
+use cx_state::{Change, Ended, Fill, Got, Verdict};
+use cx_storage::Store;
+
+/// What is read.
+#[derive(Clone, Copy, Debug, PartialEq, Eq)]
+pub struct Reading {
+    /// The queue, and the item's number, counted from 1.
+    pub name: Name8,
+    pub n: usize,
+    /// The item's length in bytes.
+    pub len: u16,
+    /// The number of the queue's items.
+    pub count: u16,
+}
+
+/// The number of the item that is asked for.
+#[tactic(auto, using(crate::specs::Facts::Queues::few_read), unfolding(crate::specs::ReadqTs::item_asked))]
+fn item_asked<S: Store>(store: &S, queues: &Queues, call: &Call, name: Name8) -> usize
+    ensures { result ≡ item_asked (S.storage store.now) queues.now call.now name }
+{
+    match halfword(store, call, OptionName::Item) {
+        Some(n) => usize::from(n),
+        None => queues.last_read(name).unwrap_or(0) + 1,
+    }
+}
+
+/// What is read of an item.
+#[tactic(auto, using(crate::specs::Facts::Queues::few_items, crate::specs::Facts::Queues::few_bytes, crate::specs::Facts::Queues::some_bytes), unfolding(crate::specs::ReadqTs::reading_of))]
+fn reading_of(queues: &Queues, name: Name8, n: usize) -> Reading
+    ensures value { result ≡ reading_of queues.now name n }
+    ensures some { read_fault queues.now name n ≡ None → 0 < result.len }
+{
+    let count = queues.items(name).unwrap_or(0) as u16;
+    let len = queues.item_len(name, n).unwrap_or(0) as u16;
+    Reading {
+        name,
+        n,
+        len,
+        count,
+    }
+}
+
+/// With INTO.
+fn reads_into(room: u16, reading: Reading) -> Verdict
+    ensures { result ≡ reads_into room reading }
+{
+    let condition = if reading.len <= room {
+        Condition::Normal
+    } else {
+        Condition::Lengerr
+    };
+    let outputs = Outputs::none()
+        .with(OptionName::Into, Source::Text(room))
+        .with(OptionName::Length, Source::Half(reading.len))
+        .with(OptionName::Numitems, Source::Half(reading.count));
+    let change = Change::Ends(Ended::ReadOf(reading.name, reading.n));
+    Verdict::Meets(condition, outputs, change)
+}
+
+/// With SET, by the place of the fresh area.
+fn reads_to(reading: Reading, place: Option<u32>) -> Verdict
+    ensures { result ≡ reads_to reading place }
+{
+    let Some(place) = place else {
+        return only(Condition::Nostg);
+    };
+    let outputs = Outputs::none()
+        .with(OptionName::Length, Source::Half(reading.len))
+        .with(OptionName::Set, Source::Word(place))
+        .with(OptionName::Numitems, Source::Half(reading.count));
+    let got = Got {
+        place,
+        len: u32::from(reading.len),
+        fill: Fill::Item(reading.name, reading.n),
+    };
+    Verdict::Meets(Condition::Normal, outputs, Change::Gets(got))
+}
+
+/// An item that there is.
+#[tactic(auto, unfolding(crate::specs::ReadqTs::Reads))]
+fn reads<S: Store>(store: &S, call: &Call, reading: Reading) -> Verdict
+    requires { 0 < reading.len }
+    ensures { Reads (S.storage store.now) call.now reading result }
+{
+    if call.has(OptionName::Set) {
+        reads_to(reading, task_place(store, u32::from(reading.len)))
+    } else {
+        reads_into(measured(store, call), reading)
+    }
+}
+
+/// The queue of that name.
+#[tactic(auto, unfolding(crate::specs::ReadqTs::ReadsQueue))]
+fn reads_queue<S: Store>(store: &S, queues: &Queues, call: &Call, name: Name8) -> Verdict
+    ensures { ReadsQueue (S.storage store.now) queues.now call.now name result }
+{
+    let n = item_asked(store, queues, call, name);
+    match queues.can_read(name, n) {
+        Ok(()) => reads(store, call, reading_of(queues, name, n)),
+        Err(fault) => unless(Err(fault), only(Condition::Qiderr)),
+    }
+}
+
+/// How a READQ TS is judged.
+#[tactic(auto, unfolding(crate::specs::ReadqTs::ReadqRow))]
+pub(crate) fn judge_readq_ts<S: Store>(store: &S, queues: &Queues, call: &Call) -> Verdict
+    ensures { ReadqRow (S.storage store.now) queues.now call.now result }
+{
+    if call.has(OptionName::Into) && is_length_negative(store, call) {
+        return only(Condition::Lengerr);
+    }
+    match name8(store, call, OptionName::Queue) {
+        Some(name) => reads_queue(store, queues, call, name),
+        None => only(Condition::Qiderr),
+    }
+}

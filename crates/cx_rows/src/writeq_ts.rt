@@ -1,0 +1,82 @@
+//! WRITEQ TS.
+ghost use Rattle.std.specs.Prelude.{◌≡◌};
+ghost use Rattle.cx_rows.specs.WriteqTs.{item_named, number_after, rewrites, writeq_row, writes, written_to};
+
+use crate::common::{does, only};
+use crate::services::unless;
+use cx_call::{Call, Outputs, Piece, Source, halfword, measured_piece, name8};
+use cx_command::{Condition, OptionName};
+use cx_ebcdic::Name8;
+use cx_service::Queues;
+use cx_state::{Change, Made, Verdict};
+use cx_storage::Store;
+
+/// The number of a queue's next item, at most 32,768.
+#[tactic(auto, using(crate::specs::Facts::Queues::few_items))]
+fn number_after(queues: &Queues, name: Name8) -> u16
+    ensures { result ≡ number_after queues.now name }
+{
+    queues.items(name).unwrap_or(0) as u16 + 1
+}
+
+/// A new item.
+fn writes(queues: &Queues, name: Name8, piece: Piece) -> Verdict
+    ensures { result ≡ writes queues.now name piece }
+{
+    let outputs = Outputs::none().with(OptionName::Item, Source::Half(number_after(queues, name)));
+    let change = Change::Makes(Made::ItemLast(name, piece));
+    unless(
+        queues.can_write(name, usize::from(piece.len)),
+        Verdict::Meets(Condition::Normal, outputs, change),
+    )
+}
+
+/// An item replaced.
+fn rewrites(queues: &Queues, name: Name8, n: u16, piece: Piece) -> Verdict
+    ensures { result ≡ rewrites queues.now name n piece }
+{
+    let tested = queues.can_rewrite(name, usize::from(n), usize::from(piece.len));
+    unless(
+        tested,
+        does(Change::Makes(Made::ItemAt(name, usize::from(n), piece))),
+    )
+}
+
+/// The item that REWRITE names.
+fn item_named<S: Store>(store: &S, call: &Call) -> u16
+    ensures { result ≡ item_named (S.storage store.now) call.now }
+{
+    halfword(store, call, OptionName::Item).unwrap_or(0)
+}
+
+/// By the bytes of FROM.
+fn written_to<S: Store>(
+    store: &S,
+    queues: &Queues,
+    call: &Call,
+    name: Name8,
+    piece: Option<Piece>,
+) -> Verdict
+    ensures { result ≡ written_to (S.storage store.now) queues.now call.now name piece }
+{
+    let Some(piece) = piece else {
+        return only(Condition::Qiderr);
+    };
+    if call.has(OptionName::Rewrite) {
+        rewrites(queues, name, item_named(store, call), piece)
+    } else {
+        writes(queues, name, piece)
+    }
+}
+
+/// How a WRITEQ TS is judged.
+#[tactic(auto, unfolding(crate::specs::WriteqTs::writeq_row))]
+pub(crate) fn judge_writeq_ts<S: Store>(store: &S, queues: &Queues, call: &Call) -> Verdict
+    ensures { result ≡ writeq_row (S.storage store.now) queues.now call.now }
+{
+    let Some(name) = name8(store, call, OptionName::Queue) else {
+        return only(Condition::Qiderr);
+    };
+    let piece = measured_piece(store, call, OptionName::From);
+    written_to(store, queues, call, name, piece)
+}

@@ -1,0 +1,11 @@
+-- The definitions, in reading order.
+pub mod State
+pub mod Replies
+pub mod Areas
+pub mod Verdicts
+pub mod Facts
+pub use Rattle.cx_call.specs.Inputs
+pub use Rattle.cx_command.specs.Eistg
+pub use Rattle.cx_storage.specs.Address
+pub use Rattle.cx_storage.specs.Place
+pub use Rattle.cx_storage.specs.Storage

@@ -1,0 +1,23 @@
+-- A copy's area, given back.
+use Rattle.std.proofs.Common.{◌≡◌, ◌<◌, ◌≤◌, ◌^◌, ℕ, Option, Some, None, refl, take, replicate}
+use Rattle.std.proofs.lemmas.List.{take-replicate}
+use Rattle.std.specs.Prelude.{MatchOption, ⊤}
+use Rattle.cx_storage.specs.Storage.{Storage, IsSound}
+use Rattle.cx_state.specs.declared.verdict.Copying.{Copying}
+use Rattle.cx_state.specs.Areas.{system_owner, with_copy_area}
+use Rattle.cx_state.specs.Facts.Areas.{given_back, place_below}
+use Rattle.cx_state.specs.Verdicts.{FitsCopy}
+use Rattle.cx_task.specs.Parts.Making.{without_copy}
+
+pub copy_below : (s : Storage) (copying : Option Copying) → FitsCopy copying s → MatchOption copying ⊤ (λ it. it.to < 2 ^ 24)
+copy_below s None fits = tt
+copy_below s (Some copying) fits = place_below s copying.from.len copying.to fits.some fits.place
+
+pub copy_given_back : (s : Storage) (slot : ℕ) (copying : Option Copying) → IsSound s → FitsCopy copying s
+    → without_copy copying (with_copy_area s slot copying) ≡ s
+unfolding with_copy_area
+copy_given_back s slot None ok fits = refl
+copy_given_back s slot (Some copying) ok fits = given_back s copying.from.len copying.to (system_owner slot) ok fits.some fits.place
+
+pub front_replicate : (n m b : ℕ) → n ≤ m → take n (replicate m b) ≡ replicate n b
+front_replicate n m b le = take-replicate n m b le

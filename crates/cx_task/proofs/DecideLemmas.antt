@@ -1,0 +1,84 @@
+-- A wait leaves all as it is; a half-turn is decided by what was reached before.
+use Rattle.std.proofs.Common.{◌≡◌, ℕ, Bool, true, false, Option, Some, None, List, refl}
+use Rattle.std.specs.Prelude.{Result, Ok, Err, MatchBool, MatchResult}
+use Rattle.cx_command.specs.Abends.{abend_code}
+use Rattle.cx_command.specs.declared.abends.Abend.TheVariants as abend
+use Rattle.cx_command.specs.declared.conditions.Condition.{Condition}
+use Rattle.cx_exec.specs.declared.machine.Halt.{Halt}
+use Rattle.cx_exec.specs.declared.machine.Halt.TheVariants as halt
+use Rattle.cx_call.specs.declared.call.CallFault.{CallFault}
+use Rattle.cx_call.specs.declared.outputs.Output.{Output}
+use Rattle.cx_call.specs.Call.{Call, call_of}
+use Rattle.cx_call.specs.Inputs.{are_inputs_there}
+use Rattle.cx_state.specs.declared.replies.TurnReply.TheVariants as turn
+use Rattle.cx_state.specs.declared.verdict.Change.{Change}
+use Rattle.cx_state.specs.declared.verdict.Verdict.{Verdict}
+use Rattle.cx_state.specs.declared.verdict.Verdict.TheVariants.{Refuses, Waits, Meets}
+use Rattle.cx_state.specs.State.{Reach}
+use Rattle.cx_task.specs.declared.way.Way.{Way}
+use Rattle.cx_task.specs.declared.way.Way.TheVariants as way
+use Rattle.cx_task.specs.Abends.{Abends, AbendsAt}
+use Rattle.cx_task.specs.Answers.{Answers, Does, LeavesAll, MeetsWith, has_room, way_at}
+use Rattle.cx_task.specs.Performing.{Called, Commanded, Performs, fault_code, list_of}
+use Rattle.cx_task.specs.Turn.{HalfTurn, Halted, RunsOn}
+use Rattle.cx_task.specs.Ways.{Goes, is_wait}
+
+-- ---- waits
+never : (code : List ℕ) (cancel : Bool) (mid after before : Reach) → Abends code cancel mid turn.Waiting after → after ≡ before
+unfolding AbendsAt
+never code cancel mid after before it = go it.exit it.ends
+  where
+    go : (o : Option ℕ) → AbendsAt o code mid turn.Waiting after → after ≡ before
+    go None over = absurd (let no : turn.Waiting ≡ turn.Abended code = over.0 in cc)
+    go (Some index) over = absurd (let no : turn.Waiting ≡ turn.TookExit code = over.0 in cc)
+
+goes_wait : (gone : Way) (condition : Condition) (settled after before : Reach) → is_wait gone ≡ false → Goes gone condition settled turn.Waiting after → after ≡ before
+unfolding Goes
+goes_wait way.GoesOn condition settled after before moves goes = absurd (let no : turn.Waiting ≡ turn.Performed condition = goes.0 in cc)
+goes_wait (way.TakesLabel label) condition settled after before moves goes = absurd (let no : turn.Waiting ≡ turn.TookLabel condition = goes.0 in cc)
+goes_wait way.Waits condition settled after before moves goes = absurd (let no : true ≡ false = moves in cc)
+goes_wait (way.Abends code cancel) condition settled after before moves goes = never code cancel settled after before goes
+goes_wait (way.Enters level) condition settled after before moves goes = absurd (let no : turn.Waiting ≡ turn.Entered = goes.0 in cc)
+goes_wait (way.Replaces level) condition settled after before moves goes = absurd (let no : turn.Waiting ≡ turn.Entered = goes.0 in cc)
+goes_wait way.LevelEnds condition settled after before moves goes = absurd (let no : turn.Waiting ≡ turn.Returned = goes.0 in cc)
+goes_wait way.TaskEnds condition settled after before moves goes = absurd (let no : turn.Waiting ≡ turn.Ended = goes.0 in cc)
+
+meets_wait : (call : Call) (condition : Condition) (outputs : List Output) (change : Change) (before after : Reach) → MeetsWith call condition outputs change before turn.Waiting after → after ≡ before
+unfolding MeetsWith
+meets_wait call condition outputs change before after meets = by_room (has_room call outputs change before) meets
+  where
+    by_wait : (b : Bool) → is_wait (way_at call condition change before) ≡ b → MatchBool b (LeavesAll before turn.Waiting after) (Does call condition outputs change before turn.Waiting after) → after ≡ before
+    by_wait true e leaves = leaves.same
+    by_wait false e it = goes_wait (way_at call condition change before) condition it.settled after before e it.goes
+
+    by_room : (b : Bool) → MatchBool b (MatchBool (is_wait (way_at call condition change before)) (LeavesAll before turn.Waiting after) (Does call condition outputs change before turn.Waiting after))
+        (Abends (abend_code abend.Xarg) false before turn.Waiting after) → after ≡ before
+    by_room true it = by_wait (is_wait (way_at call condition change before)) refl it
+    by_room false abends = never (abend_code abend.Xarg) false before after before abends
+
+answers_wait : (verdict : Verdict) (call : Call) (before after : Reach) → Answers verdict call before turn.Waiting after → after ≡ before
+unfolding Answers
+answers_wait (Refuses code) call before after it = never (abend_code code) false before after before it
+answers_wait Waits call before after it = it.same
+answers_wait (Meets condition outputs change) call before after it = meets_wait call condition outputs change before after it
+
+pub waits_leave : (before after : Reach) → HalfTurn before turn.Waiting after → after ≡ before
+unfolding HalfTurn Commanded Called Halted
+waits_leave before after half = by_due before.task.due half
+  where
+    by_inputs : (call : Call) (b : Bool) → MatchBool b (Performs call before turn.Waiting after) (Abends (abend_code abend.Xarg) false before turn.Waiting after) → after ≡ before
+    by_inputs call true it = answers_wait it.verdict call before after it.answers
+    by_inputs call false abends = never (abend_code abend.Xarg) false before after before abends
+
+    by_call : (r : Result Call CallFault) → MatchResult r (λ call. Called call before turn.Waiting after) (λ fault. Abends (fault_code fault) false before turn.Waiting after) → after ≡ before
+    by_call (Ok call) called = by_inputs call (are_inputs_there before.shared.storage call) called
+    by_call (Err fault) abends = never (fault_code fault) false before after before abends
+
+    none : (mid : Reach) (how : Halt) → Halted how mid turn.Waiting after → after ≡ before
+    none mid halt.AtEntry it = absurd (let no : turn.Waiting ≡ turn.AtCommand = it.0 in cc)
+    none mid (halt.Interrupt cause place) abends = never (abend_code abend.Asra) false mid after before abends
+    none mid halt.Limit abends = never (abend_code abend.Aica) false mid after before abends
+
+    by_due : (b : Bool) → MatchBool b (Commanded before turn.Waiting after) (RunsOn before turn.Waiting after) → after ≡ before
+    by_due true commanded = by_call (call_of before.shared.storage (list_of before.task)) commanded
+    by_due false runs = none runs.between runs.how runs.ends

@@ -1,0 +1,60 @@
+-- What a change ends can still be ended when all else is written.
+use Rattle.std.proofs.Common.{◌≡◌, ℕ, List, Option, None, Some, refl, sym, ◌∙◌, subst}
+use Rattle.std.proofs.lemmas.Option.{none-some}
+use Rattle.cx_call.specs.declared.answer.Answer.{Answer}
+use Rattle.cx_call.specs.declared.outputs.Output.{Output}
+use Rattle.cx_call.specs.Call.{Call}
+use Rattle.cx_service.specs.Queues.{Queue, Queues, item_len_of, queue_of, read_fault}
+use Rattle.cx_state.specs.declared.verdict.Change.{Change}
+use Rattle.cx_state.specs.declared.verdict.Change.TheVariants.{Nothing, Makes, Ends, Gets, Enters, Replaces, LevelEnds, TaskEnds, AbendsWith}
+use Rattle.cx_state.specs.declared.verdict.Ended.{Ended}
+use Rattle.cx_state.specs.declared.verdict.Ended.TheVariants.{TakesInput, ReadOf, QueueGone, Dequeues, Frees}
+use Rattle.cx_state.specs.declared.verdict.Fill.{Fill}
+use Rattle.cx_state.specs.declared.verdict.Fill.TheVariants.{Byte, Item}
+use Rattle.cx_state.specs.State.{Reach}
+use Rattle.cx_state.specs.Verdicts.{FitsChange, FitsEnded, FitsFill}
+use Rattle.cx_task.specs.Changes.{Grown, given, reported}
+use Rattle.cx_task.specs.Parts.Making.{MatchEnded, MatchFill, MatchFinished}
+
+-- an item that has a length can be read
+readable : (queues : Queues) (name : List ℕ) (n len : ℕ) → item_len_of queues name n ≡ Some len → read_fault queues name n ≡ None
+unfolding read_fault
+readable queues name n len is = go (queue_of queues name) refl
+  where
+    go : (found : Option Queue) → queue_of queues name ≡ found → read_fault queues name n ≡ None
+    go None e = absurd (none-some len (sym (rw e refl) ∙ is))
+    go (Some queue) e = rw (is, e) refl
+
+ended_can : (it : Ended) (r : Reach) → FitsEnded it r → MatchEnded it r.shared.queues
+ended_can TakesInput r fits = tt
+ended_can (ReadOf name n) r fits = fits
+ended_can (QueueGone name) r fits = fits
+ended_can (Dequeues resource) r fits = tt
+ended_can (Frees place) r fits = fits.below
+
+fill_can : (fill : Fill) (len : ℕ) (r : Reach) → FitsFill fill len r → MatchFill fill r.shared.queues
+fill_can (Byte b) len r fits = tt
+fill_can (Item name n) len r fits = readable r.shared.queues name n len fits
+
+same_queues : (call : Call) (outputs : List Output) (change : Change) (answer : Answer) (made given_r after : Reach)
+    → given_r ≡ given call outputs change made → after ≡ reported call answer given_r → after.shared.queues ≡ made.shared.queues
+unfolding given reported
+same_queues call outputs change answer made given_r after gives reports = rw (reports, gives) refl
+
+grown_can : (change : Change) (before made : Reach) → FitsChange change before → Grown change before made → MatchFinished change made.shared.queues
+unfolding Grown
+grown_can Nothing before made fits grown = tt
+grown_can (Makes it) before made fits grown = tt
+grown_can (Ends it) before made fits grown = rw grown (ended_can it before fits)
+grown_can (Gets got) before made fits grown = rw grown (fill_can got.fill got.len before fits.fill)
+grown_can (Enters level) before made fits grown = tt
+grown_can (Replaces copying level) before made fits grown = tt
+grown_can LevelEnds before made fits grown = tt
+grown_can (TaskEnds next) before made fits grown = tt
+grown_can (AbendsWith code cancel) before made fits grown = tt
+
+pub fits_finished : (call : Call) (outputs : List Output) (change : Change) (answer : Answer) (before made given_r after : Reach)
+    → FitsChange change before → Grown change before made → given_r ≡ given call outputs change made → after ≡ reported call answer given_r
+    → MatchFinished change after.shared.queues
+fits_finished call outputs change answer before made given_r after fits grown gives reports =
+    subst (λ (queues : Queues). MatchFinished change queues) (sym (same_queues call outputs change answer made given_r after gives reports)) (grown_can change before made fits grown)

@@ -1,0 +1,157 @@
+-- A half-turn is decided by what was reached before.
+use Rattle.std.proofs.Common.{◌≡◌, ℕ, Bool, true, false, Option, Some, None, List, sym, ◌∙◌, ap, subst}
+use Rattle.std.specs.Prelude.{Result, Ok, Err, MatchBool, MatchResult}
+use Rattle.cx_command.specs.Abends.{abend_code}
+use Rattle.cx_command.specs.declared.abends.Abend.TheVariants as abend
+use Rattle.cx_command.specs.declared.conditions.Condition.{Condition}
+use Rattle.cx_exec.specs.declared.machine.Halt.{Halt}
+use Rattle.cx_exec.specs.declared.machine.Halt.TheVariants as halt
+use Rattle.cx_exec.specs.Advance.{Advances}
+use Rattle.cx_exec.specs.Laws.Decide.{RunsDecide}
+use Rattle.cx_program.specs.Facts.NearestExit.{nearest_exit_one}
+use Rattle.cx_program.specs.Levels.{Levels, all_levels}
+use Rattle.cx_service.specs.Screen.{ShowsText}
+use Rattle.cx_call.specs.declared.call.CallFault.{CallFault}
+use Rattle.cx_call.specs.declared.outputs.Output.{Output}
+use Rattle.cx_call.specs.Call.{Call, call_of}
+use Rattle.cx_call.specs.Inputs.{are_inputs_there}
+use Rattle.cx_rows.specs.Laws.Rows.{JudgedOnce}
+use Rattle.cx_state.specs.declared.replies.TurnReply.{TurnReply}
+use Rattle.cx_state.specs.declared.verdict.Change.{Change}
+use Rattle.cx_state.specs.declared.verdict.Change.TheVariants.{Nothing, Makes, Ends, Gets, Enters, Replaces, LevelEnds, TaskEnds, AbendsWith}
+use Rattle.cx_state.specs.declared.verdict.Made.{Made}
+use Rattle.cx_state.specs.declared.verdict.Made.TheVariants as made
+use Rattle.cx_state.specs.declared.verdict.Verdict.{Verdict}
+use Rattle.cx_state.specs.declared.verdict.Verdict.TheVariants.{Refuses, Waits, Meets}
+use Rattle.cx_state.specs.Areas.{bytes_in}
+use Rattle.cx_state.specs.State.{Reach}
+use Rattle.cx_task.specs.declared.way.Way.{Way}
+use Rattle.cx_task.specs.declared.way.Way.TheVariants as way
+use Rattle.cx_task.specs.Abends.{Abends, AbendsAt, IsExit}
+use Rattle.cx_task.specs.Answers.{Answers, Does, LeavesAll, MeetsWith, has_room, way_at}
+use Rattle.cx_task.specs.Changes.{Grown, MadeBy, finished, given, report_of, reported, with_screen}
+use Rattle.cx_task.specs.Laws.HalfTurns.{HalfTurnsDecide}
+use Rattle.cx_task.specs.Performing.{Called, Commanded, Performs, fault_code, list_of}
+use Rattle.cx_task.specs.Turn.{HalfTurn, Halted, RunsOn, after_machine, machine_of, most_steps}
+use Rattle.cx_task.specs.Ways.{Goes, is_wait}
+
+abbrev Same : TurnReply → TurnReply → Reach → Reach → Type 0
+Same p q a b = (p ≡ q) × (a ≡ b)
+
+abbrev ShownOnce : Type 0
+ShownOnce = (old : List (List ℕ)) (text : List ℕ) (erase : Bool) (one other : List (List ℕ)) → ShowsText old text erase one → ShowsText old text erase other → one ≡ other
+
+told : (p q x : TurnReply) (a b y : Reach) → (p ≡ x) × (a ≡ y) → (q ≡ x) × (b ≡ y) → Same p q a b
+told p q x a b y one two = (one.0 ∙ sym two.0, one.1 ∙ sym two.1)
+
+exits_decide : (cancel : Bool) (levels : Levels) (one other : Option ℕ) → IsExit cancel levels one → IsExit cancel levels other → one ≡ other
+exits_decide true levels one other p q = p ∙ sym q
+exits_decide false levels one other p q = nearest_exit_one (all_levels levels) one other p q
+
+abends_decide : (code : List ℕ) (cancel : Bool) (before : Reach) (p q : TurnReply) (a b : Reach) → Abends code cancel before p a → Abends code cancel before q b → Same p q a b
+unfolding AbendsAt
+abends_decide code cancel before p q a b h k =
+    by_exit k.exit (subst (λ (exit : Option ℕ). AbendsAt exit code before p a) (exits_decide cancel before.task.levels h.exit k.exit h.takes k.takes) h.ends) k.ends
+  where
+    by_exit : (exit : Option ℕ) → AbendsAt exit code before p a → AbendsAt exit code before q b → Same p q a b
+    by_exit None one two = told p q _ a b _ one two
+    by_exit (Some index) one two = told p q _ a b _ one two
+
+made_decides : ShownOnce → (it : Made) (before a b : Reach) → MadeBy it before a → MadeBy it before b → a ≡ b
+unfolding MadeBy
+made_decides shown (made.ItemLast name piece) before a b h k = h ∙ sym k
+made_decides shown (made.ItemAt name n piece) before a b h k = h ∙ sym k
+made_decides shown (made.Enqueues resource) before a b h k = h ∙ sym k
+made_decides shown (made.Handles request) before a b h k = h ∙ sym k
+made_decides shown (made.Shows piece erase) before a b h k =
+    h.others ∙ ap (with_screen before) (shown before.station.screen (bytes_in before.shared.storage piece) erase a.station.screen b.station.screen h.text k.text) ∙ sym k.others
+
+grown_decides : ShownOnce → (change : Change) (before a b : Reach) → Grown change before a → Grown change before b → a ≡ b
+unfolding Grown
+grown_decides shown Nothing before a b h k = h ∙ sym k
+grown_decides shown (Makes it) before a b h k = made_decides shown it before a b h k
+grown_decides shown (Ends it) before a b h k = h ∙ sym k
+grown_decides shown (Gets got) before a b h k = h ∙ sym k
+grown_decides shown (Enters level) before a b h k = h ∙ sym k
+grown_decides shown (Replaces copying level) before a b h k = h ∙ sym k
+grown_decides shown LevelEnds before a b h k = h ∙ sym k
+grown_decides shown (TaskEnds next) before a b h k = h ∙ sym k
+grown_decides shown (AbendsWith code cancel) before a b h k = h ∙ sym k
+
+goes_decides : (gone : Way) (condition : Condition) (settled : Reach) (p q : TurnReply) (a b : Reach) → Goes gone condition settled p a → Goes gone condition settled q b → Same p q a b
+unfolding Goes
+goes_decides way.GoesOn condition settled p q a b h k = told p q _ a b _ h k
+goes_decides (way.TakesLabel label) condition settled p q a b h k = told p q _ a b _ h k
+goes_decides way.Waits condition settled p q a b h k = told p q _ a b _ h k
+goes_decides (way.Abends code cancel) condition settled p q a b h k = abends_decide code cancel settled p q a b h k
+goes_decides (way.Enters level) condition settled p q a b h k = told p q _ a b _ h k
+goes_decides (way.Replaces level) condition settled p q a b h k = told p q _ a b _ h k
+goes_decides way.LevelEnds condition settled p q a b h k = told p q _ a b _ h k
+goes_decides way.TaskEnds condition settled p q a b h k = told p q _ a b _ h k
+
+does_decides : ShownOnce → (call : Call) (condition : Condition) (outputs : List Output) (change : Change) (before : Reach) (p q : TurnReply) (a b : Reach)
+    → Does call condition outputs change before p a → Does call condition outputs change before q b → Same p q a b
+does_decides shown call condition outputs change before p q a b h k =
+    let made = grown_decides shown change before h.settles.made k.settles.made h.settles.grown k.settles.grown in
+    let settled : h.settled ≡ k.settled =
+    h.settles.settled ∙ ap (λ (r : Reach). finished change (reported call (report_of call condition change before) (given call outputs change r))) made ∙ sym k.settles.settled in
+    goes_decides (way_at call condition change before) condition k.settled p q a b
+    (subst (λ (r : Reach). Goes (way_at call condition change before) condition r p a) settled h.goes) k.goes
+
+meets_decide : ShownOnce → (call : Call) (condition : Condition) (outputs : List Output) (change : Change) (before : Reach) (p q : TurnReply) (a b : Reach)
+    → MeetsWith call condition outputs change before p a → MeetsWith call condition outputs change before q b → Same p q a b
+unfolding MeetsWith
+meets_decide shown call condition outputs change before p q a b h k = by_room (has_room call outputs change before) h k
+  where
+    by_wait : (w : Bool) → MatchBool w (LeavesAll before p a) (Does call condition outputs change before p a) → MatchBool w (LeavesAll before q b) (Does call condition outputs change before q b) → Same p q a b
+    by_wait true one two = told p q _ a b _ (one.waiting, one.same) (two.waiting, two.same)
+    by_wait false one two = does_decides shown call condition outputs change before p q a b one two
+
+    by_room : (r : Bool)
+        → MatchBool r (MatchBool (is_wait (way_at call condition change before)) (LeavesAll before p a) (Does call condition outputs change before p a)) (Abends (abend_code abend.Xarg) false before p a)
+        → MatchBool r (MatchBool (is_wait (way_at call condition change before)) (LeavesAll before q b) (Does call condition outputs change before q b)) (Abends (abend_code abend.Xarg) false before q b)
+        → Same p q a b
+    by_room true one two = by_wait (is_wait (way_at call condition change before)) one two
+    by_room false one two = abends_decide (abend_code abend.Xarg) false before p q a b one two
+
+answers_decide : ShownOnce → (verdict : Verdict) (call : Call) (before : Reach) (p q : TurnReply) (a b : Reach) → Answers verdict call before p a → Answers verdict call before q b → Same p q a b
+unfolding Answers
+answers_decide shown (Refuses code) call before p q a b h k = abends_decide (abend_code code) false before p q a b h k
+answers_decide shown Waits call before p q a b h k = told p q _ a b _ (h.waiting, h.same) (k.waiting, k.same)
+answers_decide shown (Meets condition outputs change) call before p q a b h k = meets_decide shown call condition outputs change before p q a b h k
+
+performs_decide : ShownOnce → JudgedOnce → (call : Call) (before : Reach) (p q : TurnReply) (a b : Reach) → Performs call before p a → Performs call before q b → Same p q a b
+performs_decide shown judged call before p q a b h k =
+    let same = judged call before h.verdict k.verdict h.judged k.judged in
+    answers_decide shown k.verdict call before p q a b (subst (λ (v : Verdict). Answers v call before p a) same h.answers) k.answers
+
+halts_decide : (how : Halt) (before : Reach) (p q : TurnReply) (a b : Reach) → Halted how before p a → Halted how before q b → Same p q a b
+unfolding Halted
+halts_decide halt.AtEntry before p q a b h k = told p q _ a b _ h k
+halts_decide (halt.Interrupt cause place) before p q a b h k = abends_decide _ false before p q a b h k
+halts_decide halt.Limit before p q a b h k = abends_decide _ false before p q a b h k
+
+runs_decide : ((limit : ℕ) → RunsDecide (Advances limit)) → (before : Reach) (p q : TurnReply) (a b : Reach) → RunsOn before p a → RunsOn before q b → Same p q a b
+runs_decide runs before p q a b h k =
+    let same = runs most_steps (machine_of before) h.how k.how (machine_of h.between) (machine_of k.between) h.advances k.advances in
+    let between : h.between ≡ k.between = h.rest ∙ ap (after_machine before) same.1 ∙ sym k.rest in
+    let first : Halted k.how h.between p a = subst (λ (how : Halt). Halted how h.between p a) same.0 h.ends in
+    halts_decide k.how k.between p q a b (subst (λ (r : Reach). Halted k.how r p a) between first) k.ends
+
+pub half_turns_decide : ((limit : ℕ) → RunsDecide (Advances limit)) → ShownOnce → JudgedOnce → HalfTurnsDecide
+unfolding HalfTurn Commanded Called
+half_turns_decide runs shown judged before a b p q h k = by_due before.task.due h k
+  where
+    by_inputs : (call : Call) (there : Bool) → MatchBool there (Performs call before p a) (Abends (abend_code abend.Xarg) false before p a)
+        → MatchBool there (Performs call before q b) (Abends (abend_code abend.Xarg) false before q b) → Same p q a b
+    by_inputs call true one two = performs_decide shown judged call before p q a b one two
+    by_inputs call false one two = abends_decide (abend_code abend.Xarg) false before p q a b one two
+
+    by_call : (r : Result Call CallFault) → MatchResult r (λ call. Called call before p a) (λ fault. Abends (fault_code fault) false before p a)
+        → MatchResult r (λ call. Called call before q b) (λ fault. Abends (fault_code fault) false before q b) → Same p q a b
+    by_call (Ok call) one two = by_inputs call (are_inputs_there before.shared.storage call) one two
+    by_call (Err fault) one two = abends_decide (fault_code fault) false before p q a b one two
+
+    by_due : (due : Bool) → MatchBool due (Commanded before p a) (RunsOn before p a) → MatchBool due (Commanded before q b) (RunsOn before q b) → Same p q a b
+    by_due true one two = by_call (call_of before.shared.storage (list_of before.task)) one two
+    by_due false one two = runs_decide runs before p q a b one two

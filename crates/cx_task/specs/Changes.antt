@@ -1,0 +1,231 @@
+-- What each change of a command does (Application Programmer's Reference Manual, SC33-0077, the section of each command).
+-- What is made is made before the outputs are written, and what is ended or freed after RESP's word.
+use Rattle.std.specs.Prelude.{◌≡◌, ℕ, Bool, true, false, List, [], ◌∷◌, replicate, Option, Some, None, unwrap_or}
+use Rattle.std.specs.Option.{option_map}
+use Rattle.cx_ebcdic.specs.Aids.{key_of}
+use Rattle.cx_command.specs.declared.commands.Command.{Command}
+use Rattle.cx_command.specs.declared.commands.Command.TheVariants as command
+use Rattle.cx_command.specs.declared.conditions.Condition.{Condition}
+use Rattle.cx_command.specs.Commands.{row_of}
+use Rattle.cx_command.specs.Conditions.{entry_of}
+use Rattle.cx_storage.specs.Storage.{Storage, starts_elsewhere, with_areas_kept}
+use Rattle.cx_program.specs.declared.entries.Entry.{Entry}
+use Rattle.cx_program.specs.declared.entries.Entry.TheVariants as entry
+use Rattle.cx_program.specs.declared.entries.Exit.TheVariants.{On}
+use Rattle.cx_program.specs.declared.level.Level.{Level}
+use Rattle.cx_program.specs.Entries.{turned_off, turned_on}
+use Rattle.cx_program.specs.Handles.{Handles, after_pop, after_push, put_entry, put_exit}
+use Rattle.cx_program.specs.Levels.{with_current}
+use Rattle.cx_service.specs.Queues.{Queues, item_of, with_item, with_item_at, with_last_read, without_queue}
+use Rattle.cx_service.specs.Resources.{Resources, dequeued, enqueued}
+use Rattle.cx_service.specs.Screen.{ShowsText}
+use Rattle.cx_call.specs.declared.answer.Answer.{Answer}
+use Rattle.cx_call.specs.declared.inputs.Piece.{Piece}
+use Rattle.cx_call.specs.declared.listed.Listed.{Listed}
+use Rattle.cx_call.specs.declared.outputs.Output.{Output}
+use Rattle.cx_call.specs.Answer.{answered, resource_of}
+use Rattle.cx_call.specs.Call.{Call}
+use Rattle.cx_call.specs.Outputs.{put_out}
+use Rattle.cx_state.specs.declared.verdict.Change.{Change}
+use Rattle.cx_state.specs.declared.verdict.Change.TheVariants.{Makes, Ends, Gets, Enters, Replaces, LevelEnds, TaskEnds}
+use Rattle.cx_state.specs.declared.verdict.Copying.{Copying}
+use Rattle.cx_state.specs.declared.verdict.Ended.{Ended}
+use Rattle.cx_state.specs.declared.verdict.Ended.TheVariants.{TakesInput, ReadOf, QueueGone, Dequeues, Frees}
+use Rattle.cx_state.specs.declared.verdict.Fill.{Fill}
+use Rattle.cx_state.specs.declared.verdict.Fill.TheVariants.{Byte, Item}
+use Rattle.cx_state.specs.declared.verdict.Got.{Got}
+use Rattle.cx_state.specs.declared.verdict.Made.{Made}
+use Rattle.cx_state.specs.declared.verdict.Made.TheVariants as made
+use Rattle.cx_state.specs.declared.verdict.NewLevel.{NewLevel}
+use Rattle.cx_state.specs.declared.verdict.Next.{Next}
+use Rattle.cx_state.specs.declared.verdict.Request.{Request}
+use Rattle.cx_state.specs.declared.verdict.Request.TheVariants as request
+use Rattle.cx_state.specs.State.{Following, Input, Reach, TaskState, with_storage}
+use Rattle.cx_state.specs.Areas.{bytes_in, copied_bytes, got_owner, length_or_zero, with_cap, with_copied, with_copy_area, with_filled, with_stg_area}
+use Rattle.cx_state.specs.Verdicts.{handed_over}
+
+-- ---- the parts that a change replaces
+abbrev pub with_queues : Reach → Queues → Reach
+with_queues r queues = record r { shared = record r.shared { queues = queues } }
+
+abbrev pub with_resources : Reach → Resources → Reach
+with_resources r resources = record r { shared = record r.shared { resources = resources } }
+
+abbrev pub with_screen : Reach → List (List ℕ) → Reach
+with_screen r screen = record r { station = record r.station { screen = screen } }
+
+abbrev pub with_input : Reach → Option Input → Reach
+with_input r input = record r { station = record r.station { input = input } }
+
+abbrev pub with_following : Reach → Option Following → Reach
+with_following r following = record r { station = record r.station { following = following } }
+
+abbrev pub with_handles : TaskState → Handles → TaskState
+with_handles task handles = record task { levels = with_current task.levels (record task.levels.current { handles = handles }) }
+
+-- ---- handles
+-- HANDLE CONDITION: a label takes control; without one the condition has no entry any more
+abbrev pub entry_asked : Option ℕ → Entry
+entry_asked None = entry.NoEntry
+entry_asked (Some label) = entry.Label label
+
+unfoldable pub with_labels : List Listed → Handles → Handles
+with_labels [] handles = handles
+with_labels (listed ∷ rest) handles = with_labels rest (put_entry handles listed.condition (entry_asked listed.label))
+
+-- IGNORE CONDITION
+unfoldable pub with_ignored : List Listed → Handles → Handles
+with_ignored [] handles = handles
+with_ignored (listed ∷ rest) handles = with_ignored rest (put_entry handles listed.condition entry.Ignored)
+
+-- the handles of a level after a request
+unfoldable pub handled : Request → Handles → Handles
+handled (request.Handle listed) handles = with_labels listed handles
+handled (request.Ignore listed) handles = with_ignored listed handles
+handled request.Push handles = after_push handles
+handled request.Pop handles = unwrap_or (after_pop handles.kept) handles
+handled (request.SetExit label) handles = put_exit handles (On label)
+handled request.ExitOff handles = put_exit handles (turned_off handles.active.exit)
+handled request.ExitOn handles = put_exit handles (turned_on handles.active.exit)
+
+-- ---- made: before the outputs
+-- the text is shown, and nothing else changes
+pub record Shown (piece : Piece) (erase : Bool) (before after : Reach) : Type 0 where
+  pub text : ShowsText before.station.screen (bytes_in before.shared.storage piece) erase after.station.screen
+  pub others : after ≡ with_screen before after.station.screen
+
+unfoldable pub MadeBy : Made → Reach → Reach → Type 0
+MadeBy (made.ItemLast name piece) before after =
+    after ≡ with_queues before (with_item before.shared.queues name (bytes_in before.shared.storage piece))
+MadeBy (made.ItemAt name n piece) before after =
+    after ≡ with_queues before (with_item_at before.shared.queues name n (bytes_in before.shared.storage piece))
+MadeBy (made.Enqueues resource) before after =
+    after ≡ with_resources before (enqueued before.shared.resources before.station.slot resource)
+MadeBy (made.Shows piece erase) before after = Shown piece erase before after
+MadeBy (made.Handles request) before after =
+    after ≡ record before { task = with_handles before.task (handled request before.task.levels.current.handles) }
+
+-- what an area is filled with
+abbrev pub fill_bytes : Fill → ℕ → Queues → List ℕ
+fill_bytes (Byte b) len queues = replicate len b
+fill_bytes (Item name n) len queues = unwrap_or (item_of queues name n) []
+
+unfoldable pub with_got : Storage → Queues → ℕ → Got → Storage
+with_got storage queues slot got = with_filled storage got.place got.len (got_owner slot) (fill_bytes got.fill got.len queues)
+
+-- the COMMAREA's bytes; none without one
+abbrev pub bytes_or_none : Storage → Option Piece → List ℕ
+bytes_or_none storage None = []
+bytes_or_none storage (Some piece) = bytes_in storage piece
+
+-- the next transaction, with the COMMAREA's bytes
+unfoldable pub kept_next : Storage → Option Next → Option Following
+kept_next storage None = None
+kept_next storage (Some next) = Some (record { tran = next.tran; commarea = bytes_or_none storage next.commarea })
+
+-- storage with the DFHEISTG of a level that begins
+unfoldable pub with_stg : Storage → ℕ → NewLevel → Storage
+with_stg storage slot level = with_cap (with_stg_area storage slot level) level
+
+-- storage with the areas of a level that begins in place of another: the copy of its COMMAREA, and its DFHEISTG
+unfoldable pub with_replacement : Storage → ℕ → Option Copying → NewLevel → Storage
+with_replacement storage slot copying level =
+    with_cap (with_copied (with_stg_area (with_copy_area storage slot copying) slot level) copying (copied_bytes storage copying)) level
+
+-- what is made
+unfoldable pub Grown : Change → Reach → Reach → Type 0
+Grown (Makes made) before after = MadeBy made before after
+Grown (Gets got) before after =
+    after ≡ with_storage before (with_got before.shared.storage before.shared.queues before.station.slot got)
+Grown (Enters level) before after = after ≡ with_storage before (with_stg before.shared.storage before.station.slot level)
+Grown (Replaces copying level) before after =
+    after ≡ with_storage before (with_replacement before.shared.storage before.station.slot copying level)
+Grown (TaskEnds next) before after = after ≡ with_following before (kept_next before.shared.storage next)
+Grown _ before after = after ≡ before
+
+-- ---- the outputs, of the text that the command hands over
+unfoldable pub given : Call → List Output → Change → Reach → Reach
+given call outputs change r = with_storage r (put_out r.shared.storage call (handed_over change r) outputs)
+
+-- ---- the report in the EIB, and RESP's word
+-- the command behind which the program goes on: RETURN's is the LINK to its level
+abbrev pub reporting : Change → Command → Command
+reporting LevelEnds own = command.Link
+reporting _ own = own
+
+-- RECEIVE sets EIBAID to its input's key
+abbrev pub aid_of : Change → Option Input → Option ℕ
+aid_of (Ends TakesInput) input = option_map (λ held. (key_of held.aid).code) input
+aid_of _ input = None
+
+-- the EIBCALEN of the nearest caller, where there is one
+abbrev pub calen_above : List Level → Option ℕ
+calen_above [] = None
+calen_above (caller ∷ callers) = Some caller.calen
+
+-- the EIBCALEN of the level that goes on, where another does
+abbrev pub calen_of : Change → List Level → Option ℕ
+calen_of (Enters level) callers = Some (length_or_zero level.commarea)
+calen_of (Replaces copying level) callers = Some (length_or_zero level.commarea)
+calen_of LevelEnds callers = calen_above callers
+calen_of _ callers = None
+
+unfoldable pub report_of : Call → Condition → Change → Reach → Answer
+report_of call condition change r =
+    record {
+      function = (row_of (reporting change call.command)).function;
+      condition = (entry_of condition).number;
+      resource = resource_of r.shared.storage call;
+      aid = aid_of change r.station.input;
+      calen = calen_of change r.task.levels.callers;
+    }
+
+unfoldable pub reported : Call → Answer → Reach → Reach
+reported call answer r = with_storage r (answered r.shared.storage r.task.eib call answer)
+
+-- ---- ended: after RESP's word
+abbrev pub ended : Ended → Reach → Reach
+ended TakesInput r = with_input r None
+ended (ReadOf name n) r = with_queues r (with_last_read r.shared.queues name n)
+ended (QueueGone name) r = with_queues r (without_queue r.shared.queues name)
+ended (Dequeues resource) r = with_resources r (dequeued r.shared.resources r.station.slot resource)
+ended (Frees place) r = with_storage r (with_areas_kept (starts_elsewhere place) r.shared.storage)
+
+-- an item that fills an area is the one last read
+abbrev pub read_for : Fill → Reach → Reach
+read_for (Byte b) r = r
+read_for (Item name n) r = with_queues r (with_last_read r.shared.queues name n)
+
+unfoldable pub finished : Change → Reach → Reach
+finished (Ends e) r = ended e r
+finished (Gets got) r = read_for got.fill r
+finished _ r = r
+
+-- ---- all of it, in its order: the inputs and the report's resource are those that the command found
+pub record Settles (call : Call) (condition : Condition) (outputs : List Output) (change : Change) (before after : Reach) : Type 0 where
+  pub made : Reach
+  pub grown : Grown change before made
+  pub settled : after ≡ finished change (reported call (report_of call condition change before) (given call outputs change made))
+
+-- ---- memory: the changes that take some
+abbrev pub has_bytes : Option Piece → Bool
+has_bytes None = false
+has_bytes (Some piece) = true
+
+abbrev pub made_grows : Made → Bool
+made_grows (made.ItemLast name piece) = true
+made_grows (made.ItemAt name n piece) = true
+made_grows (made.Enqueues resource) = true
+made_grows _ = false
+
+abbrev pub next_grows : Option Next → Bool
+next_grows None = false
+next_grows (Some next) = has_bytes next.commarea
+
+abbrev pub change_grows : Change → Bool
+change_grows (Makes made) = made_grows made
+change_grows (Gets got) = true
+change_grows (Enters level) = true
+change_grows (Replaces copying level) = true
+change_grows (TaskEnds next) = next_grows next
+change_grows _ = false

@@ -1,0 +1,23 @@
+-- The definitions, in reading order.
+pub mod Abends
+pub mod Changes
+pub mod Ways
+pub mod Answers
+pub mod Performing
+pub mod Turn
+pub mod Sound
+pub mod Laws
+pub mod Parts
+pub use Rattle.cx_call.specs.Call
+pub use Rattle.cx_call.specs.Eib
+pub use Rattle.cx_call.specs.Inputs
+pub use Rattle.cx_call.specs.Outputs
+pub use Rattle.cx_call.specs.Answer
+pub use Rattle.cx_state.specs.State
+pub use Rattle.cx_state.specs.Areas
+pub use Rattle.cx_state.specs.Verdicts
+pub use Rattle.cx_rows.specs.Judged
+pub use Rattle.cx_command.specs.Commands
+pub use Rattle.cx_command.specs.Conditions
+pub use Rattle.cx_storage.specs.Address
+pub use Rattle.cx_storage.specs.Storage

@@ -1,0 +1,54 @@
+-- The command that is due is performed (Application Programmer's Reference Manual, SC33-0077, "Argument Values"; the
+-- order of the tests is this product's own): its list is read as a call, its inputs are tested, its row judges it.
+use Rattle.std.specs.Prelude.{◌≡◌, ℕ, true, false, List, Ok, MatchBool, MatchResult, slice_index}
+use Rattle.cx_command.specs.declared.abends.Abend.TheVariants as abend
+use Rattle.cx_command.specs.Abends.{abend_code}
+use Rattle.cx_storage.specs.Address.{address_in}
+use Rattle.cx_call.specs.declared.call.CallFault.{CallFault}
+use Rattle.cx_call.specs.declared.call.CallFault.TheVariants.{Xarg, Xfun}
+use Rattle.cx_call.specs.Call.{Call, call_of}
+use Rattle.cx_call.specs.Inputs.{are_inputs_there}
+use Rattle.cx_state.specs.declared.replies.TurnReply.{TurnReply}
+use Rattle.cx_state.specs.declared.verdict.Verdict.{Verdict}
+use Rattle.cx_state.specs.State.{Reach, TaskState}
+use Rattle.cx_rows.specs.Judged.{Judged}
+use Rattle.cx_task.specs.Abends.{Abends}
+use Rattle.cx_task.specs.Answers.{Answers, may_grow}
+
+-- the address of the argument list: bits 8 to 31 of R1
+abbrev pub list_of : TaskState → ℕ
+list_of task = address_in (slice_index task.regs 1)
+
+abbrev pub fault_code : CallFault → List ℕ
+fault_code Xarg = abend_code abend.Xarg
+fault_code Xfun = abend_code abend.Xfun
+
+-- the row judges the call, and the verdict is answered
+pub record Performs (call : Call) (before : Reach) (reply : TurnReply) (after : Reach) : Type 0 where
+  pub verdict : Verdict
+  pub judged : Judged call before verdict
+  pub answers : Answers verdict call before reply after
+
+-- a call: where an input's byte, or one of RESP's word, isn't in storage the task abends
+unfoldable pub Called : Call → Reach → TurnReply → Reach → Type 0
+Called call before reply after =
+    MatchBool (are_inputs_there before.shared.storage call) (Performs call before reply after) (Abends (abend_code abend.Xarg) false before reply after)
+
+-- the command that is due
+unfoldable pub Commanded : Reach → TurnReply → Reach → Type 0
+Commanded before reply after =
+    MatchResult (call_of before.shared.storage (list_of before.task))
+    (λ call. Called call before reply after)
+    (λ fault. Abends (fault_code fault) false before reply after)
+
+-- ---- memory: it is taken only where the verdict's change takes some, and no refusal and no wait applies
+pub record CallGrows (call : Call) (before : Reach) : Type 0 where
+  pub inputs : are_inputs_there before.shared.storage call ≡ true
+  pub verdict : Verdict
+  pub judged : Judged call before verdict
+  pub takes : may_grow verdict call before ≡ true
+
+pub record DueGrows (before : Reach) : Type 0 where
+  pub call : Call
+  pub reads : call_of before.shared.storage (list_of before.task) ≡ Ok call
+  pub grows : CallGrows call before

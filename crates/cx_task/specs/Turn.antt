@@ -1,0 +1,64 @@
+-- A half-turn of a live task (this product's own): all instructions up to a command, an interruption or a limit, or the
+-- one command that is due.
+use Rattle.std.specs.Prelude.{◌≡◌, ℕ, true, false, MatchBool}
+use Rattle.cx_exec.specs.declared.machine.Halt.{Halt}
+use Rattle.cx_exec.specs.declared.machine.Halt.TheVariants as halt
+use Rattle.cx_exec.specs.Machine.{Machine}
+use Rattle.cx_exec.specs.Advance.{Advances}
+use Rattle.cx_program.specs.Levels.{with_current}
+use Rattle.cx_command.specs.declared.abends.Abend.TheVariants as abend
+use Rattle.cx_command.specs.Abends.{abend_code}
+use Rattle.cx_state.specs.declared.replies.TurnReply.{TurnReply}
+use Rattle.cx_state.specs.declared.replies.TurnReply.TheVariants as turn
+use Rattle.cx_state.specs.State.{Reach, TaskState}
+use Rattle.cx_task.specs.Abends.{Abends}
+use Rattle.cx_task.specs.Performing.{Commanded, DueGrows}
+
+-- the most instructions of a half-turn
+abbrev pub most_steps : ℕ
+most_steps = 65536
+
+-- the machine that a task runs on, and what is reached after the machine ran
+abbrev pub machine_of : Reach → Machine
+machine_of r = record { regs = r.task.regs; cc = r.task.cc; next = r.task.next; storage = r.shared.storage }
+
+abbrev pub after_machine : Reach → Machine → Reach
+after_machine r machine =
+    record r {
+      shared = record r.shared { storage = machine.storage };
+      task = record r.task { regs = machine.regs; cc = machine.cc; next = machine.next };
+    }
+
+-- a command is due, and the level keeps registers and code
+abbrev pub at_command_task : TaskState → TaskState
+at_command_task task =
+    record task {
+      levels = with_current task.levels (record task.levels.current { regs = task.regs; cc = task.cc });
+      due = true;
+    }
+
+abbrev pub at_command : Reach → Reach
+at_command r = record r { task = at_command_task r.task }
+
+-- by how the instructions ended
+unfoldable pub Halted : Halt → Reach → TurnReply → Reach → Type 0
+Halted halt.AtEntry before reply after = (reply ≡ turn.AtCommand) × (after ≡ at_command before)
+Halted (halt.Interrupt cause place) before reply after = Abends (abend_code abend.Asra) false before reply after
+Halted halt.Limit before reply after = Abends (abend_code abend.Aica) false before reply after
+
+-- instructions run
+pub record RunsOn (before : Reach) (reply : TurnReply) (after : Reach) : Type 0 where
+  pub how : Halt
+  pub between : Reach
+  pub advances : Advances most_steps (machine_of before) how (machine_of between)
+  pub rest : between ≡ after_machine before (machine_of between)
+  pub ends : Halted how between reply after
+
+-- one half-turn of a live task
+unfoldable pub HalfTurn : Reach → TurnReply → Reach → Type 0
+HalfTurn before reply after = MatchBool before.task.due (Commanded before reply after) (RunsOn before reply after)
+
+-- A half-turn takes memory only where a command is due whose verdict takes some.
+pub record Grows (before : Reach) : Type 0 where
+  pub due : before.task.due ≡ true
+  pub grows : DueGrows before

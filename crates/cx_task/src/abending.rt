@@ -1,0 +1,111 @@
+//! Abends, and the end of tasks.
+ghost use Rattle.std.specs.Prelude.{◌≡◌, ◌-◌, ◌<◌, ◌≤◌, ◌^◌, None, Some, IfSome, OnSome, length, reverse, unwrap_or};
+ghost use Rattle.cx_storage.specs.Storage.{starts_elsewhere, with_areas_kept};
+ghost use Rattle.cx_storage.specs.Address.{address_in};
+ghost use Rattle.cx_program.specs.Entries.{label_on};
+ghost use Rattle.cx_program.specs.Levels.{IsNearestExit, all_levels};
+ghost use Rattle.cx_state.specs.State.{reach};
+ghost use Rattle.cx_task.specs.Abends.{Abends, AbendsAt, IsExit, abended, at_exit, below, exit_label, exit_storage, exit_taken, exit_task, task_ended, unwound, without_stg};
+
+use cx_call::eib::put_calen;
+use cx_ebcdic::Name4;
+use cx_exec::Cpu;
+use cx_program::{Level, LevelStack};
+use cx_state::{Shared, Station, Task, TurnReply};
+use cx_storage::{Store, address_in};
+
+/// Frees the area of a level's DFHEISTG.
+pub(crate) fn free_stg<S: Store>(store: &mut S, stg: u32)
+    ensures { S.storage store.new ≡ with_areas_kept (starts_elsewhere (address_in stg)) (S.storage store.old) }
+{
+    store.free_area(address_in(stg));
+}
+
+/// Ends so many levels, the current one first, and frees each one's DFHEISTG.
+#[tactic(auto, using(crate::proofs::UnwindLemmas::unwound_step, crate::proofs::UnwindLemmas::unwound_end, crate::proofs::UnwindLemmas::unwound_none))]
+fn unwind<S: Store>(store: &mut S, levels: &mut LevelStack, count: usize)
+    ensures { unwound count levels.old.callers levels.old.current (S.storage store.old)
+        ≡ record { levels = levels.new; storage = S.storage store.new } }
+{
+    for _level in 0..count {
+        let Some(level) = levels.leave() else {
+            return;
+        };
+        free_stg(store, level.stg);
+    }
+}
+
+/// The exit of the level at an index takes an abend.
+#[tactic(auto, unfolding(crate::specs::Abends::exit_storage, crate::specs::Abends::exit_task))]
+fn take_exit<S: Store>(store: &mut S, task: &mut Task, index: usize)
+    ensures storage { S.storage store.new ≡ exit_storage index task.old (S.storage store.old) }
+    ensures task { task.new ≡ exit_task index task.old (S.storage store.old) }
+{
+    let count = (task.levels.len() - 1).saturating_sub(index);
+    unwind(store, &mut task.levels, count);
+    let level = task.levels.current_mut();
+    let label = level.handles.exit().unwrap_or(0);
+    let calen = level.calen;
+    let mut regs = level.regs;
+    regs[15] = label;
+    let cc = level.cc.number();
+    level.handles.exit_off();
+    task.cpu = Cpu {
+        regs,
+        cc,
+        next: address_in(label),
+    };
+    task.due = false;
+    put_calen(store, task.eib, Some(calen));
+}
+
+/// The end of a task: its areas are freed, its resources released, its held input dropped.
+pub(crate) fn end_task<S: Store + Drop>(shared: &mut Shared<S>, station: &mut Station, task: &Task)
+    ensures { reach shared.new station.new task.now ≡ task_ended (reach shared.old station.old task.now) }
+{
+    shared.store.free_slot(station.slot);
+    shared.enqueues.release_all(station.slot);
+    station.input = None;
+}
+
+/// The end of a task by an abend, at which no exit is looked at: no transaction is next.
+pub fn end_by_abend<S: Store + Drop>(shared: &mut Shared<S>, station: &mut Station, task: &Task)
+    ensures { reach shared.new station.new task.now ≡ abended (reach shared.old station.old task.now) }
+{
+    end_task(shared, station, task);
+    station.following = None;
+}
+
+/// The exit that takes an abend of the task: none where none is to be looked at.
+fn exit_of(task: &Task, cancel: bool) -> Option<usize>
+    ensures { IsExit cancel task.now.levels result }
+{
+    if cancel {
+        None
+    } else {
+        task.levels.find_exit()
+    }
+}
+
+/// A task abends: the nearest exit takes it, or the task ends; no exit is looked at where the flag says so.
+#[tactic(auto, unfolding(crate::specs::Abends::AbendsAt))]
+pub(crate) fn abend<S: Store + Drop>(
+    shared: &mut Shared<S>,
+    station: &mut Station,
+    task: &mut Task,
+    code: Name4,
+    cancel: bool,
+) -> TurnReply
+    ensures { Abends code cancel (reach shared.old station.old task.old) result (reach shared.new station.new task.new) }
+{
+    match exit_of(task, cancel) {
+        Some(index) => {
+            take_exit(&mut shared.store, task, index);
+            TurnReply::TookExit(code)
+        }
+        None => {
+            end_by_abend(shared, station, task);
+            TurnReply::Abended(code)
+        }
+    }
+}

@@ -1,0 +1,239 @@
+//! What a command writes, and what it ends afterwards.
+ghost use Rattle.std.specs.Prelude.{◌≡◌, ◌<◌, ◌^◌, [], IfSome, None, Some, option_map, unwrap_or};
+ghost use Rattle.std.specs.Option.{option_map_or};
+ghost use Rattle.cx_ebcdic.specs.Aids.{key_of};
+ghost use Rattle.cx_command.specs.Commands.{row_of};
+ghost use Rattle.cx_storage.specs.Storage.{starts_elsewhere, with_areas_kept};
+ghost use Rattle.cx_service.specs.Queues.{delete_fault, item_of, read_fault, with_last_read, without_queue};
+ghost use Rattle.cx_service.specs.Resources.{dequeued};
+ghost use Rattle.cx_state.specs.State.{reach, with_storage};
+ghost use Rattle.cx_state.specs.Verdicts.{FitsChange, FitsEnded, handed_over};
+ghost use Rattle.cx_task.specs.Changes.{aid_of, calen_above, calen_of, ended, finished, given, read_for, report_of, reported, reporting, with_input, with_queues, with_resources};
+ghost use Rattle.cx_task.specs.Parts.Making.{MatchEnded, MatchFinished, text_of};
+ghost use Rattle.cx_task.specs.Answers.{has_room};
+ghost use Rattle.cx_call.specs.Outputs.{put_out};
+
+use crate::areas::length_or_zero;
+use crate::making::item_bytes;
+use cx_call::{Answer, Call, Outputs, can_put, put_answer, put_outputs, resource};
+use cx_command::{Command, Condition};
+use cx_ebcdic::Name8;
+use cx_program::LevelStack;
+use cx_service::Queues;
+use cx_state::{Change, Ended, Fill, Input, Shared, Station, Task};
+use cx_storage::Store;
+
+/// The bytes of a held input; none where none is held.
+fn input_bytes(input: &Option<Input>) -> &[u8]
+    ensures { result.now ≡ option_map_or (λ held. held.bytes) input.now [] }
+{
+    match input {
+        Some(input) => input.bytes.as_slice(),
+        None => &[],
+    }
+}
+
+/// The text that a command hands over.
+fn text_of<'a>(change: &Change, queues: &'a Queues, input: &'a Option<Input>) -> &'a [u8]
+    ensures { result.now ≡ text_of change.now input.now queues.now }
+{
+    match change {
+        Change::Ends(Ended::TakesInput) => input_bytes(input),
+        Change::Ends(Ended::ReadOf(name, n)) => item_bytes(queues, *name, *n),
+        _ => &[],
+    }
+}
+
+/// Whether the outputs' bytes are in storage as the command found it.
+#[tactic(auto, unfolding(crate::specs::Answers::has_room, cx_state::specs::Verdicts::handed_over))]
+pub(crate) fn has_room<S: Store + Drop>(
+    call: &Call,
+    outputs: &Outputs,
+    change: &Change,
+    shared: &Shared<S>,
+    station: &Station,
+    task: &Task,
+) -> bool
+    ensures { result ≡ has_room call.now outputs.now change.now (reach shared.now station.now task.now) }
+{
+    let text = text_of(change, &shared.queues, &station.input);
+    can_put(&shared.store, call, text, outputs)
+}
+
+/// Writes the outputs, of the text that the command hands over.
+fn put<S: Store>(
+    store: &mut S,
+    queues: &Queues,
+    input: &Option<Input>,
+    call: &Call,
+    outputs: &Outputs,
+    change: &Change,
+)
+    ensures { S.storage store.new ≡ put_out (S.storage store.old) call.now (text_of change.now input.now queues.now) outputs.now }
+{
+    let text = text_of(change, queues, input);
+    put_outputs(store, call, text, outputs);
+}
+
+/// Writes the outputs, of the text that the command hands over.
+#[tactic(auto, unfolding(crate::specs::Changes::given, cx_state::specs::Verdicts::handed_over))]
+pub(crate) fn give<S: Store + Drop>(
+    call: &Call,
+    outputs: &Outputs,
+    change: &Change,
+    shared: &mut Shared<S>,
+    station: &Station,
+    task: &Task,
+)
+    ensures { reach shared.new station.now task.now ≡ given call.now outputs.now change.now (reach shared.old station.now task.now) }
+{
+    put(
+        &mut shared.store,
+        &shared.queues,
+        &station.input,
+        call,
+        outputs,
+        change,
+    );
+}
+
+/// The command behind which the program goes on.
+fn reporting(change: &Change, own: Command) -> Command
+    ensures { result ≡ reporting change.now own }
+{
+    match change {
+        Change::LevelEnds => Command::Link,
+        _ => own,
+    }
+}
+
+/// The EIBAID that the command sets.
+fn aid_of(change: &Change, input: &Option<Input>) -> Option<u8>
+    ensures { result ≡ aid_of change.now input.now }
+{
+    match change {
+        Change::Ends(Ended::TakesInput) => input.as_ref().map(|held| held.aid.code()),
+        _ => None,
+    }
+}
+
+/// The EIBCALEN of the nearest caller, where there is one.
+#[tactic(auto, using(crate::proofs::CallerLemmas::calen_none, crate::proofs::CallerLemmas::calen_some, crate::proofs::CallerLemmas::calen_lost))]
+fn calen_above(levels: &LevelStack) -> Option<u16>
+    ensures { result ≡ calen_above levels.now.callers }
+{
+    let count = levels.len();
+    if count < 2 {
+        return None;
+    }
+    match levels.get(count - 2) {
+        Some(caller) => Some(caller.calen),
+        None => None,
+    }
+}
+
+/// The EIBCALEN that the command sets.
+fn calen_of(change: &Change, levels: &LevelStack) -> Option<u16>
+    ensures { result ≡ calen_of change.now levels.now.callers }
+{
+    match change {
+        Change::Enters(level) => Some(length_or_zero(level.commarea)),
+        Change::Replaces(_copying, level) => Some(length_or_zero(level.commarea)),
+        Change::LevelEnds => calen_above(levels),
+        _ => None,
+    }
+}
+
+/// What the command reports.
+#[tactic(auto, unfolding(crate::specs::Changes::report_of))]
+pub(crate) fn report_of<S: Store + Drop>(
+    call: &Call,
+    condition: Condition,
+    change: &Change,
+    shared: &Shared<S>,
+    station: &Station,
+    task: &Task,
+) -> Answer
+    ensures { result ≡ report_of call.now condition change.now (reach shared.now station.now task.now) }
+{
+    Answer {
+        function: reporting(change, call.command()).function(),
+        condition: condition.number(),
+        resource: resource(&shared.store, call),
+        aid: aid_of(change, &station.input),
+        calen: calen_of(change, &task.levels),
+    }
+}
+
+/// An item is the one last read.
+fn mark_read(queues: &mut Queues, name: Name8, n: usize)
+    requires { read_fault queues.old name n ≡ None }
+    ensures { queues.new ≡ with_last_read queues.old name n }
+{
+    match queues.read(name, n) {
+        Ok(_done) => (),
+        Err(_fault) => (),
+    }
+}
+
+/// A queue is gone.
+fn delete(queues: &mut Queues, name: Name8)
+    requires { delete_fault queues.old name ≡ None }
+    ensures { queues.new ≡ without_queue queues.old name }
+{
+    match queues.delete(name) {
+        Ok(_done) => (),
+        Err(_fault) => (),
+    }
+}
+
+/// What a command ends.
+fn end<S: Store + Drop>(it: &Ended, shared: &mut Shared<S>, station: &mut Station, task: &Task)
+    requires { MatchEnded it.now shared.old.queues }
+    ensures { reach shared.new station.new task.now ≡ ended it.now (reach shared.old station.old task.now) }
+{
+    match it {
+        Ended::TakesInput => station.input = None,
+        Ended::ReadOf(name, n) => mark_read(&mut shared.queues, *name, *n),
+        Ended::QueueGone(name) => delete(&mut shared.queues, *name),
+        Ended::Dequeues(resource) => shared.enqueues.deq(station.slot, resource),
+        Ended::Frees(place) => {
+            shared.store.free_area(*place);
+        }
+    }
+}
+
+/// What a change ends, after all else is written.
+#[tactic(auto, unfolding(crate::specs::Changes::finished))]
+pub(crate) fn finish<S: Store + Drop>(
+    change: &Change,
+    shared: &mut Shared<S>,
+    station: &mut Station,
+    task: &Task,
+)
+    requires { MatchFinished change.now shared.old.queues }
+    ensures { reach shared.new station.new task.now ≡ finished change.now (reach shared.old station.old task.now) }
+{
+    match change {
+        Change::Ends(it) => end(it, shared, station, task),
+        Change::Gets(got) => match &got.fill {
+            Fill::Item(name, n) => mark_read(&mut shared.queues, *name, *n),
+            Fill::Byte(_) => (),
+        },
+        _ => (),
+    }
+}
+
+/// Reports in the EIB, and in RESP's word.
+#[tactic(auto, unfolding(crate::specs::Changes::reported))]
+pub(crate) fn report<S: Store + Drop>(
+    call: &Call,
+    answer: &Answer,
+    shared: &mut Shared<S>,
+    station: &Station,
+    task: &Task,
+)
+    ensures { reach shared.new station.now task.now ≡ reported call.now answer.now (reach shared.old station.now task.now) }
+{
+    put_answer(&mut shared.store, task.eib, call, answer);
+}

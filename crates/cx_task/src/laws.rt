@@ -1,0 +1,31 @@
+//! What holds of every half-turn.
+ghost use Rattle.cx_task.specs.Laws.HalfTurns.{HalfTurnsDecide, HalfTurnsKeep, HalfTurnsStay, WaitsLeave};
+
+/// What was reached before a half-turn decides its reply and all that is reached after it.
+pub fn half_turns_decide()
+    ensures { HalfTurnsDecide }
+{
+    cx_exec::laws::runs_decide();
+    cx_service::laws::a_shown_text_is_decided();
+    cx_rows::laws::a_call_is_judged_once();
+}
+
+/// A half-turn keeps its slot, the programs, and the areas and resources of all other slots. Its task stays sound while it
+/// goes on, and where it has ended nothing of the slot's is left.
+#[tactic(auto, using(crate::proofs::HalfLemmas::half_turn_keeps))]
+pub fn half_turns_keep()
+    ensures { HalfTurnsKeep }
+{}
+
+/// Whatever is reached before it, a half-turn leaves its slot and the programs, and is answered neither Idle nor
+/// NoSuchTerminal.
+#[tactic(auto, using(crate::proofs::StayLemmas::half_turn_stays))]
+pub fn half_turns_stay()
+    ensures { HalfTurnsStay }
+{}
+
+/// A half-turn that is answered Waiting leaves all as it is.
+#[tactic(auto, using(crate::proofs::DecideLemmas::waits_leave))]
+pub fn waits_leave()
+    ensures { WaitsLeave }
+{}

@@ -1,0 +1,19 @@
+//! What a verdict on a command leads to, and the half-turns of tasks.
+#![tactic(auto)]
+
+mod abending;
+mod answering;
+mod areas;
+mod finishing;
+mod going;
+pub mod laws;
+mod making;
+mod turning;
+mod way;
+
+pub use abending::end_by_abend;
+pub use answering::answer;
+pub use areas::{entry_level, entry_registers, get_at, get_filled, get_stg, put_cap, system_owner};
+pub use turning::half_turn;
+#[doc(hidden)]
+pub use way::Way;

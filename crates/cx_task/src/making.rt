@@ -1,0 +1,430 @@
+//! What a command makes before its outputs are written.
+ghost use Rattle.std.specs.Prelude.{◌≡◌, ◌<◌, ◌≤◌, ◌^◌, length, replicate, take, unwrap_or, [], false, true, IfOk, IsOk, OnOk, OnErr, None, Some, MatchOption, ⊤};
+ghost use Rattle.cx_program.specs.declared.entries.Entry.TheVariants as Entry;
+ghost use Rattle.cx_program.specs.Entries.{turned_off, turned_on};
+ghost use Rattle.cx_program.specs.Handles.{after_pop, after_push, put_entry, put_exit};
+ghost use Rattle.cx_service.specs.Queues.{item_of, rewrite_fault, with_item, with_item_at, write_fault};
+ghost use Rattle.cx_service.specs.Resources.{enq_fault, enqueued};
+ghost use Rattle.cx_service.specs.Screen.{ShowsText};
+ghost use Rattle.cx_state.specs.Areas.{IsTaskPlace, bytes_in, copied_bytes, with_cap, with_copied, with_copy_area, with_filled, with_stg_area};
+ghost use Rattle.cx_state.specs.State.{reach, with_storage};
+ghost use Rattle.cx_state.specs.Verdicts.{FitsChange, FitsCopy, FitsGot, FitsLevel, FitsMade, FitsNext, FitsPiece, IsThere};
+ghost use Rattle.cx_task.specs.Changes.{Grown, MadeBy, change_grows, made_grows, bytes_or_none, entry_asked, has_bytes, handled, kept_next, next_grows, with_got, with_stg, with_handles, with_ignored, with_labels, with_replacement};
+ghost use Rattle.cx_task.specs.Parts.Making.{MatchItem, MatchPush, copied_len};
+
+use crate::areas::{MOST_BYTES, get_both, get_filled, get_stg, got_owner, put_cap};
+use cx_call::{Listed, Piece};
+use cx_command::Condition;
+use cx_ebcdic::Name8;
+use cx_program::HandleTable;
+use cx_service::{Enqueues, Queues, ResourceName, Screen};
+use cx_state::{
+    Change, Copying, Fill, Following, Got, Made, NewLevel, Next, Request, Shared, Station, Task,
+};
+use cx_storage::{Owner, Store};
+use cx_tables::List;
+use std::alloc::{AllocError, Global};
+
+/// A piece's bytes are a new item, the last of a queue.
+fn put_item<S: Store>(
+    store: &S,
+    queues: &mut Queues,
+    name: Name8,
+    piece: Piece,
+) -> Result<(), AllocError>
+    requires writes { write_fault queues.old name piece.len ≡ None }
+    requires there { IsThere (S.storage store.now) piece }
+    ensures ok { OnOk result (queues.new ≡ with_item queues.old name (bytes_in (S.storage store.now) piece)) }
+    ensures err { OnErr result (queues.new ≡ queues.old) }
+{
+    let mut buffer = [0; MOST_BYTES];
+    let bytes = &mut buffer[..piece.len as usize];
+    store.read(piece.place, bytes);
+    match queues.write(name, bytes) {
+        Ok(_number) => Ok(()),
+        Err(_refused) => Err(AllocError),
+    }
+}
+
+/// A piece's bytes replace a queue's item.
+fn put_item_at<S: Store>(
+    store: &S,
+    queues: &mut Queues,
+    name: Name8,
+    n: usize,
+    piece: Piece,
+) -> Result<(), AllocError>
+    requires rewrites { rewrite_fault queues.old name n piece.len ≡ None }
+    requires there { IsThere (S.storage store.now) piece }
+    ensures ok { OnOk result (queues.new ≡ with_item_at queues.old name n (bytes_in (S.storage store.now) piece)) }
+    ensures err { OnErr result (queues.new ≡ queues.old) }
+{
+    let mut buffer = [0; MOST_BYTES];
+    let bytes = &mut buffer[..piece.len as usize];
+    store.read(piece.place, bytes);
+    match queues.rewrite(name, n, bytes) {
+        Ok(_done) => Ok(()),
+        Err(_refused) => Err(AllocError),
+    }
+}
+
+/// A task owns a resource once more.
+fn own<'a>(enqueues: &mut Enqueues, slot: u8, resource: &'a ResourceName) -> Result<(), AllocError>
+    requires { enq_fault enqueues.old slot resource.now ≡ None }
+    ensures ok { OnOk result (enqueues.new ≡ enqueued enqueues.old slot resource.now) }
+    ensures err { OnErr result (enqueues.new ≡ enqueues.old) }
+{
+    match enqueues.enq(slot, resource) {
+        Ok(_done) => Ok(()),
+        Err(_refused) => Err(AllocError),
+    }
+}
+
+/// A piece's bytes are shown.
+fn show<S: Store>(store: &S, screen: &mut Screen, piece: Piece, erase: bool)
+    requires { IsThere (S.storage store.now) piece }
+    ensures { ShowsText screen.old (bytes_in (S.storage store.now) piece) erase screen.new }
+{
+    let mut buffer = [0; MOST_BYTES];
+    let bytes = &mut buffer[..piece.len as usize];
+    store.read(piece.place, bytes);
+    screen.send_text(bytes, erase);
+}
+
+/// HANDLE CONDITION of one condition.
+#[tactic(auto, using(crate::proofs::HandleLemmas::put_normal))]
+fn handle_one(table: &mut HandleTable, listed: Listed)
+    ensures { table.new ≡ put_entry table.old listed.condition (entry_asked listed.label) }
+{
+    if listed.condition == Condition::Normal {
+        return;
+    }
+    match listed.label {
+        Some(label) => table.set(listed.condition, label),
+        None => table.default(listed.condition),
+    }
+}
+
+/// HANDLE CONDITION.
+#[tactic(auto, using(crate::proofs::HandleLemmas::labels_step, crate::proofs::HandleLemmas::labels_end))]
+fn handle_all(table: &mut HandleTable, conditions: &[Listed])
+    ensures { table.new ≡ with_labels conditions.now table.old }
+{
+    for listed in conditions {
+        handle_one(table, *listed);
+    }
+}
+
+/// IGNORE CONDITION of one condition.
+#[tactic(auto, using(crate::proofs::HandleLemmas::put_normal))]
+fn ignore_one(table: &mut HandleTable, listed: Listed)
+    ensures { table.new ≡ put_entry table.old listed.condition Entry.Ignored }
+{
+    if listed.condition == Condition::Normal {
+        return;
+    }
+    table.ignore(listed.condition);
+}
+
+/// IGNORE CONDITION.
+#[tactic(auto, using(crate::proofs::HandleLemmas::ignored_step, crate::proofs::HandleLemmas::ignored_end))]
+fn ignore_all(table: &mut HandleTable, conditions: &[Listed])
+    ensures { table.new ≡ with_ignored conditions.now table.old }
+{
+    for listed in conditions {
+        ignore_one(table, *listed);
+    }
+}
+
+/// What a program asks of its level's handles.
+#[tactic(auto, unfolding(crate::specs::Changes::handled))]
+fn handle(table: &mut HandleTable, request: &Request)
+    requires { MatchPush request.now (length table.old.kept < 16) }
+    ensures { table.new ≡ handled request.now table.old }
+{
+    match request {
+        Request::Handle(conditions) => handle_all(table, conditions.as_slice()),
+        Request::Ignore(conditions) => ignore_all(table, conditions.as_slice()),
+        Request::Push => push(table),
+        Request::Pop => pop(table),
+        Request::SetExit(label) => table.set_exit(*label),
+        Request::ExitOff => table.exit_off(),
+        Request::ExitOn => table.exit_on(),
+    }
+}
+
+/// PUSH HANDLE where fewer than sixteen are kept.
+fn push(table: &mut HandleTable)
+    requires { length table.old.kept < 16 }
+    ensures { table.new ≡ after_push table.old }
+{
+    match table.push() {
+        Ok(_done) => (),
+        Err(_fault) => (),
+    }
+}
+
+/// POP HANDLE.
+fn pop(table: &mut HandleTable)
+    ensures { table.new ≡ unwrap_or (after_pop table.old.kept) table.old }
+{
+    match table.pop() {
+        Ok(_done) => (),
+        Err(_fault) => (),
+    }
+}
+
+/// What a program asks of its current level's handles.
+fn handle_current(task: &mut Task, request: &Request)
+    requires { MatchPush request.now (length task.old.levels.current.handles.kept < 16) }
+    ensures { task.new ≡ with_handles task.old (handled request.now task.old.levels.current.handles) }
+{
+    let level = task.levels.current_mut();
+    handle(&mut level.handles, request);
+}
+
+/// What a command makes.
+///
+/// An error comes only where a growth was refused; then all is as before.
+#[tactic(auto, unfolding(crate::specs::Changes::MadeBy))]
+fn make<S: Store + Drop>(
+    made: &Made,
+    shared: &mut Shared<S>,
+    station: &mut Station,
+    task: &mut Task,
+) -> Result<(), AllocError>
+    requires { FitsMade made.now (reach shared.old station.old task.old) }
+    ensures ok { OnOk result (MadeBy made.now (reach shared.old station.old task.old) (reach shared.new station.new task.new)) }
+    ensures err { OnErr result (reach shared.new station.new task.new ≡ reach shared.old station.old task.old) }
+    ensures grows { OnErr result (made_grows made.now ≡ true) }
+{
+    match made {
+        Made::ItemLast(name, piece) => {
+            put_item(&shared.store, &mut shared.queues, *name, *piece)?;
+        }
+        Made::ItemAt(name, n, piece) => {
+            put_item_at(&shared.store, &mut shared.queues, *name, *n, *piece)?;
+        }
+        Made::Enqueues(resource) => own(&mut shared.enqueues, station.slot, resource)?,
+        Made::Shows(piece, erase) => show(&shared.store, &mut station.screen, *piece, *erase),
+        Made::Handles(request) => handle_current(task, request),
+    }
+    Ok(())
+}
+
+/// The bytes that an item of a queue has; none where it isn't there.
+pub(crate) fn item_bytes(queues: &Queues, name: Name8, n: usize) -> &[u8]
+    ensures { result.now ≡ unwrap_or (item_of queues.now name n) [] }
+{
+    queues.item(name, n).unwrap_or(&[])
+}
+
+/// The most bytes of an area that a program gets.
+const MOST_GOT: usize = 65_520;
+
+/// The first bytes, so many.
+fn front(bytes: &[u8; MOST_GOT], len: usize) -> &[u8]
+    requires { len ≤ 65520 }
+    ensures value { result.now ≡ take len bytes.now }
+    ensures few { length result.now ≡ len }
+{
+    &bytes[..len]
+}
+
+/// An area of which each byte is the same.
+fn get_of_byte<S: Store>(
+    store: &mut S,
+    place: u32,
+    len: u32,
+    owner: Owner,
+    byte: u8,
+) -> Result<(), AllocError>
+    requires some { 0 < len }
+    requires few { len ≤ 65520 }
+    requires place { IsTaskPlace (S.storage store.old) len (Some place) }
+    ensures ok { OnOk result (S.storage store.new ≡ with_filled (S.storage store.old) place len owner (replicate len byte)) }
+    ensures err { OnErr result (S.storage store.new ≡ S.storage store.old) }
+{
+    let buffer = [byte; MOST_GOT];
+    get_filled(store, place, len, owner, front(&buffer, len as usize))?;
+    Ok(())
+}
+
+/// An area that the program gets, filled.
+#[tactic(auto, unfolding(crate::specs::Changes::with_got))]
+fn get_got<S: Store>(store: &mut S, queues: &Queues, slot: u8, got: &Got) -> Result<(), AllocError>
+    requires some { 0 < got.now.len }
+    requires few { got.now.len ≤ 65520 }
+    requires place { IsTaskPlace (S.storage store.old) got.now.len (Some got.now.place) }
+    requires fill { MatchItem got.now.fill queues.now got.now.len }
+    ensures ok { OnOk result (S.storage store.new ≡ with_got (S.storage store.old) queues.now slot got.now) }
+    ensures err { OnErr result (S.storage store.new ≡ S.storage store.old) }
+{
+    let owner = got_owner(slot);
+    let len = got.len;
+    match &got.fill {
+        Fill::Byte(byte) => get_of_byte(store, got.place, len, owner, *byte)?,
+        Fill::Item(name, n) => {
+            get_filled(store, got.place, len, owner, item_bytes(queues, *name, *n))?;
+        }
+    }
+    Ok(())
+}
+
+/// How many bytes are copied.
+fn copied_len(copying: Option<Copying>) -> usize
+    ensures value { result ≡ copied_len copying }
+    ensures most { result ≤ 65535 }
+{
+    match copying {
+        Some(copying) => copying.from.len as usize,
+        None => 0,
+    }
+}
+
+/// The bytes that are copied.
+fn read_copied<S: Store>(store: &S, copying: Option<Copying>, bytes: &mut [u8])
+    requires copy { FitsCopy copying (S.storage store.now) }
+    requires len { length bytes.old ≡ copied_len copying }
+    ensures { bytes.new ≡ copied_bytes (S.storage store.now) copying }
+{
+    let Some(copying) = copying else {
+        return;
+    };
+    store.read(copying.from.place, bytes);
+}
+
+/// Puts a copy into its area.
+#[tactic(auto, unfolding(cx_state::specs::Areas::with_copied))]
+fn put_copied<S: Store>(store: &mut S, copying: Option<Copying>, bytes: &[u8])
+    requires place { MatchOption copying ⊤ (λ it. it.to < 2 ^ 24) }
+    requires len { length bytes.now ≤ 65536 }
+    ensures { S.storage store.new ≡ with_copied (S.storage store.old) copying bytes.now }
+{
+    let Some(copying) = copying else {
+        return;
+    };
+    store.write(copying.to, bytes);
+}
+
+/// Makes and fills the areas of a level that begins in place of another.
+///
+/// An error comes only where a growth was refused; then all is as before.
+#[tactic(auto, using(crate::proofs::CopyLemmas::copy_below), unfolding(crate::specs::Changes::with_replacement))]
+fn get_replacement<S: Store>(
+    store: &mut S,
+    slot: u8,
+    copying: Option<Copying>,
+    level: &NewLevel,
+) -> Result<(), AllocError>
+    requires copy { FitsCopy copying (S.storage store.old) }
+    requires level { FitsLevel (with_copy_area (S.storage store.old) slot copying) level.now }
+    ensures ok { OnOk result (S.storage store.new ≡ with_replacement (S.storage store.old) slot copying level.now) }
+    ensures err { OnErr result (S.storage store.new ≡ S.storage store.old) }
+{
+    let mut buffer = [0; MOST_BYTES];
+    let bytes = &mut buffer[..copied_len(copying)];
+    read_copied(store, copying, bytes);
+    get_both(store, slot, copying, level)?;
+    put_copied(store, copying, bytes);
+    put_cap(store, level);
+    Ok(())
+}
+
+/// The COMMAREA's bytes, in a list of their own.
+fn kept_bytes<S: Store>(
+    alloc: Global,
+    store: &S,
+    commarea: Option<Piece>,
+) -> Result<List<u8>, AllocError>
+    requires { FitsPiece commarea (S.storage store.now) }
+    ensures bytes { IfOk result (λ bytes. bytes ≡ bytes_or_none (S.storage store.now) commarea) }
+    ensures few { IfOk result (λ bytes. length bytes ≤ 32767) }
+    ensures grows { OnErr result (has_bytes commarea ≡ true) }
+{
+    let Some(piece) = commarea else {
+        return Ok(List::from_vec(Vec::new(alloc)));
+    };
+    let mut buffer = [0; MOST_BYTES];
+    let bytes = &mut buffer[..piece.len as usize];
+    store.read(piece.place, bytes);
+    let list = List::from_slice(alloc, bytes)?;
+    Ok(list)
+}
+
+/// The next transaction, with the COMMAREA that is kept for it.
+#[tactic(auto, unfolding(crate::specs::Changes::kept_next))]
+fn keep_next<S: Store>(
+    alloc: Global,
+    store: &S,
+    next: Option<Next>,
+) -> Result<Option<Following>, AllocError>
+    requires { MatchOption next ⊤ (λ it. FitsPiece it.commarea (S.storage store.now)) }
+    ensures kept { IfOk result (λ following. following ≡ kept_next (S.storage store.now) next) }
+    ensures grows { OnErr result (next_grows next ≡ true) }
+{
+    let Some(next) = next else {
+        return Ok(None);
+    };
+    let commarea = kept_bytes(alloc, store, next.commarea)?;
+    Ok(Some(Following {
+        tran: next.tran,
+        commarea,
+    }))
+}
+
+/// The next transaction is kept at the terminal.
+fn leave_next<S: Store + Drop>(
+    shared: &Shared<S>,
+    station: &mut Station,
+    next: Option<Next>,
+) -> Result<(), AllocError>
+    requires { MatchOption next ⊤ (λ it. FitsPiece it.commarea shared.now.storage) }
+    ensures ok { OnOk result (station.new ≡ record station.old { following = kept_next shared.now.storage next }) }
+    ensures err { OnErr result (station.new ≡ station.old) }
+    ensures grows { OnErr result (next_grows next ≡ true) }
+{
+    let following = keep_next(shared.alloc, &shared.store, next)?;
+    station.following = following;
+    Ok(())
+}
+
+/// What a change makes before the outputs are written.
+///
+/// An error comes only where a growth was refused, and only for a change that takes memory; then all is as before.
+#[tactic(auto, unfolding(crate::specs::Changes::Grown, crate::specs::Changes::with_stg))]
+pub(crate) fn grow<S: Store + Drop>(
+    change: &Change,
+    shared: &mut Shared<S>,
+    station: &mut Station,
+    task: &mut Task,
+) -> Result<(), AllocError>
+    requires { FitsChange change.now (reach shared.old station.old task.old) }
+    ensures ok { OnOk result (Grown change.now (reach shared.old station.old task.old) (reach shared.new station.new task.new)) }
+    ensures err { OnErr result (reach shared.new station.new task.new ≡ reach shared.old station.old task.old) }
+    ensures grows { OnErr result (change_grows change.now ≡ true) }
+{
+    match change {
+        Change::Makes(made) => make(made, shared, station, task)?,
+        Change::Gets(got) => get_got(&mut shared.store, &shared.queues, station.slot, got)?,
+        Change::Enters(level) => enter_area(&mut shared.store, station.slot, level)?,
+        Change::Replaces(copying, level) => {
+            get_replacement(&mut shared.store, station.slot, *copying, level)?;
+        }
+        Change::TaskEnds(next) => leave_next(shared, station, *next)?,
+        _ => (),
+    }
+    Ok(())
+}
+
+/// The DFHEISTG of a level that begins.
+#[tactic(auto, unfolding(crate::specs::Changes::with_stg))]
+fn enter_area<S: Store>(store: &mut S, slot: u8, level: &NewLevel) -> Result<(), AllocError>
+    requires { FitsLevel (S.storage store.old) level.now }
+    ensures ok { OnOk result (S.storage store.new ≡ with_stg (S.storage store.old) slot level.now) }
+    ensures err { OnErr result (S.storage store.new ≡ S.storage store.old) }
+{
+    get_stg(store, slot, level)?;
+    put_cap(store, level);
+    Ok(())
+}

@@ -1,0 +1,4 @@
+pub mod DigitLemmas
+pub mod ShownLemmas
+pub mod FieldLemmas
+pub mod PageLemmas

@@ -1,0 +1,5 @@
+-- The definitions, in reading order.
+pub mod Digits
+pub mod Texts
+pub mod Pages
+pub mod Parts
