@@ -51,10 +51,11 @@ pub struct MemoryOut<'a> {
 }
 
 impl<'a> MemoryOut<'a> {
-    /// A writer that fills this slice.
+    /// A writer that fills this slice, all of it.
     pub fn new(buffer: &'a mut [u8]) -> MemoryOut<'a>
         ensures written { ⟦<MemoryOut<'a> as ScriptOut>⟧.written result ≡ Some [] }
         ensures failure { ⟦<MemoryOut<'a> as ScriptOut>⟧.has_failed result ≡ false }
+        ensures room { length result.buffer.now - result.len ≡ length buffer.entry.now }
     {
         MemoryOut {
             buffer,

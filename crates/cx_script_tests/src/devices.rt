@@ -183,7 +183,7 @@ fn a_slice_is_filled_to_its_last_byte(rt: HostRuntime) {
     }
 }
 
-/// A reader and a writer of the standard library that fail once, and would work again.
+/// A reader of the standard library that fails once, and would work again.
 #[derive(Drop)]
 struct Flaky {
     calls: usize,

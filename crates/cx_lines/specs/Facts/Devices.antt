@@ -40,16 +40,10 @@ wrote_none a b c bytes rest n m e p q =
     (n, subst (Appends a c) (ap (λ l. take n bytes ++ l) nothing ∙ append-nil (take n bytes)) (Appends-trans a b c _ _ p q))
 
 -- what was read so far, and what one more read gave of a buffer
-pub read_more : (a b c : Option (List ℕ)) (bytes buffer : List ℕ) (n : ℕ) → Consumes a b bytes → Consumes b c (take n buffer) → Consumes a c (bytes ++ take n buffer)
-read_more a b c bytes buffer n p q = Consumes-trans a b c bytes (take n buffer) p q
-
 pub read_end : (a b c : Option (List ℕ)) (bytes buffer : List ℕ) (n : ℕ) → n ≡ 0 → Consumes a b bytes → Consumes b c (take n buffer) → IsAtEnd c → IfSome a (λ input. input ≡ bytes)
 read_end a b c bytes buffer n e p q end =
     let nothing : take n buffer ≡ [] = ap (λ k. take k buffer) e in
     read_whole a c bytes (subst (Consumes a c) (ap (λ l. bytes ++ l) nothing ∙ append-nil bytes) (Consumes-trans a b c _ _ p q)) end
-
-pub read_kept : (a b c : Option (List ℕ)) (bytes : List ℕ) → Consumes a b bytes → Keeps b c → Consumes a c bytes
-read_kept a b c bytes p q = Consumes-kept a b c bytes p q
 
 -- more was read than a script may have
 pub read_past : (most : ℕ) (a b : Option (List ℕ)) (bytes : List ℕ) → Consumes a b bytes → most < length bytes → IfSome a (λ input. (most < length input) × (take most input ≡ take most bytes))
