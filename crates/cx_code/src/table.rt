@@ -170,7 +170,7 @@ pub enum Op {
 }
 
 /// The instructions by their operation codes.
-const BY_CODE: [Option<Op>; 256] = [
+static BY_CODE: [Option<Op>; 256] = [
     None,
     None,
     None,
