@@ -37,6 +37,7 @@ impl Code {
 
     /// The instruction that the bytes read as.
     #[tactic(auto, unfolding(crate::specs::Fetch::read_as))]
+    #[inline(always)]
     pub(crate) fn read(&self) -> Result<Inst, Interruption>
         ensures { result ≡ read_as self.now }
     {
@@ -58,6 +59,7 @@ impl Code {
 
 /// The bytes of the instruction at an address, where six bytes from there on are lent in one piece.
 #[tactic(auto, using(crate::proofs::FetchLemmas::lent_is_code, cx_storage::specs::Facts::Spans::span_length))]
+#[inline(always)]
 fn lent_code<S: Store>(store: &S, at: u32) -> Option<Code>
     requires { at < 2 ^ 24 }
     ensures { IfSome result (λ code. code_bytes (S.storage store.now) at ≡ Some code) }
@@ -71,6 +73,7 @@ fn lent_code<S: Store>(store: &S, at: u32) -> Option<Code>
 
 /// The bytes of the instruction at an address.
 #[tactic(auto, unfolding(crate::specs::Fetch::code_at))]
+#[inline(always)]
 pub(crate) fn code_at<S: Store>(store: &S, at: u32) -> Result<Code, Interruption>
     requires { at < 2 ^ 24 }
     ensures { result ≡ code_at (S.storage store.now) at }

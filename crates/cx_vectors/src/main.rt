@@ -13,6 +13,7 @@ use std::io;
 use std::io::{BufRead, BufReader};
 
 /// How many lines were done over a store, how many of them differ, and how many could not be read.
+#[derive(Drop)]
 struct Counts {
     done: u64,
     differ: u64,
