@@ -42,6 +42,12 @@ fn lends_inside_a_block(rt: HostRuntime) -> Result<(), Fail> {
 }
 
 #[test]
+fn pages_lend_nothing_over_their_border(rt: HostRuntime) -> Result<(), Fail> {
+    assert!(rt; rows::lends_nothing_over_a_border(&mut PagedStore::new(rt.alloc()))?);
+    Ok(())
+}
+
+#[test]
 fn keeps_the_others_bytes(rt: HostRuntime) -> Result<(), Fail> {
     assert!(rt; rows::keeps_the_others_bytes(&mut FlatStore::new(rt.alloc()))?);
     assert!(rt; rows::keeps_the_others_bytes(&mut PagedStore::new(rt.alloc()))?);
