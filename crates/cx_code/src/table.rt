@@ -575,11 +575,29 @@ impl Op {
         ensures { result ≡ format_of self }
     {
         match self {
-            Balr | Bctr | Bcr | Ltr | Lcr | Clr | Xr | Lr | Cr | Ar
-            | Sr | Mr | Dr => Format::Rr,
-            Sth | La | Stc | Ic | Ex | Bal | Bct | Bc | Lh | Ch
-            | Ah | Sh | Cvd | Cvb | St | Cl | L | C | A | S
-            | M | D => Format::Rx,
+            Balr | Bctr | Bcr | Ltr | Lcr | Clr | Xr | Lr | Cr | Ar | Sr | Mr | Dr => Format::Rr,
+            Sth
+            | La
+            | Stc
+            | Ic
+            | Ex
+            | Bal
+            | Bct
+            | Bc
+            | Lh
+            | Ch
+            | Ah
+            | Sh
+            | Cvd
+            | Cvb
+            | St
+            | Cl
+            | L
+            | C
+            | A
+            | S
+            | M
+            | D => Format::Rx,
             Srl | Sll | Sra | Sla | Srda | Stm | Lm | Stcm | Icm => Format::Rs,
             Tm | Mvi | Ni | Cli | Oi => Format::Si,
             Mvc | Clc | Xc | Tr | Trt => Format::Ss,

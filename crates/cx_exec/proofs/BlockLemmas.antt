@@ -121,7 +121,7 @@ not_joined m n a1 a2 size updated width absent there =
         → IfPresent o m (Err interruption.Addressing) m (λ (_ : List ℕ). IfPresent p m (Err interruption.Addressing) m (λ (_ : List ℕ). Completes (Err interruption.Addressing) m (record m {
           storage = written m.storage a1 (stored_by (xored m.storage a1 a2) n);
           cc = logical_code (number_of (stored_by (xored m.storage a1 a2) n));
-          next = updated.address
+          next = updated.address;
         })))
     go None p e = search rules
     go (Some b) None e = search rules
@@ -142,7 +142,7 @@ joined m after n a1 a2 size1 size2 code old1 old2 first second new updated outco
     let read1 : first ≡ unwrap_or (span m.storage a1 n) old1 = rw width1 at full1 in
     let read2 : second ≡ unwrap_or (span m.storage a2 n) old2 = rw width2 at full2 in
     let bytes : (k : ℕ) → k < n → slice_index new k ≡ bit_xor (slice_index (unwrap_or (span m.storage a1 n) old1) k) (slice_index (unwrap_or (span m.storage a2 n) old2) k)
-        = λ k h. rw (← read1, ← read2) (each k (omega (arith, wide, h))) in
+    = λ k h. rw (← read1, ← read2) (each k (omega (arith, wide, h))) in
     let same : new ≡ stored_by (xored m.storage a1 a2) n = read_is_joined m.storage a1 a2 n old1 old2 new low1 low2 fits outside present1 present2 (long ∙ wide) bytes in
     let result : Stores a1 new (logical_code (number_of new)) updated m outcome after = rw coded at stores in
     let joins : Stores a1 (stored_by (xored m.storage a1 a2) n) (logical_code (number_of (stored_by (xored m.storage a1 a2) n))) updated m outcome after = rw same at result in
@@ -151,7 +151,7 @@ joined m after n a1 a2 size1 size2 code old1 old2 first second new updated outco
     go : (o : Option (List ℕ)) → is_some o ≡ true
         → Stores a1 (stored_by (xored m.storage a1 a2) n) (logical_code (number_of (stored_by (xored m.storage a1 a2) n))) updated m outcome after
         → IfPresent o m outcome after (λ (_ : List ℕ).
-          let new = stored_by (xored m.storage a1 a2) n in
-          Stores a1 new (logical_code (number_of new)) updated m outcome after)
+        let new = stored_by (xored m.storage a1 a2) n in
+        Stores a1 new (logical_code (number_of new)) updated m outcome after)
     go None h x = cc
     go (Some b) h x = x

@@ -18,7 +18,9 @@ const OWNER: Owner = Owner {
 
 /// Where the image stands, and where the working storage, of so many bytes.
 const IMAGE: u32 = 0x1_0000;
+
 const WORK: u32 = 0x2_0000;
+
 const WORK_LEN: u32 = 2048;
 
 /// No slice has more instructions.
@@ -80,12 +82,18 @@ pub fn perform<S: Store>(store: &mut S, job: &Job) -> Result<Option<u64>, AllocE
         cc: 0,
         next: IMAGE,
     };
-    let Some(first) = count_slice(&mut cpu, store) else { return Ok(None) };
-    let Some(second) = count_slice(&mut cpu, store) else { return Ok(None) };
+    let Some(first) = count_slice(&mut cpu, store) else {
+        return Ok(None)
+    };
+    let Some(second) = count_slice(&mut cpu, store) else {
+        return Ok(None)
+    };
     if !advance_slices(&mut cpu, store, job.slices - 2) {
         return Ok(None);
     }
-    let Some(last) = count_slice(&mut cpu, store) else { return Ok(None) };
+    let Some(last) = count_slice(&mut cpu, store) else {
+        return Ok(None)
+    };
     Ok(Some(
         second
             .wrapping_mul(u64::from(job.slices - 1))

@@ -1,5 +1,5 @@
 //! Rows worked by hand, over any store. Each answers whether all is as it must be.
-ghost use Rattle.std.specs.Prelude.{◌<◌, ◌^◌, ◌≤◌, length};
+ghost use Rattle.std.specs.Prelude.{◌+◌, ◌<◌, ◌≤◌, ◌^◌, length};
 
 use cx_storage::{Area, Kind, Owner, Store, halfword_at, word_at};
 use std::alloc::AllocError;
@@ -150,7 +150,7 @@ fn pattern(a: u32) -> u8 {
 
 /// Whether so many bytes from an address on are lent, and are those written.
 fn lends_written<S: Store>(store: &S, a: u32, n: usize) -> bool
-    requires address { a < 2 ^ 24 - 4096 }
+    requires address { a < 2 ^ 20 + 4096 }
     requires size { n ≤ 4096 }
 {
     match store.slice(a, n) {
@@ -181,12 +181,7 @@ fn lends_from<S: Store>(store: &S, block: u32, k: u32) -> bool
 fn patterns(a: u32) -> [u8; 4]
     requires { a < 2 ^ 24 }
 {
-    [
-        pattern(a),
-        pattern(a + 1),
-        pattern(a + 2),
-        pattern(a + 3),
-    ]
+    [pattern(a), pattern(a + 1), pattern(a + 2), pattern(a + 3)]
 }
 
 /// An area of 10,000 bytes at 010000: the spans inside its blocks of 4,096 bytes are lent, and hold what was

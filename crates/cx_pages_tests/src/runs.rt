@@ -51,7 +51,9 @@ fn stops_at<S: Store>(store: &mut S, limit: u32) -> Result<bool, AllocError> {
 
 /// A run performs as many instructions as its limit, whether or not that is a multiple of 256.
 pub(crate) fn a_run_stops_at_its_limit<S: Store>(store: &mut S) -> Result<bool, AllocError> {
-    for limit in [0, 1, 2, 100, 255, 256, 257, 511, 512, 513, 1000, 65_535, 65_536] {
+    for limit in [
+        0, 1, 2, 100, 255, 256, 257, 511, 512, 513, 1000, 65_535, 65_536,
+    ] {
         if !stops_at(store, limit)? {
             return Ok(false);
         }
@@ -63,7 +65,8 @@ pub(crate) fn a_run_stops_at_its_limit<S: Store>(store: &mut S) -> Result<bool, 
 pub(crate) fn runs_are_joined<S: Store>(store: &mut S) -> Result<bool, AllocError> {
     for (first, second) in [(0, 300), (255, 2), (256, 256), (300, 0), (700, 69)] {
         let mut cpu = begin(store, &COUNTS, 5000)?;
-        let both = run(&mut cpu, store, first) == Halt::Limit && run(&mut cpu, store, second) == Halt::Limit;
+        let both = run(&mut cpu, store, first) == Halt::Limit
+            && run(&mut cpu, store, second) == Halt::Limit;
         if !both || cpu.regs[5] != 5000u32.wrapping_sub(first).wrapping_sub(second) {
             return Ok(false);
         }
@@ -113,9 +116,17 @@ pub(crate) fn the_entry_comes_before_the_limit<S: Store>(
 ) -> Result<bool, AllocError> {
     for count in [1, 254, 255, 256, 511] {
         // BCT 5,0(15), then BC 15,X'800'
-        let mut cpu = begin(store, &[0x46, 0x50, 0xF0, 0x00, 0x47, 0xF0, 0x08, 0x00], count)?;
-        let comes = run(&mut cpu, store, count.wrapping_add(1)) == Halt::AtEntry && cpu.next == ENTRY;
-        if !comes || run(&mut cpu, store, 5) != Halt::AtEntry || run(&mut cpu, store, 0) != Halt::AtEntry {
+        let mut cpu = begin(
+            store,
+            &[0x46, 0x50, 0xF0, 0x00, 0x47, 0xF0, 0x08, 0x00],
+            count,
+        )?;
+        let comes = run(&mut cpu, store, count.wrapping_add(1)) == Halt::AtEntry
+            && cpu.next == ENTRY;
+        if !comes
+            || run(&mut cpu, store, 5) != Halt::AtEntry
+            || run(&mut cpu, store, 0) != Halt::AtEntry
+        {
             return Ok(false);
         }
     }
@@ -133,7 +144,9 @@ pub(crate) fn a_changed_instruction_is_performed<S: Store>(
     let mut cpu = begin(store, &program, 100)?;
     cpu.regs[1] = 1;
     cpu.regs[2] = 5;
-    let first = run(&mut cpu, store, 4) == Halt::Limit && cpu.regs[1] == 7 && cpu.next == PROGRAM + 10;
+    let first = run(&mut cpu, store, 4) == Halt::Limit
+        && cpu.regs[1] == 7
+        && cpu.next == PROGRAM + 10;
     let second = step(&mut cpu, store) == Step::Done && cpu.next == PROGRAM;
     store.write(PROGRAM + 8, &[0x1B, 0x11]);
     Ok(first && second && run(&mut cpu, store, 4) == Halt::Limit && cpu.regs[1] == 9)
@@ -181,9 +194,7 @@ pub(crate) fn bytes_are_moved<S: Store>(store: &mut S) -> Result<bool, AllocErro
 }
 
 /// XC of operands apart, equal and overlapping, and CLC of strings that differ behind their eighth byte.
-pub(crate) fn strings_are_joined_and_compared<S: Store>(
-    store: &mut S,
-) -> Result<bool, AllocError> {
+pub(crate) fn strings_are_joined_and_compared<S: Store>(store: &mut S) -> Result<bool, AllocError> {
     let apart = code_of(store, [0xD7, 3, 0xF0, 80, 0xF0, 96])? == Some(1)
         && holds(store, PROGRAM + 80, &[0x10, 0x10, 0x10, 0x10, 0xC4]);
     let equal = code_of(store, [0xD7, 3, 0xF0, 80, 0xF0, 80])? == Some(0)

@@ -1,7 +1,6 @@
 //! The rows over the plain store and over the store in pages.
 
-use crate::rows;
-use crate::runs;
+use crate::{rows, runs};
 use cx_pages::PagedStore;
 use cx_storage::FlatStore;
 use std::test::Fail;

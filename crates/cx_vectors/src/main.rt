@@ -53,7 +53,10 @@ impl Counts {
 
     /// Prints the counts.
     fn print(&self, rt: &HostRuntime, name: &str) -> io::Result<()> {
-        println!(rt; "{name}: {} done, {} differ, {} skipped", self.done, self.differ, self.skipped)
+        println!(rt;
+            "{name}: {} done, {} differ, {} skipped",
+            self.done, self.differ, self.skipped
+        )
     }
 }
 
