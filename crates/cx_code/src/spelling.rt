@@ -113,6 +113,7 @@ pub fn encode(inst: &Inst) -> CodeBytes
 }
 
 /// Base and displacement of the halfword at a place.
+#[inline(always)]
 fn address_at(bytes: &[u8], place: usize) -> (u8, u16)
     requires { place + 2 ≤ length bytes.now }
     ensures base { result.0 ≡ base_at place bytes.now }
@@ -124,6 +125,7 @@ fn address_at(bytes: &[u8], place: usize) -> (u8, u16)
 
 /// The fields of a format in the bytes of an instruction.
 #[tactic(auto, unfolding(crate::specs::Reading::fields_in))]
+#[inline(always)]
 fn fields_in(format: Format, bytes: &[u8]) -> Fields
     requires { length_of_format format ≤ length bytes.now }
     ensures { result ≡ fields_in format bytes.now }
@@ -185,6 +187,7 @@ fn fields_in(format: Format, bytes: &[u8]) -> Fields
 
 /// The fields that a row has in the bytes of an instruction; a shift's R3 field is ignored.
 #[tactic(auto, unfolding(crate::specs::Reading::fields_at))]
+#[inline(always)]
 fn fields_at(op: Op, bytes: &[u8]) -> Fields
     requires { length_of op ≤ length bytes.now }
     ensures { result ≡ fields_at op bytes.now }
@@ -199,6 +202,7 @@ fn fields_at(op: Op, bytes: &[u8]) -> Fields
 
 /// The instruction at the front of the bytes.
 #[tactic(auto, unfolding(crate::specs::Reading::reading))]
+#[inline(always)]
 pub(crate) fn instruction_at(bytes: &[u8]) -> Option<Inst>
     ensures { result ≡ reading bytes.now }
 {
@@ -212,6 +216,7 @@ pub(crate) fn instruction_at(bytes: &[u8]) -> Option<Inst>
 /// The instruction at the front of the bytes, and how many of them it is. A shift's R3 field is
 /// ignored. `None` where the first byte is no operation code of the table, or the bytes are fewer
 /// than the instruction's length.
+#[inline(always)]
 pub fn decode(bytes: &[u8]) -> Option<(Inst, usize)>
     ensures value { result ≡ option_map (λ i. (i, length_of i.op)) (reading bytes.now) }
     ensures found { IfSome result (λ f. (f.1 ≤ length bytes.now) × Reads (take f.1 bytes.now) f.0) }

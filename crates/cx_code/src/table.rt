@@ -170,7 +170,7 @@ pub enum Op {
 }
 
 /// The instructions by their operation codes.
-const BY_CODE: [Option<Op>; 256] = [
+static BY_CODE: [Option<Op>; 256] = [
     None,
     None,
     None,
@@ -570,10 +570,39 @@ impl Op {
     }
 
     /// The format, which says what fields the instruction has.
+    #[tactic(auto, unfolding(crate::specs::Table::row_of))]
     pub fn format(self) -> Format
         ensures { result ≡ format_of self }
     {
-        self.row().2
+        match self {
+            Balr | Bctr | Bcr | Ltr | Lcr | Clr | Xr | Lr | Cr | Ar | Sr | Mr | Dr => Format::Rr,
+            Sth
+            | La
+            | Stc
+            | Ic
+            | Ex
+            | Bal
+            | Bct
+            | Bc
+            | Lh
+            | Ch
+            | Ah
+            | Sh
+            | Cvd
+            | Cvb
+            | St
+            | Cl
+            | L
+            | C
+            | A
+            | S
+            | M
+            | D => Format::Rx,
+            Srl | Sll | Sra | Sla | Srda | Stm | Lm | Stcm | Icm => Format::Rs,
+            Tm | Mvi | Ni | Cli | Oi => Format::Si,
+            Mvc | Clc | Xc | Tr | Trt => Format::Ss,
+            Pack | Unpk => Format::Ss2,
+        }
     }
 
     /// How many bytes the instruction has.
@@ -592,6 +621,7 @@ impl Op {
     }
 
     /// The instruction of this operation code; `None` where the table has none.
+    #[inline]
     pub fn from_code(code: u8) -> Option<Op>
         ensures { result ≡ op_at code }
     {

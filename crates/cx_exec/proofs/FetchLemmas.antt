@@ -1,9 +1,11 @@
 -- What is fetched of a spelled instruction.
-use Rattle.std.proofs.Common.{◌≡◌, ℕ, ◌%◌, ◌<◌, ◌==◌, zero, suc, false, List, ◌∷◌, length, slice_index, Option, Some, None, Ok, refl, arith}
+use Rattle.std.proofs.Common.{◌≡◌, ℕ, ◌/◌, ◌%◌, ◌^◌, ◌<◌, ◌≤◌, ◌==◌, zero, suc, false, List, ◌∷◌, length, take, slice_index, Option, Some, None, Ok, refl, sym, ap, ◌∙◌, inl, inr, arith}
 use Rattle.std.specs.Option.{option_map, option_and_then}
-use Rattle.std.proofs.lemmas.Bool.{ne_eqb}
+use Rattle.std.proofs.lemmas.Bool.{cases_eq, eq-eqb, ne_eqb}
+use Rattle.std.proofs.lemmas.List.{length-take-le, get_or-take}
 use Rattle.cx_storage.specs.Storage.{Storage, byte_at, span}
 use Rattle.cx_storage.specs.Address.{along}
+use Rattle.cx_storage.specs.Facts.Spans.{span_at, span_from, span_length}
 use Rattle.cx_code.specs.declared.table.Op.{Op}
 use Rattle.cx_code.specs.declared.table.Format.{Format}
 use Rattle.cx_code.specs.declared.table.Format.TheVariants as form
@@ -31,6 +33,29 @@ code_there s a bytes even some long there =
     let odd : (a % 2 == 1) ≡ false = ne_eqb (a % 2) 1 (λ e. omega (arith, e, even)) in
     let whole : code_bytes s a ≡ Some bytes = rw (first, long) there in
     rw (odd, whole) refl
+
+-- the first bytes of a span
+span_front : (s : Storage) (a n m : ℕ) (bytes : List ℕ) → a < 2 ^ 24 → span s a n ≡ Some bytes → m ≤ n → span s a m ≡ Some (take m bytes)
+span_front s a n m bytes low e h =
+    let long = span_length s a n bytes e in
+    span_from s a m (take m bytes) low (length-take-le m bytes (omega (arith, long, h)))
+    (λ k l. span_at s a n bytes k low e (omega (arith, l, h)) ∙ ap Some (sym (get_or-take m bytes k 0 l)))
+
+length_small : (code : ℕ) → length_of_code code ≤ 6
+length_small code = elim (cases_eq (code / 64) 0) [
+  | inl e ↦ rw (eq-eqb (code / 64) 0 e) (omega arith)
+  | inr ne ↦ elim (cases_eq (code / 64) 3) [
+    | inl e ↦ rw (ne_eqb (code / 64) 0 ne, eq-eqb (code / 64) 3 e) (omega arith)
+    | inr other ↦ rw (ne_eqb (code / 64) 0 ne, ne_eqb (code / 64) 3 other) (omega arith)
+  ]
+]
+
+-- an instruction stands in the six bytes from its address on
+pub lent_is_code : (s : Storage) (a : ℕ) (bytes : List ℕ) → a < 2 ^ 24 → span s a 6 ≡ Some bytes
+    → code_bytes s a ≡ Some (take (length_of_code (slice_index bytes 0)) bytes)
+lent_is_code s a bytes low e =
+    let first = first_byte s a 6 bytes e (omega arith) in
+    rw first (span_front s a 6 (length_of_code (slice_index bytes 0)) bytes low e (length_small (slice_index bytes 0)))
 
 pub reads_as : (bytes : List ℕ) (i : Instruction) → reading bytes ≡ Some i → read_as bytes ≡ Ok i
 unfolding read_as

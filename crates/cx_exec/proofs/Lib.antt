@@ -11,3 +11,4 @@ pub mod LawLemmas
 pub mod StringLaws
 pub mod FetchLemmas
 pub mod InterruptLemmas
+pub mod BlockLemmas

@@ -1,8 +1,9 @@
 -- The number of a list of bytes: when it is zero, and how two of them compare.
-use Rattle.std.proofs.Common.{◌≡◌, ◌≢◌, ℕ, zero, suc, ◌+◌, ◌*◌, ◌^◌, ◌<◌, ◌≤◌, ◌==◌, List, [], ◌∷◌, length, slice_index, pos, refl, sym, ◌∙◌, inl, inr, arith}
-use Rattle.std.specs.List.{list_all}
+use Rattle.std.proofs.Common.{◌≡◌, ◌≢◌, ℕ, true, false, zero, suc, ◌+◌, ◌-◌, ◌*◌, ◌^◌, ◌<◌, ◌≤◌, ◌==◌, List, [], ◌∷◌, length, take, drop, slice_index, slice_range, pos, refl, sym, ◌∙◌, inl, inr, arith}
 use Rattle.std.proofs.lemmas.Bool.{cases_eq, cases_lt, eq-eqb, ne_eqb, lt-ltb, le-ltb}
+use Rattle.std.proofs.lemmas.List.{get_or-take, get_or-drop}
 use Rattle.std.proofs.Math.Nat.{one-le-pow, mul-le-mul_right}
+use Rattle.byteorder.specs.Endian.{big_from, big_number}
 use Rattle.cx_exec.specs.Numbers.{number_of}
 use Rattle.cx_exec.specs.Numbers.{order_code}
 
@@ -14,15 +15,34 @@ product_some b p h some =
     let least : 1 * p ≤ b * p = mul-le-mul_right p (omega (arith, h)) in
     omega (arith, least, some)
 
-pub all_zero : (bytes : List ℕ) → list_all (λ b. b == 0) bytes ≡ (number_of bytes == 0)
-all_zero [] = refl
-all_zero (b ∷ bs) = elim (cases_eq b 0) [
-  | inl e ↦
-      let nothing : b * 256 ^ length bs + number_of bs ≡ number_of bs = rw e (omega arith) in
-      rw (eq-eqb b 0 e, nothing) (all_zero bs)
-  | inr ne ↦
-      let some = product_some b (256 ^ length bs) ne (power_some (length bs)) in
-      rw (ne_eqb b 0 ne, ne_eqb (b * 256 ^ length bs + number_of bs) 0 (λ e. omega (arith, e, some))) refl
+-- a list of bytes that are all zero is zero, and one with another byte isn't
+pub each_zero : (bytes : List ℕ) → ((j : ℕ) → j < length bytes → slice_index bytes j ≡ 0) → number_of bytes ≡ 0
+each_zero [] each = refl
+each_zero (b ∷ bs) each =
+    let first : b ≡ 0 = each 0 (omega arith) in
+    let rest = each_zero bs (λ j h. each (suc j) (omega (arith, h))) in
+    rw (first, rest) (omega arith)
+
+pub some_not_zero : (bytes : List ℕ) (k : ℕ) → k < length bytes → slice_index bytes k ≢ 0 → number_of bytes ≢ 0
+some_not_zero [] k h some = absurd (omega arith)
+some_not_zero (b ∷ bs) zero h some = let more = product_some b (256 ^ length bs) some (power_some (length bs)) in λ e. omega (arith, e, more)
+some_not_zero (b ∷ bs) (suc k) h some = let rest = some_not_zero bs k (omega (arith, h)) some in λ e. rest (omega (arith, e))
+
+pub zero_is : (bytes : List ℕ) → ((j : ℕ) → j < length bytes → slice_index bytes j ≡ 0) → true ≡ (number_of bytes == 0)
+zero_is bytes each = sym (eq-eqb (number_of bytes) 0 (each_zero bytes each))
+
+pub zero_is_not : (bytes : List ℕ) (k : ℕ) → k < length bytes → slice_index bytes k ≢ 0 → false ≡ (number_of bytes == 0)
+zero_is_not bytes k h some = sym (ne_eqb (number_of bytes) 0 (some_not_zero bytes k h some))
+
+-- the bytes of a number that is zero
+pub zero_bytes : (xs : List ℕ) (i n : ℕ) → big_from i n xs ≡ 0 → (j : ℕ) → i ≤ j → j < i + n → slice_index xs j ≡ 0
+zero_bytes xs i zero e j low high = absurd (omega (arith, low, high))
+zero_bytes xs i (suc n) e j low high = elim (cases_eq (slice_index xs i) 0) [
+  | inl first ↦ elim (cases_eq j i) [
+    | inl here ↦ rw here first
+    | inr past ↦ zero_bytes xs (suc i) n (omega (arith, e)) j (omega (arith, past, low)) (omega (arith, high))
+  ]
+  | inr some ↦ let more = product_some (slice_index xs i) (256 ^ n) some (power_some n) in absurd (omega (arith, e, more))
 ]
 
 -- the order of two numbers
@@ -100,3 +120,54 @@ all_alike xs ys long same = sym (rw (lists xs ys long same) (order_same (number_
         let first : x ≡ y = same 0 (omega arith) in
         let rest = lists xs ys (omega (arith, long)) (λ j l. same (suc j) (omega (arith, l))) in
         rw (first, rest) refl
+
+-- the number of some bytes of a list
+part_at : (bytes : List ℕ) (at m k : ℕ) → k < m → slice_index (take m (drop at bytes)) k ≡ slice_index bytes (at + k)
+part_at bytes at m k h = get_or-take m (drop at bytes) k 0 h ∙ get_or-drop at bytes k 0
+
+part_from : (bytes : List ℕ) (at m i n : ℕ) → i + n ≤ m → big_from i n (take m (drop at bytes)) ≡ big_from (at + i) n bytes
+part_from bytes at m i zero h = refl
+part_from bytes at m i (suc n) h =
+    let here = part_at bytes at m i (omega (arith, h)) in
+    let next : at + suc i ≡ suc (at + i) = omega arith in
+    let rest : big_from (suc i) n (take m (drop at bytes)) ≡ big_from (suc (at + i)) n bytes = rw next at (part_from bytes at m (suc i) n (omega (arith, h))) in
+    rw (here, rest) refl
+
+pub number_from : (bytes : List ℕ) (at : ℕ) → at + 8 ≤ length bytes → big_number 8 (slice_range bytes at (at + 8)) ≡ big_from at 8 bytes
+number_from bytes at h =
+    let width : (at + 8) - at ≡ 8 = omega arith in
+    let first : at + 0 ≡ at = omega arith in
+    rw width (rw first at (part_from bytes at 8 0 8 (omega arith)))
+
+from_small : (xs : List ℕ) (i n : ℕ) → AreBytes xs → big_from i n xs < 256 ^ n
+from_small xs i zero small = omega arith
+from_small xs i (suc n) small =
+    let first : slice_index xs i < 256 = small i in
+    let rest = from_small xs (suc i) n small in
+    let most : suc (slice_index xs i) * 256 ^ n ≤ 256 * 256 ^ n = mul-le-mul_right (256 ^ n) (omega arith) in
+    let more : suc (slice_index xs i) * 256 ^ n ≡ slice_index xs i * 256 ^ n + 256 ^ n = omega arith in
+    let power : 256 ^ suc n ≡ 256 * 256 ^ n = omega arith in
+    omega (arith, rest, most, more, power)
+
+-- one number is the number of the same bytes alone
+pub same_bytes : (xs ys : List ℕ) (i n : ℕ) → AreBytes xs → AreBytes ys → big_from i n xs ≡ big_from i n ys
+    → (j : ℕ) → i ≤ j → j < i + n → slice_index xs j ≡ slice_index ys j
+same_bytes xs ys i zero small less e j low high = absurd (omega (arith, low, high))
+same_bytes xs ys i (suc n) small less e j low high =
+    let x = slice_index xs i in
+    let y = slice_index ys i in
+    let a = from_small xs (suc i) n small in
+    let b = from_small ys (suc i) n less in
+    let first : x ≡ y = elim (cases_lt x y) [
+      | inl lt ↦ absurd (omega (arith, e, leads x y (256 ^ n) (big_from (suc i) n xs) (big_from (suc i) n ys) lt a))
+      | inr ge ↦ elim (cases_lt y x) [
+        | inl lt ↦ absurd (omega (arith, e, leads y x (256 ^ n) (big_from (suc i) n ys) (big_from (suc i) n xs) lt b))
+        | inr le ↦ omega arith
+      ]
+    ] in
+    let heads : x * 256 ^ n ≡ y * 256 ^ n = rw first refl in
+    let rest : big_from (suc i) n xs ≡ big_from (suc i) n ys = omega (arith, e, heads) in
+    elim (cases_eq j i) [
+      | inl here ↦ rw here first
+      | inr past ↦ same_bytes xs ys (suc i) n small less rest j (omega (arith, past, low)) (omega (arith, high))
+    ]

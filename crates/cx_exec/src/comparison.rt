@@ -1,13 +1,13 @@
 //! Comparison.
 
-ghost use Rattle.std.specs.Prelude.{◌≡◌, ◌<◌, ◌≤◌, ◌^◌, length, pos};
+ghost use Rattle.std.specs.Prelude.{◌≡◌, ℕ, ◌<◌, ◌≤◌, ◌^◌, length, pos, slice_index};
 ghost use Rattle.cx_exec.specs.Numbers.{number_of};
 ghost use Rattle.cx_exec.specs.Machine.{machine};
 ghost use Rattle.cx_exec.specs.Numbers.{signed, order_code};
 ghost use Rattle.cx_exec.specs.Comparison.{ComparesStrings};
 
 use crate::machine::{Cpu, Interruption, Updated};
-use crate::numbers::order_code;
+use crate::numbers::{eight_at, order_code};
 use crate::results::set_code;
 use cx_storage::Store;
 
@@ -38,13 +38,26 @@ pub(crate) fn byte_order(first: u8, second: u8) -> u8
     order_code(i128::from(first), i128::from(second))
 }
 
+/// A number of first bytes in which two strings of one length are alike: eight times as many as there are equal
+/// numbers of eight bytes.
+fn alike_front(first: &[u8], second: &[u8]) -> usize
+    requires { length first.now ≡ length second.now }
+    ensures { (j : ℕ) → j < result → slice_index first.now j ≡ slice_index second.now j }
+{
+    let mut at = 0;
+    'alike: while first.len() - at >= 8 && eight_at(first, at) == eight_at(second, at) {
+        at += 8;
+    }
+    at
+}
+
 /// The condition code of two strings of one length compared as numbers without a sign.
 fn string_order(first: &[u8], second: &[u8]) -> u8
     requires { length first.now ≡ length second.now }
     ensures value { result ≡ order_code (pos (number_of first.now)) (pos (number_of second.now)) }
     ensures short { result ≤ 3 }
 {
-    for k in 0..first.len() {
+    for k in alike_front(first, second)..first.len() {
         if first[k] != second[k] {
             return byte_order(first[k], second[k]);
         }

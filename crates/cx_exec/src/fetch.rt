@@ -1,7 +1,7 @@
 //! Fetching an instruction.
 
-ghost use Rattle.std.specs.Prelude.{◌≡◌, ◌≤◌, ◌<◌, ◌^◌, length, Ok, OnOk, IfOk};
-ghost use Rattle.cx_exec.specs.Fetch.{code_at, read_as};
+ghost use Rattle.std.specs.Prelude.{◌≡◌, ◌≤◌, ◌<◌, ◌^◌, length, Ok, Some, OnOk, IfOk, IfSome};
+ghost use Rattle.cx_exec.specs.Fetch.{code_at, code_bytes, read_as};
 ghost use Rattle.cx_exec.specs.Step.{joined_second};
 
 use crate::machine::Interruption;
@@ -37,6 +37,7 @@ impl Code {
 
     /// The instruction that the bytes read as.
     #[tactic(auto, unfolding(crate::specs::Fetch::read_as))]
+    #[inline(always)]
     pub(crate) fn read(&self) -> Result<Inst, Interruption>
         ensures { result ≡ read_as self.now }
     {
@@ -56,14 +57,32 @@ impl Code {
     }
 }
 
+/// The bytes of the instruction at an address, where six bytes from there on are lent in one piece.
+#[tactic(auto, using(crate::proofs::FetchLemmas::lent_is_code, cx_storage::specs::Facts::Spans::span_length))]
+#[inline(always)]
+fn lent_code<S: Store>(store: &S, at: u32) -> Option<Code>
+    requires { at < 2 ^ 24 }
+    ensures { IfSome result (λ code. code_bytes (S.storage store.now) at ≡ Some code) }
+{
+    let part = store.slice(at, 6)?;
+    let mut bytes = [0; 6];
+    bytes.copy_from_slice(part);
+    let length = instruction_length(bytes[0]);
+    Some(Code { bytes, length })
+}
+
 /// The bytes of the instruction at an address.
 #[tactic(auto, unfolding(crate::specs::Fetch::code_at))]
+#[inline(always)]
 pub(crate) fn code_at<S: Store>(store: &S, at: u32) -> Result<Code, Interruption>
     requires { at < 2 ^ 24 }
     ensures { result ≡ code_at (S.storage store.now) at }
 {
     if at % 2 == 1 {
         return Err(Interruption::Specification);
+    }
+    if let Some(code) = lent_code(store, at) {
+        return Ok(code);
     }
     let Some(first) = store.byte(at) else {
         return Err(Interruption::Addressing);

@@ -12,7 +12,7 @@ ghost use Rattle.cx_exec.specs.Laws.Rows.{EveryRowIsThere};
 ghost use Rattle.cx_exec.specs.Laws.Interruptions.{InterruptionsLeave, InterruptionsKeep};
 ghost use Rattle.cx_exec.specs.Laws.Runs.{RunsJoin, StepsJoin};
 ghost use Rattle.cx_exec.specs.Laws.Numbers.{ResultIsExact, ProductIsExact, DivisionIsOne, ShiftedIsFloor, ShiftedIsExact, StoredWords, LoadedWords};
-ghost use Rattle.cx_exec.specs.Laws.Strings.{DecimalReadsBack, EachIsStored, ApartIsCopied, AllIsTaken};
+ghost use Rattle.cx_exec.specs.Laws.Strings.{DecimalReadsBack, EachIsStored, ApartIsCopied, OutsideIsMoved, OutsideIsJoined, AllIsTaken};
 
 /// The step's answer and the machine after it are determined by the machine before.
 pub fn steps_decide()
@@ -109,6 +109,14 @@ pub fn decimal_reads_back()
 /// MVC: a second operand that has no byte of the first is copied.
 pub fn apart_is_copied()
     ensures { ApartIsCopied }
+{}
+
+/// MVC and XC: where the first operand doesn't begin inside the second behind its first byte, the second's bytes are
+/// those that stood there before.
+#[tactic(auto, using(crate::proofs::BlockLemmas::outside_is_moved, crate::proofs::BlockLemmas::outside_is_joined))]
+pub fn outside_is_before()
+    ensures moved { OutsideIsMoved }
+    ensures joined { OutsideIsJoined }
 {}
 
 /// MVC, XC, TR, PACK and UNPK: as many bytes are stored as are asked for, and each is what the rule makes of those

@@ -1,12 +1,12 @@
 //! Logic.
 
-ghost use Rattle.std.specs.Prelude.{◌≡◌, ◌<◌, ◌≤◌, ◌^◌, ◌==◌};
-ghost use Rattle.std.specs.List.{list_all};
+ghost use Rattle.std.specs.Prelude.{◌≡◌, ℕ, ◌<◌, ◌≤◌, ◌^◌, ◌==◌, slice_index};
 ghost use Rattle.cx_exec.specs.Numbers.{number_of};
 ghost use Rattle.cx_exec.specs.Machine.{machine};
 ghost use Rattle.cx_exec.specs.Logic.{logical_code, test_code, StoresLogical};
 
 use crate::machine::{Cpu, Interruption, Updated};
+use crate::numbers::eight_at;
 use crate::operands::put_bytes;
 use cx_storage::Store;
 
@@ -49,19 +49,28 @@ pub(crate) fn put_logical<S: Store>(
     put_bytes(cpu, store, a, &[byte], cc, updated)
 }
 
-/// Whether the bytes are all zero.
-fn are_zero(bytes: &[u8]) -> bool
-    ensures { result ≡ list_all (λ byte. byte == 0) bytes.now }
+/// A number of first bytes that are zero: eight times as many as there are numbers of eight bytes that are.
+fn zero_front(bytes: &[u8]) -> usize
+    ensures { (j : ℕ) → j < result → slice_index bytes.now j ≡ 0 }
 {
-    bytes.iter().all(|byte| *byte == 0)
+    let mut at = 0;
+    'zero: while bytes.len() - at >= 8 && eight_at(bytes, at) == 0 {
+        at += 8;
+    }
+    at
 }
 
 /// Whether the bytes, as a number, are zero.
-#[tactic(auto, using(crate::proofs::NumberLemmas::all_zero))]
+#[tactic(auto, using(crate::proofs::NumberLemmas::zero_is, crate::proofs::NumberLemmas::zero_is_not))]
 pub(crate) fn is_zero(bytes: &[u8]) -> bool
     ensures { result ≡ (number_of bytes.now == 0) }
 {
-    are_zero(bytes)
+    for k in zero_front(bytes)..bytes.len() {
+        if bytes[k] != 0 {
+            return false;
+        }
+    }
+    true
 }
 
 /// The condition code of a logical result of several bytes.

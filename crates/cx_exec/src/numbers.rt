@@ -1,7 +1,10 @@
 //! Words as signed numbers, and the condition codes that numbers set.
 
-ghost use Rattle.std.specs.Prelude.{◌≡◌, ◌≤◌};
+ghost use Rattle.std.specs.Prelude.{◌≡◌, ◌+◌, ◌≤◌, length};
+ghost use Rattle.byteorder.specs.Endian.{big_from};
 ghost use Rattle.cx_exec.specs.Numbers.{signed, word_of, extended, order_code, sum_code, sign_code, signed_double, double_of};
+
+use byteorder::{BigEndian, ByteOrder};
 
 /// The word that a number leaves: the number modulo 2^32.
 pub(crate) fn word_of(x: i64) -> u32
@@ -72,4 +75,13 @@ pub(crate) fn signed(word: u32) -> i64
     ensures { result ≡ signed word }
 {
     i64::from(word.cast_signed())
+}
+
+/// The eight bytes from a place on, as a number.
+#[tactic(auto, using(crate::proofs::NumberLemmas::number_from))]
+pub(crate) fn eight_at(bytes: &[u8], at: usize) -> u64
+    requires { at + 8 ≤ length bytes.now }
+    ensures { result ≡ big_from at 8 bytes.now }
+{
+    BigEndian::read_u64(&bytes[at..at + 8])
 }

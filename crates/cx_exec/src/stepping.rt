@@ -19,6 +19,7 @@ pub struct Due {
 
 /// The target at `a` (below 2^24) of an EX, from its changed copy. `r1` is below 16.
 #[tactic(auto, unfolding(crate::specs::Step::target_at))]
+#[inline(never)]
 fn target_at<S: Store>(cpu: &Cpu, store: &S, r1: u8, a: u32) -> Result<Inst, Interruption>
     requires first { r1 < 16 }
     requires operand { a < 2 ^ 24 }

@@ -1,6 +1,7 @@
 //! MVC and XC: two operands of one length, from left to right.
 
-ghost use Rattle.std.specs.Prelude.{◌≡◌, ◌<◌, ◌≤◌, ◌^◌, take};
+ghost use Rattle.std.specs.Prelude.{◌≡◌, ◌≢◌, ℕ, ◌<◌, ◌≤◌, ◌^◌, take, true, length, slice_index, bit_xor};
+ghost use Rattle.cx_storage.specs.Address.{along};
 ghost use Rattle.cx_exec.specs.Machine.{machine};
 ghost use Rattle.cx_exec.specs.Sequence.{stored_by};
 ghost use Rattle.cx_exec.specs.Strings.{moved, xored, MvcEffect, XcEffect};
@@ -41,6 +42,87 @@ fn xor_bytes<S: Store>(store: &S, n: u32, a1: u32, a2: u32, new: &mut [u8; 256])
     }
 }
 
+/// Whether the first operand, of `n` bytes, doesn't begin inside the second behind its first byte: then no byte is
+/// stored before it is fetched as one of the second operand.
+fn begins_outside(n: u32, a1: u32, a2: u32) -> bool
+    requires first { a1 < 2 ^ 24 }
+    requires second { a2 < 2 ^ 24 }
+    requires count { n ≤ 256 }
+    ensures { result ≡ true → (j : ℕ) → 0 < j → j < n → a1 ≢ along a2 j }
+{
+    let behind = distance(a2, a1);
+    behind == 0 || n <= behind
+}
+
+/// MVC of operands of which the first doesn't begin inside the second behind its first byte.
+#[tactic(auto, using(crate::proofs::BlockLemmas::read_is_moved), unfolding(crate::specs::Strings::MvcEffect))]
+fn copy<S: Store>(
+    cpu: &mut Cpu,
+    store: &mut S,
+    n: u32,
+    a1: u32,
+    a2: u32,
+    updated: Updated,
+) -> Result<(), Interruption>
+    requires first { a1 < 2 ^ 24 }
+    requires second { a2 < 2 ^ 24 }
+    requires count { n ≤ 256 }
+    requires outside { (j : ℕ) → 0 < j → j < n → a1 ≢ along a2 j }
+    requires address { updated.address < 2 ^ 24 }
+    ensures { MvcEffect n a1 a2 updated (machine cpu.old (S.storage store.old)) result (machine cpu.new (S.storage store.new)) }
+{
+    let mut new = [0; 256];
+    let bytes = &mut new[..n as usize];
+    if !store.read(a2, bytes) {
+        return Err(Interruption::Addressing);
+    }
+    let cc = cpu.cc;
+    put_bytes(cpu, store, a1, bytes, cc, updated)
+}
+
+/// Joins each byte with the one of a second string, by exclusive or.
+fn join_bytes(first: &mut [u8], second: &[u8])
+    requires { length first.old ≡ length second.now }
+    ensures size { length first.new ≡ length first.old }
+    ensures each { (k : ℕ) → k < length first.old → slice_index first.new k ≡ bit_xor (slice_index first.old k) (slice_index second.now k) }
+{
+    for k in 0..first.len() {
+        first[k] ^= second[k];
+    }
+}
+
+/// XC of operands of which the first doesn't begin inside the second behind its first byte.
+#[tactic(auto, using(crate::proofs::BlockLemmas::read_is_joined), unfolding(crate::specs::Strings::XcEffect))]
+fn join<S: Store>(
+    cpu: &mut Cpu,
+    store: &mut S,
+    n: u32,
+    a1: u32,
+    a2: u32,
+    updated: Updated,
+) -> Result<(), Interruption>
+    requires first { a1 < 2 ^ 24 }
+    requires second { a2 < 2 ^ 24 }
+    requires count { n ≤ 256 }
+    requires outside { (j : ℕ) → 0 < j → j < n → a1 ≢ along a2 j }
+    requires address { updated.address < 2 ^ 24 }
+    ensures { XcEffect n a1 a2 updated (machine cpu.old (S.storage store.old)) result (machine cpu.new (S.storage store.new)) }
+{
+    let mut left = [0; 256];
+    let mut right = [0; 256];
+    let first = &mut left[..n as usize];
+    let second = &mut right[..n as usize];
+    if !store.read(a2, second) {
+        return Err(Interruption::Addressing);
+    }
+    if !store.read(a1, first) {
+        return Err(Interruption::Addressing);
+    }
+    join_bytes(first, second);
+    let cc = string_code(first);
+    put_bytes(cpu, store, a1, first, cc, updated)
+}
+
 /// MVC. The operands, of `n` bytes, begin at `a1` and `a2`.
 #[tactic(auto, unfolding(crate::specs::Strings::MvcEffect))]
 pub(crate) fn mvc<S: Store>(
@@ -57,6 +139,9 @@ pub(crate) fn mvc<S: Store>(
     requires address { updated.address < 2 ^ 24 }
     ensures { MvcEffect n a1 a2 updated (machine cpu.old (S.storage store.old)) result (machine cpu.new (S.storage store.new)) }
 {
+    if begins_outside(n, a1, a2) {
+        return copy(cpu, store, n, a1, a2, updated);
+    }
     if !store.has_span(a2, n as usize) {
         return Err(Interruption::Addressing);
     }
@@ -82,6 +167,9 @@ pub(crate) fn xc<S: Store>(
     requires address { updated.address < 2 ^ 24 }
     ensures { XcEffect n a1 a2 updated (machine cpu.old (S.storage store.old)) result (machine cpu.new (S.storage store.new)) }
 {
+    if begins_outside(n, a1, a2) {
+        return join(cpu, store, n, a1, a2, updated);
+    }
     if !store.has_span(a2, n as usize) {
         return Err(Interruption::Addressing);
     }

@@ -27,21 +27,28 @@ pub seen_byte : (frame : Frame) (k : ℕ) → is_some (seen frame k) ≡ true �
 unfolding seen
 seen_byte frame k h = let lt = seen_counted frame k h in rw (lt-ltb _ _ lt) refl
 
--- up to the last place of a granule that is counted, and no farther
-pub has_more : (frame : Frame) (from to at last : ℕ) → to ≤ length frame.bytes → at < to → last ≡ min (at / 16 * 16 + 15) (to - 1)
-    → last % 16 < slice_index frame.counts (last / 16) → HasAll (seen frame) from at → HasAll (seen frame) from (last + 1)
-has_more frame from to at last within more is counted all = λ k low high. elim (cases_lt k at) [
-  | inl before ↦ all k low before
+-- bytes are present where all granules before the last are full, and the last counts the last byte
+pub has_all : (frame : Frame) (from to : ℕ) → to ≤ length frame.bytes → from < to
+    → ((j : ℕ) → from / 16 ≤ j → j < (to - 1) / 16 → 16 ≤ slice_index frame.counts j)
+    → (to - 1) % 16 < slice_index frame.counts ((to - 1) / 16) → HasAll (seen frame) from to
+has_all frame from to within some full counted = λ k low high. elim (cases_lt (k / 16) ((to - 1) / 16)) [
+  | inl before ↦ let all = full (k / 16) (omega (arith, low)) before in seen_some frame k (omega (arith, within, high)) (omega (arith, all))
   | inr behind ↦
-      let same : k / 16 ≡ last / 16 = omega arith in
-      let le : k % 16 ≤ last % 16 = omega arith in
-      seen_some frame k (omega arith) (rw same (omega (arith, le, counted)))
+      let same : k / 16 ≡ (to - 1) / 16 = omega (arith, behind, high) in
+      let le : k % 16 ≤ (to - 1) % 16 = omega (arith, same, high) in
+      seen_some frame k (omega (arith, within, high)) (rw same (omega (arith, le, counted)))
 ]
 
-pub has_gap : (frame : Frame) (from to at last : ℕ) → at < to → from ≤ at → last ≡ min (at / 16 * 16 + 15) (to - 1)
-    → slice_index frame.counts (last / 16) ≤ last % 16 → HasAll (seen frame) from to → false ≡ true
-has_gap frame from to at last more low is short all =
-    let lt = seen_counted frame last (all last (omega arith) (omega arith)) in absurd (omega (arith, lt, short))
+pub has_short : (frame : Frame) (from to g : ℕ) → from / 16 ≤ g → g < (to - 1) / 16 → slice_index frame.counts g < 16
+    → HasAll (seen frame) from to → false ≡ true
+has_short frame from to g low high short all =
+    let place : (g * 16 + 15) / 16 ≡ g = omega arith in
+    let last : (g * 16 + 15) % 16 ≡ 15 = omega arith in
+    let lt : (g * 16 + 15) % 16 < slice_index frame.counts g = rw place at (seen_counted frame (g * 16 + 15) (all (g * 16 + 15) (omega (arith, low)) (omega (arith, high)))) in
+    absurd (omega (arith, lt, last, short))
+
+pub has_last : (frame : Frame) (from to : ℕ) → from < to → HasAll (seen frame) from to → (to - 1) % 16 < slice_index frame.counts ((to - 1) / 16)
+has_last frame from to some all = seen_counted frame (to - 1) (all (to - 1) (omega (arith, some)) (omega (arith, some)))
 
 -- the runs of free granules, one granule more
 pub runs_none : (counts : List ℕ) → IsRunsTo counts 0 0 0

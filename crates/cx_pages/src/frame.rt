@@ -113,21 +113,22 @@ impl Frame {
     }
 
     /// Whether the bytes from `from` to before `to` are present.
-    #[tactic(auto, unfolding(crate::specs::Parts::Frame::seen))]
+    #[tactic(auto, using(crate::proofs::FrameLemmas::has_all, crate::proofs::FrameLemmas::has_short, crate::proofs::FrameLemmas::has_last), unfolding(crate::specs::Parts::Frame::seen))]
     pub(crate) fn has(&self, from: usize, to: usize) -> bool
         requires { to ≤ 4096 }
         ensures all { result ≡ true → HasAll (seen self.now) from to }
         ensures gap { HasAll (seen self.now) from to → result ≡ true }
     {
-        let mut at = from;
-        while at < to {
-            let last = (at / 16 * 16 + 15).min(to - 1);
-            if self.counts[last / 16] as usize <= last % 16 {
+        if to <= from {
+            return true;
+        }
+        let last = (to - 1) / 16;
+        for g in from / 16..last {
+            if self.counts[g] < 16 {
                 return false;
             }
-            at = last + 1;
         }
-        true
+        (to - 1) % 16 < self.counts[last] as usize
     }
 
     /// The bytes from `from` to before `to`, where all of them are present.

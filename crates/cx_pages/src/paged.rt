@@ -51,6 +51,7 @@ impl Store for PagedStore {
         set_of(&self.areas, &mut self.pages, a, value)
     }
 
+    #[inline]
     fn slice(&self, a: u32, n: usize) -> Option<&[u8]> {
         slice_of(&self.areas, &self.pages, a, n)
     }
@@ -59,10 +60,12 @@ impl Store for PagedStore {
         has_span_of(&self.areas, &self.pages, a, n)
     }
 
+    #[inline]
     fn read(&self, a: u32, buffer: &mut [u8]) -> bool {
         read_of(&self.areas, &self.pages, a, buffer)
     }
 
+    #[inline]
     fn write(&mut self, a: u32, bytes: &[u8]) -> bool {
         write_of(&self.areas, &mut self.pages, a, bytes)
     }

@@ -141,6 +141,7 @@ pub(crate) fn free_slot_of(areas: &mut Vec<Area>, pages: &mut Vec<Page>, slot: u
 }
 
 /// The bytes of a span, where one page has all of them.
+#[inline]
 pub(crate) fn slice_of<'a>(
     areas: &Vec<Area>,
     pages: &'a Vec<Page>,
@@ -176,6 +177,7 @@ pub(crate) fn has_span_of(areas: &Vec<Area>, pages: &Vec<Page>, a: u32, n: usize
 }
 
 /// Fills a buffer from a span.
+#[inline]
 pub(crate) fn read_of(areas: &Vec<Area>, pages: &Vec<Page>, a: u32, buffer: &mut [u8]) -> bool
     requires shown { IsShown areas.now.items pages.now.items }
     requires address { a < 2 ^ 24 }
@@ -198,6 +200,7 @@ pub(crate) fn read_of(areas: &Vec<Area>, pages: &Vec<Page>, a: u32, buffer: &mut
 }
 
 /// Writes bytes one after the other, each of which is present.
+#[inline(never)]
 fn write_each(areas: &Vec<Area>, pages: &mut Vec<Page>, a: u32, bytes: &[u8])
     requires shown { IsShown areas.now.items pages.old.items }
     requires address { a < 2 ^ 24 }
@@ -212,6 +215,7 @@ fn write_each(areas: &Vec<Area>, pages: &mut Vec<Page>, a: u32, bytes: &[u8])
 }
 
 /// Writes a span.
+#[inline]
 pub(crate) fn write_of(areas: &Vec<Area>, pages: &mut Vec<Page>, a: u32, bytes: &[u8]) -> bool
     requires shown { IsShown areas.now.items pages.old.items }
     requires address { a < 2 ^ 24 }

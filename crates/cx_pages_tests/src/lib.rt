@@ -1,7 +1,10 @@
-//! Tests of stores, written once and run over each: areas, bytes, spans, slices and what is freed.
+//! Tests of stores, written once and run over each: areas, bytes, spans, slices and what is freed, and runs
+//! of instructions.
 #![tactic(auto)]
 
 #[cfg(test)]
 mod rows;
+#[cfg(test)]
+mod runs;
 #[cfg(test)]
 mod stores;

@@ -1,5 +1,5 @@
 //! Rows worked by hand, over any store. Each answers whether all is as it must be.
-ghost use Rattle.std.specs.Prelude.{◌<◌, ◌^◌, ◌≤◌, length};
+ghost use Rattle.std.specs.Prelude.{◌+◌, ◌<◌, ◌≤◌, ◌^◌, length};
 
 use cx_storage::{Area, Kind, Owner, Store, halfword_at, word_at};
 use std::alloc::AllocError;
@@ -143,32 +143,73 @@ pub(crate) fn a_span_goes_on_at_address_0<S: Store>(store: &mut S) -> Result<boo
     )
 }
 
-/// Whether each span from here to the end of its block of 4,096 bytes, of one byte and of all, is lent.
-fn lends_to_the_end<S: Store>(store: &S, a: u32, n: usize) -> bool
-    requires address { a < 2 ^ 24 }
+/// The byte that is written at an address.
+fn pattern(a: u32) -> u8 {
+    (a % 251) as u8
+}
+
+/// Whether so many bytes from an address on are lent, and are those written.
+fn lends_written<S: Store>(store: &S, a: u32, n: usize) -> bool
+    requires address { a < 2 ^ 20 + 4096 }
     requires size { n ≤ 4096 }
 {
-    lends_some(store, a, 1) && lends_some(store, a, n)
+    match store.slice(a, n) {
+        Some(part) => {
+            part.len() == n
+                && part.first() == Some(&pattern(a))
+                && part.last() == Some(&pattern(a + (n as u32).saturating_sub(1)))
+        }
+        None => false,
+    }
+}
+
+/// Whether spans of several lengths from a place of a block on, and the one to the block's end, are lent.
+fn lends_from<S: Store>(store: &S, block: u32, k: u32) -> bool
+    requires block { block < 2 ^ 20 }
+    requires place { k < 4096 }
+{
+    let left = 4096 - k as usize;
+    for n in [1, 2, 15, 16, 17, 33, 256, 4096] {
+        if !lends_written(store, block + k, left.min(n)) {
+            return false;
+        }
+    }
+    true
+}
+
+/// The bytes that are written at four addresses.
+fn patterns(a: u32) -> [u8; 4]
+    requires { a < 2 ^ 24 }
+{
+    [pattern(a), pattern(a + 1), pattern(a + 2), pattern(a + 3)]
 }
 
 /// An area of 10,000 bytes at 010000: the spans inside its blocks of 4,096 bytes are lent, and hold what was
 /// written; those across two blocks are read in any case.
 pub(crate) fn lends_inside_a_block<S: Store>(store: &mut S) -> Result<bool, AllocError> {
-    let made = get(store, 0x1_0000, 0x1_FFFF, 10_000, TASK)? == Some(0x1_0000)
-        && write(store, 0x1_0FFE, &[1, 2, 3, 4])
-        && write(store, 0x1_1FFF, &[5, 6]);
-    let mut all = made && lends(store, 0x1_0FFE, &[1, 2]) && lends(store, 0x1_1000, &[3, 4]);
+    let mut all = get(store, 0x1_0000, 0x1_FFFF, 10_000, TASK)? == Some(0x1_0000);
+    for k in 0..10_000 {
+        all = all && store.set(0x1_0000 + k, pattern(0x1_0000 + k));
+    }
     for k in 0..4096 {
-        all = all
-            && lends_to_the_end(store, 0x1_0000 + k, 4096 - k as usize)
-            && lends_to_the_end(store, 0x1_1000 + k, 4096 - k as usize);
+        all = all && lends_from(store, 0x1_0000, k) && lends_from(store, 0x1_1000, k);
     }
     Ok(
-        all && lends(store, 0x1_2000, &[6])
-            && lends_some(store, 0x1_2000, 10_000 - 8192)
+        all && lends_written(store, 0x1_2000, 10_000 - 8192)
             && !lends_some(store, 0x1_2000, 10_000 - 8191)
-            && four(store, 0x1_0FFE) == (true, [1, 2, 3, 4])
-            && four(store, 0x1_1FFE) == (true, [0, 5, 6, 0]),
+            && four(store, 0x1_0FFE) == (true, patterns(0x1_0FFE))
+            && four(store, 0x1_1FFF) == (true, patterns(0x1_1FFF)),
+    )
+}
+
+/// Whether no span over a border of two blocks is lent of such an area, though its bytes are there.
+pub(crate) fn lends_nothing_over_a_border<S: Store>(store: &mut S) -> Result<bool, AllocError> {
+    get(store, 0x1_0000, 0x1_FFFF, 10_000, TASK)?;
+    Ok(
+        !lends_some(store, 0x1_0FFF, 2)
+            && !lends_some(store, 0x1_1FFF, 2)
+            && four(store, 0x1_0FFF) == (true, [0; 4])
+            && four(store, 0x1_1FFF) == (true, [0; 4]),
     )
 }
 

@@ -1,6 +1,6 @@
 //! The rows over the plain store and over the store in pages.
 
-use crate::rows;
+use crate::{rows, runs};
 use cx_pages::PagedStore;
 use cx_storage::FlatStore;
 use std::test::Fail;
@@ -41,6 +41,12 @@ fn lends_inside_a_block(rt: HostRuntime) -> Result<(), Fail> {
 }
 
 #[test]
+fn pages_lend_nothing_over_their_border(rt: HostRuntime) -> Result<(), Fail> {
+    assert!(rt; rows::lends_nothing_over_a_border(&mut PagedStore::new(rt.alloc()))?);
+    Ok(())
+}
+
+#[test]
 fn keeps_the_others_bytes(rt: HostRuntime) -> Result<(), Fail> {
     assert!(rt; rows::keeps_the_others_bytes(&mut FlatStore::new(rt.alloc()))?);
     assert!(rt; rows::keeps_the_others_bytes(&mut PagedStore::new(rt.alloc()))?);
@@ -65,4 +71,60 @@ fn a_place_over_a_border(rt: HostRuntime) -> Result<(), Fail> {
 fn a_large_area(rt: HostRuntime) {
     assert!(rt; rows::a_large_area(&mut FlatStore::new(rt.alloc())));
     assert!(rt; rows::a_large_area(&mut PagedStore::new(rt.alloc())));
+}
+
+#[test]
+fn a_run_stops_at_its_limit(rt: HostRuntime) -> Result<(), Fail> {
+    assert!(rt; runs::a_run_stops_at_its_limit(&mut FlatStore::new(rt.alloc()))?);
+    assert!(rt; runs::a_run_stops_at_its_limit(&mut PagedStore::new(rt.alloc()))?);
+    Ok(())
+}
+
+#[test]
+fn runs_are_joined(rt: HostRuntime) -> Result<(), Fail> {
+    assert!(rt; runs::runs_are_joined(&mut FlatStore::new(rt.alloc()))?);
+    assert!(rt; runs::runs_are_joined(&mut PagedStore::new(rt.alloc()))?);
+    Ok(())
+}
+
+#[test]
+fn an_interruption_keeps_what_was_done(rt: HostRuntime) -> Result<(), Fail> {
+    assert!(rt; runs::an_interruption_keeps_what_was_done(&mut FlatStore::new(rt.alloc()))?);
+    assert!(rt; runs::an_interruption_keeps_what_was_done(&mut PagedStore::new(rt.alloc()))?);
+    Ok(())
+}
+
+#[test]
+fn the_entry_comes_before_the_limit(rt: HostRuntime) -> Result<(), Fail> {
+    assert!(rt; runs::the_entry_comes_before_the_limit(&mut FlatStore::new(rt.alloc()))?);
+    assert!(rt; runs::the_entry_comes_before_the_limit(&mut PagedStore::new(rt.alloc()))?);
+    Ok(())
+}
+
+#[test]
+fn a_changed_instruction_is_performed(rt: HostRuntime) -> Result<(), Fail> {
+    assert!(rt; runs::a_changed_instruction_is_performed(&mut FlatStore::new(rt.alloc()))?);
+    assert!(rt; runs::a_changed_instruction_is_performed(&mut PagedStore::new(rt.alloc()))?);
+    Ok(())
+}
+
+#[test]
+fn bytes_are_moved(rt: HostRuntime) -> Result<(), Fail> {
+    assert!(rt; runs::bytes_are_moved(&mut FlatStore::new(rt.alloc()))?);
+    assert!(rt; runs::bytes_are_moved(&mut PagedStore::new(rt.alloc()))?);
+    Ok(())
+}
+
+#[test]
+fn strings_are_joined_and_compared(rt: HostRuntime) -> Result<(), Fail> {
+    assert!(rt; runs::strings_are_joined_and_compared(&mut FlatStore::new(rt.alloc()))?);
+    assert!(rt; runs::strings_are_joined_and_compared(&mut PagedStore::new(rt.alloc()))?);
+    Ok(())
+}
+
+#[test]
+fn the_first_difference_decides(rt: HostRuntime) -> Result<(), Fail> {
+    assert!(rt; runs::the_first_difference_decides(&mut FlatStore::new(rt.alloc()))?);
+    assert!(rt; runs::the_first_difference_decides(&mut PagedStore::new(rt.alloc()))?);
+    Ok(())
 }

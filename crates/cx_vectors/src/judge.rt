@@ -2,7 +2,7 @@
 
 use crate::vector::{Block, Task, Vector, vector_of};
 use cx_exec::{Cpu, Halt, Step, advance, step};
-use cx_storage::{FlatStore, Kind, Owner, Store};
+use cx_storage::{Kind, Owner, Store};
 use std::alloc::{AllocError, Global};
 
 /// What is to be said of a line.
@@ -19,7 +19,7 @@ const OWNER: Owner = Owner {
 };
 
 /// Places an area with its bytes. False where it can't stand there.
-fn place(store: &mut FlatStore, block: &Block) -> Result<bool, AllocError> {
+fn place<S: Store>(store: &mut S, block: &Block) -> Result<bool, AllocError> {
     let len = block.bytes.len();
     if len == 0 || len > 65536 || block.start >= 0x100_0000 {
         return Ok(false);
@@ -38,7 +38,7 @@ fn place(store: &mut FlatStore, block: &Block) -> Result<bool, AllocError> {
 }
 
 /// Whether storage has these bytes.
-fn holds(alloc: Global, store: &FlatStore, block: &Block) -> Result<bool, AllocError> {
+fn holds<S: Store>(alloc: Global, store: &S, block: &Block) -> Result<bool, AllocError> {
     let len = block.bytes.len();
     if len > 65536 || block.start >= 0x100_0000 {
         return Ok(false);
@@ -62,7 +62,7 @@ fn is_code(end: &str, code: u8) -> bool {
 }
 
 /// Does what the vector says, and tells whether it ended as the vector says.
-fn ends_so(cpu: &mut Cpu, store: &mut FlatStore, vector: &Vector<'_>) -> bool {
+fn ends_so<S: Store>(cpu: &mut Cpu, store: &mut S, vector: &Vector<'_>) -> bool {
     match vector.task {
         Task::Step => match step(cpu, store) {
             Step::Done => vector.end == "-",
@@ -87,7 +87,7 @@ fn ends_so(cpu: &mut Cpu, store: &mut FlatStore, vector: &Vector<'_>) -> bool {
 }
 
 /// Judges a line over an empty store, which it leaves empty.
-pub fn judge(alloc: Global, store: &mut FlatStore, line: &str) -> Result<Verdict, AllocError> {
+pub fn judge<S: Store>(alloc: Global, store: &mut S, line: &str) -> Result<Verdict, AllocError> {
     let Some(vector) = vector_of(alloc, line)? else {
         return Ok(Verdict::Skipped);
     };

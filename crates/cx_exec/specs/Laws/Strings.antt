@@ -1,10 +1,10 @@
 -- What the definitions of rows with lengths, decimal numbers and masks come to, as the module `laws` promises it.
-use Rattle.std.specs.Prelude.{◌≡◌, ℕ, ◌^◌, ◌<◌, ◌≤◌, Some, is_some, true, List, length, take, map, slice_index, ℤ, unsigned_abs}
+use Rattle.std.specs.Prelude.{◌≡◌, ◌≢◌, ℕ, ◌^◌, ◌<◌, ◌≤◌, Some, is_some, true, List, length, take, map, slice_index, bit_xor, ℤ, unsigned_abs}
 use Rattle.byteorder.specs.Endian.{big_bytes}
 use Rattle.cx_storage.specs.Storage.{Storage, span, written}
 use Rattle.cx_storage.specs.Address.{along, distance}
 use Rattle.cx_exec.specs.Sequence.{stored_by}
-use Rattle.cx_exec.specs.Strings.{moved}
+use Rattle.cx_exec.specs.Strings.{moved, xored}
 use Rattle.cx_exec.specs.Decimal.{IsReadAs, decimal_bytes}
 use Rattle.cx_exec.specs.Masks.{byte_of, chosen}
 
@@ -22,6 +22,17 @@ abbrev pub ApartIsCopied : Type 0
 ApartIsCopied = (s : Storage) (a1 a2 n : ℕ) → a1 < 2 ^ 24 → a2 < 2 ^ 24 → n ≤ 2 ^ 24
     → is_some (span s a1 n) ≡ true → is_some (span s a2 n) ≡ true → ((k : ℕ) → k < n → n ≤ distance a1 (along a2 k))
     → span (written s a1 (stored_by (moved s a1 a2) n)) a1 n ≡ span s a2 n
+
+-- where the first operand doesn't begin inside the second behind its first byte, MVC stores the bytes that stood in the
+-- second before, and XC each byte of the first joined with the one of the second that stood there before
+abbrev pub OutsideIsMoved : Type 0
+OutsideIsMoved = (s : Storage) (a1 a2 n : ℕ) (second : List ℕ) → a1 < 2 ^ 24 → a2 < 2 ^ 24 → n ≤ 2 ^ 24
+    → ((j : ℕ) → 0 < j → j < n → a1 ≢ along a2 j) → span s a2 n ≡ Some second → stored_by (moved s a1 a2) n ≡ second
+
+abbrev pub OutsideIsJoined : Type 0
+OutsideIsJoined = (s : Storage) (a1 a2 n k : ℕ) (first second : List ℕ) → a1 < 2 ^ 24 → a2 < 2 ^ 24 → n ≤ 2 ^ 24
+    → ((j : ℕ) → 0 < j → j < n → a1 ≢ along a2 j) → span s a1 n ≡ Some first → span s a2 n ≡ Some second → k < n
+    → slice_index (stored_by (xored s a1 a2) n) k ≡ bit_xor (slice_index first k) (slice_index second k)
 
 -- a mask of four ones takes the whole word
 abbrev pub AllIsTaken : Type 0

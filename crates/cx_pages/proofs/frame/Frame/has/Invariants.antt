@@ -1,10 +1,6 @@
-use Rattle.std.proofs.Common.{◌-◌, ◌≤◌}
-use Rattle.cx_pages.specs.Parts.Frame.{HasAll, seen}
+use Rattle.std.proofs.Common.{ℕ, ◌<◌, ◌≤◌, ◌/◌, slice_index}
 use Rattle.cx_pages.proofs.frame.Frame.has.Given as goal
 
--- the bytes so far are present
-abbrev pub invariant-loop-at : goal.invariant-loop-at
-invariant-loop-at l = (l.from ≤ l.at) × HasAll (seen l.self) l.from l.at
-
-abbrev pub decreases-loop-at : goal.decreases-loop-at
-decreases-loop-at l = l.to - l.at
+-- the granules so far are full
+abbrev pub invariant-loop-g : goal.invariant-loop-g
+invariant-loop-g l = (j : ℕ) → l.from / 16 ≤ j → j < l.g → 16 ≤ slice_index l.self.counts j
