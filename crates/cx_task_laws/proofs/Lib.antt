@@ -1,0 +1,6 @@
+mod OthersLemmas
+mod ClearLemmas
+mod GrownLemmas
+mod WrittenLemmas
+mod EndedLemmas
+mod CommandLemmas
