@@ -88,7 +88,7 @@ read_task : (fill : Fill) (r : Reach) → SameTask r (read_for fill r)
 read_task (Byte b) r = record { slot = refl; eib = refl; callers = refl; stg = refl }
 read_task (Item name n) r = record { slot = refl; eib = refl; callers = refl; stg = refl }
 
-finished_task : (change : Change) (r : Reach) → SameTask r (finished change r)
+pub finished_task : (change : Change) (r : Reach) → SameTask r (finished change r)
 unfolding finished
 finished_task Nothing r = record { slot = refl; eib = refl; callers = refl; stg = refl }
 finished_task (Makes it) r = record { slot = refl; eib = refl; callers = refl; stg = refl }

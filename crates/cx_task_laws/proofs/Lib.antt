@@ -4,3 +4,6 @@ mod GrownLemmas
 mod WrittenLemmas
 mod EndedLemmas
 mod CommandLemmas
+mod ExitLemmas
+mod CallerLemmas
+mod RunLemmas
