@@ -1,7 +1,6 @@
 -- What half-turns leave of the levels above the current one.
-use Rattle.std.proofs.Common.{◌≡◌, ℕ, zero, suc, ◌+◌, ◌-◌, ◌<◌, ◌≤◌, Bool, true, false, Option, Some, None, List, [], ◌∷◌, length, drop, refl, sym, ◌∙◌, ap, subst, arith, inl, inr}
+use Rattle.std.proofs.Common.{◌≡◌, ℕ, zero, suc, Bool, true, false, Option, Some, None, List, [], ◌∷◌, drop, refl, sym, ◌∙◌, ap, subst, inl, inr}
 use Rattle.std.specs.Prelude.{Result, Ok, Err, MatchBool, MatchResult, if◌then◌else◌}
-use Rattle.std.proofs.lemmas.List.{length-drop}
 use Rattle.cx_command.specs.Abends.{abend_code}
 use Rattle.cx_command.specs.declared.abends.Abend.TheVariants as abend
 use Rattle.cx_command.specs.declared.conditions.Condition.{Condition}
@@ -17,13 +16,12 @@ use Rattle.cx_call.specs.declared.outputs.Output.{Output}
 use Rattle.cx_call.specs.Call.{Call, call_of}
 use Rattle.cx_call.specs.Inputs.{are_inputs_there}
 use Rattle.cx_state.specs.declared.replies.TurnReply.{TurnReply}
-use Rattle.cx_state.specs.declared.replies.TurnReply.TheVariants as turn
 use Rattle.cx_state.specs.declared.verdict.Change.{Change}
 use Rattle.cx_state.specs.declared.verdict.Change.TheVariants.{Nothing, Makes, Ends, Gets, Enters, Replaces, LevelEnds, TaskEnds, AbendsWith}
 use Rattle.cx_state.specs.declared.verdict.NewLevel.{NewLevel}
 use Rattle.cx_state.specs.declared.verdict.Verdict.{Verdict}
 use Rattle.cx_state.specs.declared.verdict.Verdict.TheVariants.{Refuses, Waits, Meets}
-use Rattle.cx_state.specs.State.{Reach, TaskState}
+use Rattle.cx_state.specs.State.{Reach}
 use Rattle.cx_state.specs.Areas.{entry_level}
 use Rattle.cx_task.specs.declared.way.Way.{Way}
 use Rattle.cx_task.specs.declared.way.Way.TheVariants as way
@@ -31,9 +29,9 @@ use Rattle.cx_task.specs.Abends.{Abends, AbendsAt, below, exit_task, unwound, wi
 use Rattle.cx_task.specs.Answers.{Answers, Does, LeavesAll, MeetsWith, has_room, way_at}
 use Rattle.cx_task.specs.Changes.{Grown, Settles, finished, given, reported}
 use Rattle.cx_task.specs.Performing.{Called, Commanded, Performs, fault_code, list_of}
-use Rattle.cx_task.specs.Turn.{HalfTurn, Halted, RunsOn, at_command}
+use Rattle.cx_task.specs.Turn.{HalfTurn, Halted, RunsOn}
 use Rattle.cx_task.specs.Ways.{Goes, choice_for, entered, is_normal, is_wait, replaced, returned, returned_to, way_by, way_chosen, way_of}
-use Rattle.cx_task_laws.specs.Levels.{CommandsAreKept, HalfTurnsLeaveCallers, HasBegun, HaveEnded, IsBack, Keeps, LeavesCallers}
+use Rattle.cx_task_laws.specs.Laws.Levels.{HalfTurnsLeaveCallers, IsBack, LeavesCallers}
 use Rattle.cx_task_laws.proofs.CommandLemmas.{finished_task}
 use Rattle.cx_task_laws.proofs.GrownLemmas.{SameTask, grown_task, task_at, task_on}
 

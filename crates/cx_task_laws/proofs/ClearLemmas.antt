@@ -1,21 +1,20 @@
 -- Where others have no area: at the slot's own areas, and where a fresh one is placed.
-use Rattle.std.proofs.Common.{◌≡◌, ℕ, ◌+◌, ◌^◌, ◌<◌, ◌≤◌, Bool, true, false, Some, List, [], ◌∷◌, refl, sym, ◌∙◌, ap, arith, inl, inr}
+use Rattle.std.proofs.Common.{◌≡◌, ℕ, ◌+◌, ◌^◌, ◌<◌, ◌≤◌, true, false, Some, List, [], ◌∷◌, refl, sym, ◌∙◌, ap, arith, inl, inr}
 use Rattle.std.specs.List.{AllByRecursion}
 use Rattle.std.proofs.lemmas.Bool.{cases_Bool, cases_eq, eq-eqb, ne_eqb, true≢false}
 use Rattle.std.proofs.lemmas.Option.{none-some, same_Some}
 use Rattle.cx_command.specs.Eib.{eib_len}
 use Rattle.cx_storage.specs.declared.areas.Area.{Area}
-use Rattle.cx_storage.specs.declared.areas.Owner.{Owner}
-use Rattle.cx_storage.specs.Address.{address_in, along}
+use Rattle.cx_storage.specs.Address.{address_in}
 use Rattle.cx_storage.specs.Place.{CanPlace, IsLeastPlace, Misses}
-use Rattle.cx_storage.specs.Storage.{Held, Storage, area_at, area_from, areas_of, covers, end_of, is_of_other_slot, put_held, starts_elsewhere, with_area, with_areas_kept, AreOrdered, IsWhole, IsSound}
+use Rattle.cx_storage.specs.Storage.{Held, Storage, area_at, area_from, areas_of, covers, end_of, is_of_other_slot, with_areas_kept, AreOrdered, IsWhole, IsSound}
 use Rattle.cx_storage.specs.Facts.Areas.{area_bounds}
-use Rattle.cx_storage.specs.Facts.Sound.{All-filter, covers_cases, covers_from, sound_with_areas_kept}
+use Rattle.cx_storage.specs.Facts.Sound.{All-filter, covers_cases, covers_from}
 use Rattle.cx_program.specs.declared.level.Level.{Level}
 use Rattle.cx_state.specs.Areas.{IsAreaOf, IsTaskPlace, system_owner}
 use Rattle.cx_state.specs.State.{TaskState}
 use Rattle.cx_task.specs.Sound.{IsSoundLevel, IsSoundTask}
-use Rattle.cx_task_laws.specs.Bytes.{others_storage}
+use Rattle.cx_task_laws.specs.Laws.Bytes.{others_storage}
 use Rattle.cx_task_laws.proofs.OthersLemmas.{Elsewhere, Uncovered, elsewhere_same, uncovered_same}
 
 -- ---- an area that stands

@@ -1,5 +1,5 @@
 -- What a command leaves of the areas of others.
-use Rattle.std.proofs.Common.{◌≡◌, ℕ, suc, ◌+◌, ◌^◌, ◌<◌, Bool, true, false, Option, Some, None, List, [], ◌∷◌, length, slice_get, is_some, refl, sym, ◌∙◌, ap, subst, arith, inl, inr}
+use Rattle.std.proofs.Common.{◌≡◌, ℕ, suc, ◌+◌, ◌^◌, ◌<◌, Bool, true, false, Option, Some, None, List, [], ◌∷◌, length, slice_get, refl, sym, ap, subst, arith, inl, inr}
 use Rattle.std.specs.Prelude.{◌||◌, ◌⊎◌, Result, Ok, Err, MatchBool, MatchResult}
 use Rattle.std.specs.Option.{option_map}
 use Rattle.std.specs.List.{list_any}
@@ -16,9 +16,7 @@ use Rattle.cx_call.specs.declared.outputs.Output.{Output}
 use Rattle.cx_call.specs.Call.{Call, call_of, resp_place}
 use Rattle.cx_call.specs.Inputs.{are_inputs_there}
 use Rattle.cx_call.specs.Laws.Calls.{CallIsRead, IsCallAt, list_word}
-use Rattle.cx_call.specs.Outputs.{put_out}
 use Rattle.cx_rows.specs.Common.{AreSoundPrograms}
-use Rattle.cx_rows.specs.Judged.{Judged}
 use Rattle.cx_rows.specs.Facts.Fits.{judged_fits}
 use Rattle.cx_state.specs.declared.replies.TurnReply.{TurnReply}
 use Rattle.cx_state.specs.declared.verdict.Change.{Change}
@@ -39,9 +37,9 @@ use Rattle.cx_task.specs.Performing.{Called, Commanded, Performs, fault_code, li
 use Rattle.cx_task.specs.Sound.{IsSoundTask}
 use Rattle.cx_task.specs.Turn.{HalfTurn, RunsOn}
 use Rattle.cx_task.specs.Ways.{is_wait}
-use Rattle.cx_task_laws.specs.Bytes.{CommandsLeaveOthers, DueWrites, LeavesOthers, is_among, is_in_output, others_storage, writes_to}
+use Rattle.cx_task_laws.specs.Laws.Bytes.{CommandsLeaveOthers, DueWrites, is_among, is_in_output, others_storage, writes_to}
 use Rattle.cx_task_laws.proofs.OthersLemmas.{Left, elsewhere_same, left_on, left_same, own_free}
-use Rattle.cx_task_laws.proofs.ClearLemmas.{Clear, clear_of, clear_same, own_elsewhere}
+use Rattle.cx_task_laws.proofs.ClearLemmas.{clear_of, clear_same, own_elsewhere}
 use Rattle.cx_task_laws.proofs.GrownLemmas.{Own, SameTask, grown_others, grown_task, task_on}
 use Rattle.cx_task_laws.proofs.WrittenLemmas.{AreLow, or_none, puts_left, report_left, resource_fits}
 use Rattle.cx_task_laws.proofs.EndedLemmas.{IsClear, abends_others, goes_others}

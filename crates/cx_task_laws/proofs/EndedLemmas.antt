@@ -1,18 +1,18 @@
 -- What a command's ends leave of the areas of others: an area freed, levels ended, the way of the task.
-use Rattle.std.proofs.Common.{◌≡◌, ℕ, zero, suc, Bool, true, false, Option, Some, None, List, [], ◌∷◌, refl, sym, ◌∙◌, ap, subst}
+use Rattle.std.proofs.Common.{◌≡◌, ℕ, zero, suc, Bool, Option, Some, None, List, [], ◌∷◌, refl, sym, ◌∙◌, ap, subst}
 use Rattle.std.specs.List.{AllByRecursion}
 use Rattle.cx_command.specs.declared.conditions.Condition.{Condition}
 use Rattle.cx_command.specs.Eib.{eib_len}
 use Rattle.cx_storage.specs.Address.{address_in}
-use Rattle.cx_storage.specs.Storage.{Storage, areas_of, with_areas_kept, starts_elsewhere}
+use Rattle.cx_storage.specs.Storage.{Storage}
 use Rattle.cx_program.specs.declared.level.Level.{Level}
 use Rattle.cx_state.specs.declared.replies.TurnReply.{TurnReply}
 use Rattle.cx_state.specs.State.{Reach}
 use Rattle.cx_task.specs.declared.way.Way.{Way}
 use Rattle.cx_task.specs.declared.way.Way.TheVariants as way
-use Rattle.cx_task.specs.Abends.{Abends, AbendsAt, Unwound, below, exit_storage, unwound, without_stg}
+use Rattle.cx_task.specs.Abends.{Abends, AbendsAt, below, exit_storage, unwound, without_stg}
 use Rattle.cx_task.specs.Ways.{Goes, entered, replaced, returned, returned_to}
-use Rattle.cx_task_laws.specs.Bytes.{others_storage}
+use Rattle.cx_task_laws.specs.Laws.Bytes.{others_storage}
 use Rattle.cx_task_laws.proofs.OthersLemmas.{Elsewhere, own_all_free, own_free}
 use Rattle.cx_task_laws.proofs.ClearLemmas.{Clear}
 use Rattle.cx_task_laws.proofs.GrownLemmas.{Own}

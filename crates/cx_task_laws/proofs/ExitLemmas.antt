@@ -1,9 +1,8 @@
 -- Which exit takes an abend, and what it leaves.
-use Rattle.std.proofs.Common.{◌≡◌, ℕ, zero, suc, ◌+◌, ◌-◌, ◌<◌, ◌≤◌, Bool, true, false, is_some, Option, Some, None, List, [], ◌∷◌, ◌++◌, length, reverse, refl, sym, ◌∙◌, ap, subst, arith, inl, inr, slice_get}
-use Rattle.std.specs.List.{AllByRecursion}
+use Rattle.std.proofs.Common.{◌≡◌, ℕ, zero, suc, ◌+◌, ◌<◌, ◌≤◌, Bool, true, false, is_some, Option, Some, None, List, [], ◌∷◌, ◌++◌, length, reverse, refl, sym, ◌∙◌, ap, subst, arith, inl, inr, slice_get}
 use Rattle.std.specs.Option.{option_map_or}
 use Rattle.std.proofs.lemmas.Bool.{cases_Bool, cases_eq, cases_lt, eq-eqb, ne_eqb}
-use Rattle.std.proofs.lemmas.List.{append-nil, append_assoc, length-append, length-reverse}
+use Rattle.std.proofs.lemmas.List.{append_assoc, length-append, length-reverse}
 use Rattle.std.proofs.lemmas.Grind.{reverse_onto}
 use Rattle.cx_storage.specs.declared.areas.Area.{Area}
 use Rattle.cx_storage.specs.Address.{address_in, along}
@@ -12,14 +11,12 @@ use Rattle.cx_program.specs.declared.entries.Exit.{Exit}
 use Rattle.cx_program.specs.declared.entries.Exit.TheVariants.{NoExit, Off, On}
 use Rattle.cx_program.specs.declared.level.Level.{Level}
 use Rattle.cx_program.specs.Entries.{label_on, turned_off}
-use Rattle.cx_program.specs.Levels.{IsNearestExit, Levels, all_levels, has_exit, has_exit_at}
+use Rattle.cx_program.specs.Levels.{IsNearestExit, all_levels, has_exit, has_exit_at}
 use Rattle.cx_call.specs.Eib.{with_calen, with_field}
-use Rattle.cx_state.specs.declared.replies.TurnReply.{TurnReply}
 use Rattle.cx_state.specs.declared.replies.TurnReply.TheVariants as turn
 use Rattle.cx_state.specs.Facts.Areas.{area_written}
-use Rattle.cx_state.specs.State.{Reach}
-use Rattle.cx_task.specs.Abends.{Abends, AbendsAt, IsExit, Unwound, below, exit_storage, exit_taken, exit_task, unwound, with_exit_off, without_stg}
-use Rattle.cx_task_laws.specs.Exits.{AreFreed, CancelTakesNoExit, ExitsAreNearest, ExitsTakeAbends, TakesExit}
+use Rattle.cx_task.specs.Abends.{AbendsAt, IsExit, Unwound, below, exit_storage, exit_taken, exit_task, unwound, with_exit_off, without_stg}
+use Rattle.cx_task_laws.specs.Laws.Exits.{AreFreed, CancelTakesNoExit, ExitsAreNearest, ExitsTakeAbends, TakesExit}
 
 -- ---- areas freed
 freed_none : (s : Storage) (x : ℕ) → area_at (with_areas_kept (starts_elsewhere x) s) x ≡ None

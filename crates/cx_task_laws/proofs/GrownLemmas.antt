@@ -1,16 +1,14 @@
 -- What a command makes leaves the areas of others as they were.
-use Rattle.std.proofs.Common.{◌≡◌, ℕ, ◌+◌, ◌^◌, ◌<◌, ◌≤◌, Option, Some, None, List, [], length, replicate, refl, sym, ◌∙◌, ap, subst, arith}
+use Rattle.std.proofs.Common.{◌≡◌, ℕ, ◌+◌, ◌^◌, ◌<◌, ◌≤◌, Option, Some, None, List, [], length, refl, sym, ◌∙◌, ap, subst, arith}
 use Rattle.std.specs.Prelude.{unwrap_or}
 use Rattle.std.specs.Option.{option_map}
 use Rattle.std.specs.Int.{w32, to_be_bytes}
 use Rattle.std.proofs.lemmas.List.{length-replicate}
-use Rattle.cx_command.specs.declared.eistg.EistgField.TheVariants.{Eicap}
 use Rattle.cx_storage.specs.declared.areas.Owner.{Owner}
 use Rattle.cx_storage.specs.Address.{along}
 use Rattle.cx_storage.specs.Storage.{Storage, span, with_area, written}
 use Rattle.cx_storage.specs.Facts.Spans.{span_length}
 use Rattle.cx_call.specs.declared.inputs.Piece.{Piece}
-use Rattle.cx_program.specs.declared.level.Level.{Level}
 use Rattle.cx_state.specs.declared.verdict.Change.{Change}
 use Rattle.cx_state.specs.declared.verdict.Change.TheVariants.{Nothing, Makes, Ends, Gets, Enters, Replaces, LevelEnds, TaskEnds, AbendsWith}
 use Rattle.cx_state.specs.declared.verdict.Copying.{Copying}
@@ -23,7 +21,7 @@ use Rattle.cx_state.specs.Areas.{IsTaskPlace, address_or_zero, bytes_in, copied_
 use Rattle.cx_state.specs.State.{Reach}
 use Rattle.cx_state.specs.Verdicts.{FitsChange, FitsCopy, FitsFill, FitsLevel}
 use Rattle.cx_task.specs.Changes.{Grown, MadeBy, fill_bytes, with_got, with_replacement, with_stg}
-use Rattle.cx_task_laws.specs.Bytes.{others_storage}
+use Rattle.cx_task_laws.specs.Laws.Bytes.{others_storage}
 use Rattle.cx_task_laws.proofs.OthersLemmas.{Uncovered, own_put, own_write}
 use Rattle.cx_task_laws.proofs.ClearLemmas.{placed_ends, placed_uncovered}
 

@@ -1,5 +1,5 @@
 -- What writes, areas put in and areas freed leave of the areas that others own.
-use Rattle.std.proofs.Common.{◌≡◌, ℕ, zero, suc, ◌+◌, ◌^◌, ◌<◌, ◌≤◌, Bool, true, false, Some, List, [], ◌∷◌, length, is_some, nat_lt, refl, sym, ◌∙◌, ap, arith, inl, inr}
+use Rattle.std.proofs.Common.{◌≡◌, ℕ, suc, ◌^◌, ◌<◌, ◌≤◌, Bool, true, false, Some, List, [], ◌∷◌, length, is_some, nat_lt, refl, sym, ◌∙◌, ap, arith, inl, inr}
 use Rattle.std.specs.List.{AllByRecursion}
 use Rattle.std.proofs.lemmas.Bool.{cases_Bool, cases_eq, eq-eqb, ltb-false}
 use Rattle.cx_storage.specs.declared.areas.Area.{Area}
@@ -9,7 +9,7 @@ use Rattle.cx_storage.specs.Storage.{Storage, areas_of, byte_at, covers, is_of_o
 use Rattle.cx_storage.specs.Facts.Sound.{put_byte_area}
 use Rattle.cx_storage.specs.Facts.Writes.{areas_after_bytes, byte_after_set_elsewhere, present_after_bytes, written_none, written_whole}
 use Rattle.cx_state.specs.Facts.Areas.{all_areas_same, freed_put, kept_all}
-use Rattle.cx_task_laws.specs.Bytes.{others_storage}
+use Rattle.cx_task_laws.specs.Laws.Bytes.{others_storage}
 
 -- ---- bytes written
 kept_set : (keeps : Area → Bool) (s : Storage) (a v : ℕ) → with_areas_kept keeps (with_byte s a v) ≡ with_byte (with_areas_kept keeps s) a v

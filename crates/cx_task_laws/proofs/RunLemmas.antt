@@ -1,5 +1,5 @@
 -- A LINK and the RETURN from it; PUSH and POP; registers at a command.
-use Rattle.std.proofs.Common.{◌≡◌, ℕ, zero, suc, ◌+◌, ◌-◌, ◌<◌, ◌≤◌, Bool, true, false, Option, Some, None, List, [], ◌∷◌, length, drop, refl, sym, ◌∙◌, ap, subst, arith, inl, inr}
+use Rattle.std.proofs.Common.{◌≡◌, ℕ, zero, suc, ◌-◌, ◌≤◌, Bool, true, false, Option, Some, None, List, [], ◌∷◌, length, drop, refl, sym, ◌∙◌, ap, subst, arith, inl, inr}
 use Rattle.std.specs.Prelude.{MatchBool, unwrap_or}
 use Rattle.std.specs.List.{AllByRecursion}
 use Rattle.std.proofs.lemmas.List.{length-drop}
@@ -12,7 +12,6 @@ use Rattle.cx_program.specs.declared.entries.Handling.{Handling}
 use Rattle.cx_program.specs.declared.level.Level.{Level}
 use Rattle.cx_program.specs.Handles.{Handles, after_pop, put_entry}
 use Rattle.cx_program.specs.Levels.{Levels}
-use Rattle.cx_command.specs.declared.conditions.Condition.{Condition}
 use Rattle.cx_program.specs.declared.entries.Entry.TheVariants as entry
 use Rattle.cx_state.specs.declared.replies.TurnReply.{TurnReply}
 use Rattle.cx_state.specs.declared.replies.TurnReply.TheVariants as turn
@@ -22,8 +21,8 @@ use Rattle.cx_state.specs.State.{Reach, TaskState}
 use Rattle.cx_task.specs.Abends.{Abends, AbendsAt}
 use Rattle.cx_task.specs.Changes.{entry_asked, handled, with_ignored, with_labels}
 use Rattle.cx_task.specs.Performing.{Commanded}
-use Rattle.cx_task.specs.Turn.{HalfTurn, Halted, RunsOn, at_command}
-use Rattle.cx_task_laws.specs.Levels.{CommandsAreKept, HasBegun, IsBack, IsBetween, Keeps, LeavesCallers, Links, LinksAreReturned, PopsRestore, ReturnsTo, RunsBelow, Turned, handled_all}
+use Rattle.cx_task.specs.Turn.{HalfTurn, Halted, RunsOn}
+use Rattle.cx_task_laws.specs.Laws.Levels.{CommandsAreKept, HasBegun, IsBack, IsBetween, Keeps, LeavesCallers, Links, LinksAreReturned, PopsRestore, RunsBelow, Turned, handled_all}
 use Rattle.cx_task_laws.proofs.CallerLemmas.{half_turns_leave_callers}
 
 -- ---- the last levels of a list

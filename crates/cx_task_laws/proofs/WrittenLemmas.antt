@@ -1,5 +1,5 @@
 -- What outputs and the report leave of the areas of others.
-use Rattle.std.proofs.Common.{◌≡◌, ℕ, zero, suc, ◌+◌, ◌-◌, ◌^◌, ◌<◌, ◌≤◌, Bool, true, false, Option, Some, None, List, [], ◌∷◌, length, slice_get, is_some, refl, sym, ◌∙◌, ap, subst, arith}
+use Rattle.std.proofs.Common.{◌≡◌, ℕ, zero, suc, ◌+◌, ◌-◌, ◌^◌, ◌<◌, ◌≤◌, Bool, true, false, Option, Some, None, List, [], ◌∷◌, length, slice_get, refl, ◌∙◌, subst, arith}
 use Rattle.std.specs.Prelude.{◌||◌, if◌then◌else◌}
 use Rattle.std.specs.Option.{option_and_then, option_or}
 use Rattle.std.specs.List.{AllByRecursion, list_any}
@@ -15,11 +15,11 @@ use Rattle.cx_call.specs.declared.answer.Answer.{Answer}
 use Rattle.cx_call.specs.declared.outputs.Output.{Output}
 use Rattle.cx_call.specs.Answer.{answered, one_byte, resource_of, with_eib, with_resp, with_set}
 use Rattle.cx_call.specs.Call.{Call, has_resp, place_of, resp_place}
-use Rattle.cx_call.specs.Eib.{Content, content, with_calen, with_field, with_fields}
+use Rattle.cx_call.specs.Eib.{Content, content, with_calen, with_field}
 use Rattle.cx_call.specs.Inputs.{bytes_of}
 use Rattle.cx_call.specs.Outputs.{bytes_from, put_out, with_output}
 use Rattle.cx_call.specs.Facts.Inputs.{place_below}
-use Rattle.cx_task_laws.specs.Bytes.{is_among, is_in_output, others_storage}
+use Rattle.cx_task_laws.specs.Laws.Bytes.{is_among, is_in_output, others_storage}
 use Rattle.cx_task_laws.proofs.OthersLemmas.{Left, left_on, left_same, left_write}
 use Rattle.cx_task_laws.proofs.GrownLemmas.{Own, own_same, write_in}
 

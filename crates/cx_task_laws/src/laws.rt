@@ -1,7 +1,7 @@
 //! What holds of every half-turn.
-ghost use Rattle.cx_task_laws.specs.Bytes.{CommandsLeaveOthers};
-ghost use Rattle.cx_task_laws.specs.Exits.{CancelTakesNoExit, ExitsAreNearest, ExitsTakeAbends};
-ghost use Rattle.cx_task_laws.specs.Levels.{CommandsAreKept, HalfTurnsLeaveCallers, LinksAreReturned, PopsRestore};
+ghost use Rattle.cx_task_laws.specs.Laws.Bytes.{CommandsLeaveOthers};
+ghost use Rattle.cx_task_laws.specs.Laws.Exits.{CancelTakesNoExit, ExitsAreNearest, ExitsTakeAbends};
+ghost use Rattle.cx_task_laws.specs.Laws.Levels.{CommandsAreKept, HalfTurnsLeaveCallers, LinksAreReturned, PopsRestore};
 
 /// A command leaves the areas of all other slots, and of the region itself. Each of their bytes stays, unless an output
 /// of the command, or RESP's word, has its address.
