@@ -1,0 +1,9 @@
+mod OthersLemmas
+mod ClearLemmas
+mod GrownLemmas
+mod WrittenLemmas
+mod EndedLemmas
+mod CommandLemmas
+mod ExitLemmas
+mod CallerLemmas
+mod RunLemmas

@@ -1,0 +1,11 @@
+use Rattle.cx_task_laws.proofs.ExitLemmas.{cancel_takes_none, exits_are_nearest, exits_take_abends}
+use Rattle.cx_task_laws.proofs.laws.the_nearest_exit_takes_an_abend.Goals as goal
+
+pub returns-clause-nearest : goal.returns-clause-nearest
+returns-clause-nearest c = exits_are_nearest
+
+pub returns-clause-taken : goal.returns-clause-taken
+returns-clause-taken c = exits_take_abends
+
+pub returns-clause-cancel : goal.returns-clause-cancel
+returns-clause-cancel c = cancel_takes_none

@@ -1,0 +1,40 @@
+//! What holds of every half-turn.
+ghost use Rattle.cx_task_laws.specs.Laws.Bytes.{CommandsLeaveOthers};
+ghost use Rattle.cx_task_laws.specs.Laws.Exits.{CancelTakesNoExit, ExitsAreNearest, ExitsTakeAbends};
+ghost use Rattle.cx_task_laws.specs.Laws.Levels.{CommandsAreKept, HalfTurnsLeaveCallers, LinksAreReturned, PopsRestore};
+
+/// A command leaves the areas of all other slots, and of the region itself. Each of their bytes stays, unless an output
+/// of the command, or RESP's word, has its address.
+pub fn commands_leave_others()
+    ensures { CommandsLeaveOthers }
+{
+    cx_call::laws::call_is_read();
+}
+
+/// An abend's exit is the nearest that is on, and it is off then: the next abend goes to one above it. The levels below its
+/// own have ended, and their areas are freed. Where an exit is on an abend goes to one, unless it is asked for with CANCEL.
+pub fn the_nearest_exit_takes_an_abend()
+    ensures nearest { ExitsAreNearest }
+    ensures taken { ExitsTakeAbends }
+    ensures cancel { CancelTakesNoExit }
+{}
+
+/// A half-turn leaves each level above the current one as it is: registers, code, handles and exit. A level that begins has
+/// asked for nothing. At a command the current level keeps the program's registers and code.
+#[tactic(auto, using(crate::proofs::CallerLemmas::half_turns_leave_callers, crate::proofs::RunLemmas::commands_are_kept))]
+pub fn half_turns_leave_callers()
+    ensures callers { HalfTurnsLeaveCallers }
+    ensures current { CommandsAreKept }
+{}
+
+/// A LINK and the RETURN from it, whatever is done between them, leave the linking level's registers, code, handles and exit,
+/// and all levels above it.
+pub fn a_link_is_returned_from()
+    ensures { LinksAreReturned }
+{}
+
+/// PUSH HANDLE and the POP HANDLE that takes it back, whatever is asked for between them, leave the handles.
+#[tactic(auto, using(crate::proofs::RunLemmas::pops_restore))]
+pub fn pop_restores_what_push_kept()
+    ensures { PopsRestore }
+{}
