@@ -7,7 +7,7 @@ use std::alloc::{AllocError, Global};
 use std::test::Fail;
 
 #[rattlefmt::skip]
-const REFUSED: [(&[u8], &str); 34] = [
+const REFUSED: [(&[u8], &str); 36] = [
     (b"P CSECT\n MVCX 1,2\n END\n", "2 UnknownOperation"),
     (b"P CSECT\n EXEC CICS RETURN\n END\n", "2 UnknownOperation"),
     (b"P CSECT\nX\n END\n", "2 UnknownOperation"),
@@ -23,6 +23,8 @@ const REFUSED: [(&[u8], &str); 34] = [
     (b"E EQU 0-2147483647-2\n END\n", "1 ValueOutOfRange"),
     (b"E EQU X\nX EQU 1\n END\n", "1 UndefinedSymbol"),
     (b"E EQU E\n END\n", "1 UndefinedSymbol"),
+    (b"D DSECT\nA DS 4294967295XL8192\nB DS X\nC EQU B-A\n END\n", "4 ValueOutOfRange"),
+    (b"P CSECT\n DC F'X'\n DS F'1'\nE EQU E\n END\n", "4 UndefinedSymbol"),
     (b"E EQU 1,2\n END\n", "1 BadOperand"),
     (b"E EQU *\n END\n", "1 BadOperand"),
     (b" EQU 1\n END\n", "1 BadOperand"),

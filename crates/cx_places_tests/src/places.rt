@@ -35,10 +35,10 @@ fn statements_and_literals_stand_there(rt: HostRuntime) -> Result<(), Fail> {
 }
 
 const SYMBOLS: &[u8] =
-    b"P CSECT\nX DS 3F,C\nY DC F'1,2'\nI MVC X,X\nE EQU X+2\nN EQU 5+X-X\nS EQU *\nL EQU L'X\nT LTORG\nD DSECT\nQ DS XL300,F\nR DS 0CL8\n DFHREGS\n COPY DFHAID\n END\n";
+    b"P CSECT\nX DS 3F,C\nY DC F'1,2'\nI MVC X,X\nE EQU X+2\nN EQU 5+X-X\nS EQU *\nL EQU L'X\nT LTORG\nLY EQU L'Y\nLI EQU L'I\nLE EQU L'E\nLP EQU L'P\nD DSECT\nQ DS XL300,F\nR DS 0CL8\nV DS X\nU EQU *\n DFHREGS\n COPY DFHAID\n END\n";
 
 #[rattlefmt::skip]
-const WORTH: [(&[u8], &str); 16] = [
+const WORTH: [(&[u8], &str); 21] = [
     (b"P", "0:1+"),
     (b"X", "0:4+"),
     (b"Y", "16:8+"),
@@ -48,9 +48,14 @@ const WORTH: [(&[u8], &str); 16] = [
     (b"S", "30:1+"),
     (b"L", "4:1"),
     (b"T", "30:1+"),
+    (b"LY", "8:1"),
+    (b"LI", "6:1"),
+    (b"LE", "4:1"),
+    (b"LP", "1:1"),
     (b"D", "0:1+"),
     (b"Q", "0:300+"),
     (b"R", "304:8+"),
+    (b"U", "305:1+"),
     (b"R15", "15:1"),
     (b"DFHPF12", "124:1"),
     (b"DFHENTER", "125:1"),
