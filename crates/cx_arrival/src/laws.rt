@@ -1,0 +1,16 @@
+//! The instructions made of an EXEC statement bring the machine to the entry with the command's argument list.
+ghost use Rattle.cx_arrival.specs.Laws.Entry.{ReachesEntry};
+
+/// The instructions made of an EXEC statement, where they stand in storage at the next address, lead to the entry, with
+/// the argument list that is read as the statement's command with the addresses that its arguments had at the first
+/// instruction.
+pub fn reaches_entry()
+    ensures { ReachesEntry }
+{
+    cx_code::laws::every_spelling();
+    cx_exec::laws::spelled_is_fetched();
+    cx_exec::laws::runs_join();
+    cx_storage::laws::sound_kept();
+    cx_storage::laws::word_after_write();
+    cx_call::laws::call_is_read();
+}
