@@ -4,3 +4,7 @@ pub mod StepLemmas
 pub mod WordLemmas
 pub mod InstructionLemmas
 pub mod StoreLemmas
+pub mod BranchLemmas
+pub mod ListLemmas
+pub mod ArrivalLemmas
+pub mod TimeLemmas

@@ -1,5 +1,5 @@
 //! The instructions made of an EXEC statement bring the machine to the entry with the command's argument list.
-ghost use Rattle.cx_arrival.specs.Laws.Entry.{ReachesEntry};
+ghost use Rattle.cx_arrival.specs.Laws.Entry.{ArrivalsDecide, ArrivesInTime, ReachesEntry};
 
 /// The instructions made of an EXEC statement, where they stand in storage at the next address, lead to the entry, with
 /// the argument list that is read as the statement's command with the addresses that its arguments had at the first
@@ -13,4 +13,16 @@ pub fn reaches_entry()
     cx_storage::laws::sound_kept();
     cx_storage::laws::word_after_write();
     cx_call::laws::call_is_read();
+}
+
+/// A run with any limit that the instructions made fit in, two for each word of the list and four, ends at the entry.
+pub fn arrives_in_time()
+    ensures { ArrivesInTime }
+{}
+
+/// The machine that has arrived is determined by the machine before.
+pub fn arrivals_decide()
+    ensures { ArrivalsDecide }
+{
+    cx_exec::laws::runs_decide();
 }

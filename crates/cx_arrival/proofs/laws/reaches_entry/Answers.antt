@@ -1,10 +1,6 @@
-use Rattle.std.proofs.Common.{◌≡◌, ℕ}
+-- The instructions made, from the first of them to the entry.
 use Rattle.cx_arrival.proofs.Ready.{Known}
-use Rattle.cx_arrival.proofs.StepLemmas.{performs, goes_on}
-use Rattle.cx_arrival.proofs.WordLemmas.{first_is_zero, marked_word}
-use Rattle.cx_arrival.proofs.InstructionLemmas.{load_address, load_word, store_word, mark_word, call}
-use Rattle.cx_arrival.proofs.StoreLemmas.{store_all}
-use Rattle.cx_arrival.proofs.SpanLemmas.{span_part}
+use Rattle.cx_arrival.proofs.ArrivalLemmas.{arrives}
 use Rattle.cx_arrival.proofs.laws.reaches_entry.Goals as goal
 
 pub returns : goal.returns
@@ -17,4 +13,4 @@ returns c =
       sound = c.sound_kept.ensures;
       words = c.word_after_write.ensures;
     } in
-    ?
+    arrives known c.call_is_read.ensures
