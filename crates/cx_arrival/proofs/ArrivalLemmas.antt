@@ -1,15 +1,13 @@
 -- The stores, the last four instructions, and the list that is read behind them.
-use Rattle.std.proofs.Common.{◌≡◌, ◌≢◌, ℕ, zero, suc, ◌+◌, ◌*◌, ◌^◌, ◌<◌, ◌≤◌, List, ◌∷◌, [], length, map, Some, slice_index, refl, sym, ◌∙◌, ap, arith, inl, inr, subst}
+use Rattle.std.proofs.Common.{◌≡◌, ℕ, zero, suc, ◌+◌, ◌*◌, ◌^◌, ◌<◌, ◌≤◌, List, ◌∷◌, [], length, map, Some, slice_index, refl, ◌∙◌, arith, inl, inr}
 use Rattle.std.proofs.lemmas.Bool.{cases_lt}
-use Rattle.cx_storage.specs.Storage.{Storage, byte_at, span, written}
+use Rattle.cx_storage.specs.Storage.{byte_at, span, written}
 use Rattle.cx_storage.specs.Address.{address_in, along, distance}
 use Rattle.cx_storage.specs.Word.{word_at}
 use Rattle.cx_exec.specs.Machine.{Machine}
 use Rattle.cx_exec.specs.Step.{entry}
-use Rattle.cx_exec.specs.Advance.{Passes}
-use Rattle.cx_call.specs.Call.{call_of}
 use Rattle.cx_call.specs.Laws.Calls.{CallIsRead, IsCallAt}
-use Rattle.cx_arrival.specs.Made.{Statement, Argument, made, branch, words_of, word_count, block_argument, block_bytes, reached, list_place, argument_address, call_made}
+use Rattle.cx_arrival.specs.Made.{Statement, Argument, made, branch, words_of, word_count, block_bytes, reached, list_place, argument_address, call_made}
 use Rattle.cx_arrival.specs.Stands.{IsMachine, IsLegal, Stands, IsAddressed, IsClear, list_length}
 use Rattle.cx_arrival.specs.Arrives.{Arrives, made_count}
 use Rattle.cx_arrival.proofs.Ready.{Known, Ready}
@@ -17,7 +15,7 @@ use Rattle.cx_arrival.proofs.SpanLemmas.{span_agree, word_agree}
 use Rattle.cx_arrival.proofs.WordLemmas.{others_stay, marked_word}
 use Rattle.cx_arrival.proofs.InstructionLemmas.{word_there}
 use Rattle.cx_arrival.proofs.StoreLemmas.{Stored, store_all, address_small}
-use Rattle.cx_arrival.proofs.BranchLemmas.{Called, branch_goes}
+use Rattle.cx_arrival.proofs.BranchLemmas.{branch_goes}
 use Rattle.cx_arrival.proofs.ListLemmas.{ListWord, unmarked, marked, is_call}
 
 -- an argument's address is one
@@ -99,12 +97,14 @@ arrives known read m s machine legal stands addressed clear =
     is_call after.storage m.regs list s ll legal addressed.block block (list_words m s mid after clear is called.storage) in
     let place : address_in (slice_index after.regs 1) ≡ list = rw called.place (omega arith) in
     let count : made_count s ≡ 2 * length (words_of s) + 4 = omega arith in
-    let next = is.stored.next in
-    (after, record {
-      passes = rw count (known.joined (2 * length (words_of s)) 4 m mid after is.stored.passes called.passes);
-      next = called.next;
-      call = rw place ((read after.storage list (call_made m.regs s) called.sound ll).1 is_read);
-      kept = called.kept;
-      link = called.link ∙ omega (arith, next);
-      others = others;
-    })
+    let next = is.stored.next in (
+      after,
+      record {
+        passes = rw count (known.joined (2 * length (words_of s)) 4 m mid after is.stored.passes called.passes);
+        next = called.next;
+        call = rw place ((read after.storage list (call_made m.regs s) called.sound ll).1 is_read);
+        kept = called.kept;
+        link = called.link ∙ omega (arith, next);
+        others = others;
+      },
+    )

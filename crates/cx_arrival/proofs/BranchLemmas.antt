@@ -1,8 +1,8 @@
 -- The last four instructions: the mark, the list's address, the entry's address, and the call.
-use Rattle.std.proofs.Common.{◌≡◌, ◌≢◌, ℕ, ◌+◌, ◌*◌, ◌%◌, ◌^◌, ◌<◌, ◌≤◌, List, [], ◌∷◌, length, true, Some, slice_index, slice_set, refl, sym, ◌∙◌, ap, arith, inr}
+use Rattle.std.proofs.Common.{◌≡◌, ◌≢◌, ℕ, ◌+◌, ◌*◌, ◌^◌, ◌<◌, ◌≤◌, List, [], ◌∷◌, length, Some, slice_index, refl, ◌∙◌, ap, arith, inr}
 use Rattle.std.proofs.lemmas.List.{get_or-set_same, get_or-set_other, length-set}
-use Rattle.cx_storage.specs.Storage.{byte_at, written, IsSound}
-use Rattle.cx_storage.specs.Address.{address_in, along, distance}
+use Rattle.cx_storage.specs.Storage.{written, IsSound}
+use Rattle.cx_storage.specs.Address.{address_in, along}
 use Rattle.cx_storage.specs.Word.{word_at}
 use Rattle.cx_code.specs.declared.table.Op.TheVariants as op
 use Rattle.cx_code.specs.declared.instruction.Fields.TheVariants.{Rr, Rx}
@@ -66,15 +66,17 @@ branch_goes known first list v s m ll room same last based place some other read
     let one : length listed.regs ≡ 16 = length-set m.regs 1 list ∙ regs in
     let two : length loaded.regs ≡ 16 = length-set listed.regs 15 entry ∙ one in
     let target_register : slice_index loaded.regs 15 ≡ entry = get_or-set_same listed.regs 15 entry 0 (omega (arith, one)) in
-    let link_register : slice_index after.regs 14 ≡ link = get_or-set_same loaded.regs 14 link 0 (omega (arith, two)) in
-    (after, record {
-      passes = (marked, marks.0, (listed, lists.0, (loaded, loads.0, (after, calls, refl))));
-      next = ap address_in target_register;
-      place = get_or-set_other loaded.regs 14 1 link 0 (λ e. omega (arith, e)) ∙ get_or-set_other listed.regs 15 1 entry 0 (λ e. omega (arith, e))
-        ∙ get_or-set_same m.regs 1 list 0 (omega (arith, regs));
-      kept = λ r not0 not1 not14 not15. get_or-set_other loaded.regs 14 r link 0 not14 ∙ get_or-set_other listed.regs 15 r entry 0 not15
-        ∙ get_or-set_other m.regs 1 r list 0 not1 ∙ same r not0;
-      link = ap address_in link_register ∙ omega arith;
-      storage = refl;
-      sound = loads.1.machine.storage;
-    })
+    let link_register : slice_index after.regs 14 ≡ link = get_or-set_same loaded.regs 14 link 0 (omega (arith, two)) in (
+      after,
+      record {
+        passes = (marked, marks.0, (listed, lists.0, (loaded, loads.0, (after, calls, refl))));
+        next = ap address_in target_register;
+        place = get_or-set_other loaded.regs 14 1 link 0 (λ e. omega (arith, e)) ∙ get_or-set_other listed.regs 15 1 entry 0 (λ e. omega (arith, e))
+            ∙ get_or-set_same m.regs 1 list 0 (omega (arith, regs));
+        kept = λ r not0 not1 not14 not15. get_or-set_other loaded.regs 14 r link 0 not14 ∙ get_or-set_other listed.regs 15 r entry 0 not15
+            ∙ get_or-set_other m.regs 1 r list 0 not1 ∙ same r not0;
+        link = ap address_in link_register ∙ omega arith;
+        storage = refl;
+        sound = loads.1.machine.storage;
+      },
+    )

@@ -1,10 +1,10 @@
 -- Each of the instructions made is performed.
-use Rattle.std.proofs.Common.{◌≡◌, ◌≢◌, ℕ, zero, suc, ◌+◌, ◌*◌, ◌%◌, ◌^◌, ◌<◌, ◌≤◌, List, [], ◌∷◌, length, false, true, Option, Some, None, Ok, is_some, slice_index, slice_set, refl, sym, ◌∙◌, ap, arith, inr}
+use Rattle.std.proofs.Common.{◌≡◌, ℕ, ◌+◌, ◌*◌, ◌^◌, ◌<◌, ◌≤◌, List, [], ◌∷◌, length, true, Option, Some, None, Ok, is_some, slice_index, slice_set, refl, ◌∙◌, arith, inr}
 use Rattle.std.specs.List.{AllByRecursion}
 use Rattle.std.proofs.lemmas.List.{length-set}
 use Rattle.byteorder.specs.Endian.{big_bytes}
-use Rattle.cx_storage.specs.Storage.{Storage, byte_at, span, written, IsSound}
-use Rattle.cx_storage.specs.Address.{address_in, along, distance}
+use Rattle.cx_storage.specs.Storage.{byte_at, span, written}
+use Rattle.cx_storage.specs.Address.{address_in, along}
 use Rattle.cx_storage.specs.Word.{word_at}
 use Rattle.cx_storage.specs.Facts.Writes.{span_present_after_write}
 use Rattle.cx_code.specs.declared.table.Op.TheVariants as op
@@ -19,7 +19,7 @@ use Rattle.cx_exec.specs.Outcome.{Outcome}
 use Rattle.cx_exec.specs.Rows.{Effect, RrEffect, RxEffect, SiEffect}
 use Rattle.cx_exec.specs.Step.{Steps, updated_by}
 use Rattle.cx_arrival.specs.Stands.{list_length}
-use Rattle.cx_arrival.proofs.Ready.{Known, Agree, Ready}
+use Rattle.cx_arrival.proofs.Ready.{Known, Ready}
 use Rattle.cx_arrival.proofs.SpanLemmas.{span_part}
 use Rattle.cx_arrival.proofs.StepLemmas.{performs, goes_on}
 use Rattle.cx_arrival.proofs.WordLemmas.{others_stay}
@@ -31,18 +31,20 @@ loaded_after r v m = record m { regs = slice_set m.regs r v; next = along m.next
 pub load_address : Known → (list r x b d v : ℕ) (rest : List Instruction) (m : Machine) → Ready list (instruction op.La (Rx r x b d) ∷ rest) m → effective m.regs x b d ≡ v
     → Steps m Done (loaded_after r v m) × Ready list rest (loaded_after r v m)
 unfolding Effect RxEffect row_of
-load_address known list r x b d v rest m ready e =
-    (performs known list (instruction op.La (Rx r x b d)) rest m (loaded_after r v m) ready refl (rw e (refl, refl)),
-     goes_on list (instruction op.La (Rx r x b d)) rest m (loaded_after r v m) ready refl refl (length-set m.regs r v ∙ ready.machine.regs) ready.machine.storage
-     ready.there (λ x lx far. refl))
+load_address known list r x b d v rest m ready e = (
+  performs known list (instruction op.La (Rx r x b d)) rest m (loaded_after r v m) ready refl (rw e (refl, refl)),
+  goes_on list (instruction op.La (Rx r x b d)) rest m (loaded_after r v m) ready refl refl (length-set m.regs r v ∙ ready.machine.regs) ready.machine.storage
+      ready.there (λ x lx far. refl),
+)
 
 pub load_word : Known → (list r b d v : ℕ) (rest : List Instruction) (m : Machine) → Ready list (instruction op.L (Rx r 0 b d) ∷ rest) m → word_at m.storage (effective m.regs 0 b d) ≡ Some v
     → Steps m Done (loaded_after r v m) × Ready list rest (loaded_after r v m)
 unfolding Effect RxEffect row_of
-load_word known list r b d v rest m ready e =
-    (performs known list (instruction op.L (Rx r 0 b d)) rest m (loaded_after r v m) ready refl (rw e (refl, refl)),
-     goes_on list (instruction op.L (Rx r 0 b d)) rest m (loaded_after r v m) ready refl refl (length-set m.regs r v ∙ ready.machine.regs) ready.machine.storage
-     ready.there (λ x lx far. refl))
+load_word known list r b d v rest m ready e = (
+  performs known list (instruction op.L (Rx r 0 b d)) rest m (loaded_after r v m) ready refl (rw e (refl, refl)),
+  goes_on list (instruction op.L (Rx r 0 b d)) rest m (loaded_after r v m) ready refl refl (length-set m.regs r v ∙ ready.machine.regs) ready.machine.storage
+      ready.there (λ x lx far. refl),
+)
 
 -- bytes are stored at an address
 abbrev pub stored_after : ℕ → List ℕ → ℕ → Machine → Machine
@@ -70,10 +72,11 @@ pub store_word : Known → (list k b d v : ℕ) (rest : List Instruction) (m : M
 unfolding Effect RxEffect Stores row_of
 store_word known list k b d v rest m ll room ready at value =
     let i = instruction op.St (Rx 0 0 b d) in
-    let there = word_there list k 4 (i ∷ rest) m ll room (omega arith) ready in
-    (performs known list i rest m (stored_after (along list (4 * k)) (big_bytes 4 v) m.cc m) ready refl
-     (rw (at, value) (if_there (span m.storage (along list (4 * k)) 4) m (stored_after (along list (4 * k)) (big_bytes 4 v) m.cc m) (Ok tt) _ there (refl, refl))),
-     stored_goes known list k m.cc (big_bytes 4 v) i rest m ll room (omega arith) (omega arith, (omega arith, (omega arith, (omega arith, tt)))) refl ready)
+    let there = word_there list k 4 (i ∷ rest) m ll room (omega arith) ready in (
+      performs known list i rest m (stored_after (along list (4 * k)) (big_bytes 4 v) m.cc m) ready refl
+          (rw (at, value) (if_there (span m.storage (along list (4 * k)) 4) m (stored_after (along list (4 * k)) (big_bytes 4 v) m.cc m) (Ok tt) _ there (refl, refl))),
+      stored_goes known list k m.cc (big_bytes 4 v) i rest m ll room (omega arith) (omega arith, (omega arith, (omega arith, (omega arith, tt)))) refl ready,
+    )
 
 pub mark_word : Known → (list k b d : ℕ) (rest : List Instruction) (m : Machine) → list < 2 ^ 24 → 4 * k + 4 ≤ list_length → Ready list (instruction op.Oi (Si 0x80 b d) ∷ rest) m
     → effective m.regs 0 b d ≡ along list (4 * k) → byte_at m.storage (along list (4 * k)) ≡ Some 0
@@ -81,10 +84,11 @@ pub mark_word : Known → (list k b d : ℕ) (rest : List Instruction) (m : Mach
 unfolding Effect SiEffect Stores row_of
 mark_word known list k b d rest m ll room ready at none =
     let i = instruction op.Oi (Si 0x80 b d) in
-    let there = word_there list k 1 (i ∷ rest) m ll room (omega arith) ready in
-    (performs known list i rest m (stored_after (along list (4 * k)) (0x80 ∷ []) 1 m) ready refl
-     (rw (at, none) (if_there (span m.storage (along list (4 * k)) 1) m (stored_after (along list (4 * k)) (0x80 ∷ []) 1 m) (Ok tt) _ there (refl, refl))),
-     stored_goes known list k 1 (0x80 ∷ []) i rest m ll room (omega arith) (omega arith, tt) refl ready)
+    let there = word_there list k 1 (i ∷ rest) m ll room (omega arith) ready in (
+      performs known list i rest m (stored_after (along list (4 * k)) (0x80 ∷ []) 1 m) ready refl
+          (rw (at, none) (if_there (span m.storage (along list (4 * k)) 1) m (stored_after (along list (4 * k)) (0x80 ∷ []) 1 m) (Ok tt) _ there (refl, refl))),
+      stored_goes known list k 1 (0x80 ∷ []) i rest m ll room (omega arith) (omega arith, tt) refl ready,
+    )
 
 -- the machine goes on at the address in register 15
 abbrev pub called_after : Machine → Machine

@@ -8,3 +8,4 @@ pub mod BranchLemmas
 pub mod ListLemmas
 pub mod ArrivalLemmas
 pub mod TimeLemmas
+pub mod MadeLemmas

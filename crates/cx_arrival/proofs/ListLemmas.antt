@@ -1,22 +1,21 @@
 -- The list that was built is read as the statement's call.
-use Rattle.std.proofs.Common.{◌≡◌, ◌≢◌, ℕ, zero, suc, ◌+◌, ◌*◌, ◌/◌, ◌%◌, ◌^◌, ◌<◌, ◌≤◌, List, [], ◌∷◌, length, map, Bool, true, false, Option, Some, is_some, slice_index, slice_get, ◌==◌, refl, sym, ◌∙◌, ap, arith, inl}
-use Rattle.std.specs.Prelude.{MatchBool, IsTrue, IsSomeAnd}
-use Rattle.std.specs.Option.{option_map, option_and_then}
+use Rattle.std.proofs.Common.{◌≡◌, ◌≢◌, ℕ, zero, suc, ◌+◌, ◌*◌, ◌^◌, ◌<◌, ◌≤◌, List, [], ◌∷◌, length, map, Bool, true, false, Some, slice_index, ◌==◌, refl, sym, ◌∙◌, ap, arith}
+use Rattle.std.specs.Prelude.{MatchBool, IsTrue}
+use Rattle.std.specs.Option.{option_map}
 use Rattle.std.proofs.lemmas.Bool.{eq-eqb, ne_eqb, le-leb, lt-leb}
 use Rattle.std.proofs.lemmas.List.{length-map}
 use Rattle.std.proofs.lemmas.Option.{slice_get-get_or}
 use Rattle.cx_command.specs.declared.legal.ListedCondition.{ListedCondition}
-use Rattle.cx_command.specs.Commands.{row_of}
 use Rattle.cx_command.specs.Legal.{is_legal_list, lists_conditions}
-use Rattle.cx_storage.specs.Storage.{Storage, byte_at, span, written}
-use Rattle.cx_storage.specs.Address.{address_in, along, distance}
+use Rattle.cx_storage.specs.Storage.{Storage, byte_at, span}
+use Rattle.cx_storage.specs.Address.{address_in, along}
 use Rattle.cx_storage.specs.Word.{word_at}
 use Rattle.cx_storage.specs.Facts.Spans.{span_at, span_from}
-use Rattle.cx_call.specs.Call.{Call, has_high_bit, listed_in}
-use Rattle.cx_call.specs.Laws.Calls.{IsCallAt, list_word, bytes_of_block}
-use Rattle.cx_arrival.specs.Made.{Statement, Argument, block_argument, words_of, condition_bytes, block_bytes, reached, argument_address, call_made}
+use Rattle.cx_call.specs.Call.{has_high_bit, listed_in}
+use Rattle.cx_call.specs.Laws.Calls.{IsCallAt, bytes_of_block}
+use Rattle.cx_arrival.specs.Made.{Statement, block_argument, words_of, condition_bytes, block_bytes, reached, argument_address, call_made}
 use Rattle.cx_arrival.specs.Stands.{IsLegal}
-use Rattle.cx_arrival.proofs.StoreLemmas.{address_small, reaches}
+use Rattle.cx_arrival.proofs.StoreLemmas.{reaches}
 
 -- the first four bytes of a span, and those behind them
 front_of_span : (s : Storage) (a b0 b1 b2 b3 : ℕ) (rest : List ℕ) → a < 2 ^ 24 → span s a (length (b0 ∷ b1 ∷ b2 ∷ b3 ∷ rest)) ≡ Some (b0 ∷ b1 ∷ b2 ∷ b3 ∷ rest)
@@ -25,6 +24,7 @@ front_of_span s a b0 b1 b2 b3 rest la e = span_from s a 4 (b0 ∷ b1 ∷ b2 ∷ 
   where
     byte : (k : ℕ) → k < 4 → byte_at s (along a k) ≡ Some (slice_index (b0 ∷ b1 ∷ b2 ∷ b3 ∷ rest) k)
     byte k few = span_at s a (length (b0 ∷ b1 ∷ b2 ∷ b3 ∷ rest)) (b0 ∷ b1 ∷ b2 ∷ b3 ∷ rest) k la e (omega (arith, few))
+
     each : (k : ℕ) → k < 4 → byte_at s (along a k) ≡ Some (slice_index (b0 ∷ b1 ∷ b2 ∷ b3 ∷ []) k)
     each zero h = byte 0 h
     each (suc zero) h = byte 1 h
@@ -82,30 +82,37 @@ is_call s first list statement ll legal based block words = record {
   conditions = listed (lists_conditions statement.command) legal.conditions;
   count = size ∙ legal.count;
   words = λ k few.
-    let word = words k (omega (arith, few, size)) in
-    rw word.at (word.mark ∙ ap (λ (n : ℕ). k == n) (sym size));
+      let word = words k (omega (arith, few, size)) in
+      rw word.at (word.mark ∙ ap (λ (n : ℕ). k == n) (sym size));
   places = λ k few.
-    let word = words (suc k) (omega (arith, few, size)) in
-    let next : k + 1 ≡ suc k = omega arith in
-    rw (next, word.at) (ap Some word.address ∙ sym (slice_get-get_or (map (argument_address first) statement.arguments) k 0 few));
+      let word = words (suc k) (omega (arith, few, size)) in
+      let next : k + 1 ≡ suc k = omega arith in
+      rw (next, word.at) (ap Some word.address ∙ sym (slice_get-get_or (map (argument_address first) statement.arguments) k 0 few));
 }
   where
     place : ℕ
     place = reached first statement.block
+
     size : length (map (argument_address first) statement.arguments) ≡ length statement.arguments
     size = length-map statement.arguments (argument_address first)
+
     first_word : ListWord s list (length statement.arguments) 0 (argument_address first (block_argument statement))
     first_word = words 0 (omega arith)
+
     head : word_at s list ≡ Some first_word.word
     head = let none : along list (4 * 0) ≡ list = omega arith in rw none at first_word.at
+
     at : address_in first_word.word ≡ place
     at = first_word.address ∙ reaches first statement.block based
+
     start : along place 0 ≡ place
     start = omega arith
+
     behind : option_map listed_in (bytes_of_block s list 4 (2 * length statement.conditions)) ≡ Some statement.conditions
     behind =
         let bytes = rest_of_span s place _ _ _ _ (condition_bytes statement.conditions) (omega arith) block in
         rw (head, at, sym (condition_length statement.conditions), bytes) (ap Some (conditions_read statement.conditions))
+
     listed : (lists : Bool) → MatchBool lists ((statement.first ≡ length statement.conditions) × IsTrue (is_legal_list statement.command statement.conditions)) (statement.conditions ≡ [])
         → MatchBool lists ((option_map listed_in (bytes_of_block s list 4 (2 * statement.first)) ≡ Some statement.conditions) × IsTrue (is_legal_list statement.command statement.conditions)) (statement.conditions ≡ [])
     listed true h = (rw h.0 behind, h.1)

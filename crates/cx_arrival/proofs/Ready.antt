@@ -1,5 +1,5 @@
 -- A machine that is about to perform instructions, none of which lies in a list.
-use Rattle.std.proofs.Common.{◌≡◌, ◌≢◌, ℕ, ◌*◌, ◌%◌, ◌+◌, ◌^◌, ◌<◌, ◌≤◌, List, length, true, is_some}
+use Rattle.std.proofs.Common.{◌≡◌, ◌≢◌, ℕ, ◌*◌, ◌%◌, ◌^◌, ◌<◌, ◌≤◌, List, length, true, is_some}
 use Rattle.cx_storage.specs.Storage.{Storage, byte_at, span}
 use Rattle.cx_storage.specs.Address.{along, distance}
 use Rattle.cx_storage.specs.Laws.Sound.{SoundKept}

@@ -1,5 +1,5 @@
 -- Spans of storages that agree, and parts of spans.
-use Rattle.std.proofs.Common.{◌≡◌, ℕ, zero, suc, ◌+◌, ◌-◌, ◌<◌, ◌≤◌, ◌^◌, true, is_some, refl, sym, ◌∙◌, ap, arith}
+use Rattle.std.proofs.Common.{◌≡◌, ℕ, zero, suc, ◌+◌, ◌-◌, ◌<◌, ◌≤◌, ◌^◌, true, is_some, refl, ◌∙◌, ap, arith}
 use Rattle.std.specs.Option.{option_map}
 use Rattle.byteorder.specs.Endian.{big_number}
 use Rattle.cx_storage.specs.Storage.{Storage, byte_at, span}

@@ -1,14 +1,14 @@
 -- One instruction is performed.
-use Rattle.std.proofs.Common.{◌≡◌, ◌≢◌, ℕ, zero, suc, ◌+◌, ◌*◌, ◌%◌, ◌^◌, ◌<◌, ◌≤◌, List, [], ◌∷◌, length, false, true, Some, Ok, is_some, refl, sym, ◌∙◌, ap, arith}
+use Rattle.std.proofs.Common.{◌≡◌, ℕ, suc, ◌+◌, ◌*◌, ◌^◌, ◌<◌, List, [], ◌∷◌, length, false, true, Some, Ok, is_some, ◌∙◌, arith}
 use Rattle.std.proofs.lemmas.List.Sums.{sum_by-cons}
-use Rattle.cx_storage.specs.Storage.{Storage, byte_at, span, IsSound}
-use Rattle.cx_storage.specs.Address.{along, distance}
+use Rattle.cx_storage.specs.Storage.{Storage, span, IsSound}
+use Rattle.cx_storage.specs.Address.{along}
 use Rattle.cx_code.specs.Table.{length_of}
 use Rattle.cx_code.specs.Spelling.{Instruction, spelling}
 use Rattle.cx_exec.specs.declared.machine.Step.TheVariants.{Done}
 use Rattle.cx_exec.specs.Machine.{Machine}
 use Rattle.cx_exec.specs.Rows.{Effect}
-use Rattle.cx_exec.specs.Step.{Steps, Runs, performed, is_execute, updated_by, entry}
+use Rattle.cx_exec.specs.Step.{Steps, Runs, performed, is_execute, updated_by}
 use Rattle.cx_arrival.specs.Stands.{AreAt, IsApart, code_length, list_length}
 use Rattle.cx_arrival.proofs.SpanLemmas.{span_agree}
 use Rattle.cx_arrival.proofs.Ready.{Known, Agree, Ready}
@@ -34,12 +34,13 @@ pub still : (s t : Storage) (list a : ℕ) (code : List Instruction) → a < 2 ^
 unfolding AreAt
 still s t list a [] la same apart at = tt
 still s t list a (i ∷ rest) la same apart (well, here, behind) =
-    let longer = code_longer i rest in
-    (well,
-     span_agree s t a (length_of i.op) la (λ k h. same (along a k) (omega arith) (apart k (omega (arith, h, longer)))) ∙ here,
-     still s t list (along a (length_of i.op)) rest (omega arith) same (λ k h.
-     let e : along (along a (length_of i.op)) k ≡ along a (length_of i.op + k) = omega arith in
-     rw e (apart (length_of i.op + k) (omega (arith, h, longer)))) behind)
+    let longer = code_longer i rest in (
+      well,
+      span_agree s t a (length_of i.op) la (λ k h. same (along a k) (omega arith) (apart k (omega (arith, h, longer)))) ∙ here,
+      still s t list (along a (length_of i.op)) rest (omega arith) same (λ k h.
+          let e : along (along a (length_of i.op)) k ≡ along a (length_of i.op + k) = omega arith in
+          rw e (apart (length_of i.op + k) (omega (arith, h, longer)))) behind,
+    )
 
 -- behind an instruction of four bytes, which changed the list alone, the machine is ready for the next ones
 pub goes_on : (list : ℕ) (i : Instruction) (rest : List Instruction) (m after : Machine) → Ready list (i ∷ rest) m → length_of i.op ≡ 4
@@ -61,6 +62,6 @@ goes_on list i rest m after ready size next regs sound there same =
       stands = rw next (still m.storage after.storage list (along m.next 4) rest (omega arith) same apart behind);
       apart = rw next apart;
       outside = λ k h.
-        let e : along after.next (4 * k) ≡ along m.next (4 * suc k) = omega arith in
-        rw e (ready.outside (suc k) (omega arith));
+          let e : along after.next (4 * k) ≡ along m.next (4 * suc k) = omega arith in
+          rw e (ready.outside (suc k) (omega arith));
     }

@@ -1,5 +1,5 @@
 -- The stores of addresses into the words of a list, one after the other.
-use Rattle.std.proofs.Common.{◌≡◌, ◌≢◌, ℕ, zero, suc, ◌+◌, ◌*◌, ◌%◌, ◌^◌, ◌<◌, ◌≤◌, ◌⊎◌, List, [], ◌∷◌, ◌++◌, length, map, true, false, Some, is_some, slice_index, slice_set, ◌==◌, refl, sym, ◌∙◌, ap, subst, arith, inl, inr}
+use Rattle.std.proofs.Common.{◌≡◌, ◌≢◌, ℕ, zero, suc, ◌+◌, ◌*◌, ◌^◌, ◌<◌, ◌≤◌, ◌⊎◌, List, [], ◌∷◌, ◌++◌, length, map, Some, slice_index, refl, ◌∙◌, arith, inl, inr}
 use Rattle.std.proofs.lemmas.Bool.{cases_eq, eq-eqb, ne_eqb}
 use Rattle.std.proofs.lemmas.List.{get_or-set_same, get_or-set_other}
 use Rattle.byteorder.specs.Endian.{big_bytes}
@@ -70,14 +70,17 @@ store_one known first list k a rest m ll room same word ready =
     let at = address_same first mid.regs 0 a.word.base a.word.displacement same_mid ∙ reaches first a.word word.0 ∙ word.1 in
     let stored = store_word known list k a.word.base a.word.displacement v rest mid ll room loads.1 at value in
     let after = stored_after (along list (4 * k)) (big_bytes 4 v) mid.cc mid in
-    let there = word_there list k 4 _ mid ll room (omega arith) loads.1 in
-    (after, stored.1, record {
-      passes = (mid, loads.0, (after, stored.0, refl));
-      next = omega arith;
-      same = same_mid;
-      word = known.words.word m.storage (along list (4 * k)) v (omega arith) (omega (arith, small)) there;
-      others = λ x lx aside. others_stay m.storage list k (big_bytes 4 v) x ll lx room (omega arith) there aside;
-    })
+    let there = word_there list k 4 _ mid ll room (omega arith) loads.1 in (
+      after,
+      stored.1,
+      record {
+        passes = (mid, loads.0, (after, stored.0, refl));
+        next = omega arith;
+        same = same_mid;
+        word = known.words.word m.storage (along list (4 * k)) v (omega arith) (omega (arith, small)) there;
+        others = λ x lx aside. others_stay m.storage list k (big_bytes 4 v) x ll lx room (omega arith) there aside;
+      },
+    )
 
 -- addresses are stored in words k and after
 pub record Stored (first : List ℕ) (list k : ℕ) (arguments : List Argument) (m after : Machine) : Type 0 where
@@ -103,6 +106,7 @@ stored_more known first list k a arguments m mid after ll room inside one more =
   where
     kept : (i : ℕ) → i < 4 → byte_at after.storage (along (along list (4 * k)) i) ≡ byte_at mid.storage (along (along list (4 * k)) i)
     kept i few = more.others (along (along list (4 * k)) i) (omega arith) (inl (omega (arith, few, ll, room)))
+
     words : (j : ℕ) → j < suc (length arguments) → word_at after.storage (along list (4 * (k + j))) ≡ Some (slice_index (map (argument_address first) (a ∷ arguments)) j)
     words zero few =
         let here : k + 0 ≡ k = omega arith in
@@ -110,6 +114,7 @@ stored_more known first list k a arguments m mid after ll room inside one more =
     words (suc j) few =
         let there : k + suc j ≡ k + 1 + j = omega arith in
         rw there (more.words j (omega (arith, few)))
+
     others : (x : ℕ) → x < 2 ^ 24 → (distance list x < 4 * k) ⊎ (4 * (k + suc (length arguments)) ≤ distance list x) → byte_at after.storage x ≡ byte_at m.storage x
     others x lx (inl before) = more.others x lx (inl (omega (arith, before))) ∙ one.others x lx (inl before)
     others x lx (inr behind) = more.others x lx (inr (omega (arith, behind))) ∙ one.others x lx (inr (omega (arith, behind)))
@@ -121,14 +126,17 @@ pub store_all : Known → (first : List ℕ) (list k : ℕ) (arguments : List Ar
     → Same first m.regs → HaveWords first list k arguments → Ready list (stores arguments ++ rest) m → AllGo first list k arguments rest m
 unfolding Passes HaveWords
 store_all known first list k [] rest m ll room same words ready =
-    let inside = ready.machine.next in
-    (m, ready, record {
-      passes = refl;
-      next = omega arith;
-      same = same;
-      words = λ j few. absurd (omega (arith, few));
-      others = λ x lx aside. refl;
-    })
+    let inside = ready.machine.next in (
+      m,
+      ready,
+      record {
+        passes = refl;
+        next = omega arith;
+        same = same;
+        words = λ j few. absurd (omega (arith, few));
+        others = λ x lx aside. refl;
+      },
+    )
 store_all known first list k (a ∷ arguments) rest m ll room same words ready =
     let one = store_one known first list k a (stores arguments ++ rest) m ll (omega arith) same words.0 ready in
     let more = store_all known first list (k + 1) arguments rest one.0 ll (omega arith) one.2.same words.1 one.1 in

@@ -6,7 +6,7 @@ use Rattle.cx_exec.specs.Machine.{Machine, reg}
 use Rattle.cx_exec.specs.Step.{entry}
 use Rattle.cx_exec.specs.Advance.{Passes}
 use Rattle.cx_call.specs.Call.{call_of}
-use Rattle.cx_arrival.specs.Made.{Statement, made, word_count, call_made, list_place}
+use Rattle.cx_arrival.specs.Made.{Statement, word_count, call_made, list_place}
 
 -- how many instructions are made: two for each word of the list, and four
 abbrev pub made_count : Statement → ℕ

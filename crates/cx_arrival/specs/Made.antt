@@ -1,7 +1,7 @@
 -- The instructions made of an EXEC statement, as the assembler has resolved them (Application Programmer's Reference Manual,
 -- SC33-0077, the expansion of a command; the instructions are those of GA22-7000; which ones are made, the argument
 -- list and the block are this project's own).
-use Rattle.std.specs.Prelude.{ℕ, ◌+◌, ◌*◌, ◌/◌, ◌%◌, List, [], ◌∷◌, ◌++◌, length, map, slice_index}
+use Rattle.std.specs.Prelude.{ℕ, ◌+◌, ◌/◌, ◌%◌, List, [], ◌∷◌, ◌++◌, length, map, slice_index}
 use Rattle.cx_command.specs.declared.commands.Command.{Command}
 use Rattle.cx_command.specs.declared.legal.ListedCondition.{ListedCondition}
 use Rattle.cx_command.specs.Commands.{row_of}

@@ -1,5 +1,5 @@
 //! The instructions made of an EXEC statement bring the machine to the entry with the command's argument list.
-ghost use Rattle.cx_arrival.specs.Laws.Entry.{ArrivalsDecide, ArrivesInTime, ReachesEntry};
+ghost use Rattle.cx_arrival.specs.Laws.Entry.{ArrivalsDecide, ArrivesInTime, MadeAreCounted, ReachesEntry};
 
 /// The instructions made of an EXEC statement, where they stand in storage at the next address, lead to the entry, with
 /// the argument list that is read as the statement's command with the addresses that its arguments had at the first
@@ -26,3 +26,8 @@ pub fn arrivals_decide()
 {
     cx_exec::laws::runs_decide();
 }
+
+/// Two instructions are made for each word of the list, and four; all but the last have four bytes, that has two.
+pub fn made_are_counted()
+    ensures { MadeAreCounted }
+{}
