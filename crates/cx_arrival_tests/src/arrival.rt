@@ -56,7 +56,7 @@ fn arguments_by_index_and_without_base_arrive(rt: HostRuntime) -> Result<(), Fai
     match task.call() {
         Ok(call) => {
             assert!(rt; call.command() == Command::ReadqTs && call.first() == 0xE0);
-            assert!(rt; *call.places() == [0x30_0018, 0x123, STG + 0x50, STG + 0x54]);
+            assert!(rt; call.places() == [0x30_0018, 0x123, STG + 0x50, STG + 0x54].as_slice());
             assert!(rt; call.resp() == Some(STG + 0x54));
             assert!(rt; call.place(OptionName::Queue) == Some(0x30_0018));
         }
@@ -82,7 +82,7 @@ fn an_argument_with_base_1_and_a_word_by_another_base_arrive(rt: HostRuntime) ->
     match task.call() {
         Ok(call) => {
             assert!(rt; call.command() == Command::Freemain);
-            assert!(rt; *call.places() == [0x30_0010]);
+            assert!(rt; call.places() == [0x30_0010].as_slice());
         }
         Err(_) => assert!(rt; false),
     }
@@ -98,8 +98,8 @@ fn listed_conditions_arrive(rt: HostRuntime) -> Result<(), Fail> {
             let lengerr = ListedCondition { number: 22, label: 0x80 };
             let error = ListedCondition { number: 1, label: 0 };
             assert!(rt; call.command() == Command::HandleCondition);
-            assert!(rt; *call.conditions() == [lengerr, error]);
-            assert!(rt; *call.places() == [0x01_0022]);
+            assert!(rt; call.conditions() == [lengerr, error].as_slice());
+            assert!(rt; call.places() == [0x01_0022].as_slice());
         }
         Err(_) => assert!(rt; false),
     }
