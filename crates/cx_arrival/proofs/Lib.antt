@@ -1,0 +1,11 @@
+pub mod SpanLemmas
+pub mod Ready
+pub mod StepLemmas
+pub mod WordLemmas
+pub mod InstructionLemmas
+pub mod StoreLemmas
+pub mod BranchLemmas
+pub mod ListLemmas
+pub mod ArrivalLemmas
+pub mod TimeLemmas
+pub mod MadeLemmas

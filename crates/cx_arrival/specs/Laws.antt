@@ -1,0 +1,2 @@
+-- What the module `laws` promises.
+pub mod Entry

@@ -1,0 +1,33 @@
+//! The instructions made of an EXEC statement bring the machine to the entry with the command's argument list.
+ghost use Rattle.cx_arrival.specs.Laws.Entry.{ArrivalsDecide, ArrivesInTime, MadeAreCounted, ReachesEntry};
+
+/// The instructions made of an EXEC statement, where they stand in storage at the next address, lead to the entry, with
+/// the argument list that is read as the statement's command with the addresses that its arguments had at the first
+/// instruction.
+pub fn reaches_entry()
+    ensures { ReachesEntry }
+{
+    cx_code::laws::every_spelling();
+    cx_exec::laws::spelled_is_fetched();
+    cx_exec::laws::runs_join();
+    cx_storage::laws::sound_kept();
+    cx_storage::laws::word_after_write();
+    cx_call::laws::call_is_read();
+}
+
+/// A run with any limit that the instructions made fit in, two for each word of the list and four, ends at the entry.
+pub fn arrives_in_time()
+    ensures { ArrivesInTime }
+{}
+
+/// The machine that has arrived is determined by the machine before.
+pub fn arrivals_decide()
+    ensures { ArrivalsDecide }
+{
+    cx_exec::laws::runs_decide();
+}
+
+/// Two instructions are made for each word of the list, and four; all but the last have four bytes, that has two.
+pub fn made_are_counted()
+    ensures { MadeAreCounted }
+{}
