@@ -12,6 +12,11 @@ use Rattle.cx_ebcdic.specs.declared.aids.Aid.TheVariants as aid
 use Rattle.cx_region.specs.State.{RegionState}
 use Rattle.cx_region.specs.Tables.{terminal_of}
 use Rattle.cx_region.specs.Names.{is_name4}
+use Rattle.cx_region.specs.declared.changes.AlterReply.{AlterReply}
+use Rattle.cx_region.specs.declared.changes.AlterReply.TheVariants as alter
+use Rattle.cx_region.specs.declared.changes.Change.{Change}
+use Rattle.cx_region.specs.declared.changes.Change.TheVariants as change
+use Rattle.cx_region.specs.Facts.Alterations.{alter_reply}
 use Rattle.cx_region.specs.declared.replies.Event.TheVariants as event
 use Rattle.cx_region.specs.declared.replies.Reply.{Reply}
 use Rattle.cx_region.specs.declared.replies.Reply.TheVariants as reply
@@ -20,12 +25,13 @@ use Rattle.cx_edf.specs.declared.answers.EdfEvent.{EdfEvent}
 use Rattle.cx_edf.specs.declared.answers.EdfEvent.TheVariants as edf_event
 use Rattle.cx_edf.specs.declared.answers.Answer.{Answer}
 use Rattle.cx_edf.specs.declared.answers.Answer.TheVariants as answer
-use Rattle.cx_edf.specs.Sessions.{SessionState, Sessions, after_key, after_reply, fresh_session, session_in, stop_of, stopped, takes_in, with_session}
-use Rattle.cx_edf.specs.State.{EdfState, holds, session_at, stopped_at}
-use Rattle.cx_edf.specs.Steps.{EdfHappens, Owned, Through, Passed, off_reply, on_reply, sessions_after, sessions_after_key, sessions_after_turn}
-use Rattle.cx_edf.specs.Runs.{IsKept, and_taken, displays_after, ends_session}
+use Rattle.cx_edf.specs.Sessions.{SessionState, Sessions, after_change, after_key, after_reply, fresh_session, operators_end, session_in, stop_of, stopped, takes_in, with_session}
+use Rattle.cx_edf.specs.State.{EdfState, ends_by_key, holds, refuses, session_at, stopped_at}
+use Rattle.cx_edf.specs.Steps.{EdfHappens, Owned, Through, Passed, off_reply, on_reply, sessions_after, sessions_after_alter, sessions_after_key, sessions_after_turn}
+use Rattle.cx_edf.specs.Runs.{IsKept, and_ended, and_taken, displays_after, ends_session}
 use Rattle.cx_edf.proofs.LookupLemmas.{at_other, at_same, same_name}
 use Rattle.cx_edf.proofs.KeepLemmas.{keep_one_more}
+use Rattle.cx_edf.proofs.EndLemmas.{ended_reply}
 
 -- where the sessions stay
 stays : (old new : Sessions) (q : List ℕ) (all : List Display) → new ≡ old → IsKept (session_in old q) all → IsKept (session_in new q) all
@@ -131,6 +137,30 @@ turn_at (Some s) old name q r region all is kept =
     set_one old name q (Some (after_reply s r (display_of region name))) all (and_taken all (Some s) (stop_of r) region name)
     (λ k. turn_step s r (stop_of r) region name all refl (subst (λ (o : Option SessionState). IsKept o all) is k)) kept
 
+-- ---- alterations
+change_step : (s : SessionState) (c : Change) (region : RegionState) (name : List ℕ) (all : List Display) → s.displays ≡ keep_last 10 all
+    → IsKept (Some (after_change s c (display_of region name))) (and_ended all (Some s) c region name)
+unfolding after_change
+change_step s (change.Register r v) region name all kept = kept
+change_step s (change.Byte a v) region name all kept = kept
+change_step s change.Nop region name all kept = kept
+change_step s change.Abend region name all kept = ap (λ ds. keep_last 10 (ds ++ display_of region name operators_end ∷ [])) kept ∙ keep_one_more 10 all (display_of region name operators_end)
+
+ended_nothing : (all : List Display) (c : Change) (region : RegionState) (name : List ℕ) → and_ended all None c region name ≡ all
+ended_nothing all (change.Register r v) region name = refl
+ended_nothing all (change.Byte a v) region name = refl
+ended_nothing all change.Nop region name = refl
+ended_nothing all change.Abend region name = refl
+
+change_at : (before : Option SessionState) (old : Sessions) (name q : List ℕ) (c : Change) (region : RegionState) (all : List Display) → session_in old name ≡ before
+    → IsKept (session_in old q) all
+    → IsKept (session_in (option_map_or (λ s. with_session old name (Some (after_change s c (display_of region name)))) before old) q) (if is_name4 name q then and_ended all before c region name else all)
+change_at None old name q c region all is kept =
+    rw (ended_nothing all c region name, same_either (is_name4 name q) all) kept
+change_at (Some s) old name q c region all is kept =
+    set_one old name q (Some (after_change s c (display_of region name))) all (and_ended all (Some s) c region name)
+    (λ k. change_step s c region name all (subst (λ (o : Option SessionState). IsKept o all) is k)) kept
+
 -- ---- one event
 -- the sessions after an event, and its answer, put in place
 put : (old new : EdfState) (e : EdfEvent) (given own : Answer) (sessions : Sessions) (q : List ℕ) (all : List Display) → new.sessions ≡ sessions → given ≡ own
@@ -139,14 +169,45 @@ put old new e given own sessions q all same is kept =
     subst (λ (g : Answer). IsKept (session_at new q) (displays_after old e g new q all)) (sym is)
     (subst (λ (s : Sessions). IsKept (session_in s q) (displays_after old e own new q all)) (sym same) kept)
 
-by_key : (b : Bool) (old new : EdfState) (name q : List ℕ) (a : Aid) (bytes : List ℕ) (given : Answer) (all : List Display) → IsKept (session_at old q) all
-    → MatchBool b (Owned old answer.ToEdf (sessions_after_key old.sessions name a bytes) given new) (Through old (event.Key name a bytes) given new)
+-- PF12's alteration was done
+ended_kept : (old new : EdfState) (name q : List ℕ) (all : List Display) (r : Reply) → r ≡ reply.Alter alter.Altered → IsKept (session_at old q) all
+    → IsKept (session_in (sessions_after_alter old.sessions name change.Abend r new.region) q) (if is_name4 name q then and_ended all (session_at old name) change.Abend new.region name else all)
+ended_kept old new name q all r is kept =
+    subst (λ (x : Reply). IsKept (session_in (sessions_after_alter old.sessions name change.Abend x new.region) q) (if is_name4 name q then and_ended all (session_at old name) change.Abend new.region name else all)) (sym is)
+    (change_at (session_at old name) old.sessions name q change.Abend new.region all refl kept)
+
+by_key : (ends stopped : Bool) (old new : EdfState) (name q : List ℕ) (a : Aid) (bytes : List ℕ) (given : Answer) (all : List Display) → ends_by_key old name a ≡ ends → IsKept (session_at old q) all
+    → MatchBool ends (Passed old (event.Alter name change.Abend) (λ _. answer.ToEdf) (sessions_after_alter old.sessions name change.Abend) given new)
+    (MatchBool stopped (Owned old answer.ToEdf (sessions_after_key old.sessions name a bytes) given new) (Through old (event.Key name a bytes) given new))
     → IsKept (session_at new q) (displays_after old (edf_event.Plain (event.Key name a bytes)) given new q all)
 unfolding displays_after
-by_key true old new name q a bytes given all kept row =
-    put old new (edf_event.Plain (event.Key name a bytes)) given answer.ToEdf (sessions_after_key old.sessions name a bytes) q all row.table row.answers (key_kept old.sessions name q a bytes all kept)
-by_key false old new name q a bytes given all kept row =
+by_key true stopped old new name q a bytes given all ends kept row =
+    put old new (edf_event.Plain (event.Key name a bytes)) given answer.ToEdf _ q all row.table row.answers
+    (rw ends (ended_kept old new name q all row.reply (ended_reply old name a row.reply new.region ends row.happens) kept))
+by_key false true old new name q a bytes given all ends kept row =
+    put old new (edf_event.Plain (event.Key name a bytes)) given answer.ToEdf (sessions_after_key old.sessions name a bytes) q all row.table row.answers (rw ends (key_kept old.sessions name q a bytes all kept))
+by_key false false old new name q a bytes given all ends kept row =
     put old new (edf_event.Plain (event.Key name a bytes)) given (answer.Region row.reply) old.sessions q all row.table row.answers kept
+
+alter_kept : (r : AlterReply) (old new : EdfState) (name q : List ℕ) (c : Change) (all : List Display) → IsKept (session_at old q) all
+    → IsKept (session_in (sessions_after_alter old.sessions name c (reply.Alter r) new.region) q) (displays_after old (edf_event.Plain (event.Alter name c)) (answer.Region (reply.Alter r)) new q all)
+unfolding displays_after
+alter_kept alter.Altered old new name q c all kept = change_at (session_at old name) old.sessions name q c new.region all refl kept
+alter_kept alter.NoSuchTerminal old new name q c all kept = kept
+alter_kept alter.NoTask old new name q c all kept = kept
+alter_kept alter.NotDue old new name q c all kept = kept
+alter_kept alter.NoByte old new name q c all kept = kept
+
+by_alter : (b : Bool) (old new : EdfState) (name q : List ℕ) (c : Change) (given : Answer) (all : List Display) → IsKept (session_at old q) all
+    → MatchBool b (Owned old answer.NotStopped old.sessions given new) (Passed old (event.Alter name c) answer.Region (sessions_after_alter old.sessions name c) given new)
+    → IsKept (session_at new q) (displays_after old (edf_event.Plain (event.Alter name c)) given new q all)
+unfolding displays_after
+by_alter true old new name q c given all kept row = put old new (edf_event.Plain (event.Alter name c)) given answer.NotStopped old.sessions q all row.table row.answers kept
+by_alter false old new name q c given all kept row =
+    let told = alter_reply old.region name c row.reply new.region row.happens in
+    put old new (edf_event.Plain (event.Alter name c)) given (answer.Region (reply.Alter told.0)) (sessions_after_alter old.sessions name c (reply.Alter told.0) new.region) q all
+    (row.table ∙ ap (λ r. sessions_after_alter old.sessions name c r new.region) told.1) (row.answers ∙ ap (λ r. answer.Region r) told.1)
+    (alter_kept told.0 old new name q c all kept)
 
 turn_kept : (r : Reply) (old new : EdfState) (name q : List ℕ) (all : List Display) → IsKept (session_at old q) all
     → IsKept (session_in (sessions_after_turn old.sessions name r new.region) q) (displays_after old (edf_event.Plain (event.Turn name)) (answer.Region r) new q all)
@@ -157,6 +218,7 @@ turn_kept (reply.Program r) old new name q all kept = kept
 turn_kept (reply.Transaction r) old new name q all kept = kept
 turn_kept (reply.Terminal r) old new name q all kept = kept
 turn_kept reply.Clock old new name q all kept = kept
+turn_kept (reply.Alter r) old new name q all kept = kept
 
 by_turn : (b : Bool) (old new : EdfState) (name q : List ℕ) (given : Answer) (all : List Display) → IsKept (session_at old q) all
     → MatchBool b (Owned old answer.Held old.sessions given new) (Passed old (event.Turn name) answer.Region (sessions_after_turn old.sessions name) given new)
@@ -175,9 +237,10 @@ kept_after old (edf_event.On name) given new q all row kept =
 kept_after old (edf_event.Off name) given new q all row kept =
     put old new (edf_event.Off name) given _ _ q all row.table row.answers
     (off_kept (is_some (terminal_of old.region name)) (is_some (session_at old name)) old new name q all kept)
-kept_after old (edf_event.Plain (event.Key name a bytes)) given new q all row kept = by_key (stopped_at old name) old new name q a bytes given all kept row
+kept_after old (edf_event.Plain (event.Key name a bytes)) given new q all row kept = by_key (ends_by_key old name a) (stopped_at old name) old new name q a bytes given all refl kept row
 kept_after old (edf_event.Plain (event.Turn name)) given new q all row kept = by_turn (holds old name) old new name q given all kept row
 kept_after old (edf_event.Plain (event.Program name image)) given new q all row kept = stays old.sessions new.sessions q all row.table kept
 kept_after old (edf_event.Plain (event.Transaction tran program)) given new q all row kept = stays old.sessions new.sessions q all row.table kept
 kept_after old (edf_event.Plain (event.Terminal name)) given new q all row kept = stays old.sessions new.sessions q all row.table kept
 kept_after old (edf_event.Plain (event.Clock time date)) given new q all row kept = stays old.sessions new.sessions q all row.table kept
+kept_after old (edf_event.Plain (event.Alter name c)) given new q all row kept = by_alter (refuses old name) old new name q c given all kept row

@@ -1,6 +1,7 @@
 pub mod TableLemmas
 pub mod LookupLemmas
 pub mod KeepLemmas
+pub mod EndLemmas
 pub mod StepLemmas
 pub mod KeptLemmas
 pub mod TraceLemmas

@@ -1,5 +1,5 @@
 -- The table of sessions after a call.
-use Rattle.std.proofs.Common.{◌≡◌, ℕ, List, Some, sym, ap, ◌∙◌}
+use Rattle.std.proofs.Common.{◌≡◌, ℕ, List, Some, refl, sym, ap, ◌∙◌}
 use Rattle.std.specs.Map.{set_value}
 use Rattle.std.specs.Option.{option_and_then, option_map_or}
 use Rattle.std.proofs.lemmas.Map.Steps.{set_value_same}
@@ -8,10 +8,13 @@ use Rattle.cx_tables.specs.Facts.Tables.{insert_entry_present}
 use Rattle.cx_display.specs.Displays.{display_of}
 use Rattle.cx_region.specs.State.{RegionState}
 use Rattle.cx_region.specs.Names.{is_name4}
+use Rattle.cx_region.specs.declared.changes.AlterReply.{AlterReply}
+use Rattle.cx_region.specs.declared.changes.AlterReply.TheVariants as alter
+use Rattle.cx_region.specs.declared.changes.Change.{Change}
 use Rattle.cx_region.specs.declared.replies.Reply.TheVariants as reply
 use Rattle.cx_state.specs.declared.replies.TurnReply.{TurnReply}
-use Rattle.cx_edf.specs.Sessions.{SessionState, Sessions, after_key, after_reply, session_in, with_session}
-use Rattle.cx_edf.specs.Steps.{sessions_after_key, sessions_after_turn}
+use Rattle.cx_edf.specs.Sessions.{SessionState, Sessions, after_change, after_key, after_reply, session_in, with_session}
+use Rattle.cx_edf.specs.Steps.{sessions_after_alter, sessions_after_change, sessions_after_key, sessions_after_turn}
 
 -- a session set under the name of one is that session put there
 pub put_present : (sessions : Sessions) (name : List ℕ) (old new : SessionState) → session_in sessions name ≡ Some old
@@ -36,3 +39,18 @@ pub turn_leaves : (sessions : Sessions) (name : List ℕ) (r : TurnReply) (regio
     → with_session sessions name (Some (after_reply old r (display_of region name))) ≡ sessions_after_turn sessions name (reply.Turn r) region
 turn_leaves sessions name r region old there =
     sym (ap (λ o. option_map_or (λ s. with_session sessions name (Some (after_reply s r (display_of region name)))) o sessions) there)
+
+-- an alteration that was done, at a session
+pub change_leaves : (sessions : Sessions) (name : List ℕ) (change : Change) (region : RegionState) (old : SessionState) → session_in sessions name ≡ Some old
+    → with_session sessions name (Some (after_change old change (display_of region name))) ≡ sessions_after_change sessions name change region
+change_leaves sessions name change region old there =
+    sym (ap (λ o. option_map_or (λ s. with_session sessions name (Some (after_change s change (display_of region name)))) o sessions) there)
+
+-- nothing is done at a session where the alteration was refused
+pub refused_leaves : (sessions : Sessions) (name : List ℕ) (change : Change) (given : AlterReply) (region : RegionState) → (given ≡ alter.Altered → ⊥)
+    → sessions ≡ sessions_after_alter sessions name change (reply.Alter given) region
+refused_leaves sessions name change alter.Altered region refused = absurd (refused refl)
+refused_leaves sessions name change alter.NoSuchTerminal region refused = refl
+refused_leaves sessions name change alter.NoTask region refused = refl
+refused_leaves sessions name change alter.NotDue region refused = refl
+refused_leaves sessions name change alter.NoByte region refused = refl

@@ -6,9 +6,12 @@ use Rattle.cx_edf.specs.declared.answers.KeyAnswer.{KeyAnswer}
 use Rattle.cx_edf.specs.declared.answers.KeyAnswer.TheVariants as of_key
 use Rattle.cx_edf.specs.declared.answers.TurnAnswer.{TurnAnswer}
 use Rattle.cx_edf.specs.declared.answers.TurnAnswer.TheVariants as of_turn
+use Rattle.cx_edf.specs.declared.answers.AlterAnswer.{AlterAnswer}
+use Rattle.cx_edf.specs.declared.answers.AlterAnswer.TheVariants as of_alter
 use Rattle.cx_edf.specs.declared.answers.Answer.{Answer}
 use Rattle.cx_edf.specs.declared.answers.Answer.TheVariants as answer
 use Rattle.cx_region.specs.declared.replies.Reply.TheVariants as reply
+use Rattle.cx_region.specs.Replies.{alter_reply_name}
 
 abbrev pub edf_reply_name : EdfReply → List ℕ
 edf_reply_name edf.Started = codes "Started"
@@ -25,3 +28,13 @@ key_answer of_key.ToEdf = answer.ToEdf
 abbrev pub turn_answer : TurnAnswer → Answer
 turn_answer (of_turn.Region r) = answer.Region (reply.Turn r)
 turn_answer of_turn.Held = answer.Held
+
+-- the answer of an alteration, as an event's
+abbrev pub alter_answer : AlterAnswer → Answer
+alter_answer (of_alter.Region r) = answer.Region (reply.Alter r)
+alter_answer of_alter.NotStopped = answer.NotStopped
+
+-- its name: the region's, or EDF's own
+abbrev pub alter_answer_name : AlterAnswer → List ℕ
+alter_answer_name (of_alter.Region r) = alter_reply_name r
+alter_answer_name of_alter.NotStopped = codes "NotStopped"

@@ -10,6 +10,9 @@ use Rattle.cx_ebcdic.specs.declared.aids.Aid.TheVariants as aid
 use Rattle.cx_region.specs.Names.{is_name4}
 use Rattle.cx_region.specs.State.{RegionState}
 use Rattle.cx_region.specs.Events.{IsAllowed, MayTakeMemory, Run}
+use Rattle.cx_region.specs.declared.changes.AlterReply.TheVariants as alter
+use Rattle.cx_region.specs.declared.changes.Change.{Change}
+use Rattle.cx_region.specs.declared.changes.Change.TheVariants as change
 use Rattle.cx_region.specs.declared.replies.Event.TheVariants as event
 use Rattle.cx_region.specs.declared.replies.Reply.TheVariants as reply
 use Rattle.cx_edf.specs.declared.answers.EdfEvent.{EdfEvent}
@@ -17,8 +20,8 @@ use Rattle.cx_edf.specs.declared.answers.EdfEvent.TheVariants as edf_event
 use Rattle.cx_edf.specs.declared.answers.EdfReply.TheVariants as edf
 use Rattle.cx_edf.specs.declared.answers.Answer.{Answer}
 use Rattle.cx_edf.specs.declared.answers.Answer.TheVariants as answer
-use Rattle.cx_edf.specs.Sessions.{SessionState, stop_of, takes_in}
-use Rattle.cx_edf.specs.State.{EdfState, session_at}
+use Rattle.cx_edf.specs.Sessions.{SessionState, operators_end, stop_of, takes_in}
+use Rattle.cx_edf.specs.State.{EdfState, ends_by_key, session_at}
 use Rattle.cx_edf.specs.Steps.{EdfHappens, reply_to_on}
 use Rattle.cx_edf.specs.Erasure.{erased, is_own, told}
 
@@ -46,13 +49,21 @@ abbrev pub ends_session : Aid → Bool
 ends_session aid.Pf3 = true
 ends_session other = false
 
--- All displays of a terminal's session so far, after one more event: a turn that stops takes one of the region right
--- after it; PF3 that is EDF's, and EDF OFF, end the session.
+-- the displays of a terminal's session and one that is taken where an alteration ended the task
+abbrev pub and_ended : List Display → Option SessionState → Change → RegionState → List ℕ → List Display
+and_ended all (Some session) change.Abend region name = all ++ display_of region name operators_end ∷ []
+and_ended all _ _ region name = all
+
+-- All displays of a terminal's session so far, after one more event: a turn that stops, and an alteration that ends the
+-- task, take one of the region right after it, and so does PF12 that ends the task; PF3 that is EDF's, and EDF OFF, end the
+-- session.
 unfoldable pub displays_after : EdfState → EdfEvent → Answer → EdfState → List ℕ → List Display → List Display
 displays_after old (edf_event.Plain (event.Turn name)) (answer.Region (reply.Turn r)) new q all =
     if is_name4 name q then and_taken all (session_at old name) (stop_of r) new.region name else all
 displays_after old (edf_event.Plain (event.Key name a bytes)) answer.ToEdf new q all =
-    if is_name4 name q then (if ends_session a then [] else all) else all
+    if is_name4 name q then (if ends_by_key old name a then and_ended all (session_at old name) change.Abend new.region name else if ends_session a then [] else all) else all
+displays_after old (edf_event.Plain (event.Alter name change)) (answer.Region (reply.Alter alter.Altered)) new q all =
+    if is_name4 name q then and_ended all (session_at old name) change new.region name else all
 displays_after old (edf_event.Off name) (answer.Edf edf.Closed) new q all = if is_name4 name q then [] else all
 displays_after old e given new q all = all
 

@@ -8,11 +8,15 @@ use Rattle.indexmap.specs.IndexMap.{insert_entry}
 use Rattle.circular_buffer.specs.Buffer.{keep_last}
 use Rattle.cx_ebcdic.specs.declared.aids.Aid.{Aid}
 use Rattle.cx_ebcdic.specs.declared.aids.Aid.TheVariants as aid
+use Rattle.cx_command.specs.declared.abends.Abend.TheVariants.{Xedf}
 use Rattle.cx_command.specs.declared.conditions.Condition.TheVariants as condition
+use Rattle.cx_command.specs.Abends.{abend_code}
 use Rattle.cx_display.specs.declared.displays.Display.{Display}
 use Rattle.cx_display.specs.declared.stops.Kind.{Kind}
 use Rattle.cx_display.specs.declared.stops.Kind.TheVariants as kind
 use Rattle.cx_display.specs.declared.stops.Ending.TheVariants as ending
+use Rattle.cx_region.specs.declared.changes.Change.{Change}
+use Rattle.cx_region.specs.declared.changes.Change.TheVariants as change
 use Rattle.cx_region.specs.Names.{is_name4}
 use Rattle.cx_state.specs.declared.replies.TurnReply.{TurnReply}
 use Rattle.cx_state.specs.declared.replies.TurnReply.TheVariants as turn
@@ -85,6 +89,18 @@ at_stop session display_at stop = if takes_in session.mode session.stops stop th
 -- a session after a turn's reply, where this is the display that a stop of each kind takes
 unfoldable pub after_reply : SessionState → TurnReply → (Kind → Display) → SessionState
 after_reply session reply display_at = option_map_or (at_stop session display_at) (stop_of reply) session
+
+-- ---- alterations
+-- the stop of a task that the operator ended
+abbrev pub operators_end : Kind
+operators_end = kind.Over (ending.Abended (abend_code Xedf))
+
+-- A stopped session whose task was altered, where this is the display that a stop of each kind takes: after Nop the task
+-- goes on, and after Abend it is stopped over, whatever its stop conditions are.
+unfoldable pub after_change : SessionState → Change → (Kind → Display) → SessionState
+after_change session change.Nop display_at = record session { mode = mode.Free }
+after_change session change.Abend display_at = stopped session operators_end (display_at operators_end)
+after_change session other display_at = session
 
 -- ---- keys
 abbrev pub is_stopped : Mode → Bool

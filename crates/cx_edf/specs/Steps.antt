@@ -6,6 +6,9 @@ use Rattle.cx_ebcdic.specs.declared.aids.Aid.{Aid}
 use Rattle.cx_region.specs.State.{RegionState}
 use Rattle.cx_region.specs.Tables.{terminal_of}
 use Rattle.cx_region.specs.Events.{Happens}
+use Rattle.cx_region.specs.declared.changes.AlterReply.TheVariants as alter
+use Rattle.cx_region.specs.declared.changes.Change.{Change}
+use Rattle.cx_region.specs.declared.changes.Change.TheVariants as change
 use Rattle.cx_region.specs.declared.replies.Event.{Event}
 use Rattle.cx_region.specs.declared.replies.Event.TheVariants as event
 use Rattle.cx_region.specs.declared.replies.Reply.{Reply}
@@ -16,8 +19,8 @@ use Rattle.cx_edf.specs.declared.answers.EdfReply.{EdfReply}
 use Rattle.cx_edf.specs.declared.answers.EdfReply.TheVariants as edf
 use Rattle.cx_edf.specs.declared.answers.Answer.{Answer}
 use Rattle.cx_edf.specs.declared.answers.Answer.TheVariants as answer
-use Rattle.cx_edf.specs.Sessions.{Sessions, after_key, after_reply, fresh_session, session_in, with_session}
-use Rattle.cx_edf.specs.State.{EdfState, holds, session_at, stopped_at}
+use Rattle.cx_edf.specs.Sessions.{Sessions, after_change, after_key, after_reply, fresh_session, session_in, with_session}
+use Rattle.cx_edf.specs.State.{EdfState, ends_by_key, holds, refuses, session_at, stopped_at}
 
 -- ---- the forms of a row
 -- EDF answers itself: the region stays, and the sessions become these
@@ -74,6 +77,16 @@ sessions_after_turn sessions name (reply.Turn r) region =
     option_map_or (λ session. with_session sessions name (Some (after_reply session r (display_of region name)))) (session_in sessions name) sessions
 sessions_after_turn sessions name _ region = sessions
 
+-- the sessions after an alteration that was done, with the display of the region right after it
+abbrev pub sessions_after_change : Sessions → List ℕ → Change → RegionState → Sessions
+sessions_after_change sessions name change region =
+    option_map_or (λ session. with_session sessions name (Some (after_change session change (display_of region name)))) (session_in sessions name) sessions
+
+-- the sessions after an alteration's reply
+abbrev pub sessions_after_alter : Sessions → List ℕ → Change → Reply → RegionState → Sessions
+sessions_after_alter sessions name change (reply.Alter alter.Altered) region = sessions_after_change sessions name change region
+sessions_after_alter sessions name change _ region = sessions
+
 -- ---- one event: its answer, and the state after it
 unfoldable pub EdfHappens : EdfState → EdfEvent → Answer → EdfState → Type 0
 EdfHappens old (edf_event.On name) given new =
@@ -81,11 +94,17 @@ EdfHappens old (edf_event.On name) given new =
 EdfHappens old (edf_event.Off name) given new =
     Owned old (answer.Edf (reply_to_off old name)) (sessions_after (reply_to_off old name) old.sessions name) given new
 EdfHappens old (edf_event.Plain (event.Key name aid bytes)) given new =
-    MatchBool (stopped_at old name)
+    MatchBool (ends_by_key old name aid)
+    (Passed old (event.Alter name change.Abend) (λ _. answer.ToEdf) (sessions_after_alter old.sessions name change.Abend) given new)
+    (MatchBool (stopped_at old name)
     (Owned old answer.ToEdf (sessions_after_key old.sessions name aid bytes) given new)
-    (Through old (event.Key name aid bytes) given new)
+    (Through old (event.Key name aid bytes) given new))
 EdfHappens old (edf_event.Plain (event.Turn name)) given new =
     MatchBool (holds old name)
     (Owned old answer.Held old.sessions given new)
     (Passed old (event.Turn name) answer.Region (sessions_after_turn old.sessions name) given new)
+EdfHappens old (edf_event.Plain (event.Alter name change)) given new =
+    MatchBool (refuses old name)
+    (Owned old answer.NotStopped old.sessions given new)
+    (Passed old (event.Alter name change) answer.Region (sessions_after_alter old.sessions name change) given new)
 EdfHappens old (edf_event.Plain e) given new = Through old e given new

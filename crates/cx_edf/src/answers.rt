@@ -1,9 +1,9 @@
 //! Events under EDF, and what each is answered.
 ghost use Rattle.std.specs.Prelude.{◌≡◌};
-ghost use Rattle.cx_edf.specs.Answers.{edf_reply_name};
+ghost use Rattle.cx_edf.specs.Answers.{alter_answer_name, edf_reply_name};
 
 use cx_ebcdic::Name4;
-use cx_region::{Event, KeyReply, Reply, TurnReply};
+use cx_region::{AlterReply, Event, KeyReply, Reply, TurnReply};
 
 /// What EDF ON or EDF OFF is answered.
 #[derive(Clone, Copy, Debug, PartialEq, Eq)]
@@ -53,6 +53,27 @@ pub enum TurnAnswer {
     Held,
 }
 
+/// What an alteration is answered under EDF.
+#[derive(Clone, Copy, Debug, PartialEq, Eq)]
+pub enum AlterAnswer {
+    /// The alteration was the region's, which replied so.
+    Region(AlterReply),
+    /// The terminal isn't in Stopped: nothing was done.
+    NotStopped,
+}
+
+impl AlterAnswer {
+    /// The answer's name, as `Altered`.
+    pub fn name(self) -> &'static str
+        ensures { result.now ≡ alter_answer_name self }
+    {
+        match self {
+            AlterAnswer::Region(reply) => reply.name(),
+            AlterAnswer::NotStopped => "NotStopped",
+        }
+    }
+}
+
 /// An event under EDF.
 #[derive(Drop)]
 pub enum EdfEvent {
@@ -73,6 +94,8 @@ pub enum Answer {
     ToEdf,
     /// A turn of a task that is stopped: nothing was done.
     Held,
+    /// An alteration of a terminal that isn't in Stopped: nothing was done.
+    NotStopped,
     /// The answer of EDF ON or EDF OFF.
     Edf(EdfReply),
 }

@@ -1,14 +1,15 @@
 //! The region's calls, as its events.
 ghost use Rattle.std.specs.Prelude.{◌≡◌, ◌≢◌, ◌≤◌, false, length, Ok, Err, IfOk, IfErr, IsErrOf, IsOk, OnErr, is_some};
+ghost use Rattle.cx_region.specs.Alter.{IsAllowedChange};
 ghost use Rattle.cx_region.specs.Events.{Happens, MayTakeMemory};
-ghost use Rattle.cx_region.specs.Tables.{task_of};
+ghost use Rattle.cx_region.specs.Tables.{task_of, terminal_of};
 ghost use Rattle.cx_region.specs.Sound.{IsSound};
 ghost use Rattle.cx_region.specs.declared.replies.Event.TheVariants as event;
 ghost use Rattle.cx_region.specs.declared.replies.Reply.TheVariants as reply;
 
 use cx_ebcdic::{Aid, Name4, Name8};
 use cx_load::{CheckedImage, Loaded};
-use cx_region::{DefineFault, KeyReply, Region, TurnReply};
+use cx_region::{AlterReply, Change, DefineFault, KeyReply, Region, TurnReply};
 use cx_storage::Store;
 use std::alloc::AllocError;
 
@@ -41,6 +42,30 @@ pub(crate) fn turn<S: Store + Drop>(
     ensures sound { IsSound region.new }
 {
     region.turn(name)
+}
+
+/// An alteration of the region.
+#[tactic(auto, unfolding(cx_region::specs::Events::Happens))]
+pub(crate) fn alter<S: Store + Drop>(
+    region: &mut Region<S>,
+    name: Name4,
+    change: Change,
+) -> AlterReply
+    requires { IsAllowedChange change }
+    ensures happens { Happens region.old (event.Alter name change) (reply.Alter result) region.new }
+    ensures sound { IsSound region.new }
+{
+    region.alter(name, change)
+}
+
+/// Whether a terminal is defined.
+pub(crate) fn has_terminal<S: Store + Drop>(region: &Region<S>, name: Name4) -> bool
+    ensures { result ≡ is_some (terminal_of region.now name) }
+{
+    match region.screen(name) {
+        Some(_) => true,
+        None => false,
+    }
 }
 
 /// Whether a terminal has a live task.

@@ -2,28 +2,30 @@
 ghost use Rattle.std.specs.Prelude.{◌≡◌, ◌≢◌, ◌≤◌, [], false, true, length, is_some, None, Ok, Err, IfOk, IfErr, IsErrOf, IsOk, IsSomeAnd, MatchOption, OnErr, option_map};
 ghost use Rattle.std.specs.Option.{option_and_then, option_copied};
 ghost use Rattle.cx_storage.specs.Storage.{byte_at};
+ghost use Rattle.cx_region.specs.Alter.{IsAllowedChange};
 ghost use Rattle.cx_region.specs.Events.{IsAllowed, MayTakeMemory};
 ghost use Rattle.cx_region.specs.Looking.{Shows};
 ghost use Rattle.cx_region.specs.Sound.{IsSound};
 ghost use Rattle.cx_region.specs.Tables.{task_of, terminal_of};
+ghost use Rattle.cx_region.specs.declared.changes.Change.TheVariants as change;
 ghost use Rattle.cx_region.specs.declared.replies.Event.TheVariants as event;
 ghost use Rattle.cx_region.specs.declared.replies.Reply.TheVariants as reply;
-ghost use Rattle.cx_edf.specs.Answers.{key_answer, turn_answer};
+ghost use Rattle.cx_edf.specs.Answers.{alter_answer, key_answer, turn_answer};
 ghost use Rattle.cx_edf.specs.Runs.{MayTakeEdf};
 ghost use Rattle.cx_edf.specs.Sessions.{nth_back, shown_of};
-ghost use Rattle.cx_edf.specs.State.{holds, session_at, stopped_at};
-ghost use Rattle.cx_edf.specs.Steps.{EdfHappens, Through};
+ghost use Rattle.cx_edf.specs.State.{ends_by_key, holds, session_at, stopped_at};
+ghost use Rattle.cx_edf.specs.Steps.{EdfHappens, Passed, Through, sessions_after_alter};
 ghost use Rattle.cx_edf.specs.declared.answers.EdfEvent.TheVariants as edf_event;
 ghost use Rattle.cx_edf.specs.declared.answers.Answer.TheVariants as answer;
 
-use crate::answers::{Answer, EdfReply, KeyAnswer, TurnAnswer};
+use crate::answers::{AlterAnswer, Answer, EdfReply, KeyAnswer, TurnAnswer};
 use crate::modes::View;
 use crate::sessions::Session;
 use crate::{below, table};
 use cx_display::Display;
 use cx_ebcdic::{Aid, Name4, Name8};
 use cx_load::{CheckedImage, Loaded};
-use cx_region::{DefineFault, Event, Region, TaskInfo};
+use cx_region::{Change, DefineFault, Event, Region, TaskInfo};
 use cx_service::Screen;
 use cx_storage::Store;
 use indexmap::IndexMap;
@@ -67,7 +69,8 @@ impl<S: Store + Drop> Debugged<S> {
     ///
     /// ENTER lets the task go on, PF3 ends the session, PF4 goes on under suppression. PF5 and PF6 show the storage or the
     /// user page, or the main page where that page is shown; PF10 shows the display before. PF9 takes the words that are
-    /// sent as stop conditions: ABEND, END, or a condition. Any other key has no effect.
+    /// sent as stop conditions: ABEND, END, or a condition. PF12 ends the task by an abend, as `alter` does with
+    /// `Change::Abend`; without a task it has no effect, and neither has any other key.
     ///
     /// An error comes only where the region's key was refused a growth. Then all is as before.
     #[tactic(auto, unfolding(crate::specs::Steps::EdfHappens, crate::specs::Runs::MayTakeEdf, crate::specs::Erasure::is_own))]
@@ -79,12 +82,56 @@ impl<S: Store + Drop> Debugged<S> {
         ensures err { OnErr result (self.new ≡ self.old) }
         ensures sound { IsSound self.new.region }
     {
+        if self.ends_by_key(name, aid) {
+            self.end_task(name);
+            return Ok(KeyAnswer::ToEdf);
+        }
         if table::is_stopped(&self.sessions, name) {
             table::key(&mut self.sessions, name, aid, bytes);
             return Ok(KeyAnswer::ToEdf);
         }
         let reply = below::key(&mut self.region, name, aid, bytes)?;
         Ok(KeyAnswer::Region(reply))
+    }
+
+    /// Whether a key ends the task of a terminal.
+    fn ends_by_key(&self, name: Name4, aid: Aid) -> bool
+        ensures { result ≡ ends_by_key self.now name aid }
+    {
+        match aid {
+            Aid::Pf12 => table::is_stopped(&self.sessions, name) && below::has_task(&self.region, name),
+            _ => false,
+        }
+    }
+
+    /// Ends the task of a terminal by an abend that no exit takes.
+    fn end_task(&mut self, name: Name4)
+        ensures ended { Passed self.old (event.Alter name change.Abend) (λ _. answer.ToEdf) (sessions_after_alter self.old.sessions name change.Abend) answer.ToEdf self.new }
+        ensures sound { IsSound self.new.region }
+    {
+        let reply = below::alter(&mut self.region, name, Change::Abend);
+        table::alter(&mut self.sessions, &self.region, name, Change::Abend, reply);
+    }
+
+    /// Alters the task of a terminal in Stopped: a register (0 to 15), a byte of storage, the command that is due, or that
+    /// there is a task at all, as `Change` tells. `Change::Register` and `Change::Byte` leave the terminal stopped and its
+    /// displays as they are. After `Change::Nop` the task goes on; after `Change::Abend` the terminal is stopped over, with a
+    /// display of it whatever its stop conditions are.
+    ///
+    /// It is refused by the first that applies of: no such terminal, not stopped, no task, no command due for `Change::Nop`,
+    /// no byte at the address for `Change::Byte` (from 2^24 on there is none). Then all is as before. It takes no memory.
+    #[tactic(auto, unfolding(crate::specs::Steps::EdfHappens))]
+    pub fn alter(&mut self, name: Name4, change: Change) -> AlterAnswer
+        requires { IsAllowedChange change }
+        ensures happens { EdfHappens self.old (edf_event.Plain (event.Alter name change)) (alter_answer result) self.new }
+        ensures sound { IsSound self.new.region }
+    {
+        if below::has_terminal(&self.region, name) && !table::is_stopped(&self.sessions, name) {
+            return AlterAnswer::NotStopped;
+        }
+        let reply = below::alter(&mut self.region, name, change);
+        table::alter(&mut self.sessions, &self.region, name, change, reply);
+        AlterAnswer::Region(reply)
     }
 
     /// A turn of a terminal. In Stopped with a live task it is Held, and nothing is done; else it is the region's, and where

@@ -1,5 +1,5 @@
 //! What holds of every event under EDF, and of every run of them.
-ghost use Rattle.cx_edf.specs.Laws.Edf.{EdfEventsDecide, EdfRunsDecide, OffIsTheRegion, OtherSessionsStay, OwnEventsHaveOwnAnswers, OwnEventsLeaveTheRegion, PlainRunsAgree, SessionsAreSet, ToldAreThoseGiven};
+ghost use Rattle.cx_edf.specs.Laws.Edf.{EdfEventsDecide, EdfRunsDecide, ErasedEvents, ErasedEventsLeaveTheRegion, OffIsTheRegion, OtherSessionsStay, OwnEventsHaveOwnAnswers, PlainRunsAgree, SessionsAreSet, StopsAreMissedUnderSuppression, ToldAreThoseGiven};
 
 /// A state and an event decide the answer and the state after it.
 pub fn edf_events_decide()
@@ -8,15 +8,16 @@ pub fn edf_events_decide()
     cx_region::region_laws::events_decide();
 }
 
-/// A state and a list of events decide their answers and the state after them.
+/// A state and a list of events decide their answers and the state after each.
 pub fn edf_runs_decide()
     ensures { EdfRunsDecide }
 {
     cx_region::region_laws::events_decide();
 }
 
-/// Every run of the region alone over the events that aren't EDF's own gives the region's replies that were given under
-/// EDF, all but EDF's own answers, and the region that it left.
+/// Every run of the region alone over the events that are left gives the region's replies that were given under EDF, without
+/// EDF's own answers and those of refused alterations, and with Altered for a PF12 that ended a task; and the region that
+/// EDF left.
 pub fn a_plain_run_agrees()
     ensures run { PlainRunsAgree }
     ensures replies { ToldAreThoseGiven }
@@ -24,15 +25,25 @@ pub fn a_plain_run_agrees()
     cx_region::region_laws::runs_decide();
 }
 
-/// An event is left out of that run exactly where its answer is EDF's own: EDF ON and EDF OFF, a key in Stopped, a turn
-/// that is held. Such an event leaves the region as it was.
-#[tactic(auto, using(crate::proofs::LawLemmas::own_answers, crate::proofs::LawLemmas::own_leave))]
+/// Nothing is left of an event for that run exactly where its answer is EDF's own (EDF ON and EDF OFF, a key in Stopped, a
+/// turn that is held, an alteration that isn't in Stopped) and it is no PF12 that ends a task, or where it is a refused
+/// alteration. Such an event leaves the region as it was.
+#[tactic(auto, using(crate::proofs::LawLemmas::own_answers, crate::proofs::LawLemmas::erased_events, crate::proofs::LawLemmas::erased_leave))]
 pub fn what_is_erased_changes_nothing()
     ensures answers { OwnEventsHaveOwnAnswers }
-    ensures region { OwnEventsLeaveTheRegion }
+    ensures erased { ErasedEvents }
+    ensures region { ErasedEventsLeaveTheRegion }
 {}
 
-/// With EDF Off at each terminal, events of the region are answered and done as by the region alone, and EDF stays Off.
+/// Of the stops of turns, only those are not taken that a terminal in Suppressed meets and that its stop conditions don't
+/// name.
+#[tactic(auto, using(crate::proofs::LawLemmas::stops_are_missed))]
+pub fn no_stop_is_missed()
+    ensures { StopsAreMissedUnderSuppression }
+{}
+
+/// With EDF Off at each terminal, events of the region other than alterations are answered and done as by the region alone,
+/// and EDF stays Off.
 #[tactic(auto, using(crate::proofs::LawLemmas::off_is_the_region))]
 pub fn off_is_the_region()
     ensures { OffIsTheRegion }

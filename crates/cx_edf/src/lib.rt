@@ -11,7 +11,7 @@ mod sessions;
 mod stop_words;
 mod table;
 
-pub use answers::{Answer, EdfEvent, EdfReply, KeyAnswer, TurnAnswer};
+pub use answers::{AlterAnswer, Answer, EdfEvent, EdfReply, KeyAnswer, TurnAnswer};
 pub use cx_display::{Display, Ending, Kind};
 pub use debugged::Debugged;
 pub use modes::{Mode, PageName, View};

@@ -2,12 +2,12 @@
 ghost use Rattle.std.specs.Prelude.{◌≡◌, IfOk, IfErr, OnErr};
 ghost use Rattle.cx_region.specs.Events.{IsAllowed};
 ghost use Rattle.cx_region.specs.Sound.{IsSound};
-ghost use Rattle.cx_edf.specs.Answers.{key_answer, turn_answer};
+ghost use Rattle.cx_edf.specs.Answers.{alter_answer, key_answer, turn_answer};
 ghost use Rattle.cx_edf.specs.Steps.{EdfHappens};
 ghost use Rattle.cx_edf.specs.Runs.{AreAllowedEdf, EdfRun, EdfRunStopped, IsAllowedEdf, MayTakeEdf};
 ghost use Rattle.cx_edf.specs.declared.answers.EdfEvent.TheVariants as edf_event;
 
-use crate::answers::{Answer, EdfEvent, KeyAnswer, TurnAnswer};
+use crate::answers::{AlterAnswer, Answer, EdfEvent, KeyAnswer, TurnAnswer};
 use crate::debugged::Debugged;
 use cx_region::{Event, Reply, RunStop};
 use cx_storage::Store;
@@ -33,9 +33,19 @@ fn of_turn(given: TurnAnswer) -> Answer
     }
 }
 
+/// The answer of an alteration, as an event's.
+fn of_alter(given: AlterAnswer) -> Answer
+    ensures { result ≡ alter_answer given }
+{
+    match given {
+        AlterAnswer::Region(reply) => Answer::Region(Reply::Alter(reply)),
+        AlterAnswer::NotStopped => Answer::NotStopped,
+    }
+}
+
 impl<S: Store + Drop> Debugged<S> {
     /// Does one event: the call that it names. What that call takes is asked of it: a clock as for `set_clock`, at most
-    /// 1,920 bytes of a key. A refusal of the call is its answer.
+    /// 1,920 bytes of a key, a register as for `alter`. A refusal of the call is its answer.
     ///
     /// An error comes only where a growth was refused, no refusal is due, and the event may take memory. Then all is as
     /// before.
@@ -78,6 +88,7 @@ impl<S: Store + Drop> Debugged<S> {
                 let given = self.turn(*name)?;
                 Ok(of_turn(given))
             }
+            Event::Alter(name, change) => Ok(of_alter(self.alter(*name, *change))),
             Event::Program(_, _) => self.pass(event),
             Event::Transaction(_, _) => self.pass(event),
             Event::Terminal(_) => self.pass(event),
@@ -86,11 +97,12 @@ impl<S: Store + Drop> Debugged<S> {
     }
 
     /// Does events in order, and answers what each is answered. What each call takes is asked of each event: a clock as for
-    /// `set_clock`, at most 1,920 bytes of a key.
+    /// `set_clock`, at most 1,920 bytes of a key, a register as for `alter`.
     ///
-    /// EDF is transparent: the events that aren't EDF's own are a run of the region alone, with the region's replies, up to
-    /// each event; and the displays that are kept of each terminal are the last ten of its session, each of the region as it
-    /// was right after its own half-turn.
+    /// EDF is transparent: the events that aren't EDF's own, without refused alterations and with an alteration for each PF12
+    /// that ended a task, are a run of the region alone, with the region's replies, up to each event; and the displays that
+    /// are kept of each terminal are the last ten of its session, each of the region as it was right after its own half-turn
+    /// or its task's end by an alteration.
     ///
     /// It stops where a growth was refused: in front of the first event, where there is no memory for the answers, else at
     /// an event that may take memory. The state is as the events done left it.

@@ -2,15 +2,15 @@
 ghost use Rattle.std.specs.Prelude.{◌≡◌, ◌≢◌, ◌<◌, ◌^◌, None, Some, IfOk, IsTrue, is_some, length};
 ghost use Rattle.std.specs.Option.{option_copied, option_map};
 ghost use Rattle.cx_display.specs.Displays.{display_of};
-ghost use Rattle.cx_edf.specs.Sessions.{after_key, after_reply, fresh_session, is_stopped, nth_back, older, shown_of, stop_of, stopped, takes_in, turned_to};
+ghost use Rattle.cx_edf.specs.Sessions.{after_change, after_key, after_reply, fresh_session, is_stopped, nth_back, older, shown_of, stop_of, stopped, takes_in, turned_to};
 
 use crate::modes::{Mode, PageName, View};
 use crate::stop_words::Stops;
 use circular_buffer::HeapCircularBuffer;
-use cx_command::Condition;
+use cx_command::{Abend, Condition};
 use cx_display::{Display, Ending, Kind};
 use cx_ebcdic::{Aid, Name4};
-use cx_region::{Region, TurnReply};
+use cx_region::{Change, Region, TurnReply};
 use cx_storage::Store;
 use std::alloc::{AllocError, Global};
 use std::marker::Model;
@@ -117,6 +117,24 @@ impl Session {
         if self.takes(&kind) {
             let display = Display::take(region, name, &kind);
             self.stop(kind, display);
+        }
+    }
+
+    /// What an alteration does, where the region is as it was after it: after `Change::Nop` the task goes on, and after
+    /// `Change::Abend` it is stopped over, with the display of the terminal.
+    #[tactic(auto, unfolding(crate::specs::Sessions::after_change))]
+    pub(crate) fn alter<S: Store + Drop>(&mut self, region: &Region<S>, name: Name4, change: Change)
+        ensures { self.new ≡ after_change self.old change (display_of region.now name) }
+    {
+        match change {
+            Change::Nop => self.mode = Mode::Free,
+            Change::Abend => {
+                let kind = Kind::Over(Ending::Abended(Abend::Xedf.code()));
+                let display = Display::take(region, name, &kind);
+                self.stop(kind, display);
+            }
+            Change::Register(_, _) => (),
+            Change::Byte(_, _) => (),
         }
     }
 

@@ -7,12 +7,12 @@ ghost use Rattle.indexmap.specs.IndexMap.{insert_entry};
 ghost use Rattle.cx_display.specs.Displays.{display_of};
 ghost use Rattle.cx_region.specs.Names.{is_name4};
 ghost use Rattle.cx_edf.specs.Sessions.{SessionState, after_key, fresh_session, is_stopped, is_stopped_in, session_in, with_session};
-ghost use Rattle.cx_edf.specs.Steps.{sessions_after_key, sessions_after_turn};
+ghost use Rattle.cx_edf.specs.Steps.{sessions_after_alter, sessions_after_change, sessions_after_key, sessions_after_turn};
 ghost use Rattle.cx_region.specs.declared.replies.Reply.TheVariants as reply;
 
 use crate::sessions::Session;
 use cx_ebcdic::{Aid, Name4};
-use cx_region::{Region, TurnReply};
+use cx_region::{AlterReply, Change, Region, TurnReply};
 use cx_storage::Store;
 use indexmap::IndexMap;
 use std::alloc::{AllocError, Global};
@@ -89,4 +89,36 @@ pub(crate) fn note<S: Store + Drop>(
         return;
     };
     session.note(region, name, turn);
+}
+
+/// An alteration's reply at a terminal, where the region is as it was after the alteration.
+#[tactic(auto, using(crate::proofs::TableLemmas::refused_leaves))]
+pub(crate) fn alter<S: Store + Drop>(
+    sessions: &mut IndexMap<Name4, Session>,
+    region: &Region<S>,
+    name: Name4,
+    change: Change,
+    given: AlterReply,
+)
+    ensures { sessions.new.entries ≡ sessions_after_alter sessions.old.entries name change (reply.Alter given) region.now }
+{
+    match given {
+        AlterReply::Altered => altered(sessions, region, name, change),
+        _ => (),
+    }
+}
+
+/// An alteration that was done at a terminal, where the region is as it was after it.
+fn altered<S: Store + Drop>(
+    sessions: &mut IndexMap<Name4, Session>,
+    region: &Region<S>,
+    name: Name4,
+    change: Change,
+)
+    ensures { sessions.new.entries ≡ sessions_after_change sessions.old.entries name change region.now }
+{
+    let Some(session) = sessions.get_mut(&name) else {
+        return;
+    };
+    session.alter(region, name, change);
 }

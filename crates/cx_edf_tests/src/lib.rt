@@ -2,4 +2,6 @@
 #![tactic(auto)]
 
 #[cfg(test)]
+mod alterations;
+#[cfg(test)]
 mod runs;

@@ -30,6 +30,7 @@ use Rattle.cx_state.specs.Areas.{IsTaskPlace, first_of_tasks, last_of_tasks, sys
 use Rattle.cx_task.specs.Laws.HalfTurns.{HalfTurnsDecide}
 use Rattle.cx_region.specs.Turn.{TaskTurned, Turned, after_half_turn, reach_of}
 use Rattle.cx_region.specs.Events.{Happens, Run}
+use Rattle.cx_region.specs.Facts.Alterations.{alter_reply, alterations_decide}
 use Rattle.cx_region.specs.Laws.Regions.{EventsDecide, RunsDecide}
 
 -- what loading and the runs of a machine are known for
@@ -285,6 +286,11 @@ events_decide loading runs old (event.Turn name) r s a b h k =
     let two = turn_reply old name s b k in
     let same = turn_decides runs old name one.0 two.0 a b one.2 two.2 in
     (replies_same (λ x. reply.Turn x) r s one.0 two.0 one.1 two.1 same.0, same.1)
+events_decide loading runs old (event.Alter name change) r s a b h k =
+    let one = alter_reply old name change r a h in
+    let two = alter_reply old name change s b k in
+    let same = alterations_decide old name change one.0 two.0 a b one.2 two.2 in
+    (replies_same (λ x. reply.Alter x) r s one.0 two.0 one.1 two.1 same.0, same.1)
 
 -- ---- runs
 pub runs_decide : EventsDecide → RunsDecide

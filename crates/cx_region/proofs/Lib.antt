@@ -5,6 +5,7 @@ pub mod LiveLemmas
 pub mod SoundAttach
 pub mod SoundTurned
 pub mod KeepsLemmas
+pub mod AlterLemmas
 pub mod DecideLemmas
 pub mod RunLawLemmas
 pub mod EventLemmas

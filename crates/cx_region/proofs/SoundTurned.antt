@@ -25,7 +25,7 @@ use Rattle.cx_task.specs.Sound.{IsSoundLevel, IsSoundTask}
 use Rattle.cx_tables.specs.Facts.Tables.{distinct-set_value, found_meets}
 use Rattle.cx_region.specs.State.{RegionState, TerminalState, shared_of, terminal_with}
 use Rattle.cx_region.specs.Names.{is_name4}
-use Rattle.cx_region.specs.Turn.{TaskTurned, Turned, TurnGrows, reach_of, task_after}
+use Rattle.cx_region.specs.Turn.{TaskTurned, Turned, TurnGrows, after_half_turn, reach_of, task_after}
 use Rattle.cx_region.specs.Parts.Turning.{GrowsAt, GrowsIn, HalfTurned, PartIdle, PartTurned, Terminals, TurnedAt, TurnedIn, TurnedNowhere, TurnedThere}
 use Rattle.cx_region.specs.Sound.{AreNumbered, IsOwned, IsSound, IsSoundTerminal, is_live}
 use Rattle.cx_region.proofs.SoundDefining.{all_weaker}
@@ -198,19 +198,12 @@ assembled : (r : RegionState) (s s' : Storage) (programs : List (List ℕ × Loa
     → record r { storage = s; programs = programs; queues = queues; resources = rs; terminals = ts } ≡ record r { storage = s'; queues = queues'; resources = rs'; terminals = ts }
 assembled r s s' programs queues queues' rs rs' ts a b c d = rw (a, b, c, d) refl
 
-sound_task_turned : HalfTurnsKeep → (r new : RegionState) (name : List ℕ) (t : TerminalState) (task : TaskState) (reply : TurnReply) → IsSound r → lookup (is_name4 name) r.terminals ≡ Some t → t.task ≡ Some task
-    → TaskTurned r name t task reply new → IsSoundStorage new.storage → AreSoundQueues new.queues → AreSoundResources new.resources → IsSound new
-sound_task_turned law r new name t task reply ok there at turned sound queues_ok resources_ok = by_over (is_over reply) refl
+-- what keeps to its slot, put back
+pub sound_kept : (r new : RegionState) (name : List ℕ) (t : TerminalState) (task : TaskState) (reply : TurnReply) (after : Reach) → IsSound r → lookup (is_name4 name) r.terminals ≡ Some t
+    → HalfTurnKeeps (reach_of r t task) reply after → new ≡ after_half_turn r name reply after
+    → IsSoundStorage new.storage → AreSoundQueues new.queues → AreSoundResources new.resources → IsSound new
+sound_kept r new name t task reply after ok there keeps put sound queues_ok resources_ok = by_over (is_over reply) refl
   where
-    after : Reach
-    after = turned.reached
-
-    own : IsSoundTask r.storage t.slot task
-    own = task_of_terminal r.storage t task at (found_meets (IsSoundTerminal r.storage) (is_name4 name) r.terminals t ok.tasks there)
-
-    keeps : HalfTurnKeeps (reach_of r t task) reply after
-    keeps = law (reach_of r t task) after reply ok.storage ok.programs_sound ok.queues_sound own turned.half_turn
-
     u : TerminalState
     u = terminal_with after.station (task_after reply after.task)
 
@@ -221,14 +214,14 @@ sound_task_turned law r new name t task reply ok there at turned sound queues_ok
     same = keeps.slot
 
     storage_is : new.storage ≡ after.shared.storage
-    storage_is = ap (λ (n : RegionState). n.storage) turned.after
+    storage_is = ap (λ (n : RegionState). n.storage) put
 
     resources_are : new.resources ≡ after.shared.resources
-    resources_are = ap (λ (n : RegionState). n.resources) turned.after
+    resources_are = ap (λ (n : RegionState). n.resources) put
 
     whole : new ≡ record r { storage = new.storage; queues = new.queues; resources = new.resources; terminals = ts }
-    whole = turned.after ∙ assembled r after.shared.storage new.storage after.shared.programs after.shared.queues new.queues after.shared.resources new.resources ts
-        storage_is keeps.programs (ap (λ (n : RegionState). n.queues) turned.after) resources_are
+    whole = put ∙ assembled r after.shared.storage new.storage after.shared.programs after.shared.queues new.queues after.shared.resources new.resources ts
+        storage_is keeps.programs (ap (λ (n : RegionState). n.queues) put) resources_are
 
     areas : others_areas t.slot new.storage ≡ others_areas t.slot r.storage
     areas = ap (others_areas t.slot) storage_is ∙ keeps.areas
@@ -278,6 +271,16 @@ sound_task_turned law r new name t task reply ok there at turned sound queues_ok
     by_over true off = ends off
     by_over false on = stays on
 
+pub own_task : (r : RegionState) (name : List ℕ) (t : TerminalState) (task : TaskState) → IsSound r → lookup (is_name4 name) r.terminals ≡ Some t → t.task ≡ Some task → IsSoundTask r.storage t.slot task
+own_task r name t task ok there at = task_of_terminal r.storage t task at (found_meets (IsSoundTerminal r.storage) (is_name4 name) r.terminals t ok.tasks there)
+
+sound_task_turned : HalfTurnsKeep → (r new : RegionState) (name : List ℕ) (t : TerminalState) (task : TaskState) (reply : TurnReply) → IsSound r → lookup (is_name4 name) r.terminals ≡ Some t → t.task ≡ Some task
+    → TaskTurned r name t task reply new → IsSoundStorage new.storage → AreSoundQueues new.queues → AreSoundResources new.resources → IsSound new
+sound_task_turned law r new name t task reply ok there at turned sound queues_ok resources_ok =
+    sound_kept r new name t task reply turned.reached ok there
+    (law (reach_of r t task) turned.reached reply ok.storage ok.programs_sound ok.queues_sound (own_task r name t task ok there at) turned.half_turn)
+    turned.after sound queues_ok resources_ok
+
 pub sound_turned : HalfTurnsKeep → (r new : RegionState) (name : List ℕ) (reply : TurnReply) → IsSound r → Turned r name reply new
     → IsSoundStorage new.storage → AreSoundQueues new.queues → AreSoundResources new.resources → IsSound new
 unfolding Turned
@@ -297,7 +300,7 @@ abbrev pub with_parts : RegionState → SharedState → Terminals → RegionStat
 with_parts r shared terminals =
     record r { storage = shared.storage; programs = shared.programs; queues = shared.queues; resources = shared.resources; terminals = terminals }
 
-same_parts : (r : RegionState) (shared : SharedState) (terminals : Terminals) → shared ≡ shared_of r → terminals ≡ r.terminals → with_parts r shared terminals ≡ r
+pub same_parts : (r : RegionState) (shared : SharedState) (terminals : Terminals) → shared ≡ shared_of r → terminals ≡ r.terminals → with_parts r shared terminals ≡ r
 same_parts r shared terminals e f = rw (e, f) refl
 
 pub turned_whole : (r : RegionState) (name : List ℕ) (reply : TurnReply) (shared : SharedState) (terminals : Terminals)

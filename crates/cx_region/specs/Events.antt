@@ -10,6 +10,7 @@ use Rattle.cx_region.specs.State.{RegionState}
 use Rattle.cx_region.specs.Defining.{DefinesProgram, DefinesTransaction, DefinesTerminal, program_fault, transaction_fault, terminal_fault, with_clock}
 use Rattle.cx_region.specs.Attach.{KeyGrows, Keyed, input_from}
 use Rattle.cx_region.specs.Turn.{TurnGrows, Turned}
+use Rattle.cx_region.specs.Alter.{Alters, IsAllowedChange}
 
 -- one event: its reply and the region after it
 unfoldable pub Happens : RegionState → Event → Reply → RegionState → Type 0
@@ -19,6 +20,7 @@ Happens old (event.Terminal name) (reply.Terminal result) new = DefinesTerminal 
 Happens old (event.Clock time date) reply.Clock new = new ≡ with_clock old time date
 Happens old (event.Key name aid bytes) (reply.Key answer) new = Keyed old name (input_from aid bytes) answer new
 Happens old (event.Turn name) (reply.Turn answer) new = Turned old name answer new
+Happens old (event.Alter name change) (reply.Alter answer) new = Alters old name change answer new
 Happens old _ _ new = ⊥
 
 -- events one after another, with their replies
@@ -28,7 +30,7 @@ Run old (event ∷ events) (reply ∷ replies) new = (between : RegionState) × 
 Run old _ _ new = ⊥
 
 -- An event may take memory: a definition only where no refusal meets it, and a program only where storage has a place for
--- it; a key and a turn as theirs may; a clock never.
+-- it; a key and a turn as theirs may; a clock and an alteration never.
 unfoldable pub MayTakeMemory : RegionState → Event → Type 0
 MayTakeMemory region (event.Program name image) = (program_fault region name ≡ None) × (IsProgramPlace region.storage (length image.text) None → ⊥)
 MayTakeMemory region (event.Transaction tran program) = transaction_fault region tran program ≡ None
@@ -36,6 +38,7 @@ MayTakeMemory region (event.Terminal name) = terminal_fault region name ≡ None
 MayTakeMemory region (event.Clock time date) = ⊥
 MayTakeMemory region (event.Key name aid bytes) = KeyGrows region name (input_from aid bytes).bytes
 MayTakeMemory region (event.Turn name) = TurnGrows region name
+MayTakeMemory region (event.Alter name change) = ⊥
 
 -- A run that stopped after so many events, and left the region as these did: in front of all of them, or at an event
 -- that may take memory.
@@ -45,10 +48,11 @@ pub record RunStopped (old : RegionState) (events : List Event) (done : ℕ) (ne
   pub run : Run old (take done events) replies new
   pub due : (done ≡ 0) ⊎ IsSomeAnd (slice_get events done) (MayTakeMemory new)
 
--- what the calls take: a time and a date of six and five digits, and at most 1,920 bytes of input
+-- what the calls take: a time and a date of six and five digits, at most 1,920 bytes of input, and a register of the sixteen
 abbrev pub IsAllowed : Event → Type 0
 IsAllowed (event.Clock time date) = (time ≤ 999999) × (date ≤ 99999)
 IsAllowed (event.Key name aid bytes) = length bytes ≤ 1920
+IsAllowed (event.Alter name change) = IsAllowedChange change
 IsAllowed _ = Unit {0}
 
 abbrev pub AreAllowed : List Event → Type 0

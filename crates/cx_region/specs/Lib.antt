@@ -5,11 +5,13 @@ pub mod Tables
 pub mod Defining
 pub mod Attach
 pub mod Turn
+pub mod Alter
 pub mod Events
 pub mod Replies
 pub mod Looking
 pub mod Sound
 pub mod Laws
+pub mod Facts
 pub mod Parts
 pub use Rattle.cx_call.specs.Eib
 pub use Rattle.cx_command.specs.Commands
@@ -20,5 +22,7 @@ pub use Rattle.cx_state.specs.Replies as TurnReplies
 pub use Rattle.cx_state.specs.State as Stations
 pub use Rattle.cx_storage.specs.Address
 pub use Rattle.cx_storage.specs.Storage
+pub use Rattle.cx_task.specs.Abends as Abends
+pub use Rattle.cx_task.specs.Ways as Ways
 pub use Rattle.cx_task.specs.Turn as HalfTurns
 pub use Rattle.cx_task.specs.Sound as SoundTasks

@@ -1,4 +1,5 @@
 -- The vocabulary of private functions: no public contract reaches it.
+pub mod Altering
 pub mod Asking
 pub mod Loading
 pub mod Placing

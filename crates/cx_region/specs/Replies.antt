@@ -1,5 +1,7 @@
 -- The names of refusals and replies, as a transcript has them (this product's own).
 use Rattle.std.specs.Prelude.{ℕ, List, codes}
+use Rattle.cx_region.specs.declared.changes.AlterReply.{AlterReply}
+use Rattle.cx_region.specs.declared.changes.AlterReply.TheVariants as alter
 use Rattle.cx_region.specs.declared.replies.DefineFault.{DefineFault}
 use Rattle.cx_region.specs.declared.replies.DefineFault.TheVariants as define
 use Rattle.cx_region.specs.declared.replies.KeyReply.{KeyReply}
@@ -19,3 +21,10 @@ key_reply_name key.AlreadyHeldInput = codes "AlreadyHeldInput"
 key_reply_name key.NoSuchTransaction = codes "NoSuchTransaction"
 key_reply_name key.NoStorage = codes "NoStorage"
 key_reply_name key.NoSuchTerminal = codes "NoSuchTerminal"
+
+abbrev pub alter_reply_name : AlterReply → List ℕ
+alter_reply_name alter.Altered = codes "Altered"
+alter_reply_name alter.NoSuchTerminal = codes "NoSuchTerminal"
+alter_reply_name alter.NoTask = codes "NoTask"
+alter_reply_name alter.NotDue = codes "NotDue"
+alter_reply_name alter.NoByte = codes "NoByte"

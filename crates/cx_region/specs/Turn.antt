@@ -12,19 +12,24 @@ use Rattle.cx_region.specs.Tables.{terminal_of, with_terminal}
 abbrev pub reach_of : RegionState → TerminalState → TaskState → Reach
 reach_of region terminal task = reach (shared_of region) (station_of terminal) task
 
+-- the region with what was reached put back, and the task that is left: what tasks share and the terminal are as there, all
+-- else is as before
+abbrev pub put_back : RegionState → List ℕ → Reach → Option TaskState → RegionState
+put_back old name reached task =
+    record (with_terminal old name (terminal_with reached.station task)) {
+      storage = reached.shared.storage;
+      programs = reached.shared.programs;
+      queues = reached.shared.queues;
+      resources = reached.shared.resources;
+    }
+
 -- the task that a terminal has after a half-turn: none where it is over
 abbrev pub task_after : TurnReply → TaskState → Option TaskState
 task_after reply task = if is_over reply then None else Some task
 
--- the region after a half-turn: what tasks share and the terminal are as it leaves them, all else as before
+-- the region after a half-turn
 abbrev pub after_half_turn : RegionState → List ℕ → TurnReply → Reach → RegionState
-after_half_turn old name reply after =
-    record (with_terminal old name (terminal_with after.station (task_after reply after.task))) {
-      storage = after.shared.storage;
-      programs = after.shared.programs;
-      queues = after.shared.queues;
-      resources = after.shared.resources;
-    }
+after_half_turn old name reply after = put_back old name after (task_after reply after.task)
 
 -- the turn of a terminal with a task
 pub record TaskTurned (old : RegionState) (name : List ℕ) (terminal : TerminalState) (task : TaskState) (reply : TurnReply) (new : RegionState) : Type 0 where

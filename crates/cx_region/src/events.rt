@@ -10,7 +10,7 @@ use std::alloc::AllocError;
 
 impl<S: Store + Drop> Region<S> {
     /// Does one event: the call that it names. What that call takes is asked of it: a clock as for `set_clock`, at most
-    /// 1,920 bytes of a key. A refusal of the call is its reply.
+    /// 1,920 bytes of a key, a register as for `alter`. A refusal of the call is its reply.
     ///
     /// An error comes only where a growth was refused, no refusal is due, and the event may take memory. Then all is as
     /// before.
@@ -47,13 +47,14 @@ impl<S: Store + Drop> Region<S> {
                 let reply = self.turn(*name)?;
                 Ok(Reply::Turn(reply))
             }
+            Event::Alter(name, change) => Ok(Reply::Alter(self.alter(*name, *change))),
         }
     }
 }
 
 impl<S: Store + Drop> Region<S> {
     /// Does events in order, and answers their replies. What each call takes is asked of each event: a clock as for
-    /// `set_clock`, at most 1,920 bytes of a key.
+    /// `set_clock`, at most 1,920 bytes of a key, a register as for `alter`.
     ///
     /// It stops where a growth was refused: in front of the first event, where there is no memory for the replies, else at
     /// an event that may take memory. The region is as the events done left it.

@@ -1,8 +1,10 @@
 //! The region: programs, terminals and tasks, and the commands that tasks give.
 #![tactic(auto)]
 
+mod alter;
 mod asking;
 mod attach;
+mod changes;
 mod defining;
 mod events;
 mod looking;
@@ -13,6 +15,7 @@ mod turn;
 
 #[doc(hidden)]
 pub use asking::{Asked, Places, Start};
+pub use changes::{AlterReply, Change};
 pub use cx_call::{Call, CallFault, read_call};
 pub use cx_state::TurnReply;
 #[doc(hidden)]

@@ -82,7 +82,7 @@ impl<S: Store + Drop> Region<S> {
 }
 
 /// The byte of a store at any address.
-fn byte_of<S: Store>(store: &S, address: u32) -> Option<u8>
+pub(crate) fn byte_of<S: Store>(store: &S, address: u32) -> Option<u8>
     ensures { result ≡ byte_at (S.storage store.now) address }
 {
     if address >= 0x100_0000 {

@@ -1,4 +1,5 @@
 //! What holds of every event, and of every run of events.
+ghost use Rattle.cx_region.specs.Laws.Alterations.{AbendsKeepOthers, AbendsLookAtNoExit, AbendsOfTasksAreDone, AlterationsDecide, AlterationsKeepStorage, AlterationsKeepToTheirTask, RefusedAlterationsLeaveTheRegion};
 ghost use Rattle.cx_region.specs.Laws.Regions.{ProgramsDecide, TransactionsDecide, TerminalsDecide, TurnsDecide, EachIsAnswered, EventsDecide, KeysDecide, KeysKeepToTheirTerminal, RefusedProgramsLeaveTheRegion, RefusedTerminalsLeaveTheRegion, RefusedTransactionsLeaveTheRegion, RunsDecide, RunsJoin, RunsPart, StillKeysLeaveTheRegion, StillTurnsLeaveTheRegion, TurnsKeepOthers, TurnsKeepToTheirTask};
 
 /// A region and an event decide the reply and the region after it.
@@ -16,6 +17,7 @@ pub fn calls_decide()
     ensures terminals { TerminalsDecide }
     ensures keys { KeysDecide }
     ensures turns { TurnsDecide }
+    ensures alterations { AlterationsDecide }
 {
     cx_load::laws::loading_decides();
     cx_task::laws::half_turns_decide();
@@ -38,6 +40,30 @@ pub fn a_turn_keeps_to_its_task()
     cx_task::laws::half_turns_stay();
     cx_task::laws::half_turns_keep();
 }
+
+/// An alteration changes no terminal but its own, and no definition or queue, neither the clock nor the counter of tasks.
+/// Where the task goes on it changes no area and no resource, and one byte at most. Where it ends the task it leaves the
+/// areas of all others, with their bytes, and their resources.
+#[tactic(auto, using(crate::proofs::AlterLemmas::alterations_keep, crate::proofs::AlterLemmas::alterations_keep_storage, crate::proofs::AlterLemmas::abends_keep_others))]
+pub fn an_alteration_keeps_to_its_task()
+    ensures task { AlterationsKeepToTheirTask }
+    ensures storage { AlterationsKeepStorage }
+    ensures others { AbendsKeepOthers }
+{}
+
+/// An alteration that is refused leaves the region as it was.
+#[tactic(auto, using(crate::specs::Facts::Alterations::refused_alterations_leave))]
+pub fn refused_alterations_leave_the_region()
+    ensures { RefusedAlterationsLeaveTheRegion }
+{}
+
+/// The abend of a task that is there is always done, and is the one that ABEND with CANCEL has, with the code XEDF: no exit
+/// is looked at.
+#[tactic(auto, using(crate::specs::Facts::Alterations::abends_are_done))]
+pub fn an_operators_abend_is_taken_by_no_exit()
+    ensures done { AbendsOfTasksAreDone }
+    ensures exits { AbendsLookAtNoExit }
+{}
 
 /// A key changes no terminal but its own, and no definition, queue or resource, nor the clock. Storage and the counter
 /// of tasks change only where it attaches a task: the counter goes to the next number.

@@ -3,6 +3,7 @@ ghost use Rattle.std.specs.Prelude.{◌≡◌, Some};
 ghost use Rattle.cx_region.specs.Replies.{define_fault_name, key_reply_name};
 ghost use Rattle.cx_region.specs.declared.replies.DefineFault.TheVariants.{Memory};
 
+use crate::changes::{AlterReply, Change};
 use cx_code::Bytes;
 use cx_ebcdic::{Aid, Name4, Name8};
 use cx_exec::Cpu;
@@ -127,6 +128,8 @@ pub enum Event {
     Key(Name4, Aid, Bytes),
     /// `turn`: the terminal.
     Turn(Name4),
+    /// `alter`: the terminal, and what is altered of its task.
+    Alter(Name4, Change),
 }
 
 /// What an event is answered.
@@ -144,6 +147,8 @@ pub enum Reply {
     Key(KeyReply),
     /// The turn's answer.
     Turn(TurnReply),
+    /// The alteration's answer.
+    Alter(AlterReply),
 }
 
 /// A run was stopped by want of memory.

@@ -40,7 +40,7 @@ fn half_turn_of<S: Store + Drop>(
 }
 
 /// Drops a task that is over.
-fn drop_if(over: bool, held: &mut Option<Task>)
+pub(crate) fn drop_if(over: bool, held: &mut Option<Task>)
     ensures { held.new ≡ (if over then None else held.old) }
 {
     if over {
@@ -104,7 +104,7 @@ fn turn_in<S: Store + Drop>(
 }
 
 /// Storage, queues and resources are sound.
-fn services_are_sound<S: Store + Drop>(shared: &Shared<S>)
+pub(crate) fn services_are_sound<S: Store + Drop>(shared: &Shared<S>)
     ensures storage { IsSoundStorage shared.now.storage }
     ensures queues { AreSoundQueues shared.now.queues }
     ensures resources { AreSoundResources shared.now.resources }

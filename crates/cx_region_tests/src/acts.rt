@@ -2,7 +2,7 @@
 use cx_code::{Bytes, Image, Offsets};
 use cx_ebcdic::{Aid, Name4, Name8};
 use cx_load::{CheckedImage, check};
-use cx_region::{Region, Reply, TaskInfo};
+use cx_region::{Change, Region, Reply, TaskInfo};
 use cx_storage::FlatStore;
 use std::alloc::Global;
 use std::test::Fail;
@@ -22,6 +22,8 @@ pub enum Act<'a> {
     Key(u8, Aid, usize),
     /// A turn of a terminal.
     Turn(u8),
+    /// An alteration of a terminal's task.
+    Alter(u8, Change),
 }
 
 /// T00 and a byte.
@@ -95,6 +97,18 @@ fn turn(region: &mut Region<FlatStore>, n: u8) -> Result<Reply, Fail> {
     Ok(Reply::Turn(region.turn(terminal(n))?))
 }
 
+fn alter(region: &mut Region<FlatStore>, n: u8, change: Change) -> Result<Reply, Fail> {
+    match change {
+        Change::Register(r, _) => {
+            if r > 15 {
+                return Err("there are sixteen registers")?;
+            }
+        }
+        _ => (),
+    }
+    Ok(Reply::Alter(region.alter(terminal(n), change)))
+}
+
 fn perform(region: &mut Region<FlatStore>, alloc: Global, act: &Act) -> Result<Reply, Fail> {
     match *act {
         Act::Program(n, text, stg_len) => {
@@ -109,6 +123,7 @@ fn perform(region: &mut Region<FlatStore>, alloc: Global, act: &Act) -> Result<R
             key(region, n, aid, bytes.as_slice())
         }
         Act::Turn(n) => turn(region, n),
+        Act::Alter(n, change) => alter(region, n, change),
     }
 }
 

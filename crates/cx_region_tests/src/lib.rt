@@ -4,6 +4,8 @@
 #[cfg(test)]
 mod acts;
 #[cfg(test)]
+mod alter;
+#[cfg(test)]
 mod call;
 #[cfg(test)]
 mod region;

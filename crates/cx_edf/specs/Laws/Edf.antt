@@ -1,20 +1,25 @@
 -- What follows from the definitions of events and runs under EDF.
-use Rattle.std.specs.Prelude.{◌≡◌, ◌≢◌, ℕ, Bool, true, false, List, [], map, Option}
-use Rattle.std.specs.List.{flat_map}
+use Rattle.std.specs.Prelude.{◌≡◌, ℕ, Bool, true, false, not, ◌&&◌, ◌||◌, ◌==◌, List, [], ◌∷◌, ◌++◌, length, map, Option, Some, if◌then◌else◌}
+use Rattle.std.specs.List.{AllByRecursion}
 use Rattle.cx_region.specs.State.{RegionState}
 use Rattle.cx_region.specs.Names.{is_name4}
 use Rattle.cx_region.specs.Events.{Run}
 use Rattle.cx_region.specs.declared.replies.Event.{Event}
 use Rattle.cx_region.specs.declared.replies.Event.TheVariants as event
 use Rattle.cx_region.specs.declared.replies.Reply.{Reply}
+use Rattle.cx_region.specs.declared.replies.Reply.TheVariants as reply
+use Rattle.cx_region.specs.declared.changes.AlterReply.TheVariants as alter
+use Rattle.cx_state.specs.declared.replies.TurnReply.{TurnReply}
+use Rattle.cx_display.specs.declared.stops.Kind.{Kind}
+use Rattle.cx_edf.specs.declared.modes.Mode.TheVariants as mode
 use Rattle.cx_edf.specs.declared.answers.EdfEvent.{EdfEvent}
 use Rattle.cx_edf.specs.declared.answers.EdfEvent.TheVariants as edf_event
 use Rattle.cx_edf.specs.declared.answers.Answer.{Answer}
 use Rattle.cx_edf.specs.declared.answers.Answer.TheVariants as answer
-use Rattle.cx_edf.specs.Sessions.{SessionState, Sessions, session_in, with_session}
-use Rattle.cx_edf.specs.State.{EdfState, holds, stopped_at}
+use Rattle.cx_edf.specs.Sessions.{SessionState, Sessions, session_in, stop_of, takes_in, with_session}
+use Rattle.cx_edf.specs.State.{EdfState, ends_by_key, session_at}
 use Rattle.cx_edf.specs.Steps.{EdfHappens}
-use Rattle.cx_edf.specs.Erasure.{is_own, erased, plain_reply, told}
+use Rattle.cx_edf.specs.Erasure.{erased, is_own, is_refused, left_of, plain_reply, told}
 use Rattle.cx_edf.specs.Runs.{EdfRun}
 
 -- ---- one outcome
@@ -23,10 +28,10 @@ abbrev pub EdfEventsDecide : Type 0
 EdfEventsDecide = (old : EdfState) (e : EdfEvent) (given other : Answer) (new later : EdfState)
     → EdfHappens old e given new → EdfHappens old e other later → (given ≡ other) × (new ≡ later)
 
--- two outcomes of one run under EDF are equal
+-- two outcomes of one run under EDF are equal, up to each event
 abbrev pub EdfRunsDecide : Type 0
 EdfRunsDecide = (old : EdfState) (events : List EdfEvent) (answers others : List Answer) (new later : EdfState)
-    → EdfRun old events answers new → EdfRun old events others later → (answers ≡ others) × (new ≡ later)
+    (run : EdfRun old events answers new) (other : EdfRun old events others later) → (answers ≡ others) × (new ≡ later) × (run.states ≡ other.states)
 
 -- ---- watching changes nothing
 -- whatever a run of the region alone does with the events that are left, it is what was done under EDF
@@ -35,30 +40,64 @@ PlainRunsAgree = (old : EdfState) (events : List EdfEvent) (answers : List Answe
     (replies : List Reply) (after : RegionState) → Run old.region (erased old events answers run.states) replies after
     → (replies ≡ told old events answers run.states) × (after ≡ new.region)
 
--- and the replies that it is told are those given under EDF, but for EDF's own answers
+-- the alteration that a key asks for is a PF12's that ends the task
+abbrev pub ends_task : EdfState → EdfEvent → Bool
+ends_task old (edf_event.Plain (event.Key name aid bytes)) = ends_by_key old name aid
+ends_task old e = false
+
+-- The replies given under EDF: without EDF's own answers and those of refused alterations, and with Altered for a PF12 that
+-- ends a task.
+abbrev pub given_by : EdfState → EdfEvent → Answer → List Reply
+given_by old e given = if ends_task old e then reply.Alter alter.Altered ∷ [] else if is_refused e given then [] else plain_reply given
+
+unfoldable pub given_in : EdfState → List EdfEvent → List Answer → List EdfState → List Reply
+given_in old (e ∷ events) (given ∷ answers) (new ∷ states) = given_by old e given ++ given_in new events answers states
+given_in old _ _ _ = []
+
+-- these are the replies that it is told
 abbrev pub ToldAreThoseGiven : Type 0
 ToldAreThoseGiven = (old : EdfState) (events : List EdfEvent) (answers : List Answer) (new : EdfState) (run : EdfRun old events answers new)
-    → told old events answers run.states ≡ flat_map plain_reply answers
+    → told old events answers run.states ≡ given_in old events answers run.states
 
 -- whether an answer is EDF's own
 abbrev pub is_edfs : Answer → Bool
 is_edfs (answer.Region r) = false
 is_edfs answer.ToEdf = true
 is_edfs answer.Held = true
+is_edfs answer.NotStopped = true
 is_edfs (answer.Edf r) = true
 
--- an event is erased exactly where its answer is EDF's own
+-- an event is EDF's own exactly where its answer is
 abbrev pub OwnEventsHaveOwnAnswers : Type 0
 OwnEventsHaveOwnAnswers = (old : EdfState) (e : EdfEvent) (given : Answer) (new : EdfState) → EdfHappens old e given new → is_own old e ≡ is_edfs given
 
--- and then the region stays
-abbrev pub OwnEventsLeaveTheRegion : Type 0
-OwnEventsLeaveTheRegion = (old : EdfState) (e : EdfEvent) (given : Answer) (new : EdfState) → EdfHappens old e given new → is_edfs given ≡ true → new.region ≡ old.region
+-- Nothing is left of it exactly where its answer is EDF's own, and it is no PF12 that ends a task; or where it is a refused
+-- alteration.
+abbrev pub ErasedEvents : Type 0
+ErasedEvents = (old : EdfState) (e : EdfEvent) (given : Answer) (new : EdfState) → EdfHappens old e given new
+    → (length (left_of old e given) == 0) ≡ ((is_edfs given && not (ends_task old e)) || is_refused e given)
 
--- with EDF Off everywhere a run of events is the region's
+-- and then the region stays
+abbrev pub ErasedEventsLeaveTheRegion : Type 0
+ErasedEventsLeaveTheRegion = (old : EdfState) (e : EdfEvent) (given : Answer) (new : EdfState) → EdfHappens old e given new → left_of old e given ≡ [] → new.region ≡ old.region
+
+-- ---- no stop is missed
+-- a stop that a session doesn't take is met under suppression
+abbrev pub StopsAreMissedUnderSuppression : Type 0
+StopsAreMissedUnderSuppression = (old : EdfState) (name : List ℕ) (r : TurnReply) (new : EdfState) (session : SessionState) (stop : Kind)
+    → EdfHappens old (edf_event.Plain (event.Turn name)) (answer.Region (reply.Turn r)) new → session_at old name ≡ Some session → stop_of r ≡ Some stop
+    → takes_in session.mode session.stops stop ≡ false → session.mode ≡ mode.Suppressed
+
+-- ---- Off everywhere
+-- an operator alters through EDF alone
+abbrev pub is_alteration : Event → Bool
+is_alteration (event.Alter name change) = true
+is_alteration e = false
+
+-- with EDF Off everywhere a run of events without alterations is the region's
 abbrev pub OffIsTheRegion : Type 0
 OffIsTheRegion = (old : EdfState) (events : List Event) (answers : List Answer) (new : EdfState) → old.sessions ≡ []
-    → EdfRun old (map (λ e. edf_event.Plain e) events) answers new
+    → AllByRecursion (λ e. is_alteration e ≡ false) events → EdfRun old (map (λ e. edf_event.Plain e) events) answers new
     → (replies : List Reply) × Run old.region events replies new.region × (answers ≡ map (λ r. answer.Region r) replies) × (new.sessions ≡ [])
 
 -- ---- a session set is that session, and every other terminal's is as before

@@ -1,4 +1,5 @@
 use Rattle.cx_region.proofs.DecideLemmas.{key_decides, program_decides, terminal_decides, transaction_decides, turn_decides}
+use Rattle.cx_region.specs.Facts.Alterations.{alterations_decide}
 use Rattle.cx_region.proofs.region_laws.calls_decide.Goals as goal
 
 pub returns-clause-programs : goal.returns-clause-programs
@@ -15,3 +16,6 @@ returns-clause-keys c = key_decides
 
 pub returns-clause-turns : goal.returns-clause-turns
 returns-clause-turns c = turn_decides c.half_turns_decide.ensures
+
+pub returns-clause-alterations : goal.returns-clause-alterations
+returns-clause-alterations c = alterations_decide
