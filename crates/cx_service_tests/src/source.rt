@@ -54,6 +54,54 @@ fn read_in_pieces(alloc: Global, bytes: &[u8], size: usize) -> Result<Source, So
     reader.finish()
 }
 
+/// Feeds lines, without their ends, one by one.
+fn read_by_lines(alloc: Global, lines: &[&[u8]]) -> Result<Source, SourceFault> {
+    let mut reader = SourceReader::new(alloc);
+    for line in lines {
+        reader.feed_line(line)?;
+    }
+    reader.finish()
+}
+
+/// The lines of the program, and one behind its END that is no line of a source.
+const LINES: [&[u8]; 8] = [
+    b"P        CSECT",
+    b"         USING P,15",
+    b"         MVC   8(2,13),=C'AB'",
+    b"         L     1,=F'1'",
+    b"         LH    2,=H'2'",
+    b"         A     1,=F'1'",
+    b"         END",
+    b"no\tname",
+];
+
+#[test]
+fn lines_one_by_one_give_the_source(rt: HostRuntime) -> Result<(), Fail> {
+    assert!(rt; is_program(&read_by_lines(rt.alloc(), &LINES)?));
+    let mut reader = SourceReader::new(rt.alloc());
+    reader.feed(b"P    ")?;
+    reader.feed_line(b"    CSECT")?;
+    for line in LINES.as_slice().split_at(1).1 {
+        reader.feed_line(line)?;
+    }
+    assert!(rt; is_program(&reader.finish()?));
+    Ok(())
+}
+
+#[test]
+fn a_line_fed_at_once_keeps_its_carriage_return(rt: HostRuntime) -> Result<(), Fail> {
+    let mut reader = SourceReader::new(rt.alloc());
+    reader.feed_line(b"*")?;
+    let fault = SourceFault::BadCharacter(2);
+    assert!(rt; reader.feed_line(b"X\r") == Err(fault));
+    assert!(rt; reader.feed_line(b"         END") == Err(fault));
+    assert!(rt; matches!(reader.finish(), Err(kept) if kept == fault));
+    let line_feed = read_by_lines(rt.alloc(), &[b"X\n", b"         END"]);
+    assert!(rt; matches!(line_feed, Err(SourceFault::BadCharacter(1))));
+    assert!(rt; matches!(read_by_lines(rt.alloc(), &[b"*", b""]), Err(SourceFault::NoEnd(3))));
+    Ok(())
+}
+
 /// The first statement of a source.
 fn first_stmt(source: &Source) -> Option<&Stmt> {
     for item in source.items.as_slice() {

@@ -10,7 +10,7 @@ use Rattle.std.proofs.lemmas.Grind.{fold-append}
 use Rattle.cx_source.specs.Lines.{text_of}
 use Rattle.cx_source.specs.Statements.{is_continued, is_last, up_to_end, items_from}
 use Rattle.cx_source.specs.Faults.{fault_of, first_fault, judged, source_from, source_in, source_of}
-use Rattle.cx_source.specs.Reader.{Reading, at_start, behind_fault, behind_line, texts_with, with_line, take_byte, take_piece, with_last, closed, finish, Refuses, ReadsAs, IsNoEnd}
+use Rattle.cx_source.specs.Reader.{Reading, at_start, behind_fault, behind_line, texts_with, with_line, with_whole_line, take_byte, take_line, take_piece, with_last, closed, finish, Refuses, ReadsAs, IsNoEnd}
 use Rattle.cx_source.specs.declared.source.Item.{Item}
 use Rattle.cx_source.specs.declared.source.Source.{Source}
 use Rattle.cx_source.specs.declared.source.SourceFault.{SourceFault}
@@ -165,6 +165,37 @@ pub many_pieces : (pieces : List (List ℕ)) (r : Reading) → fold take_piece r
 many_pieces [] r = refl
 many_pieces (piece ∷ pieces) r = many_pieces pieces (take_piece r piece) ∙ two_pieces r piece (concat pieces)
 
+-- Lines that come at once.
+
+lines_faulty : (texts : List (List ℕ)) (fault : SourceFault) (all : List (List ℕ)) → finish (fold take_line (reading texts [] (Faulty fault)) all) ≡ Err fault
+unfolding finish
+lines_faulty texts fault all = ap finish (fold_stays take_line (reading texts [] (Faulty fault)) (λ line. unfold take_line in refl) all)
+
+lines_ended : (texts : List (List ℕ)) (all : List (List ℕ)) → finish (fold take_line (reading texts [] Ended) all) ≡ Ok (source_from texts)
+unfolding finish
+lines_ended texts all = ap finish (fold_stays take_line (reading texts [] Ended) (λ line. unfold take_line in refl) all)
+
+whole_line_step : (fault : Option SourceFault) (last continues : Bool) (texts : List (List ℕ)) (text : List ℕ) (all : List (List ℕ))
+    → finish (fold take_line (reading (texts ++ text ∷ []) [] (Expects continues)) all) ≡ outcome (texts ++ text ∷ []) continues all
+    → finish (fold take_line (reading (texts_with (behind_fault fault last continues) texts text) [] (behind_fault fault last continues)) all) ≡ behind fault last continues texts text all
+unfolding behind
+whole_line_step (Some fault) last continues texts text all h = lines_faulty texts fault all
+whole_line_step None true continues texts text all h = lines_ended (texts ++ text ∷ []) all
+whole_line_step None false continues texts text all h = h ∙ line_on continues texts text all
+
+lines_outcome : (all : List (List ℕ)) (texts : List (List ℕ)) (continues : Bool) → finish (fold take_line (reading texts [] (Expects continues)) all) ≡ outcome texts continues all
+unfolding take_line outcome behind behind_line
+lines_outcome [] texts continues = last_none continues texts
+lines_outcome (line ∷ all) texts continues =
+    let text = text_of line in
+    whole_line_step (fault_of continues (length texts + 1) line) (is_last continues text) (is_continued continues text) texts text all
+    (lines_outcome all (texts ++ text ∷ []) (is_continued continues text))
+
+-- fed line by line, a reader answers what the lines make
+pub line_by_line : (all : List (List ℕ)) → finish (fold take_line at_start all) ≡ source_in all
+unfolding source_in outcome
+line_by_line all = lines_outcome all [] false
+
 -- Lines that were read stay.
 
 abbrev Adds : List (List ℕ) → List (List ℕ) → Type 0
@@ -250,14 +281,28 @@ not_before_the_end bytes n =
     (piece_not (NoEnd n) (fault_not_end n) bytes at_start (λ e. cc), piece_not Memory fault_not_memory bytes at_start (λ e. cc))
 
 -- what a fault that a piece brought leaves
-pub refuses_new : (fault : SourceFault) (old new : Reading) (piece : List ℕ) → ((kept : SourceFault) → old.progress ≢ Faulty kept) → new ≡ take_piece old piece → new.progress ≡ Faulty fault → Refuses fault old piece new
-refuses_new Memory old new piece h taken faulty =
-    absurd (piece_not Memory fault_not_memory piece old (h Memory) (ap (λ (r : Reading). r.progress) (sym taken) ∙ faulty))
-refuses_new (TooLong n) old new piece h taken faulty = (taken, faulty)
-refuses_new (BadCharacter n) old new piece h taken faulty = (taken, faulty)
-refuses_new (BadContinuation n) old new piece h taken faulty = (taken, faulty)
-refuses_new (BadName n) old new piece h taken faulty = (taken, faulty)
-refuses_new (NoEnd n) old new piece h taken faulty = (taken, faulty)
+refuses_due : (fault : SourceFault) (old due new : Reading) → due.progress ≢ Faulty Memory → new ≡ due → new.progress ≡ Faulty fault → Refuses fault old due new
+refuses_due Memory old due new h taken faulty = absurd (h (ap (λ (r : Reading). r.progress) (sym taken) ∙ faulty))
+refuses_due (TooLong n) old due new h taken faulty = (taken, faulty)
+refuses_due (BadCharacter n) old due new h taken faulty = (taken, faulty)
+refuses_due (BadContinuation n) old due new h taken faulty = (taken, faulty)
+refuses_due (BadName n) old due new h taken faulty = (taken, faulty)
+refuses_due (NoEnd n) old due new h taken faulty = (taken, faulty)
+
+pub refuses_new : (fault : SourceFault) (old new : Reading) (piece : List ℕ) → ((kept : SourceFault) → old.progress ≢ Faulty kept) → new ≡ take_piece old piece → new.progress ≡ Faulty fault → Refuses fault old (take_piece old piece) new
+refuses_new fault old new piece h taken faulty =
+    refuses_due fault old (take_piece old piece) new (piece_not Memory fault_not_memory piece old (h Memory)) taken faulty
+
+whole_line_not : (progress : Progress) (texts : List (List ℕ)) (u line : List ℕ) → progress ≢ Faulty Memory → (take_line (reading texts u progress) line).progress ≢ Faulty Memory
+unfolding take_line behind_line
+whole_line_not Ended texts u line h = h
+whole_line_not (Faulty fault) texts u line h = h
+whole_line_not (Expects continues) texts u line h = behind_not Memory _ _ _ (fault_not_memory continues (length texts + 1) (u ++ line))
+
+pub refuses_line : (fault : SourceFault) (old new : Reading) (continues : Bool) (line : List ℕ) → old.progress ≡ Expects continues → new ≡ take_line old line → new.progress ≡ Faulty fault → Refuses fault old (take_line old line) new
+refuses_line fault old new continues line h taken faulty =
+    refuses_due fault old (take_line old line) new
+    (whole_line_not old.progress old.texts old.unfinished line (λ e. let no : Expects continues ≡ Faulty Memory = sym h ∙ e in cc)) taken faulty
 
 -- after END and after a fault
 pub ended_keeps : (r : Reading) (bs : List ℕ) → r.progress ≡ Ended → r ≡ take_piece r bs
@@ -270,13 +315,28 @@ faulty_keeps r bs fault e =
     let same : r ≡ reading r.texts r.unfinished (Faulty fault) = ap (reading r.texts r.unfinished) e in
     same ∙ sym (ap (λ x. take_piece x bs) same ∙ faulty_stays r.texts r.unfinished fault bs)
 
-pub refuses_kept : (fault : SourceFault) (r : Reading) (piece : List ℕ) → r.progress ≡ Faulty fault → Refuses fault r piece r
-refuses_kept Memory r piece faulty = refl
-refuses_kept (TooLong n) r piece faulty = (faulty_keeps r piece (TooLong n) faulty, faulty)
-refuses_kept (BadCharacter n) r piece faulty = (faulty_keeps r piece (BadCharacter n) faulty, faulty)
-refuses_kept (BadContinuation n) r piece faulty = (faulty_keeps r piece (BadContinuation n) faulty, faulty)
-refuses_kept (BadName n) r piece faulty = (faulty_keeps r piece (BadName n) faulty, faulty)
-refuses_kept (NoEnd n) r piece faulty = (faulty_keeps r piece (NoEnd n) faulty, faulty)
+kept_due : (fault : SourceFault) (r due : Reading) → r ≡ due → r.progress ≡ Faulty fault → Refuses fault r due r
+kept_due Memory r due same faulty = refl
+kept_due (TooLong n) r due same faulty = (same, faulty)
+kept_due (BadCharacter n) r due same faulty = (same, faulty)
+kept_due (BadContinuation n) r due same faulty = (same, faulty)
+kept_due (BadName n) r due same faulty = (same, faulty)
+kept_due (NoEnd n) r due same faulty = (same, faulty)
+
+pub refuses_kept : (fault : SourceFault) (r : Reading) (piece : List ℕ) → r.progress ≡ Faulty fault → Refuses fault r (take_piece r piece) r
+refuses_kept fault r piece faulty = kept_due fault r (take_piece r piece) (faulty_keeps r piece fault faulty) faulty
+
+-- and a whole line changes nothing there either
+pub ended_keeps_line : (r : Reading) (line : List ℕ) → r.progress ≡ Ended → r ≡ take_line r line
+unfolding take_line
+ended_keeps_line r line e = sym (ap (λ p. with_whole_line p r line) e)
+
+faulty_keeps_line : (r : Reading) (line : List ℕ) (fault : SourceFault) → r.progress ≡ Faulty fault → r ≡ take_line r line
+unfolding take_line
+faulty_keeps_line r line fault e = sym (ap (λ p. with_whole_line p r line) e)
+
+pub refuses_kept_line : (fault : SourceFault) (r : Reading) (line : List ℕ) → r.progress ≡ Faulty fault → Refuses fault r (take_line r line) r
+refuses_kept_line fault r line faulty = kept_due fault r (take_line r line) (faulty_keeps_line r line fault faulty) faulty
 
 -- the answer of a reader that has a fault
 finish_at : (r : Reading) (fault : SourceFault) → r.progress ≡ Faulty fault → finish r ≡ Err fault
@@ -286,7 +346,7 @@ finish_at r fault e = ap (λ p. closed (with_last p r).progress (with_last p r))
 faulty_source : (fault : SourceFault) (bytes : List ℕ) (new : Reading) → (new ≡ take_piece at_start bytes) × (new.progress ≡ Faulty fault) → source_of bytes ≡ Err fault
 faulty_source fault bytes new h = sym (whole_source bytes) ∙ ap finish (sym h.0) ∙ finish_at new fault h.1
 
-pub reads_refused : (fault : SourceFault) (bytes : List ℕ) (new : Reading) → Refuses fault at_start bytes new → ReadsAs (source_of bytes) (Err fault)
+pub reads_refused : (fault : SourceFault) (bytes : List ℕ) (new : Reading) → Refuses fault at_start (take_piece at_start bytes) new → ReadsAs (source_of bytes) (Err fault)
 reads_refused Memory bytes new h = tt
 reads_refused (TooLong n) bytes new h = faulty_source (TooLong n) bytes new h
 reads_refused (BadCharacter n) bytes new h = faulty_source (BadCharacter n) bytes new h

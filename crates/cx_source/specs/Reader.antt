@@ -61,6 +61,15 @@ take_byte reading byte = with_byte reading.progress reading byte
 abbrev pub take_piece : Reading → List ℕ → Reading
 take_piece reading piece = fold take_byte reading piece
 
+-- After a line that comes at once, without its end: it goes on with what is unfinished. No byte of it is dropped.
+abbrev pub with_whole_line : Progress → Reading → List ℕ → Reading
+with_whole_line Ended reading line = reading
+with_whole_line (Faulty fault) reading line = reading
+with_whole_line (Expects continues) reading line = with_line continues (reading.unfinished ++ line) reading
+
+unfoldable pub take_line : Reading → List ℕ → Reading
+take_line reading line = with_whole_line reading.progress reading line
+
 -- the last line needs no LF
 abbrev pub with_last : Progress → Reading → Reading
 with_last Ended reading = reading
@@ -91,10 +100,10 @@ ReadsAs due (Ok found) = due ≡ Ok found
 ReadsAs due (Err Memory) = Unit {0}
 ReadsAs due (Err fault) = due ≡ Err fault
 
--- What feeding a piece leaves where it answers an error: as it was where a growth was refused, else the fault, which is kept.
-abbrev pub Refuses : SourceFault → Reading → List ℕ → Reading → Type 0
-Refuses Memory old piece new = new ≡ old
-Refuses fault old piece new = (new ≡ take_piece old piece) × (new.progress ≡ Faulty fault)
+-- What feeding leaves where it answers an error, by what it should leave: as it was where a growth was refused, else the fault, which is kept.
+abbrev pub Refuses : SourceFault → Reading → Reading → Reading → Type 0
+Refuses Memory old due new = new ≡ old
+Refuses fault old due new = (new ≡ due) × (new.progress ≡ Faulty fault)
 
 abbrev pub IsNoEnd : SourceFault → Type 0
 IsNoEnd (NoEnd number) = Unit {0}

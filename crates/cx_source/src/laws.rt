@@ -5,7 +5,7 @@ ghost use Rattle.std.specs.List.{concat, range_with_len};
 ghost use Rattle.cx_source.specs.Lines.{text_of};
 ghost use Rattle.cx_source.specs.Statements.{up_to_end};
 ghost use Rattle.cx_source.specs.Faults.{source_in, source_of};
-ghost use Rattle.cx_source.specs.Reader.{IsNoEnd, Reading, at_start, finish, take_piece};
+ghost use Rattle.cx_source.specs.Reader.{IsNoEnd, Reading, at_start, finish, take_line, take_piece};
 ghost use Rattle.cx_source.specs.declared.reader.Progress.TheVariants.{Faulty};
 ghost use Rattle.cx_source.specs.declared.source.Item.{Item};
 ghost use Rattle.cx_source.specs.declared.source.Source.{Source};
@@ -28,6 +28,12 @@ pub fn reader_answers_the_source()
 #[tactic(auto, using(crate::proofs::ReaderLemmas::in_pieces))]
 pub fn pieces_do_not_matter()
     ensures { (pieces : List (List ℕ)) → finish (fold take_piece at_start pieces) ≡ source_of (concat pieces) }
+{}
+
+/// Nor whether it comes in bytes or line by line: lines that are fed one by one are the source that they make.
+#[tactic(auto, using(crate::proofs::ReaderLemmas::line_by_line))]
+pub fn lines_one_by_one_are_the_source()
+    ensures { (all : List (List ℕ)) → finish (fold take_line at_start all) ≡ source_in all }
 {}
 
 /// A fault that a reader met is the source's, however it goes on.

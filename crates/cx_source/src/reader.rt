@@ -17,7 +17,7 @@ ghost use Rattle.std.specs.Prelude.{
 ghost use Rattle.std.specs.Str.Lines.{strip_carriage_return};
 ghost use Rattle.cx_source.specs.Lines.{text_of};
 ghost use Rattle.cx_source.specs.Faults.{source_from, source_of};
-ghost use Rattle.cx_source.specs.Reader.{Answers, ReadsAs, Refuses, at_start, behind_line, finish, take_byte, take_piece, texts_with};
+ghost use Rattle.cx_source.specs.Reader.{Answers, ReadsAs, Refuses, at_start, behind_line, finish, take_byte, take_line, take_piece, texts_with};
 
 use crate::faults::fault_of;
 use crate::lines::text_of;
@@ -163,7 +163,7 @@ impl SourceReader {
     pub fn feed(&mut self, piece: &[u8]) -> Result<(), SourceFault>
         ensures taken { OnOk result (self.new ≡ take_piece self.old piece.now) }
         ensures sound { OnOk result ((fault : SourceFault) → self.new.progress ≢ Progress.Faulty fault) }
-        ensures refused { IfErr result (λ fault. Refuses fault self.old piece.now self.new) }
+        ensures refused { IfErr result (λ fault. Refuses fault self.old (take_piece self.old piece.now) self.new) }
         ensures kept { (fault : SourceFault) → self.old.progress ≡ Progress.Faulty fault
             → (result ≡ Err fault) × (self.new ≡ self.old) }
         ensures ended { self.old.progress ≡ Progress.Ended → IsOk result }
@@ -180,7 +180,7 @@ impl SourceReader {
         requires { (fault : SourceFault) → self.old.progress ≢ Progress.Faulty fault }
         ensures taken { OnOk result (self.new ≡ take_piece self.old piece.now) }
         ensures sound { OnOk result ((fault : SourceFault) → self.new.progress ≢ Progress.Faulty fault) }
-        ensures refused { IfErr result (λ fault. Refuses fault self.old piece.now self.new) }
+        ensures refused { IfErr result (λ fault. Refuses fault self.old (take_piece self.old piece.now) self.new) }
     {
         let (count, progress) = (self.texts.len(), self.progress);
         let unfinished = Vec::from_slice(self.alloc, self.unfinished.as_slice())?;
@@ -223,6 +223,59 @@ impl SourceReader {
         }
         let line = strip_carriage_return(self.unfinished.as_slice());
         let progress = take_line(self.alloc, &mut self.texts, continues, line)?;
+        self.unfinished.clear();
+        self.progress = progress;
+        Ok(())
+    }
+
+    /// Takes one complete line without its end; what is unfinished is its beginning. It is taken as it stands: no
+    /// carriage return is dropped, and a line feed in it is a character without a code.
+    ///
+    /// It answers as `feed` does: the line's fault, which the reader keeps, and every later call answers; lines behind
+    /// END's are taken and not judged. Memory comes only where a growth was refused, and the reader is then as it was.
+    pub fn feed_line(&mut self, line: &[u8]) -> Result<(), SourceFault>
+        ensures taken { OnOk result (self.new ≡ take_line self.old line.now) }
+        ensures sound { OnOk result ((fault : SourceFault) → self.new.progress ≢ Progress.Faulty fault) }
+        ensures refused { IfErr result (λ fault. Refuses fault self.old (take_line self.old line.now) self.new) }
+        ensures kept { (fault : SourceFault) → self.old.progress ≡ Progress.Faulty fault
+            → (result ≡ Err fault) × (self.new ≡ self.old) }
+        ensures ended { self.old.progress ≡ Progress.Ended → IsOk result }
+    {
+        match self.progress {
+            Progress::Expects(continues) => self.feed_whole_line(continues, line),
+            Progress::Ended => Ok(()),
+            Progress::Faulty(met) => Err(met),
+        }
+    }
+
+    /// Takes a line where one is expected.
+    fn feed_whole_line(&mut self, continues: bool, line: &[u8]) -> Result<(), SourceFault>
+        requires { self.old.progress ≡ Progress.Expects continues }
+        ensures taken { OnOk result (self.new ≡ take_line self.old line.now) }
+        ensures sound { OnOk result ((fault : SourceFault) → self.new.progress ≢ Progress.Faulty fault) }
+        ensures refused { IfErr result (λ fault. Refuses fault self.old (take_line self.old line.now) self.new) }
+    {
+        self.end_line(continues, line)?;
+        if let Progress::Faulty(fault) = self.progress {
+            return Err(fault);
+        }
+        Ok(())
+    }
+
+    /// Ends the unfinished line with these bytes.
+    #[tactic(auto, unfolding(crate::specs::Reader::take_line))]
+    fn end_line(&mut self, continues: bool, line: &[u8]) -> Result<(), AllocError>
+        requires { self.old.progress ≡ Progress.Expects continues }
+        ensures ok { OnOk result (self.new ≡ take_line self.old line.now) }
+        ensures err { OnErr result (self.new ≡ self.old) }
+    {
+        let begun = self.unfinished.len();
+        self.unfinished.extend_from_slice(line)?;
+        let whole = self.unfinished.as_slice();
+        let Ok(progress) = take_line(self.alloc, &mut self.texts, continues, whole) else {
+            self.unfinished.truncate(begun);
+            return Err(AllocError);
+        };
         self.unfinished.clear();
         self.progress = progress;
         Ok(())
