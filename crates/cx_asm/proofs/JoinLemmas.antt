@@ -50,7 +50,7 @@ pool_next told statements pool i = rw add-one (next pool i)
 
 pub standing_next : (told : Whole) (statements : List Stated) (bases : Bases) (xs : List Stated) (d : Stated) (i : ℕ) → i < length xs
     → standing_from told statements bases (drop i xs)
-        ≡ joined (statement_standing told statements bases (get_or xs i d)) (standing_from told statements (bases_after told bases (get_or xs i d)) (drop (i + 1) xs))
+    ≡ joined (statement_standing told statements bases (get_or xs i d)) (standing_from told statements (bases_after told bases (get_or xs i d)) (drop (i + 1) xs))
 standing_next told statements bases xs d i within = rw (add-one, drop-cons xs i d within) refl
 
 -- one part more

@@ -1,3 +1,2 @@
 pub mod TellingLemmas
 pub mod JoinLemmas
-

@@ -54,11 +54,7 @@ fn end_behind(at: u128, items: &[StatementItem<'_>]) -> u128
 }
 
 /// How many bytes a statement of a role has.
-fn object_length(
-    alloc: Global,
-    statement: &Statement<'_>,
-    role: Role,
-) -> Result<u128, AllocError>
+fn object_length(alloc: Global, statement: &Statement<'_>, role: Role) -> Result<u128, AllocError>
     ensures { IfOk result (λ length. length ≡ object_length statement.now role) }
 {
     match role {

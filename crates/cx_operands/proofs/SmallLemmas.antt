@@ -4,7 +4,6 @@ use Rattle.std.specs.Prelude.{Result, unsigned_abs, option_and_then}
 use Rattle.std.proofs.lemmas.Bool.Decides.{nat_tests}
 use Rattle.cx_terms.specs.Digits.{bound}
 use Rattle.cx_terms.specs.Terms.{Term, terms_of}
-
 use Rattle.cx_terms.specs.Weights.{relocation}
 use Rattle.cx_terms.specs.Expressions.{within_bound, with_sign, sum_from, located, leading_length, summed, unless, lowest_fault, values_of, valued, value_of}
 use Rattle.cx_terms.specs.declared.values.Value.{Value}

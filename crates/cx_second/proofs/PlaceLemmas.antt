@@ -55,7 +55,7 @@ place_known xs d i stmt within e =
     let before : List Item = reverse (take i xs) in
     let item : Item = get_or xs i d in
     let own : slice_get (known_behind (item ∷ before)).places (length (known_behind before).places) ≡ Some (place_in stmt (known_behind before)) =
-        rw e (own_place item.line stmt (known_behind before)) in
+    rw e (own_place item.line stmt (known_behind before)) in
     rw (front_and_rest xs d i within) (places_stay (reverse (drop (suc i) xs)) (item ∷ before) _ _ own)
 
 pub count_known : (item : Item) (stmt : Stmt) (before : List Item) → item.stmt ≡ Some stmt
@@ -69,7 +69,7 @@ take_one xs d i within = rw (add-one, take-suc xs i d within) (reverse-append (t
 pub placed_more : (xs : List Item) (d : Item) (i : ℕ) (stmt : Stmt) (ps : List PlacedItem) → i < length xs → (get_or xs i d).stmt ≡ Some stmt
     → ps ≡ reverse (placed_behind (reverse (take i xs)))
     → ps ++ placed_item (get_or xs i d) (slice_get (known_behind (reverse xs)).places (length (known_behind (reverse (take i xs))).places)) ∷ []
-        ≡ reverse (placed_behind (reverse (take (i + 1) xs)))
+    ≡ reverse (placed_behind (reverse (take (i + 1) xs)))
 placed_more xs d i stmt ps within e so_far =
     let place = place_known xs d i stmt within e in
     rw (take_one xs d i within, place, so_far, e) (sym (reverse_onto (placed_behind (reverse (take i xs))) _ []))
@@ -79,9 +79,10 @@ with_stmt : (xs : List Item) (d : Item) (i : ℕ) (stmt : Option Stmt) (ps : Lis
     → (ps ++ placed_item (get_or xs i d) (slice_get (known_behind (reverse xs)).places n) ∷ [] ≡ reverse (placed_behind (reverse (take (i + 1) xs))))
     × (n + 1 ≡ length (known_behind (reverse (take (i + 1) xs))).places)
 with_stmt xs d i None ps n within e some so_far count = cc
-with_stmt xs d i (Some stmt) ps n within e some so_far count =
-    (rw count (placed_more xs d i stmt ps within e so_far),
-    rw (take_one xs d i within, count) (sym (count_known (get_or xs i d) stmt (reverse (take i xs)) e)))
+with_stmt xs d i (Some stmt) ps n within e some so_far count = (
+  rw count (placed_more xs d i stmt ps within e so_far),
+  rw (take_one xs d i within, count) (sym (count_known (get_or xs i d) stmt (reverse (take i xs)) e)),
+)
 
 -- one line more that has a statement
 pub placed_with_stmt : (xs : List Item) (d : Item) (i : ℕ) (ps : List PlacedItem) (n : ℕ) → i < length xs → is_some (get_or xs i d).stmt ≡ true
@@ -96,6 +97,8 @@ pub placed_item_more : (xs : List Item) (item : Item) (i : ℕ) (ps more : List 
     → place ≡ slice_get (known_behind (reverse xs)).places n → more ≡ ps ++ placed_item item place ∷ []
     → (more ≡ reverse (placed_behind (reverse (take (i + 1) xs)))) × (n + 1 ≡ length (known_behind (reverse (take (i + 1) xs))).places)
 placed_item_more xs item i ps more place n within is some so_far count at new =
-    let one = placed_with_stmt xs item i ps n within (ap (λ (x : Item). is_some x.stmt) (sym is) ∙ some) so_far count in
-    (new ∙ ap (λ (p : Option Place). ps ++ placed_item item p ∷ []) at
-    ∙ ap (λ (x : Item). ps ++ placed_item x (slice_get (known_behind (reverse xs)).places n) ∷ []) is ∙ one.0, one.1)
+    let one = placed_with_stmt xs item i ps n within (ap (λ (x : Item). is_some x.stmt) (sym is) ∙ some) so_far count in (
+      new ∙ ap (λ (p : Option Place). ps ++ placed_item item p ∷ []) at
+          ∙ ap (λ (x : Item). ps ++ placed_item x (slice_get (known_behind (reverse xs)).places n) ∷ []) is ∙ one.0,
+      one.1,
+    )

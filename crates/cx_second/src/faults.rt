@@ -253,8 +253,6 @@ pub(crate) fn operand_fault(
         Some(Operation::Directive(directive)) => {
             directive_fault(alloc, places, statement, directive)
         }
-        Some(operation) => {
-            instruction_fault(alloc, places, bases, number, statement, operation)
-        }
+        Some(operation) => { instruction_fault(alloc, places, bases, number, statement, operation) }
     }
 }

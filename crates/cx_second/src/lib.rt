@@ -8,7 +8,5 @@ mod whole;
 
 pub use faults::{entry_of, instruction_of};
 pub use judged::{first_fault, pass_bases};
-pub use statements::{
-    PlacedItem, Statement, StatementItem, placed_items, placed_lines, stated,
-};
+pub use statements::{PlacedItem, Statement, StatementItem, placed_items, placed_lines, stated};
 pub use whole::{control_name, counter_of, item_made, pool_of};

@@ -6,4 +6,4 @@ use Rattle.cx_asm.proofs.constants.push_items.Given as goal
 abbrev pub invariant-loop-item : goal.invariant-loop-item
 invariant-loop-item l =
     joined l.standing (items_standing (told_by l.places) l.is_ds l.statement (drop l.item-index l.items))
-      ≡ joined l.initial.standing (items_standing (told_by l.places) l.is_ds l.statement l.items)
+    ≡ joined l.initial.standing (items_standing (told_by l.places) l.is_ds l.statement l.items)

@@ -6,4 +6,4 @@ use Rattle.cx_asm.proofs.constants.push_pool.Given as goal
 abbrev pub invariant-loop-index : goal.invariant-loop-index
 invariant-loop-index l =
     joined l.standing (pool_standing (told_by l.places) l.statements (drop l.index l.pool))
-      ≡ joined l.initial.standing (pool_standing (told_by l.places) l.statements l.pool)
+    ≡ joined l.initial.standing (pool_standing (told_by l.places) l.statements l.pool)

@@ -11,5 +11,5 @@ loop-part-preserved c =
     let within : c.loop-part.part-index < length c.args.parts.now = omega arith in
     let empty : Bor (List ℕ) = record { ref_ptr = (0, 0); now = [] } in
     let e = one_more (part_fault (told_by c.args.places.now) c.args.number c.args.statement.now) (λ (p : Bor (List ℕ)). p.now) c.loop-part.fault
-        c.args.parts.now empty c.loop-part.part-index _ within c.loop-part.invariant in
+    c.args.parts.now empty c.loop-part.part-index _ within c.loop-part.invariant in
     first_of (search (rules, e), grind (arith, common_steps, e))
