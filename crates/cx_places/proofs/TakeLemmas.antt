@@ -9,7 +9,7 @@ use Rattle.cx_terms.specs.declared.faults.FaultKind.{FaultKind}
 use Rattle.cx_terms.specs.declared.values.Value.{Value}
 use Rattle.cx_pools.specs.Pools.{Pooled, Placed}
 use Rattle.cx_places.specs.Given.{definitions, value_in}
-use Rattle.cx_places.specs.Known.{Known, after, control_after, given_in, laid_in, length_after, literal_fault, met, own_fault, parts_in, pool_after, pools_after, role_in, name_in, section_after}
+use Rattle.cx_places.specs.Known.{Known, after, control_after, given_in, laid_in, length_after, literal_fault, first_fault_behind, own_fault, parts_in, pool_after, pools_after, role_in, name_in, section_after}
 use Rattle.cx_places.specs.Parts.Judging.{heading_in}
 use Rattle.cx_places.specs.declared.faults.Heading.{Heading}
 use Rattle.cx_places.specs.declared.layout.Laid.{Laid}
@@ -39,7 +39,7 @@ pub taken : (line : ℕ) (stmt : Stmt) (known : Known) (h : Heading) (l : Laid) 
     → told.places ≡ known.places ++ place_at known.section l number ∷ []
     → literals ≡ literal_fault h.role user ps known.pool
     → all ≡ lower f literals
-    → told.fault ≡ met line all known.fault
+    → told.fault ≡ first_fault_behind line all known.fault
     → told ≡ after line stmt known
 unfolding after
 taken line stmt known h l v f ps user number literals all told eh el ev ef eps eu en e1 e2 e3 e4 e5 e6 e7 elit eall e8 =
@@ -53,7 +53,7 @@ taken line stmt known h l v f ps user number literals all told eh el ev ef eps e
     ∙ ap (λ (x : ℕ). pool_after (role_in stmt) x (parts_in stmt) known.pool) eu)
     (e6 ∙ ap (λ (x : Heading). pools_after x.role l.offset known.pool known.pools) eh ∙ ap (λ (x : Laid). pools_after (role_in stmt) x.offset known.pool known.pools) el)
     (e7 ∙ ap (λ (x : Laid). known.places ++ place_at known.section x number ∷ []) el ∙ ap (λ (x : ℕ). known.places ++ place_at known.section (laid_in stmt known) x ∷ []) en)
-    (e8 ∙ ap (λ (x : Option FaultKind). met line x known.fault) eall ∙ ap (λ (x : Option FaultKind). met line (lower x literals) known.fault) ef
-    ∙ ap (λ (x : Option FaultKind). met line (lower (own_fault stmt known) x) known.fault)
+    (e8 ∙ ap (λ (x : Option FaultKind). first_fault_behind line x known.fault) eall ∙ ap (λ (x : Option FaultKind). first_fault_behind line (lower x literals) known.fault) ef
+    ∙ ap (λ (x : Option FaultKind). first_fault_behind line (lower (own_fault stmt known) x) known.fault)
     (elit ∙ ap (λ (x : Heading). literal_fault x.role user ps known.pool) eh ∙ ap (λ (x : List (List ℕ)). literal_fault (role_in stmt) user x known.pool) eps
     ∙ ap (λ (x : ℕ). literal_fault (role_in stmt) x (parts_in stmt) known.pool) eu))

@@ -23,9 +23,9 @@ abbrev pub place_value : Option (List ℕ) → ℕ → ℕ → Value
 place_value section offset length = record { section = section; number = pos (capped offset); length = length }
 
 -- what the location counter stands at: nothing before the first section
-abbrev pub here : Option (List ℕ) → ℕ → ℕ → Option Value
-here None offset length = None
-here (Some section) offset length = Some (place_value (Some section) offset length)
+abbrev pub location_counter : Option (List ℕ) → ℕ → ℕ → Option Value
+location_counter None offset length = None
+location_counter (Some section) offset length = Some (place_value (Some section) offset length)
 
 -- A value of EQU is from -2^31 to 2^32-1 (own).
 abbrev pub is_in_range : ℤ → Bool
@@ -42,7 +42,7 @@ value_given (Storage is_ds) name find section operand laid = Ok (Some (place_val
 value_given Pool name find section operand laid = Ok (Some (place_value section laid.offset laid.length))
 value_given Control name find section operand laid = Ok (Some (place_value name 0 1))
 value_given Dummy name find section operand laid = Ok (Some (place_value name 0 1))
-value_given Equate name find section operand laid = limited (value_of find (here section laid.offset 1) operand)
+value_given Equate name find section operand laid = limited (value_of find (location_counter section laid.offset 1) operand)
 value_given Unknown name find section operand laid = Ok None
 value_given Registers name find section operand laid = Ok None
 value_given Member name find section operand laid = Ok None

@@ -1,6 +1,6 @@
 -- What the statements behind one tell of it, the latest first (GC33-4010, "CSECT", "DSECT", "EQU", "LTORG" and "Literal Pool"; the faults are
 -- this product's own).
-use Rattle.std.specs.Prelude.{ℕ, Bool, false, not, ◌==◌, nat_le, if◌then◌else◌, Option, Some, None, option_map, Result, List, [], ◌∷◌, ◌++◌, length, is_some}
+use Rattle.std.specs.Prelude.{ℕ, Bool, false, not, ◌==◌, if◌then◌else◌, Option, Some, None, option_map, Result, List, [], ◌∷◌, ◌++◌, length, is_some}
 use Rattle.std.specs.Option.{option_or}
 use Rattle.std.specs.Result.{result_err}
 use Rattle.cx_operations.specs.Operations.{operation_named}
@@ -8,7 +8,7 @@ use Rattle.cx_source.specs.Marks.{parts}
 use Rattle.cx_source.specs.declared.marks.Mark.TheVariants.{TopComma}
 use Rattle.cx_source.specs.declared.source.Stmt.{Stmt}
 use Rattle.cx_source.specs.declared.source.Item.{Item}
-use Rattle.cx_terms.specs.Faults.{lower, lowest, number_of}
+use Rattle.cx_terms.specs.Faults.{lower, lowest}
 use Rattle.cx_terms.specs.Names.{is_same, symbol_name}
 use Rattle.cx_terms.specs.Symbols.{Symbols, find_in}
 use Rattle.cx_terms.specs.Weights.{stands_in}
@@ -138,14 +138,11 @@ fault_in stmt known =
 abbrev pub line_fault : ℕ → FaultKind → LineFault
 line_fault line kind = record { line = line; kind = kind }
 
-abbrev pub lower_kind : FaultKind → Option FaultKind → FaultKind
-lower_kind kind None = kind
-lower_kind kind (Some other) = if nat_le (number_of kind) (number_of other) then kind else other
-
 -- The first fault stays; of several on its line it is the lowest.
-abbrev pub met : ℕ → Option FaultKind → Option LineFault → Option LineFault
-met line fault None = option_map (line_fault line) fault
-met line fault (Some first) = Some (if line == first.line then line_fault first.line (lower_kind first.kind fault) else first)
+abbrev pub first_fault_behind : ℕ → Option FaultKind → Option LineFault → Option LineFault
+first_fault_behind line fault None = option_map (line_fault line) fault
+first_fault_behind line fault (Some first) = 
+    if line == first.line then option_map (line_fault first.line) (lower (Some first.kind) fault) else Some first
 
 -- ---- what the statement behind it is told besides
 -- CSECT, START and DSECT begin or resume the section of their name.
@@ -193,7 +190,7 @@ after line stmt known =
       pool = pool_after (role_in stmt) (length known.places) (parts_in stmt) known.pool;
       pools = pools_after (role_in stmt) (laid_in stmt known).offset known.pool known.pools;
       places = known.places ++ place_in stmt known ∷ [];
-      fault = met line (fault_in stmt known) known.fault;
+      fault = first_fault_behind line (fault_in stmt known) known.fault;
     }
 
 -- a comment, and a line that continues a statement, tell nothing

@@ -1,2 +1,4 @@
 -- Statements of laws.
 pub mod FirstFaults
+pub mod Apart
+pub mod Definitions

@@ -21,44 +21,44 @@ abbrev pub beyond : ℕ → Option FaultKind
 beyond at = if nat_le at bound then None else Some ValueOutOfRange
 
 -- an item of a DS or a DC: a constant, or what is wrong with it
-abbrev pub Item : Type 0
-Item = Result Constant FaultKind
+abbrev pub StorageItem : Type 0
+StorageItem = Result Constant FaultKind
 
-abbrev pub items_in : Bool → List (List ℕ) → List Item
+abbrev pub items_in : Bool → List (List ℕ) → List StorageItem
 items_in is_ds parts = map (constant_in is_ds) parts
 
 -- An item begins on its boundary, and takes what all its copies have. A faulty one takes nothing.
-abbrev pub item_start : Item → ℕ → ℕ
+abbrev pub item_start : StorageItem → ℕ → ℕ
 item_start (Ok item) at = aligned (alignment_of item) (capped at)
 item_start (Err fault) at = at
 
-abbrev pub item_end : Item → ℕ → ℕ
+abbrev pub item_end : StorageItem → ℕ → ℕ
 item_end (Ok item) at = item_start (Ok item) at + capped (size_of item)
 item_end (Err fault) at = at
 
 -- where the items begin, one behind the other from an offset on, and where the last ends
-abbrev pub offsets_from : List Item → ℕ → List ℕ
+abbrev pub offsets_from : List StorageItem → ℕ → List ℕ
 offsets_from [] at = []
 offsets_from (item ∷ items) at = item_start item at ∷ offsets_from items (item_end item at)
 
-abbrev pub end_from : List Item → ℕ → ℕ
+abbrev pub end_from : List StorageItem → ℕ → ℕ
 end_from [] at = at
 end_from (item ∷ items) at = end_from items (item_end item at)
 
 -- the first item's place, and its length without duplication
-abbrev pub first_start : List Item → ℕ → ℕ
+abbrev pub first_start : List StorageItem → ℕ → ℕ
 first_start [] at = at
 first_start (item ∷ items) at = item_start item at
 
-abbrev pub item_length : Item → ℕ
+abbrev pub item_length : StorageItem → ℕ
 item_length (Ok item) = length_of item
 item_length (Err fault) = 1
 
-abbrev pub first_length : List Item → ℕ
+abbrev pub first_length : List StorageItem → ℕ
 first_length [] = 1
 first_length (item ∷ items) = item_length item
 
-abbrev pub items_fault : List Item → Option FaultKind
+abbrev pub items_fault : List StorageItem → Option FaultKind
 items_fault items = lowest (map result_err items)
 
 abbrev pub laid_at : ℕ → List ℕ → ℕ → ℕ → Option FaultKind → Laid
@@ -74,7 +74,7 @@ bytes_at boundary size length at =
     laid_at (aligned boundary at) [] (aligned boundary at + size) length (beyond (aligned boundary at + size))
 
 -- items; the length attribute is the first's
-abbrev pub items_at : List Item → ℕ → Laid
+abbrev pub items_at : List StorageItem → ℕ → Laid
 items_at items at =
     laid_at (first_start items at) (offsets_from items at) (end_from items at) (first_length items) (lower (items_fault items) (beyond (end_from items at)))
 

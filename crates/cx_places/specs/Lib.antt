@@ -5,5 +5,7 @@ pub mod Known
 pub mod Placed
 -- Statements of laws.
 pub mod Laws
+-- Lemmas for the crates above.
+pub mod Facts
 -- Words of private functions.
 pub mod Parts

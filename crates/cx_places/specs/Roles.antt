@@ -1,6 +1,7 @@
 -- What operations do in the first pass (GC33-4010, "Assembler Instructions").
 use Rattle.std.specs.Prelude.{true, false, Option, Some, None}
 use Rattle.cx_code.specs.Table.{length_of}
+use Rattle.cx_code.specs.declared.table.Op.TheVariants.{Bc, Bcr}
 use Rattle.cx_operations.specs.declared.operations.Operation.{Operation}
 use Rattle.cx_operations.specs.declared.operations.Operation.TheVariants.{Machine, Branch, RegisterBranch, Directive as Other}
 use Rattle.cx_operations.specs.declared.operations.Directive.{Directive}
@@ -26,10 +27,10 @@ directive_role is.Print = Nothing
 directive_role is.Eject = Nothing
 directive_role is.Space = Nothing
 
--- what an operation does; the branches are RX and RR instructions, of 4 and 2 bytes
+-- what an operation does: a branch is an instruction of its base row
 abbrev pub role_of : Option Operation → Role
 role_of None = Unknown
 role_of (Some (Machine op)) = Instruction (length_of op)
-role_of (Some (Branch b)) = Instruction 4
-role_of (Some (RegisterBranch b)) = Instruction 2
+role_of (Some (Branch b)) = Instruction (length_of Bc)
+role_of (Some (RegisterBranch b)) = Instruction (length_of Bcr)
 role_of (Some (Other d)) = directive_role d

@@ -2,7 +2,7 @@
 
 ghost use Rattle.std.specs.Prelude.{◌≡◌};
 ghost use Rattle.cx_terms.specs.Faults.{lower};
-ghost use Rattle.cx_places.specs.Known.{bad_label, bad_name, extent_fault, is_control, is_second, lower_kind, met, name_fault, operation_fault, section_fault};
+ghost use Rattle.cx_places.specs.Known.{bad_label, bad_name, extent_fault, first_fault_behind, is_control, is_second, name_fault, operation_fault, section_fault};
 
 use crate::given::stands_in;
 use crate::layout::beyond;
@@ -129,8 +129,12 @@ pub(crate) fn extent_fault(extent: Option<u128>) -> Option<FaultKind>
 
 /// The first fault so far, behind a statement of a line: the first stays, and of several on its line it is the lowest. It takes
 /// no memory.
-pub fn met(line: usize, fault: Option<FaultKind>, first: Option<LineFault>) -> Option<LineFault>
-    ensures { result ≡ met line fault first }
+pub fn first_fault_behind(
+    line: usize,
+    fault: Option<FaultKind>,
+    first: Option<LineFault>,
+) -> Option<LineFault>
+    ensures { result ≡ first_fault_behind line fault first }
 {
     let Some(first) = first else {
         let kind = fault?;
@@ -139,18 +143,9 @@ pub fn met(line: usize, fault: Option<FaultKind>, first: Option<LineFault>) -> O
     if line != first.line {
         return Some(first);
     }
+    let kind = lower(Some(first.kind), fault)?;
     Some(LineFault {
         line: first.line,
-        kind: lower_kind(first.kind, fault),
+        kind,
     })
-}
-
-/// The lower of two faults, where there is another.
-fn lower_kind(kind: FaultKind, other: Option<FaultKind>) -> FaultKind
-    ensures { result ≡ lower_kind kind other }
-{
-    match other {
-        Some(other) if other.number() < kind.number() => other,
-        _ => kind,
-    }
 }

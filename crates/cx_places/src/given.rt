@@ -7,7 +7,7 @@ ghost use Rattle.cx_terms.specs.Symbols.{find_in};
 ghost use Rattle.cx_terms.specs.Weights.{stands_in};
 ghost use Rattle.cx_terms.specs.declared.values.Value.{Value as Worth};
 ghost use Rattle.cx_pools.specs.Pools.{capped};
-ghost use Rattle.cx_places.specs.Given.{aid_rows, here, is_any_known, limited, names_section, place_value, register_rows, resumes, row_symbol, row_symbols, value_given};
+ghost use Rattle.cx_places.specs.Given.{aid_rows, is_any_known, limited, location_counter, names_section, place_value, register_rows, resumes, row_symbol, row_symbols, value_given};
 
 use crate::layout::Laid;
 use crate::roles::Role;
@@ -68,8 +68,8 @@ pub(crate) fn place_value(section: Option<Name8>, offset: u128, length: u128) ->
 }
 
 /// What the location counter stands at, with a length attribute: nothing before the first section. It takes no memory.
-pub fn here(section: Option<Name8>, offset: u128, length: u128) -> Option<Value>
-    ensures { result ≡ here section offset length }
+pub fn location_counter(section: Option<Name8>, offset: u128, length: u128) -> Option<Value>
+    ensures { result ≡ location_counter section offset length }
 {
     let name = section?;
     Some(place_value(Some(name), offset, length))
@@ -103,7 +103,7 @@ pub(crate) fn value_given(
         }
         Role::Control | Role::Dummy => Ok(Some(place_value(name, 0, 1))),
         Role::Equate => {
-            let here = here(section, laid.offset, 1);
+            let here = location_counter(section, laid.offset, 1);
             let value = value_of(alloc, operand, symbols, here.as_ref())?;
             limited(value)
         }

@@ -56,7 +56,7 @@ pub(crate) fn beyond(at: u128) -> Option<FaultKind>
 }
 
 /// Where an item stands, from an offset on.
-#[tactic(auto, using(crate::proofs::LayoutLemmas::alignment_small))]
+#[tactic(auto, using(crate::specs::Facts::Laid::alignment_small))]
 fn item_start(item: &Constant<'_>, at: u128) -> u128
     ensures start { result ≡ item_start (Ok item.now) at }
     ensures bound { result ≤ bound + 9 }
@@ -154,7 +154,7 @@ impl Laid {
     ///
     /// An error comes only where a growth was refused.
     #[tactic(auto, unfolding(crate::specs::Layout::laid))]
-    pub(crate) fn out(
+    pub(crate) fn of(
         alloc: Global,
         role: Role,
         parts: &[&[u8]],

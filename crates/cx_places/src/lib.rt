@@ -11,8 +11,8 @@ mod place;
 mod places;
 mod roles;
 
-pub use faults::met;
-pub use given::here;
+pub use faults::first_fault_behind;
+pub use given::location_counter;
 pub use place::{ControlSection, LineFault, Place};
 pub use places::{PlaceFault, Places, place_all};
 pub use roles::Role;

@@ -6,7 +6,7 @@ ghost use Rattle.cx_places.specs.Known.{after, after_line, at_start, control_aft
 ghost use Rattle.cx_places.specs.Parts.Judging.{heading_in, judged_in};
 ghost use Rattle.cx_places.specs.Parts.Passing.{known_to, length_in};
 
-use crate::faults::{Heading, extent_fault, lowest_fault, met};
+use crate::faults::{Heading, extent_fault, first_fault_behind, lowest_fault};
 use crate::judged::{Judged, define_all, duplicate, value_or_fault};
 use crate::layout::Laid;
 use crate::place::{LineFault, Place};
@@ -163,7 +163,7 @@ impl<'a> Pass<'a> {
     {
         let operand = stmt.operand.as_slice();
         let next = capped(length_of_section(heading.section, &self.lengths));
-        let laid = Laid::out(alloc, heading.role, parts, self.pool.extent(), next)?;
+        let laid = Laid::of(alloc, heading.role, parts, self.pool.extent(), next)?;
         let (value, wrong) = value_or_fault(alloc, heading, &self.symbols, operand, &laid)?;
         let known = duplicate(heading, &self.symbols, operand, &value);
         let inner = lower(laid.fault, lower(wrong, known));
@@ -193,7 +193,7 @@ impl<'a> Pass<'a> {
         let user = self.places.len();
         let literals = use_pool(heading.role, user, parts.as_slice(), &mut self.pool)?;
         let first = self.fault;
-        self.fault = met(line, lower(fault, literals), first);
+        self.fault = first_fault_behind(line, lower(fault, literals), first);
         self.places.push(Place {
             section: self.section,
             offset: laid.offset,

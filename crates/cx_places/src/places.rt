@@ -93,7 +93,7 @@ fn finished<'a>(alloc: Global, pass: Pass<'a>) -> Result<Places<'a>, AllocError>
 {
     let stg_length = storage_length(&pass);
     let next = capped(length_of_section(pass.control, &pass.lengths));
-    let closing = Laid::out(alloc, Role::Pool, &[], pass.pool.extent(), next)?;
+    let closing = Laid::of(alloc, Role::Pool, &[], pass.pool.extent(), next)?;
     let last = Pool::placed(alloc, &pass.pool, capped(closing.offset))?;
     let Pass {
         control,

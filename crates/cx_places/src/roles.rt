@@ -4,6 +4,7 @@ ghost use Rattle.std.specs.Prelude.{◌≡◌};
 ghost use Rattle.cx_operations.specs.Operations.{operation_named};
 ghost use Rattle.cx_places.specs.Roles.{directive_role, role_of};
 
+use cx_code::Op;
 use cx_operations::{Directive, Operation};
 
 /// What a statement's operation does in the first pass.
@@ -65,8 +66,8 @@ impl Role {
         match Operation::from_name(operation) {
             None => Role::Unknown,
             Some(Operation::Machine(op)) => Role::Instruction(op.length()),
-            Some(Operation::Branch(_)) => Role::Instruction(4),
-            Some(Operation::RegisterBranch(_)) => Role::Instruction(2),
+            Some(Operation::Branch(_)) => Role::Instruction(Op::Bc.length()),
+            Some(Operation::RegisterBranch(_)) => Role::Instruction(Op::Bcr.length()),
             Some(Operation::Directive(directive)) => Role::of_directive(directive),
         }
     }

@@ -2,3 +2,4 @@ pub mod TextLemmas
 pub mod SizeLemmas
 pub mod FaultLemmas
 pub mod ListLemmas
+pub mod PartLemmas

@@ -1,7 +1,13 @@
 -- The size of a pool with one literal more.
-use Rattle.std.proofs.Common.{◌≡◌, ℕ, ◌+◌, ◌^◌, List, [], ◌∷◌, ◌++◌, sum_by, refl, sym, ◌∙◌, ap, add_assoc, arith}
+use Rattle.std.proofs.Common.{◌≡◌, None, ℕ, ◌+◌, ◌^◌, List, [], ◌∷◌, ◌++◌, sum_by, false, refl, sym, ◌∙◌, ap, arith}
 use Rattle.std.proofs.lemmas.Bool.Decides.{nat_tests}
 use Rattle.std.proofs.lemmas.List.Sums.{sum_by-append}
+use Rattle.std.specs.Prelude.{is_some}
+use Rattle.std.specs.List.{IsDistinct}
+use Rattle.std.specs.Map.{keys_of, lookup}
+use Rattle.std.specs.Str.{bytes_eq}
+use Rattle.cx_pools.specs.Facts.Literals.{once_behind}
+use Rattle.cx_pools.specs.Parts.Texts.{IsOpen}
 use Rattle.cx_pools.specs.Pools.{capped, Pooled, pool_size}
 use Rattle.cx_pools.specs.declared.open.Used.{Used}
 
@@ -13,3 +19,16 @@ sum_more es text used = let e : sum_by (λ e. e.1.size) (es ++ (text, used) ∷ 
 
 pub size_more : (es : Pooled) (text : List ℕ) (used : Used) → capped (pool_size es + capped used.size) ≡ pool_size (es ++ (text, used) ∷ [])
 size_more es text used = capped_sum (sum_by (λ e. e.1.size) es) used.size ∙ ap capped (sym (sum_more es text used))
+
+pub none_open : IsOpen 0 []
+unfolding IsDistinct
+none_open = record { size_is = refl; once = tt }
+
+-- a pool with one literal more
+pub one_open : (size : ℕ) (es new : Pooled) (text : List ℕ) (used : Used) → IsOpen size es → lookup (bytes_eq text) es ≡ None → new ≡ es ++ (text, used) ∷ []
+    → IsOpen (capped (size + capped used.size)) new
+one_open size es new text used h none e =
+    record {
+      size_is = rw (e, h.size_is) (size_more es text used);
+      once = rw e (once_behind es text used (ap is_some none) h.once);
+    }

@@ -1,5 +1,5 @@
 -- Literals and their pools (GC33-4010, "Literals" and "Literal Pool").
-use Rattle.std.specs.Prelude.{ℕ, ◌+◌, ◌%◌, Bool, true, false, ◌==◌, nat_le, if◌then◌else◌, is_some, Option, Some, None, option_and_then, Result, Ok, Err, List, [], ◌∷◌, ◌++◌, map, drop, slice_index, sum_by}
+use Rattle.std.specs.Prelude.{◌≡◌, ℕ, ◌+◌, ◌%◌, Bool, true, false, ◌==◌, nat_le, if◌then◌else◌, ◌&&◌, not, is_ok, is_some, Option, Some, None, option_and_then, Result, Ok, Err, List, [], ◌∷◌, ◌++◌, map, take, drop, slice_index, sum_by}
 use Rattle.std.specs.List.{filter}
 use Rattle.std.specs.Map.{lookup}
 use Rattle.std.specs.Result.{result_err}
@@ -48,12 +48,33 @@ abbrev pub with_parts : ℕ → Pooled → List (List ℕ) → Pooled
 with_parts user pool [] = pool
 with_parts user pool (part ∷ parts) = with_parts user (with_part user pool part) parts
 
+-- an operand is a literal whose text isn't pooled yet
+abbrev pub is_new_text : Pooled → Option (List ℕ) → Bool
+is_new_text pool None = false
+is_new_text pool (Some text) = is_ok (constant_in false text) && not (is_pooled text pool)
+
+abbrev pub is_new_in : Pooled → List ℕ → Bool
+is_new_in pool part = is_new_text pool (literal_text part)
+
 -- what is wrong with an operand that is a literal: it is no constant, or its lengths are outside their limits
 abbrev pub part_fault : List ℕ → Option FaultKind
 part_fault part = option_and_then (λ text. result_err (constant_in false text)) (literal_text part)
 
 abbrev pub lowest_part : List (List ℕ) → Option FaultKind
 lowest_part parts = lowest (map part_fault parts)
+
+-- Of several operands that may be literals the first ones are in.
+pub record UsesFirst (user : ℕ) (parts : List (List ℕ)) (old new : Pooled) : Type 0 where
+  pub count : ℕ
+  pub used : new ≡ with_parts user old (take count parts)
+
+-- how many bytes a literal has, with its duplication, by its text; none where it is no constant
+abbrev pub constant_size : Result Constant FaultKind → ℕ
+constant_size (Ok constant) = size_of constant
+constant_size (Err fault) = 0
+
+abbrev pub literal_size : List ℕ → ℕ
+literal_size text = constant_size (constant_in false text)
 
 -- how many bytes the literals have together
 abbrev pub pool_size : Pooled → ℕ
@@ -79,19 +100,14 @@ grouped pool = of_group 8 pool ++ of_group 4 pool ++ of_group 2 pool ++ of_group
 abbrev pub Placed : Type 0
 Placed = List (List ℕ × Literal)
 
--- no text stands twice
-abbrev pub with_placed : Placed → List ℕ → Literal → Placed
-with_placed pool text literal = if is_some (lookup (bytes_eq text) pool) then pool else pool ++ (text, literal) ∷ []
-
 abbrev pub stands_at : ℕ → Used → Literal
 stands_at offset used = record { offset = offset; user = used.user }
 
--- Behind the literals that stand already the others stand one behind the other, from an offset on.
-abbrev pub placed_behind : Placed → ℕ → Pooled → Placed
-placed_behind pool offset [] = pool
-placed_behind pool offset (e ∷ es) =
-    placed_behind (with_placed pool e.0 (stands_at offset e.1)) (capped (offset + e.1.size)) es
+-- They stand one behind the other, from an offset on.
+abbrev pub placed_from : ℕ → Pooled → Placed
+placed_from offset [] = []
+placed_from offset (e ∷ es) = (e.0, stands_at offset e.1) ∷ placed_from (capped (offset + e.1.size)) es
 
 -- the literals of a pool that begins at an offset
 abbrev pub placed : ℕ → Pooled → Placed
-placed offset pool = placed_behind [] offset (grouped pool)
+placed offset pool = placed_from offset (grouped pool)

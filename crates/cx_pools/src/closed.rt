@@ -1,11 +1,12 @@
 //! A pool whose literals stand in their section.
 
 ghost use Rattle.std.specs.Prelude.{◌≡◌, [], ◌∷◌, ◌++◌, ◌+◌, ◌<◌, ◌≤◌, ◌^◌, OnOk, IfOk, Option, length, map, option_map, slice_get};
-ghost use Rattle.std.specs.Map.{lookup};
+ghost use Rattle.std.specs.List.{IsDistinct};
+ghost use Rattle.std.specs.Map.{keys_of, lookup};
 ghost use Rattle.std.specs.Str.{bytes_eq};
 ghost use Rattle.cx_terms.specs.Digits.{bound};
 ghost use Rattle.cx_pools.specs.Parts.Texts.{by_text};
-ghost use Rattle.cx_pools.specs.Pools.{capped, group_of, grouped, of_group, placed, placed_behind, with_placed};
+ghost use Rattle.cx_pools.specs.Pools.{capped, group_of, grouped, of_group, placed, placed_from};
 
 use crate::open::{OpenPool, Used, capped};
 use crate::texts::push_literal;
@@ -74,7 +75,7 @@ fn grouped<'a>(
     alloc: Global,
     pool: &[(&'a [u8], Used)],
 ) -> Result<Vec<(&'a [u8], Used)>, AllocError>
-    ensures { IfOk result (λ list. by_text list.items ≡ grouped (by_text pool.now)) }
+    ensures grouped { IfOk result (λ list. by_text list.items ≡ grouped (by_text pool.now)) }
 {
     let mut list = Vec::new(alloc);
     push_group(&mut list, pool, 8)?;
@@ -82,6 +83,28 @@ fn grouped<'a>(
     push_group(&mut list, pool, 2)?;
     push_group(&mut list, pool, 1)?;
     Ok(list)
+}
+
+/// Puts literals behind others, one behind the other from an offset on.
+fn put_all<'a>(
+    table: &mut IndexMap<&'a [u8], Literal>,
+    list: &[(&'a [u8], Used)],
+    offset: u128,
+) -> Result<(), AllocError>
+    requires offset { offset ≤ bound + 8 }
+    requires once { IsDistinct bytes_eq (keys_of (by_text table.old.entries) ++ keys_of (by_text list.now)) }
+    ensures { OnOk result (by_text table.new.entries ≡ by_text table.old.entries ++ placed_from offset (by_text list.now)) }
+{
+    let mut at = offset;
+    for entry in list {
+        let literal = Literal {
+            offset: at,
+            user: entry.1.user,
+        };
+        push_literal(table, entry.0, literal)?;
+        at = capped(at + capped(entry.1.size));
+    }
+    Ok(())
 }
 
 impl<'a> Pool<'a> {
@@ -109,35 +132,7 @@ impl<'a> Pool<'a> {
         Some((*text, *literal))
     }
 
-    /// Puts a literal behind the others, unless its text stands already.
-    fn put(&mut self, text: &'a [u8], literal: Literal) -> Result<(), AllocError>
-        ensures { OnOk result (self.new ≡ with_placed self.old text.now literal) }
-    {
-        if self.get(text).is_none() {
-            push_literal(&mut self.literals, text, literal)?;
-        }
-        Ok(())
-    }
-
-    /// Puts literals behind the others, one behind the other from an offset on.
-    fn put_all(&mut self, list: &[(&'a [u8], Used)], offset: u128) -> Result<(), AllocError>
-        requires { offset ≤ bound + 8 }
-        ensures { OnOk result (self.new ≡ placed_behind self.old offset (by_text list.now)) }
-    {
-        let mut at = offset;
-        for entry in list {
-            self.put(
-                entry.0,
-                Literal {
-                    offset: at,
-                    user: entry.1.user,
-                },
-            )?;
-            at = capped(at + capped(entry.1.size));
-        }
-        Ok(())
-    }
-
+    #[tactic(auto, using(crate::specs::Facts::Literals::grouped_once))]
     /// The literals of an open pool in their places, by their groups, the first at an offset.
     ///
     /// An error comes only where a growth was refused.
@@ -147,10 +142,8 @@ impl<'a> Pool<'a> {
     {
         let entries = pool.entries(alloc)?;
         let list = grouped(alloc, entries.as_slice())?;
-        let mut literals = Pool {
-            literals: IndexMap::new(alloc),
-        };
-        literals.put_all(list.as_slice(), offset)?;
-        Ok(literals)
+        let mut literals = IndexMap::new(alloc);
+        put_all(&mut literals, list.as_slice(), offset)?;
+        Ok(Pool { literals })
     }
 }

@@ -2,6 +2,7 @@
 #![tactic(auto)]
 
 mod closed;
+pub mod laws;
 mod open;
 mod texts;
 

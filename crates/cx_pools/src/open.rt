@@ -1,10 +1,11 @@
 //! A pool that takes literals.
 
-ghost use Rattle.std.specs.Prelude.{◌≡◌, ◌≤◌, ◌+◌, [], ◌∷◌, ◌++◌, OnOk, OnErr, IfOk, map, option_map, sum_by};
-ghost use Rattle.std.specs.Map.{lookup};
+ghost use Rattle.std.specs.Prelude.{◌≡◌, ◌≤◌, ◌+◌, [], ◌∷◌, ◌++◌, false, IsOk, IsTrue, OnOk, OnErr, IfOk, map, option_map, sum_by};
+ghost use Rattle.std.specs.List.{IsDistinct, list_any};
+ghost use Rattle.std.specs.Map.{keys_of, lookup};
 ghost use Rattle.std.specs.Str.{bytes_eq};
 ghost use Rattle.cx_pools.specs.Parts.Texts.{by_text};
-ghost use Rattle.cx_pools.specs.Pools.{capped, literal_text, lowest_part, part_fault, pool_extent, pool_size, with_literal, with_part, with_parts};
+ghost use Rattle.cx_pools.specs.Pools.{UsesFirst, capped, is_new_in, is_pooled, literal_text, lowest_part, part_fault, pool_extent, pool_size, with_literal, with_part, with_parts};
 ghost use Rattle.cx_terms.specs.Digits.{bound};
 
 use crate::texts::push_used;
@@ -41,15 +42,14 @@ pub struct OpenPool<'a> {
 }
 
 impl<'a> Model for OpenPool<'a> {
-    ghost use Rattle.std.specs.Prelude.{◌≡◌};
-    ghost use Rattle.cx_pools.specs.Parts.Texts.{by_text};
-    ghost use Rattle.cx_pools.specs.Pools.{Pooled, pool_size};
+    ghost use Rattle.cx_pools.specs.Parts.Texts.{IsOpen, by_text};
+    ghost use Rattle.cx_pools.specs.Pools.{Pooled};
 
     ghost Value = { Pooled };
 
     ghost view = { λ pool. by_text pool.literals.entries };
 
-    ghost invariant = { λ pool. pool.size ≡ pool_size (by_text pool.literals.entries) };
+    ghost invariant = { λ pool. IsOpen pool.size (by_text pool.literals.entries) };
 }
 
 /// The text of a literal, behind its equals sign, where an operand begins with one. It takes no memory.
@@ -75,6 +75,7 @@ fn part_fault(part: &[u8]) -> Option<FaultKind>
 }
 
 impl<'a> OpenPool<'a> {
+    #[tactic(auto, using(crate::proofs::SizeLemmas::none_open))]
     /// A pool without literals. It takes no memory.
     pub fn new(alloc: Global) -> OpenPool<'a>
         ensures { result ≡ [] }
@@ -85,6 +86,7 @@ impl<'a> OpenPool<'a> {
         }
     }
 
+    #[tactic(auto, using(crate::proofs::SizeLemmas::none_open))]
     /// Takes all literals out. It takes no memory.
     pub fn clear(&mut self)
         ensures { self.new ≡ [] }
@@ -106,7 +108,8 @@ impl<'a> OpenPool<'a> {
 
     /// Its literals with their texts, in order of first use.
     pub(crate) fn entries(&self, alloc: Global) -> Result<Vec<(&'a [u8], Used)>, AllocError>
-        ensures { IfOk result (λ list. by_text list.items ≡ self.now) }
+        ensures entries { IfOk result (λ list. by_text list.items ≡ self.now) }
+        ensures once { IsDistinct bytes_eq (keys_of self.now) }
     {
         let mut list = Vec::new(alloc);
         for i in 0..self.literals.len() {
@@ -126,11 +129,11 @@ impl<'a> OpenPool<'a> {
         self.literals.get(&text).copied()
     }
 
-    #[tactic(auto, using(crate::proofs::SizeLemmas::size_more))]
     /// Puts a literal behind the others, unless its text is pooled already.
     fn put(&mut self, text: &'a [u8], used: Used) -> Result<(), AllocError>
         ensures put { OnOk result (self.new ≡ with_literal self.old text.now used) }
         ensures err { OnErr result (self.new ≡ self.old) }
+        ensures known { IsTrue (is_pooled text.now self.old) → IsOk result }
     {
         if self.find(text).is_none() {
             push_used(&mut self.literals, text, used)?;
@@ -141,7 +144,9 @@ impl<'a> OpenPool<'a> {
 
     /// Puts an operand in that is a literal.
     fn use_part(&mut self, part: &'a [u8], user: usize) -> Result<(), AllocError>
-        ensures { OnOk result (self.new ≡ with_part user self.old part.now) }
+        ensures used { OnOk result (self.new ≡ with_part user self.old part.now) }
+        ensures err { OnErr result (self.new ≡ self.old) }
+        ensures known { is_new_in self.old part.now ≡ false → IsOk result }
     {
         let Some(text) = literal_text(part) else {
             return Ok(());
@@ -160,7 +165,7 @@ impl<'a> OpenPool<'a> {
     /// Puts the literals among the operands of an instruction in, in turn, and answers the lowest of their faults, if there
     /// is any; `user` is the number of the statement. A faulty literal isn't put in.
     ///
-    /// An error comes only where a growth was refused; then some of them may be in.
+    /// An error comes only where a growth was refused; then those of the first operands are in, perhaps none.
     pub fn use_parts(
         &mut self,
         parts: &[&'a [u8]],
@@ -168,6 +173,8 @@ impl<'a> OpenPool<'a> {
     ) -> Result<Option<FaultKind>, AllocError>
         ensures used { OnOk result (self.new ≡ with_parts user self.old (map (λ part. part.now) parts.now)) }
         ensures fault { IfOk result (λ fault. fault ≡ lowest_part (map (λ part. part.now) parts.now)) }
+        ensures err { OnErr result (UsesFirst user (map (λ part. part.now) parts.now) self.old self.new) }
+        ensures known { list_any (is_new_in self.old) (map (λ part. part.now) parts.now) ≡ false → IsOk result }
     {
         let mut fault = None;
         for part in parts {

@@ -1,5 +1,5 @@
 -- What the first fault of lines is (own).
-use Rattle.std.specs.Prelude.{◌≡◌, ◌≤◌, ◌⊎◌, ℕ, Option, Some, None, is_some, true, List, [], ◌∷◌}
+use Rattle.std.specs.Prelude.{◌≡◌, ◌≤◌, ◌<◌, ◌⊎◌, ℕ, Option, Some, None, is_some, true, List, [], ◌∷◌}
 use Rattle.std.specs.List.{AllByRecursion}
 use Rattle.cx_source.specs.declared.source.Item.{Item}
 use Rattle.cx_source.specs.declared.source.Stmt.{Stmt}
@@ -46,3 +46,13 @@ pub record IsFirst (faults : List Fault) (first : LineFault) : Type 0 where
 abbrev pub IsFirstOf : List Fault → Option LineFault → Type 0
 IsFirstOf faults None = AreSound faults
 IsFirstOf faults (Some first) = IsFirst faults first
+
+-- ---- lines that ascend
+-- no earlier line has a higher number; the lines the latest first
+abbrev pub Ascend : List Item → Type 0
+Ascend [] = Unit {0}
+Ascend (item ∷ before) = AllByRecursion (λ earlier. earlier.line ≤ item.line) before × Ascend before
+
+-- no statement of a lower line has a fault
+abbrev pub NoneBelow : ℕ → List Fault → Type 0
+NoneBelow line faults = AllByRecursion (λ fault. fault.0 < line → fault.1 ≡ None) faults

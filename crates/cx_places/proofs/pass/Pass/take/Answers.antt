@@ -26,4 +26,4 @@ returns c =
     c.in_ok-push.ensures.items
     c.in_ok-literals.ensures.fault
     c.lower.ensures
-    c.met-self.ensures
+    c.first_fault_behind-self.ensures

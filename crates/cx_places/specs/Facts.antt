@@ -1,0 +1,6 @@
+-- Lemmas for the crates above.
+pub mod Laid
+pub mod Faults
+pub mod Apart
+pub mod Kept
+pub mod Definitions

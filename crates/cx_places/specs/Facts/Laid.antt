@@ -1,0 +1,187 @@
+-- What one statement takes of its section.
+use Rattle.std.specs.Prelude.{if◌then◌else◌, is_some, ◌%◌, ◌/◌, ◌*◌, nat_le, Result, Ok, Err}
+use Rattle.std.proofs.Common.{◌≡◌, ◌≤◌, ◌<◌, ℕ, ◌+◌, ◌-◌, ◌^◌, Bool, true, false, cond, Option, Some, None, List, [], ◌∷◌, refl, sym, ◌∙◌, ap, subst, ⊎_elim, arith, lit≤}
+use Rattle.std.proofs.Math.Nat.{mod-lt, mod-add-div', mul-mod_left}
+use Rattle.std.proofs.lemmas.Bool.{cases_Bool, cond-true, cond-false}
+use Rattle.std.proofs.lemmas.Bool.Decides.{nat_tests}
+use Rattle.cx_terms.specs.Digits.{bound}
+use Rattle.cx_terms.specs.Faults.{lower}
+use Rattle.cx_terms.specs.Items.{Constant, alignment_of, size_of}
+use Rattle.cx_terms.specs.Kinds.{row_of}
+use Rattle.cx_terms.specs.declared.faults.FaultKind.{FaultKind}
+use Rattle.cx_terms.specs.declared.faults.FaultKind.TheVariants.{ValueOutOfRange}
+use Rattle.cx_terms.specs.declared.kinds.ConstantKind.{ConstantKind}
+use Rattle.cx_terms.specs.declared.kinds.ConstantKind.TheVariants.{Character, Hexadecimal, Binary, Fullword, Halfword, Packed, Address, External, Doubleword}
+use Rattle.cx_pools.specs.Facts.Literals.{no_pool_stands, pool_stands}
+use Rattle.cx_pools.specs.Laws.Literals.{IsPool, StandApart}
+use Rattle.cx_pools.specs.Pools.{Pooled, capped, constant_size, placed, pool_extent, pool_size}
+use Rattle.cx_places.specs.Laws.Apart.{ItemsStand, Stands, boundary_of}
+use Rattle.cx_places.specs.Layout.{StorageItem, aligned, beyond, bytes_at, end_from, first_start, item_end, item_start, items_at, items_fault, items_in, laid, offsets_from, pool_at}
+use Rattle.cx_places.specs.declared.layout.Laid.{Laid}
+use Rattle.cx_places.specs.declared.roles.Role.{Role}
+use Rattle.cx_places.specs.declared.roles.Role.TheVariants.{Unknown, Instruction, Control, Dummy, Equate, Storage, Pool, Registers, Member, Nothing}
+
+-- ---- boundaries
+kind_small : (kind : ConstantKind) → (1 ≤ (row_of kind).alignment) × ((row_of kind).alignment ≤ 8)
+kind_small Character = (lit≤ tt, lit≤ tt)
+kind_small Hexadecimal = (lit≤ tt, lit≤ tt)
+kind_small Binary = (lit≤ tt, lit≤ tt)
+kind_small Fullword = (lit≤ tt, lit≤ tt)
+kind_small Halfword = (lit≤ tt, lit≤ tt)
+kind_small Packed = (lit≤ tt, lit≤ tt)
+kind_small Address = (lit≤ tt, lit≤ tt)
+kind_small External = (lit≤ tt, lit≤ tt)
+kind_small Doubleword = (lit≤ tt, lit≤ tt)
+
+small : (kind : ConstantKind) (modifier : Option ℕ) → (1 ≤ (if is_some modifier then 1 else (row_of kind).alignment)) × ((if is_some modifier then 1 else (row_of kind).alignment) ≤ 8)
+small kind None = kind_small kind
+small kind (Some m) = (lit≤ tt, lit≤ tt)
+
+pub alignment_small : (item : Constant) → (1 ≤ alignment_of item) × (alignment_of item ≤ 8)
+alignment_small item = small item.kind item.modifier
+
+rounds_up : (n boundary at q : ℕ) → n ≡ at + (boundary - 1) → 1 ≤ boundary → n % boundary < boundary → n % boundary + q ≡ n → at ≤ q
+rounds_up n boundary at q is positive below parts = omega (arith, is, positive, below, parts)
+
+aligned_behind : (boundary at : ℕ) → 1 ≤ boundary → at ≤ aligned boundary at
+aligned_behind boundary at positive =
+    let n = at + (boundary - 1) in
+    rounds_up n boundary at (n / boundary * boundary) refl positive (mod-lt n positive) (mod-add-div' n boundary)
+
+aligned_multiple : (boundary at : ℕ) → aligned boundary at % boundary ≡ 0
+aligned_multiple boundary at = mul-mod_left ((at + (boundary - 1)) / boundary) boundary
+
+-- ---- the bound
+pub capped_same : (n : ℕ) → n ≤ bound → capped n ≡ n
+capped_same n le = grind (arith, nat_tests)
+
+pub capped_within : (n : ℕ) → capped n ≤ bound → n ≤ bound
+capped_within n le = grind (arith, nat_tests)
+
+beyond_none : (at : ℕ) → beyond at ≡ None → at ≤ bound
+beyond_none at e = ⊎_elim
+    (λ yes. grind (arith, nat_tests, yes))
+    (λ no. let f : Some ValueOutOfRange ≡ None = sym (cond-false _ _ _ no) ∙ e in cc)
+    (cases_Bool (nat_le at bound))
+
+-- ---- items
+pub record ItemStands (item : StorageItem) (at : ℕ) : Type 0 where
+  pub begins : at ≤ item_start item at
+  pub multiple : item_start item at % boundary_of item ≡ 0
+  pub ends : item_end item at ≡ item_start item at + constant_size item
+
+item_begins : (item : StorageItem) (at : ℕ) → item_end item at ≤ bound → at ≤ item_start item at
+item_begins (Err fault) at within = omega arith
+item_begins (Ok item) at within =
+    let behind : capped at ≤ item_start (Ok item) at = aligned_behind (alignment_of item) (capped at) (alignment_small item).0 in
+    let inside : at ≤ bound = capped_within at (omega (arith, behind, within)) in
+    omega (arith, behind, capped_same at inside)
+
+item_stands : (item : StorageItem) (at : ℕ) → item_end item at ≤ bound → ItemStands item at
+item_stands (Err fault) at within = record { begins = omega arith; multiple = omega arith; ends = omega arith }
+item_stands (Ok item) at within =
+    record {
+      begins = item_begins (Ok item) at within;
+      multiple = aligned_multiple (alignment_of item) (capped at);
+      ends = ap (λ n. item_start (Ok item) at + n) (capped_same (size_of item) (capped_within (size_of item) (omega (arith, within))));
+    }
+
+items_end : (items : List StorageItem) (at : ℕ) → end_from items at ≤ bound → at ≤ end_from items at
+items_end [] at within = omega arith
+items_end (item ∷ items) at within =
+    let rest : item_end item at ≤ end_from items (item_end item at) = items_end items (item_end item at) within in
+    let one = item_stands item at (omega (arith, rest, within)) in
+    omega (arith, one.begins, one.ends, rest)
+
+items_stand : (items : List StorageItem) (at : ℕ) → end_from items at ≤ bound → ItemsStand at items (offsets_from items at) (end_from items at)
+items_stand [] at within = refl
+items_stand (item ∷ items) at within =
+    let rest : item_end item at ≤ end_from items (item_end item at) = items_end items (item_end item at) within in
+    let one = item_stands item at (omega (arith, rest, within)) in
+    (one.begins, one.multiple, subst (λ n. ItemsStand n items (offsets_from items (item_end item at)) (end_from items (item_end item at))) one.ends (items_stand items (item_end item at) within))
+
+first_begins : (items : List StorageItem) (at : ℕ) → end_from items at ≤ bound → (at ≤ first_start items at) × (first_start items at ≤ end_from items at)
+first_begins [] at within = (omega arith, omega arith)
+first_begins (item ∷ items) at within =
+    let rest : item_end item at ≤ end_from items (item_end item at) = items_end items (item_end item at) within in
+    let one = item_stands item at (omega (arith, rest, within)) in
+    (one.begins, omega (arith, one.ends, rest))
+
+-- ---- statements
+bytes_begin : (boundary size length at : ℕ) → 1 ≤ boundary → (at ≤ (bytes_at boundary size length at).offset) × ((bytes_at boundary size length at).offset ≤ (bytes_at boundary size length at).end)
+bytes_begin boundary size length at positive = (aligned_behind boundary at positive, omega arith)
+
+pub pool_begins : (extent : Option ℕ) (at : ℕ) → (at ≤ (pool_at extent at).offset) × ((pool_at extent at).offset ≤ (pool_at extent at).end)
+pool_begins None at = (omega arith, omega arith)
+pool_begins (Some size) at = bytes_begin 8 size 1 at (omega arith)
+
+-- what a statement takes begins at or behind the offset before it, and ends at or behind its beginning
+pub laid_begins : (role : Role) (operands : List (List ℕ)) (extent : Option ℕ) (at : ℕ) → (laid role operands extent at).end ≤ bound
+    → (at ≤ (laid role operands extent at).offset) × ((laid role operands extent at).offset ≤ (laid role operands extent at).end)
+unfolding laid
+laid_begins (Instruction size) operands extent at within = bytes_begin 2 (capped size) size at (omega arith)
+laid_begins (Storage is_ds) operands extent at within = first_begins (items_in is_ds operands) at within
+laid_begins Pool operands extent at within = pool_begins extent at
+laid_begins Unknown operands extent at within = (omega arith, omega arith)
+laid_begins Control operands extent at within = (omega arith, omega arith)
+laid_begins Dummy operands extent at within = (omega arith, omega arith)
+laid_begins Equate operands extent at within = (omega arith, omega arith)
+laid_begins Registers operands extent at within = (omega arith, omega arith)
+laid_begins Member operands extent at within = (omega arith, omega arith)
+laid_begins Nothing operands extent at within = (omega arith, omega arith)
+
+pub lower_none : (one other : Option FaultKind) → lower one other ≡ None → (one ≡ None) × (other ≡ None)
+lower_none None other e = (refl, e)
+lower_none (Some one) None e = cc
+lower_none (Some one) (Some other) e = cc
+
+pool_within : (extent : Option ℕ) (at : ℕ) → at ≤ bound → (pool_at extent at).fault ≡ None → (pool_at extent at).end ≤ bound
+pool_within None at inside e = inside
+pool_within (Some size) at inside e = beyond_none _ e
+
+-- without a fault it ends within the bound
+pub laid_within : (role : Role) (operands : List (List ℕ)) (extent : Option ℕ) (at : ℕ) → at ≤ bound → (laid role operands extent at).fault ≡ None
+    → (laid role operands extent at).end ≤ bound
+unfolding laid
+laid_within (Instruction size) operands extent at inside e = beyond_none _ e
+laid_within (Storage is_ds) operands extent at inside e = beyond_none _ (lower_none (items_fault (items_in is_ds operands)) (beyond (end_from (items_in is_ds operands) at)) e).1
+laid_within Pool operands extent at inside e = pool_within extent at inside e
+laid_within Unknown operands extent at inside e = inside
+laid_within Control operands extent at inside e = inside
+laid_within Dummy operands extent at inside e = inside
+laid_within Equate operands extent at inside e = inside
+laid_within Registers operands extent at inside e = inside
+laid_within Member operands extent at inside e = inside
+laid_within Nothing operands extent at inside e = inside
+
+pub pool_apart : (pool : Pooled) (at : ℕ) → IsPool pool → (pool_at (pool_extent pool) at).end ≤ bound
+    → StandApart (pool_at (pool_extent pool) at).offset (placed (capped (pool_at (pool_extent pool) at).offset) pool) (pool_at (pool_extent pool) at).end
+pool_apart [] at is within = no_pool_stands at
+pool_apart (e ∷ es) at is within =
+    subst (λ n. StandApart (aligned 8 at) (placed n (e ∷ es)) (aligned 8 at + pool_size (e ∷ es))) (sym (capped_same (aligned 8 at) (omega (arith, within))))
+    (pool_stands (e ∷ es) (aligned 8 at) is (aligned_multiple 8 at) within)
+
+stands_at : (role : Role) (operands : List (List ℕ)) (pool : Pooled) (at : ℕ) → IsPool pool → (laid role operands (pool_extent pool) at).end ≤ bound
+    → Stands role operands pool at (laid role operands (pool_extent pool) at)
+unfolding laid
+stands_at (Instruction size) operands pool at is within =
+    (aligned_behind 2 at (omega arith), aligned_multiple 2 at,
+    ap (λ n. aligned 2 at + n) (capped_same size (capped_within size (omega (arith, within)))))
+stands_at (Storage is_ds) operands pool at is within = items_stand (items_in is_ds operands) at within
+stands_at Pool operands pool at is within = ((pool_begins (pool_extent pool) at).0, pool_apart pool at is within)
+stands_at Unknown operands pool at is within = (refl, refl)
+stands_at Control operands pool at is within = (refl, refl)
+stands_at Dummy operands pool at is within = (refl, refl)
+stands_at Equate operands pool at is within = (refl, refl)
+stands_at Registers operands pool at is within = (refl, refl)
+stands_at Member operands pool at is within = (refl, refl)
+stands_at Nothing operands pool at is within = (refl, refl)
+
+-- what a statement takes from a capped offset on stands from that offset itself
+pub laid_stands : (role : Role) (operands : List (List ℕ)) (pool : Pooled) (from : ℕ) → IsPool pool → (laid role operands (pool_extent pool) (capped from)).end ≤ bound
+    → Stands role operands pool from (laid role operands (pool_extent pool) (capped from))
+laid_stands role operands pool from is within =
+    let order = laid_begins role operands (pool_extent pool) (capped from) within in
+    let inside : from ≤ bound = capped_within from (omega (arith, order.0, order.1, within)) in
+    subst (λ n. Stands role operands pool n (laid role operands (pool_extent pool) (capped from))) (capped_same from inside)
+    (stands_at role operands pool (capped from) is within)

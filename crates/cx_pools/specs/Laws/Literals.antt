@@ -1,0 +1,24 @@
+-- How the literals of a pool stand (GC33-4010, "Literal Pool").
+use Rattle.std.specs.Prelude.{◌≡◌, ◌≤◌, ℕ, ◌+◌, ◌%◌, List, [], ◌∷◌}
+use Rattle.std.specs.List.{AllByRecursion, IsDistinct}
+use Rattle.std.specs.Map.{keys_of}
+use Rattle.std.specs.Str.{bytes_eq}
+use Rattle.cx_pools.specs.Pools.{Pooled, Placed, group_of, literal_size}
+
+-- The literals of an open pool: each text once, with the size that it writes.
+pub record IsPool (pool : Pooled) : Type 0 where
+  pub once : IsDistinct bytes_eq (keys_of pool)
+  pub sizes : AllByRecursion (λ e. e.1.size ≡ literal_size e.0) pool
+
+-- Literals of a group and those below it that stand from an offset to an end: each at the end of the one before it, on a multiple of its
+-- own group, which isn't above the one before it.
+abbrev pub StandFrom : ℕ → ℕ → Placed → ℕ → Type 0
+StandFrom group from [] end = from ≡ end
+StandFrom group from (e ∷ es) end =
+    (e.1.offset ≡ from) × (from % group_of (literal_size e.0) ≡ 0) × (group_of (literal_size e.0) ≤ group)
+    × StandFrom (group_of (literal_size e.0)) (from + literal_size e.0) es end
+
+-- A pool from an offset to an end: each text once, and the literals of its groups one behind the other.
+pub record StandApart (from : ℕ) (pool : Placed) (end : ℕ) : Type 0 where
+  pub once : IsDistinct bytes_eq (keys_of pool)
+  pub stand : StandFrom 8 from pool end
