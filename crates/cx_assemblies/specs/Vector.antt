@@ -17,7 +17,7 @@ abbrev pub here_for : Op → Value
 here_for op = record { section = symbol_name (codes "P"); number = pos 0; length = length_of op }
 
 abbrev pub context_for : Op → Context
-context_for op = context [] (Some (here_for op)) none_in_use None
+context_for op = context (λ name. None) (Some (here_for op)) none_in_use None
 
 abbrev pub bytes_of : Result Instruction FaultKind → Option (List ℕ)
 bytes_of (Ok made) = Some (spelling made)

@@ -1,8 +1,7 @@
 -- How much working storage a program has (this product's own).
-use Rattle.std.specs.Prelude.{ℕ, Option, Some, None, min, max}
+use Rattle.std.specs.Prelude.{ℕ, min, max}
 
--- The length of the DSECT DFHEISTG, but 80 where there is none or it is shorter. From 65,521 on, which no image may have, it is
--- 65,521.
-abbrev pub storage_length : Option ℕ → ℕ
-storage_length None = 80
-storage_length (Some length) = max 80 (min length 65521)
+-- The length of the DSECT DFHEISTG, 0 where there is none, but 80 where it is shorter. From 65,521 on, which no image may have, it
+-- is 65,521.
+abbrev pub working_storage : ℕ → ℕ
+working_storage length = max 80 (min length 65521)

@@ -13,4 +13,4 @@ pub use assembled::Assembled;
 pub use listing::listing_line;
 pub use relocated::push_words;
 pub use resolved::{LARGEST_TEXT, ResolvedLines};
-pub use storage::storage_length;
+pub use storage::working_storage;

@@ -1,6 +1,6 @@
 //! Sections of lines.
 use cx_code::{Bytes, Line, Offsets, What, decode};
-use cx_image::{Assembled, LARGEST_TEXT, ResolvedLines, storage_length};
+use cx_image::{Assembled, LARGEST_TEXT, ResolvedLines, working_storage};
 use std::alloc::{AllocError, Global};
 use std::test::Fail;
 
@@ -74,7 +74,6 @@ fn the_largest_text_is_made(rt: HostRuntime) {
 
 #[test]
 fn working_storage_is_from_80_to_65_521(rt: HostRuntime) {
-    assert!(rt; storage_length(None) == 80);
     let lengths: [(u128, u32); 8] = [
         (0, 80),
         (79, 80),
@@ -86,6 +85,6 @@ fn working_storage_is_from_80_to_65_521(rt: HostRuntime) {
         (1 << 100, 65_521),
     ];
     for (length, stg_len) in lengths {
-        assert!(rt; storage_length(Some(length)) == stg_len);
+        assert!(rt; working_storage(length) == stg_len);
     }
 }

@@ -4,7 +4,6 @@ use Rattle.std.specs.Prelude.{Result, unsigned_abs, option_and_then}
 use Rattle.std.proofs.lemmas.Bool.Decides.{nat_tests}
 use Rattle.cx_terms.specs.Digits.{bound}
 use Rattle.cx_terms.specs.Terms.{Term, terms_of}
-use Rattle.cx_terms.specs.Symbols.{find_in}
 use Rattle.cx_terms.specs.Weights.{relocation}
 use Rattle.cx_terms.specs.Expressions.{within_bound, with_sign, sum_from, located, leading_length, summed, unless, lowest_fault, values_of, valued, value_of}
 use Rattle.cx_terms.specs.declared.values.Value.{Value}
@@ -12,7 +11,6 @@ use Rattle.cx_terms.specs.declared.expressions.Signed.{Signed}
 use Rattle.cx_terms.specs.declared.faults.FaultKind.{FaultKind}
 use Rattle.cx_operands.specs.Judging.{judged}
 use Rattle.cx_operands.specs.Directives.{place_at, place_in}
-use Rattle.cx_operands.specs.Context.{Context, worth}
 
 within_small : (t n : ℤ) → within_bound t ≡ Some n → unsigned_abs n ≤ bound
 within_small t n e = grind (arith, nat_tests)
@@ -46,9 +44,9 @@ valued_small : (find : List ℕ → Option Value) (here : Option Value) (terms :
 valued_small find here None v e = cc
 valued_small find here (Some terms) v e = unless_small (lowest_fault find here terms) (values_of find here terms) v e
 
-pub worth_small : (c : Context) (text : List ℕ) (v : Value) → worth c text ≡ Ok v → unsigned_abs v.number ≤ bound
+pub worth_small : (find : List ℕ → Option Value) (here : Option Value) (text : List ℕ) (v : Value) → value_of find here text ≡ Ok v → unsigned_abs v.number ≤ bound
 unfolding value_of
-worth_small c text v e = valued_small (find_in c.symbols) c.here (terms_of text) v e
+worth_small find here text v e = valued_small find here (terms_of text) v e
 
 place_number : (section : Option (List ℕ)) (number : ℤ) (p : List ℕ × ℤ) → place_at section number ≡ Ok p → number ≡ p.1
 place_number None number p e = cc
@@ -61,5 +59,6 @@ judged_place (Ok v) p small e =
     rw same at low
 judged_place (Err fault) p small e = cc
 
-pub place_small : (c : Context) (text : List ℕ) (p : List ℕ × ℤ) → judged place_in (worth c text) ≡ Ok p → unsigned_abs p.1 ≤ 2 ^ 100
-place_small c text p e = judged_place (worth c text) p (worth_small c text) e
+pub place_small : (find : List ℕ → Option Value) (here : Option Value) (text : List ℕ) (p : List ℕ × ℤ) → judged place_in (value_of find here text) ≡ Ok p
+    → unsigned_abs p.1 ≤ 2 ^ 100
+place_small find here text p e = judged_place (value_of find here text) p (worth_small find here text) e

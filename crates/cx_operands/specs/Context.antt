@@ -8,19 +8,32 @@ use Rattle.cx_terms.specs.declared.faults.FaultKind.TheVariants.{BadOperand, Val
 use Rattle.cx_operands.specs.Judging.{judged}
 use Rattle.cx_operands.specs.Bases.{Bases}
 
--- What a statement's operands are read by: the symbols, what the location counter stands at, the bases in use, and the place of the statement's literal, if it has one.
+-- What a statement's operands are read by: what each symbol is worth, what the location counter stands at, the bases in use, and the place of the statement's literal, if it has one.
 pub record Context : Type 0 where
+  pub find : List ℕ → Option Value
+  pub here : Option Value
+  pub bases : Bases
+  pub literal : Option Value
+
+abbrev pub context : (List ℕ → Option Value) → Option Value → Bases → Option Value → Context
+context find here bases literal = record { find = find; here = here; bases = bases; literal = literal }
+
+-- the same with a table of symbols, and what it tells
+pub record Given : Type 0 where
   pub symbols : Symbols
   pub here : Option Value
   pub bases : Bases
   pub literal : Option Value
 
-abbrev pub context : Symbols → Option Value → Bases → Option Value → Context
-context symbols here bases literal = record { symbols = symbols; here = here; bases = bases; literal = literal }
+abbrev pub given : Symbols → Option Value → Bases → Option Value → Given
+given symbols here bases literal = record { symbols = symbols; here = here; bases = bases; literal = literal }
+
+abbrev pub told : Given → Context
+told g = context (find_in g.symbols) g.here g.bases g.literal
 
 -- what an expression is worth
 abbrev pub worth : Context → List ℕ → Result Value FaultKind
-worth c text = value_of (find_in c.symbols) c.here text
+worth c text = value_of c.find c.here text
 
 -- A number is absolute, and 0 to so much.
 abbrev pub number_to : ℕ → Option (List ℕ) → ℤ → Result ℕ FaultKind

@@ -1,5 +1,5 @@
 -- The operands of USING, DROP, END and COPY (GC33-4010, under these names).
-use Rattle.std.specs.Prelude.{ℕ, ℤ, pos, int_le, unsigned_abs, ◌&&◌, ◌==◌, if◌then◌else◌, Option, Some, None, Result, Ok, Err, List, ◌∷◌, length, map, codes}
+use Rattle.std.specs.Prelude.{ℕ, ℤ, pos, int_le, unsigned_abs, ◌&&◌, ◌==◌, Bool, true, false, if◌then◌else◌, Option, Some, None, Result, Ok, Err, List, ◌∷◌, length, map, codes}
 use Rattle.std.specs.List.{filter_map}
 use Rattle.std.specs.Result.{result_ok, result_err}
 use Rattle.std.specs.Str.{bytes_eq}
@@ -65,6 +65,12 @@ unfoldable pub bases_behind : Operation → Context → List ℕ → Bases
 bases_behind (operation.Directive directive.Using) c operand = bases_behind_using (using_in c operand) c.bases
 bases_behind (operation.Directive directive.Drop) c operand = bases_behind_drop (drop_in c operand) c.bases
 bases_behind operation c operand = c.bases
+
+-- USING and DROP alone change them.
+abbrev pub changes_bases : Operation → Bool
+changes_bases (operation.Directive directive.Using) = true
+changes_bases (operation.Directive directive.Drop) = true
+changes_bases operation = false
 
 -- the fault of a statement's operand as far as it is a USING's or a DROP's
 abbrev pub bases_fault : Operation → Context → List ℕ → Option FaultKind

@@ -3,7 +3,7 @@
 ghost use Rattle.std.specs.Prelude.{◌≡◌, ◌≤◌, IfOk, length};
 ghost use Rattle.std.specs.Option.{option_copied};
 ghost use Rattle.cx_operands.specs.Judging.{judged};
-ghost use Rattle.cx_operands.specs.Context.{context, number_at_most, number_in, register_in, worth};
+ghost use Rattle.cx_operands.specs.Context.{given, number_at_most, number_in, register_in, told, worth};
 
 use crate::bases::Bases;
 use crate::judging::Judged;
@@ -23,11 +23,11 @@ pub struct Context<'a> {
 
 impl<'a> Model for Context<'a> {
     ghost use Rattle.std.specs.Prelude.{◌≡◌, length};
-    ghost use Rattle.cx_operands.specs.Context.{Context as ContextValue, context};
+    ghost use Rattle.cx_operands.specs.Context.{Given, given};
 
-    ghost Value = { ContextValue };
+    ghost Value = { Given };
 
-    ghost view = { λ s. context s.symbols.now s.here s.bases.now s.literal };
+    ghost view = { λ s. given s.symbols.now s.here s.bases.now s.literal };
 
     ghost invariant = { λ s. length s.bases.now ≡ 16 };
 }
@@ -70,7 +70,7 @@ impl<'a> Context<'a> {
         bases: &'a Bases,
         literal: Option<Value>,
     ) -> Context<'a>
-        ensures { result ≡ context symbols.now here bases.now literal }
+        ensures { result ≡ given symbols.now here bases.now literal }
     {
         let _held = bases.as_slice();
         Context {
@@ -98,7 +98,7 @@ impl<'a> Context<'a> {
 
     /// What an expression is worth.
     pub(crate) fn worth(&self, alloc: Global, text: &[u8]) -> Judged<Value>
-        ensures { IfOk result (λ found. found ≡ worth self.now text.now) }
+        ensures { IfOk result (λ found. found ≡ worth (told self.now) text.now) }
     {
         match value_of(alloc, text, self.symbols, self.here.as_ref()) {
             Ok(value) => Ok(Ok(value)),
@@ -110,7 +110,7 @@ impl<'a> Context<'a> {
     /// The number, 0 to so much, that an operand is.
     #[tactic(auto, unfolding(crate::specs::Context::number_in))]
     pub(crate) fn number(&self, alloc: Global, text: &[u8], most: u16) -> Judged<u16>
-        ensures { IfOk result (λ found. found ≡ number_in most self.now text.now) }
+        ensures { IfOk result (λ found. found ≡ number_in most (told self.now) text.now) }
     {
         match self.worth(alloc, text) {
             Ok(worth) => Ok(number_of(most, worth)),
@@ -121,7 +121,7 @@ impl<'a> Context<'a> {
     /// The number, 0 to 255, that an immediate operand is.
     #[tactic(auto, using(crate::proofs::FitLemmas::number_fits))]
     pub(crate) fn byte(&self, alloc: Global, text: &[u8], most: u8) -> Judged<u8>
-        ensures { IfOk result (λ found. found ≡ number_in most self.now text.now) }
+        ensures { IfOk result (λ found. found ≡ number_in most (told self.now) text.now) }
     {
         match self.number(alloc, text, u16::from(most))? {
             Ok(number) => Ok(Ok(number as u8)),
@@ -131,7 +131,7 @@ impl<'a> Context<'a> {
 
     /// The register, or the mask, that an operand is.
     pub(crate) fn register(&self, alloc: Global, text: &[u8]) -> Judged<u8>
-        ensures { IfOk result (λ found. found ≡ register_in self.now text.now) }
+        ensures { IfOk result (λ found. found ≡ register_in (told self.now) text.now) }
     {
         self.byte(alloc, text, 15)
     }

@@ -1,13 +1,14 @@
 //! The operands of USING, DROP, END and COPY.
 
-ghost use Rattle.std.specs.Prelude.{◌≡◌, ◌≤◌, ◌^◌, ◌++◌, [], None, IfOk, OnOk, OnErr, map, option_map, unsigned_abs};
+ghost use Rattle.std.specs.Prelude.{◌≡◌, ◌≤◌, ◌^◌, ◌++◌, [], None, IfOk, IsOk, OnOk, OnErr, false, length, map, option_map, unsigned_abs};
 ghost use Rattle.std.specs.List.{cons_option};
 ghost use Rattle.std.specs.Result.{result_err, result_ok};
 ghost use Rattle.cx_terms.specs.Expressions.{Answers};
+ghost use Rattle.cx_terms.specs.Symbols.{find_in};
 ghost use Rattle.cx_terms.specs.Weights.{stands_in};
 ghost use Rattle.cx_operands.specs.Judging.{both, judged, made_of};
-ghost use Rattle.cx_operands.specs.Context.{context, register_in, worth};
-ghost use Rattle.cx_operands.specs.Directives.{bases_behind, bases_behind_drop, bases_behind_using, bases_fault, copy_fault, drop_in, entry_in, entry_of, place_in, registers_in, using_by, using_in, using_of};
+ghost use Rattle.cx_operands.specs.Context.{context, register_in, told, worth};
+ghost use Rattle.cx_operands.specs.Directives.{bases_behind, bases_behind_drop, bases_behind_using, bases_fault, changes_bases, copy_fault, drop_in, entry_in, entry_of, place_in, registers_in, using_by, using_in, using_of};
 
 use crate::bases::{Bases, Dropped, Using};
 use crate::context::Context;
@@ -28,8 +29,8 @@ fn put_register(
     text: &[u8],
     found: &mut Vec<u8>,
 ) -> Result<Option<FaultKind>, AllocError>
-    ensures fault { IfOk result (λ fault. fault ≡ result_err (register_in c.now text.now)) }
-    ensures put { OnOk result (found.new.items ≡ found.old.items ++ cons_option (result_ok (register_in c.now text.now)) []) }
+    ensures fault { IfOk result (λ fault. fault ≡ result_err (register_in (told c.now) text.now)) }
+    ensures put { OnOk result (found.new.items ≡ found.old.items ++ cons_option (result_ok (register_in (told c.now) text.now)) []) }
 {
     match c.register(alloc, text)? {
         Ok(register) => {
@@ -43,7 +44,7 @@ fn put_register(
 /// The registers that operands name, or their lowest fault.
 #[tactic(auto, unfolding(crate::specs::Directives::registers_in))]
 fn registers_in(alloc: Global, c: &Context<'_>, texts: &[&[u8]]) -> Judged<Vec<u8>>
-    ensures { IfOk result (λ found. made_of (λ registers. registers.items) found ≡ registers_in c.now (map (λ text. text.now) texts.now)) }
+    ensures { IfOk result (λ found. made_of (λ registers. registers.items) found ≡ registers_in (told c.now) (map (λ text. text.now) texts.now)) }
 {
     let mut found = Vec::new(alloc);
     let mut fault = None;
@@ -77,7 +78,7 @@ fn place_of(worth: Result<Value, FaultKind>) -> Result<(Name8, i128), FaultKind>
 /// The place that the operand of a USING is.
 #[tactic(auto, using(crate::proofs::SmallLemmas::place_small))]
 fn base_of(alloc: Global, c: &Context<'_>, text: &[u8]) -> Judged<(Name8, i128)>
-    ensures place { IfOk result (λ found. found ≡ judged place_in (worth c.now text.now)) }
+    ensures place { IfOk result (λ found. found ≡ judged place_in (worth (told c.now) text.now)) }
     ensures small { IfOk result (λ found. IfOk found (λ place. unsigned_abs place.1 ≤ 2 ^ 100)) }
 {
     match c.worth(alloc, text) {
@@ -88,7 +89,7 @@ fn base_of(alloc: Global, c: &Context<'_>, text: &[u8]) -> Judged<(Name8, i128)>
 
 /// What the operands of a USING say.
 fn using_of(alloc: Global, c: &Context<'_>, operands: &[&[u8]]) -> Judged<Using>
-    ensures { IfOk result (λ found. found ≡ using_of c.now (map (λ text. text.now) operands.now)) }
+    ensures { IfOk result (λ found. found ≡ using_of (told c.now) (map (λ text. text.now) operands.now)) }
 {
     let Some((base, registers)) = operands.split_first() else {
         return Ok(Err(FaultKind::BadOperand));
@@ -140,7 +141,7 @@ pub fn copy_fault(operand: &[u8]) -> Option<FaultKind>
 /// expressions. Memory comes only where a growth was refused.
 #[tactic(auto, unfolding(crate::specs::Directives::using_in))]
 pub fn read_using(alloc: Global, c: &Context<'_>, operand: &[u8]) -> Result<Using, TermFault>
-    ensures { Answers (using_in c.now operand.now) result }
+    ensures { Answers (using_in (told c.now) operand.now) result }
 {
     let operands = cut(alloc, operand, Mark::TopComma)?;
     match using_of(alloc, c, operands.as_slice()) {
@@ -153,10 +154,11 @@ pub fn read_using(alloc: Global, c: &Context<'_>, operand: &[u8]) -> Result<Usin
 /// Reads the operand of a DROP: registers, or nothing (GC33-4010, "DROP -- Drop Base Register").
 ///
 /// The lowest fault of all operands is answered: BadOperand for a relocatable register, ValueOutOfRange for one outside 0
-/// to 15, and the faults of their expressions. Memory comes only where a growth was refused.
+/// to 15, and the faults of their expressions. Memory comes only where a growth was refused; an empty operand takes none.
 #[tactic(auto, unfolding(crate::specs::Directives::drop_in))]
 pub fn read_drop(alloc: Global, c: &Context<'_>, operand: &[u8]) -> Result<Dropped, TermFault>
-    ensures { Answers (drop_in c.now operand.now) result }
+    ensures drop { Answers (drop_in (told c.now) operand.now) result }
+    ensures empty { length operand.now ≡ 0 → IsOk result }
 {
     if operand.is_empty() {
         return Ok(Dropped::new(None));
@@ -209,7 +211,8 @@ pub fn read_entry(
     control: Option<Name8>,
     operand: &[u8],
 ) -> Result<u32, TermFault>
-    ensures { Answers (entry_in control c.now operand.now) result }
+    ensures entry { Answers (entry_in control (told c.now) operand.now) result }
+    ensures empty { length operand.now ≡ 0 → IsOk result }
 {
     if operand.is_empty() {
         return Ok(0);
@@ -233,8 +236,8 @@ impl Bases {
         here: Option<Value>,
         operand: &[u8],
     ) -> Result<Option<FaultKind>, AllocError>
-        ensures bases { OnOk result (self.new ≡ bases_behind_using (using_in (context symbols.now here self.old None) operand.now) self.old) }
-        ensures fault { IfOk result (λ fault. fault ≡ result_err (using_in (context symbols.now here self.old None) operand.now)) }
+        ensures bases { OnOk result (self.new ≡ bases_behind_using (using_in (context (find_in symbols.now) here self.old None) operand.now) self.old) }
+        ensures fault { IfOk result (λ fault. fault ≡ result_err (using_in (context (find_in symbols.now) here self.old None) operand.now)) }
         ensures err { OnErr result (self.new ≡ self.old) }
     {
         let read = {
@@ -259,8 +262,8 @@ impl Bases {
         here: Option<Value>,
         operand: &[u8],
     ) -> Result<Option<FaultKind>, AllocError>
-        ensures bases { OnOk result (self.new ≡ bases_behind_drop (drop_in (context symbols.now here self.old None) operand.now) self.old) }
-        ensures fault { IfOk result (λ fault. fault ≡ result_err (drop_in (context symbols.now here self.old None) operand.now)) }
+        ensures bases { OnOk result (self.new ≡ bases_behind_drop (drop_in (context (find_in symbols.now) here self.old None) operand.now) self.old) }
+        ensures fault { IfOk result (λ fault. fault ≡ result_err (drop_in (context (find_in symbols.now) here self.old None) operand.now)) }
         ensures err { OnErr result (self.new ≡ self.old) }
     {
         let read = {
@@ -291,8 +294,9 @@ impl Bases {
         operation: Operation,
         operand: &[u8],
     ) -> Result<Option<FaultKind>, AllocError>
-        ensures bases { OnOk result (self.new ≡ bases_behind operation (context symbols.now here self.old None) operand.now) }
-        ensures fault { IfOk result (λ fault. fault ≡ bases_fault operation (context symbols.now here self.old None) operand.now) }
+        ensures bases { OnOk result (self.new ≡ bases_behind operation (context (find_in symbols.now) here self.old None) operand.now) }
+        ensures fault { IfOk result (λ fault. fault ≡ bases_fault operation (context (find_in symbols.now) here self.old None) operand.now) }
+        ensures others { changes_bases operation ≡ false → IsOk result }
         ensures err { OnErr result (self.new ≡ self.old) }
     {
         match operation {

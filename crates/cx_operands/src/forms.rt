@@ -1,10 +1,13 @@
 //! The operands of instructions, by format.
 
-ghost use Rattle.std.specs.Prelude.{◌≡◌, ◌≤◌, IfOk, map, false, option_map};
+ghost use Rattle.std.specs.Prelude.{◌≡◌, ◌≤◌, Err, IfOk, None, map, false, option_map};
 ghost use Rattle.cx_terms.specs.Expressions.{Answers};
 ghost use Rattle.cx_code.specs.Spelling.{instruction, IsWellFormed};
+ghost use Rattle.cx_terms.specs.declared.faults.FaultKind.TheVariants as FaultKind;
+ghost use Rattle.cx_terms.specs.declared.faults.TermFault.TheVariants.{Refused};
+ghost use Rattle.cx_operations.specs.Operations.{base_row};
 ghost use Rattle.cx_operands.specs.Judging.{both};
-ghost use Rattle.cx_operands.specs.Context.{register_in};
+ghost use Rattle.cx_operands.specs.Context.{register_in, told};
 ghost use Rattle.cx_operands.specs.Storage.{plain_in};
 ghost use Rattle.cx_operands.specs.declared.forms.Form.TheVariants as form;
 ghost use Rattle.cx_operands.specs.Forms.{fields_in, form_of, form_of_op, literal_in, literal_of, operands_of, resolved};
@@ -50,7 +53,7 @@ pub enum Form {
 /// `R1,R2`.
 #[tactic(auto, unfolding(crate::specs::Forms::fields_in))]
 fn registers(alloc: Global, c: &Context<'_>, operands: &[&[u8]]) -> Judged<Fields>
-    ensures { IfOk result (λ found. found ≡ fields_in form.Registers c.now (map (λ text. text.now) operands.now)) }
+    ensures { IfOk result (λ found. found ≡ fields_in form.Registers (told c.now) (map (λ text. text.now) operands.now)) }
 {
     let [r1, r2] = operands else {
         return Ok(Err(FaultKind::BadOperand));
@@ -64,7 +67,7 @@ fn registers(alloc: Global, c: &Context<'_>, operands: &[&[u8]]) -> Judged<Field
 /// `R1,S2`, `R1,S2(X2)`, `R1,D2(X2,B2)` or `R1,literal`.
 #[tactic(auto, unfolding(crate::specs::Forms::fields_in))]
 fn indexed(alloc: Global, c: &Context<'_>, operands: &[&[u8]]) -> Judged<Fields>
-    ensures { IfOk result (λ found. found ≡ fields_in form.Indexed c.now (map (λ text. text.now) operands.now)) }
+    ensures { IfOk result (λ found. found ≡ fields_in form.Indexed (told c.now) (map (λ text. text.now) operands.now)) }
 {
     let [r1, s2] = operands else {
         return Ok(Err(FaultKind::BadOperand));
@@ -82,7 +85,7 @@ fn indexed(alloc: Global, c: &Context<'_>, operands: &[&[u8]]) -> Judged<Fields>
 
 /// `R3,S2` or `R3,D2(B2)`, behind the first operand.
 fn behind_first(alloc: Global, c: &Context<'_>, r3: &[u8], s2: &[u8]) -> Judged<(u8, Address)>
-    ensures { IfOk result (λ found. found ≡ both (register_in c.now r3.now) (plain_in false c.now s2.now)) }
+    ensures { IfOk result (λ found. found ≡ both (register_in (told c.now) r3.now) (plain_in false (told c.now) s2.now)) }
 {
     Ok(both(c.register(alloc, r3)?, plain_in(alloc, false, c, s2)?))
 }
@@ -90,7 +93,7 @@ fn behind_first(alloc: Global, c: &Context<'_>, r3: &[u8], s2: &[u8]) -> Judged<
 /// `R1,R3,S2` or `R1,R3,D2(B2)`.
 #[tactic(auto, unfolding(crate::specs::Forms::fields_in))]
 fn three_operands(alloc: Global, c: &Context<'_>, operands: &[&[u8]]) -> Judged<Fields>
-    ensures { IfOk result (λ found. found ≡ fields_in form.ThreeOperands c.now (map (λ text. text.now) operands.now)) }
+    ensures { IfOk result (λ found. found ≡ fields_in form.ThreeOperands (told c.now) (map (λ text. text.now) operands.now)) }
 {
     let [r1, r3, s2] = operands else {
         return Ok(Err(FaultKind::BadOperand));
@@ -109,7 +112,7 @@ fn three_operands(alloc: Global, c: &Context<'_>, operands: &[&[u8]]) -> Judged<
 /// `R1,S2` or `R1,D2(B2)`.
 #[tactic(auto, unfolding(crate::specs::Forms::fields_in))]
 fn shift(alloc: Global, c: &Context<'_>, operands: &[&[u8]]) -> Judged<Fields>
-    ensures { IfOk result (λ found. found ≡ fields_in form.Shift c.now (map (λ text. text.now) operands.now)) }
+    ensures { IfOk result (λ found. found ≡ fields_in form.Shift (told c.now) (map (λ text. text.now) operands.now)) }
 {
     let [r1, s2] = operands else {
         return Ok(Err(FaultKind::BadOperand));
@@ -128,7 +131,7 @@ fn shift(alloc: Global, c: &Context<'_>, operands: &[&[u8]]) -> Judged<Fields>
 /// `S1,I2` or `D1(B1),I2`.
 #[tactic(auto, unfolding(crate::specs::Forms::fields_in))]
 fn immediate(alloc: Global, c: &Context<'_>, operands: &[&[u8]]) -> Judged<Fields>
-    ensures { IfOk result (λ found. found ≡ fields_in form.Immediate c.now (map (λ text. text.now) operands.now)) }
+    ensures { IfOk result (λ found. found ≡ fields_in form.Immediate (told c.now) (map (λ text. text.now) operands.now)) }
 {
     let [s1, i2] = operands else {
         return Ok(Err(FaultKind::BadOperand));
@@ -146,7 +149,7 @@ fn immediate(alloc: Global, c: &Context<'_>, operands: &[&[u8]]) -> Judged<Field
 /// `S1,S2`, `S1(L),S2` or `D1(L,B1),D2(B2)`, the second also a literal.
 #[tactic(auto, unfolding(crate::specs::Forms::fields_in))]
 fn one_length(alloc: Global, c: &Context<'_>, operands: &[&[u8]]) -> Judged<Fields>
-    ensures { IfOk result (λ found. found ≡ fields_in form.OneLength c.now (map (λ text. text.now) operands.now)) }
+    ensures { IfOk result (λ found. found ≡ fields_in form.OneLength (told c.now) (map (λ text. text.now) operands.now)) }
 {
     let [s1, s2] = operands else {
         return Ok(Err(FaultKind::BadOperand));
@@ -168,7 +171,7 @@ fn one_length(alloc: Global, c: &Context<'_>, operands: &[&[u8]]) -> Judged<Fiel
 /// `S1,S2`, `S1(L1),S2(L2)` or `D1(L1,B1),D2(L2,B2)`, the second also a literal.
 #[tactic(auto, unfolding(crate::specs::Forms::fields_in))]
 fn two_lengths(alloc: Global, c: &Context<'_>, operands: &[&[u8]]) -> Judged<Fields>
-    ensures { IfOk result (λ found. found ≡ fields_in form.TwoLengths c.now (map (λ text. text.now) operands.now)) }
+    ensures { IfOk result (λ found. found ≡ fields_in form.TwoLengths (told c.now) (map (λ text. text.now) operands.now)) }
 {
     let [s1, s2] = operands else {
         return Ok(Err(FaultKind::BadOperand));
@@ -191,7 +194,7 @@ fn two_lengths(alloc: Global, c: &Context<'_>, operands: &[&[u8]]) -> Judged<Fie
 /// `S2`, `S2(X2)`, `D2(X2,B2)` or a literal, behind a mask.
 #[tactic(auto, unfolding(crate::specs::Forms::fields_in))]
 fn branch(alloc: Global, c: &Context<'_>, operands: &[&[u8]], mask: u8) -> Judged<Fields>
-    ensures { IfOk result (λ found. found ≡ fields_in (form.Branch mask) c.now (map (λ text. text.now) operands.now)) }
+    ensures { IfOk result (λ found. found ≡ fields_in (form.Branch mask) (told c.now) (map (λ text. text.now) operands.now)) }
 {
     let [s2] = operands else {
         return Ok(Err(FaultKind::BadOperand));
@@ -210,7 +213,7 @@ fn branch(alloc: Global, c: &Context<'_>, operands: &[&[u8]], mask: u8) -> Judge
 /// `R2` behind a mask.
 #[tactic(auto, unfolding(crate::specs::Forms::fields_in))]
 fn register_branch(alloc: Global, c: &Context<'_>, operands: &[&[u8]], mask: u8) -> Judged<Fields>
-    ensures { IfOk result (λ found. found ≡ fields_in (form.RegisterBranch mask) c.now (map (λ text. text.now) operands.now)) }
+    ensures { IfOk result (λ found. found ≡ fields_in (form.RegisterBranch mask) (told c.now) (map (λ text. text.now) operands.now)) }
 {
     let [r2] = operands else {
         return Ok(Err(FaultKind::BadOperand));
@@ -253,7 +256,7 @@ impl Form {
 
     /// The fields that operands give an instruction of this form.
     fn fields_in(self, alloc: Global, c: &Context<'_>, operands: &[&[u8]]) -> Judged<Fields>
-        ensures { IfOk result (λ found. found ≡ fields_in self c.now (map (λ text. text.now) operands.now)) }
+        ensures { IfOk result (λ found. found ≡ fields_in self (told c.now) (map (λ text. text.now) operands.now)) }
     {
         match self {
             Form::Registers => registers(alloc, c, operands),
@@ -289,7 +292,7 @@ fn literal_of(text: Option<&[u8]>) -> Option<&[u8]>
 
 /// The fields that an operand gives an instruction of a form.
 fn fields_of(alloc: Global, c: &Context<'_>, form: Form, operand: &[u8]) -> Judged<Fields>
-    ensures { IfOk result (λ found. found ≡ fields_in form c.now (operands_of operand.now)) }
+    ensures { IfOk result (λ found. found ≡ fields_in form (told c.now) (operands_of operand.now)) }
 {
     let operands = cut(alloc, operand, Mark::TopComma)?;
     form.fields_in(alloc, c, operands.as_slice())
@@ -324,7 +327,8 @@ pub fn resolve(
     operation: Operation,
     operand: &[u8],
 ) -> Result<Inst, TermFault>
-    ensures { Answers (resolved operation c.now operand.now) result }
+    ensures resolved { Answers (resolved operation (told c.now) operand.now) result }
+    ensures no_row { base_row operation ≡ None → result ≡ Err (Refused FaultKind.UnknownOperation) }
 {
     let _bases = c.bases();
     let Some(op) = operation.op() else {

@@ -8,7 +8,7 @@ ghost use Rattle.cx_terms.specs.Items.{parenthesized_body};
 ghost use Rattle.cx_terms.specs.declared.faults.FaultKind.TheVariants as FaultKind;
 ghost use Rattle.cx_operands.specs.Judging.{judged};
 ghost use Rattle.cx_operands.specs.Addresses.{implied_address};
-ghost use Rattle.cx_operands.specs.Context.{worth};
+ghost use Rattle.cx_operands.specs.Context.{told, worth};
 ghost use Rattle.cx_operands.specs.Storage.{addressed, counted_by, counted_in, crowded, explicit_address, expression_and_list, implied_length, indexed, indexed_in, is_literal, length_field, operand_in, plain_in, subfields_of, worths_fault};
 
 use crate::addresses::Address;
@@ -103,7 +103,7 @@ impl<'a> Operand<'a> {
         c: &Context<'_>,
         text: &'a [u8],
     ) -> Result<Option<Operand<'a>>, AllocError>
-        ensures { IfOk result (λ found. found ≡ operand_in takes_literal c.now text.now) }
+        ensures { IfOk result (λ found. found ≡ operand_in takes_literal (told c.now) text.now) }
     {
         if is_literal(text) {
             if !takes_literal {
@@ -143,7 +143,7 @@ fn explicit_address(
     place: Result<Value, FaultKind>,
     base: &[u8],
 ) -> Judged<Address>
-    ensures { IfOk result (λ found. found ≡ explicit_address c.now place base.now) }
+    ensures { IfOk result (λ found. found ≡ explicit_address (told c.now) place base.now) }
 {
     let displacement = number_of(GREATEST, place);
     let base = c.register(alloc, base)?;
@@ -155,7 +155,7 @@ fn explicit_address(
 
 /// The fault of an expression, if it has one.
 fn fault_of(alloc: Global, c: &Context<'_>, text: &[u8]) -> Result<Option<FaultKind>, AllocError>
-    ensures { IfOk result (λ found. found ≡ result_err (worth c.now text.now)) }
+    ensures { IfOk result (λ found. found ≡ result_err (worth (told c.now) text.now)) }
 {
     match c.worth(alloc, text) {
         Ok(Ok(_)) => Ok(None),
@@ -172,7 +172,7 @@ fn lowest_of(
     addressed: Result<Address, FaultKind>,
     more: &[&[u8]],
 ) -> Result<Option<FaultKind>, AllocError>
-    ensures { IfOk result (λ found. found ≡ lower (result_err addressed) (worths_fault c.now (map (λ text. text.now) more.now))) }
+    ensures { IfOk result (λ found. found ≡ lower (result_err addressed) (worths_fault (told c.now) (map (λ text. text.now) more.now))) }
 {
     let mut fault = addressed.err();
     for text in more {
@@ -189,7 +189,7 @@ fn crowded(
     addressed: Result<Address, FaultKind>,
     more: &[&[u8]],
 ) -> Judged<Address>
-    ensures { IfOk result (λ found. found ≡ crowded c.now addressed (map (λ text. text.now) more.now)) }
+    ensures { IfOk result (λ found. found ≡ crowded (told c.now) addressed (map (λ text. text.now) more.now)) }
 {
     match lowest_of(alloc, c, addressed, more)? {
         Some(fault) => Ok(Err(lower_of(FaultKind::BadOperand, fault))),
@@ -204,7 +204,7 @@ fn addressed(
     place: Result<Value, FaultKind>,
     subfields: &[&[u8]],
 ) -> Judged<Address>
-    ensures { IfOk result (λ found. found ≡ addressed c.now place (map (λ text. text.now) subfields.now)) }
+    ensures { IfOk result (λ found. found ≡ addressed (told c.now) place (map (λ text. text.now) subfields.now)) }
 {
     match subfields {
         [] => Ok(implied(c, place)),
@@ -218,7 +218,7 @@ fn addressed(
 
 /// The index, 0 without one, and the address of `S`, `S(X)` or `D(X,B)`.
 fn indexed(alloc: Global, c: &Context<'_>, operand: &Operand<'_>) -> Judged<(u8, Address)>
-    ensures { IfOk result (λ found. found ≡ indexed c.now operand.now) }
+    ensures { IfOk result (λ found. found ≡ indexed (told c.now) operand.now) }
 {
     match operand.subfields.as_slice() {
         [] => Ok(both(Ok(0), implied(c, operand.place))),
@@ -254,7 +254,7 @@ fn counted(
     operand: &Operand<'_>,
     most: u16,
 ) -> Judged<(u16, Address)>
-    ensures { IfOk result (λ found. found ≡ counted_by most c.now operand.now.place operand.now.subfields) }
+    ensures { IfOk result (λ found. found ≡ counted_by most (told c.now) operand.now.place operand.now.subfields) }
 {
     match operand.subfields.as_slice() {
         [] => Ok(both(
@@ -277,7 +277,7 @@ pub(crate) fn plain_in(
     c: &Context<'_>,
     text: &[u8],
 ) -> Judged<Address>
-    ensures { IfOk result (λ found. found ≡ plain_in takes_literal c.now text.now) }
+    ensures { IfOk result (λ found. found ≡ plain_in takes_literal (told c.now) text.now) }
 {
     match Operand::read(alloc, takes_literal, c, text)? {
         Some(operand) => addressed(alloc, c, operand.place, operand.subfields.as_slice()),
@@ -288,7 +288,7 @@ pub(crate) fn plain_in(
 /// The index and the address that a storage operand of RX is.
 #[tactic(auto, unfolding(crate::specs::Storage::indexed_in))]
 pub(crate) fn indexed_in(alloc: Global, c: &Context<'_>, text: &[u8]) -> Judged<(u8, Address)>
-    ensures { IfOk result (λ found. found ≡ indexed_in c.now text.now) }
+    ensures { IfOk result (λ found. found ≡ indexed_in (told c.now) text.now) }
 {
     match Operand::read(alloc, true, c, text)? {
         Some(operand) => indexed(alloc, c, &operand),
@@ -314,7 +314,7 @@ pub(crate) fn counted_in(
     most: u16,
 ) -> Judged<(u8, Address)>
     requires { most ≤ 256 }
-    ensures { IfOk result (λ found. found ≡ counted_in most takes_literal c.now text.now) }
+    ensures { IfOk result (λ found. found ≡ counted_in most takes_literal (told c.now) text.now) }
 {
     let Some(operand) = Operand::read(alloc, takes_literal, c, text)? else {
         return Ok(Err(FaultKind::BadOperand));

@@ -1,7 +1,12 @@
 //! The values of items of DC, DS and literals.
 
+ghost use Rattle.std.specs.Prelude.{◌≡◌, Err};
 ghost use Rattle.std.specs.Option.{option_copied};
+ghost use Rattle.cx_terms.specs.Items.{constant_in};
+ghost use Rattle.cx_terms.specs.declared.faults.FaultKind.{FaultKind};
+ghost use Rattle.cx_terms.specs.declared.faults.TermFault.TheVariants.{Refused};
 ghost use Rattle.cx_terms.specs.Expressions.{Answers};
+ghost use Rattle.cx_terms.specs.Symbols.{find_in};
 ghost use Rattle.cx_operands.specs.Values.{item_in};
 
 use cx_ebcdic::Name8;
@@ -23,7 +28,8 @@ pub fn item_bytes(
     here: Option<&Value>,
     control: Option<Name8>,
 ) -> Result<ConstantBytes, TermFault>
-    ensures { Answers (item_in is_ds symbols.now (option_copied here.entry) control text.now) result }
+    ensures made { Answers (item_in is_ds (find_in symbols.now) (option_copied here.entry) control text.now) result }
+    ensures refused { (fault : FaultKind) → constant_in is_ds text.now ≡ Err fault → result ≡ Err (Refused fault) }
 {
     match Constant::read(text, is_ds) {
         Ok(item) => item.bytes(alloc, symbols, here, control),

@@ -1,9 +1,10 @@
 use Rattle.std.proofs.Common.{sym, ◌∙◌}
 use Rattle.cx_operands.specs.Forms.{operands_of}
 use Rattle.cx_operands.proofs.FormLemmas.{resolved_well}
+use Rattle.cx_operands.specs.Context.{told}
 use Rattle.cx_operands.proofs.forms.resolve.Goals as goal
 
 pub instruction-requires : goal.instruction-requires
 instruction-requires c =
-    resolved_well c.args.operation c.in-Some.op c.in-Some-of.form c.args.c.now (operands_of c.args.operand.now) c.in-Ok-Ok.fields
+    resolved_well c.args.operation c.in-Some.op c.in-Some-of.form (told c.args.c.now) (operands_of c.args.operand.now) c.in-Ok-Ok.fields
     (sym c.in-Some.ensures) (sym c.in-Some-of.ensures) c.bases-bases.ensures.sixteen (sym c.in-Ok-Ok.ensures ∙ c.in-Ok-Ok.field-0-is)

@@ -1,0 +1,28 @@
+-- What places tell is what the whole source tells.
+use Rattle.std.proofs.Common.{◌≡◌, ℕ, Option, Some, None, List, option_map, refl, ◌∙◌, ap}
+use Rattle.std.proofs.Math.Path.{fun_ext}
+use Rattle.cx_source.specs.declared.source.Source.{Source}
+use Rattle.cx_terms.specs.declared.values.Value.{Value}
+use Rattle.cx_terms.specs.Symbols.{find_in}
+use Rattle.cx_pools.specs.Pools.{Placed}
+use Rattle.cx_places.specs.Known.{Known}
+use Rattle.cx_places.specs.Placed.{IsPlaced, control_section, known_of}
+use Rattle.cx_places.specs.declared.place.ControlSection.{ControlSection}
+use Rattle.cx_places.specs.declared.places.Places.{Places}
+use Rattle.cx_second.specs.Parts.Telling.{told_by}
+use Rattle.cx_second.specs.Whole.{Whole, whole, whole_known, whole_of}
+
+named_back : (control : Option (List ℕ)) (length : ℕ) → option_map (λ (c : ControlSection). c.name) (option_map (λ name. record { name = name; length = length }) control) ≡ control
+named_back None length = refl
+named_back (Some name) length = refl
+
+same : (f g : List ℕ → Option Value) (ps qs : List Placed) (c d : Option (List ℕ)) → f ≡ g → ps ≡ qs → c ≡ d → whole f ps c ≡ whole g qs d
+same f g ps qs c d e1 e2 e3 = rw (e1, e2, e3) refl
+
+pub told_known : (known : Known) (places : Places) → IsPlaced known places → told_by places ≡ whole_known known
+told_known known places placed =
+    same _ _ _ _ _ _ (fun_ext (λ n. placed.symbols n)) placed.pools
+    (ap (λ (c : Option ControlSection). option_map (λ (s : ControlSection). s.name) c) placed.control ∙ named_back known.control _)
+
+pub told_is : (source : Source) (places : Places) → IsPlaced (known_of source) places → told_by places ≡ whole_of source
+told_is source places placed = told_known (known_of source) places placed

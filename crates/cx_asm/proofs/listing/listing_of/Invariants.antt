@@ -1,0 +1,7 @@
+use Rattle.std.proofs.Common.{◌≡◌, map, take}
+use Rattle.cx_second.specs.Parts.Telling.{told_by}
+use Rattle.cx_asm.specs.Listing.{listed}
+use Rattle.cx_asm.proofs.listing.listing_of.Given as goal
+
+abbrev pub invariant-loop-line : goal.invariant-loop-line
+invariant-loop-line l = l.lines.items ≡ map (listed (told_by l.places) l.text) (take l.line-index l.placed)

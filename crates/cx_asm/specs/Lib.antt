@@ -1,0 +1,4 @@
+-- The definitions, in reading order.
+pub mod Resolving
+pub mod Listing
+pub mod Assembly

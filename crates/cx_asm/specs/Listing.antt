@@ -1,0 +1,55 @@
+-- The listing (GC33-4010, "Assembler Listing"; the columns are own).
+use Rattle.std.specs.Prelude.{false, ℕ, ◌+◌, ◌-◌, if◌then◌else◌, Option, Some, None, Result, Ok, Err, List, [], ◌∷◌, length, map, slice_get, take, drop}
+use Rattle.std.specs.Option.{option_map_or}
+use Rattle.cx_source.specs.declared.source.Source.{Source}
+use Rattle.cx_terms.specs.Items.{Constant, constant_in, size_of}
+use Rattle.cx_terms.specs.declared.faults.FaultKind.{FaultKind}
+use Rattle.cx_pools.specs.Pools.{capped}
+use Rattle.cx_places.specs.Known.{is_control, role_in}
+use Rattle.cx_places.specs.declared.roles.Role.{Role}
+use Rattle.cx_places.specs.declared.roles.Role.TheVariants.{Instruction, Storage}
+use Rattle.cx_image.specs.Listing.{listing_line}
+use Rattle.cx_second.specs.Statements.{PlacedItem, Stated, placed_items, placed_of, stated_in}
+use Rattle.cx_second.specs.Whole.{Whole}
+
+-- An instruction, a DS and a DC are listed with their offset.
+abbrev pub offset_shown : ℕ → Role → Option ℕ
+offset_shown at (Instruction size) = Some at
+offset_shown at (Storage is_ds) = Some at
+offset_shown at role = None
+
+-- the offset behind an item of a DC
+abbrev pub constant_size : Result Constant FaultKind → ℕ
+constant_size (Ok item) = size_of item
+constant_size (Err fault) = 0
+
+abbrev pub item_end : List ℕ × ℕ → ℕ
+item_end item = capped item.1 + capped (constant_size (constant_in false item.0))
+
+-- and behind the last one
+abbrev pub end_behind : ℕ → List (List ℕ × ℕ) → ℕ
+end_behind at items = option_map_or item_end (slice_get items (length items - 1)) at
+
+-- how many bytes an instruction or a DC has, with the gaps between items; other statements have none
+abbrev pub object_length : Stated → Role → ℕ
+object_length s (Instruction size) = size
+object_length s (Storage is_ds) = if is_ds then 0 else end_behind s.place.offset (placed_items s) - s.place.offset
+object_length s role = 0
+
+-- Those in the control section are listed with their bytes, and the gaps between items as zeros.
+abbrev pub object_of : Whole → List ℕ → Stated → List ℕ
+object_of told text s =
+    if is_control s.place.section told.control then take (object_length s (role_in s.stmt)) (drop s.place.offset text) else []
+
+-- the line of a line with this statement, if it has one
+abbrev pub line_with : Whole → List ℕ → ℕ → List ℕ → Option Stated → List ℕ
+line_with told text number written None = listing_line None [] number written
+line_with told text number written (Some s) =
+    listing_line (offset_shown s.place.offset (role_in s.stmt)) (object_of told text s) number written
+
+unfoldable pub listed : Whole → List ℕ → PlacedItem → List ℕ
+listed told text placed = line_with told text placed.item.line placed.item.text (stated_in placed)
+
+-- a line for each of the source's
+abbrev pub listing_of : Whole → List ℕ → Source → List (List ℕ)
+listing_of told text source = map (listed told text) (placed_of source)

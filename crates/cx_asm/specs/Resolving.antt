@@ -1,0 +1,128 @@
+-- The resolved lines of a source, in address order (GC33-4010, "DC -- Define Constant", "DS -- Define Storage", "Literal Pool"; that they are lines is own).
+use Rattle.std.specs.Prelude.{ℕ, ◌-◌, zero, suc, Bool, true, false, ◌==◌, ◌+◌, if◌then◌else◌, Option, Some, None, option_and_then, unwrap_or, Result, Ok, Err, List, [], ◌∷◌, ◌++◌, length, slice_get}
+use Rattle.std.specs.List.{flat_map}
+use Rattle.cx_code.specs.declared.disassembly.Line.{Line}
+use Rattle.cx_code.specs.declared.disassembly.What.{What}
+use Rattle.cx_code.specs.declared.disassembly.What.TheVariants.{Code, Data, Space}
+use Rattle.cx_code.specs.Spelling.{Instruction}
+use Rattle.cx_terms.specs.Items.{Constant, constant_in, size_of}
+use Rattle.cx_terms.specs.Bytes.{Made}
+use Rattle.cx_terms.specs.declared.values.Value.{Value}
+use Rattle.cx_terms.specs.declared.faults.FaultKind.{FaultKind}
+use Rattle.cx_pools.specs.Pools.{Placed}
+use Rattle.cx_pools.specs.declared.closed.Literal.{Literal}
+use Rattle.cx_places.specs.Given.{here}
+use Rattle.cx_places.specs.Known.{is_control, role_in}
+use Rattle.cx_places.specs.declared.roles.Role.{Role}
+use Rattle.cx_places.specs.declared.roles.Role.TheVariants.{Instruction as Machine, Storage, Pool}
+use Rattle.cx_operations.specs.declared.operations.Operation.{Operation}
+use Rattle.cx_operands.specs.Bases.{Bases}
+use Rattle.cx_operands.specs.Forms.{resolved}
+use Rattle.cx_image.specs.Relocated.{words_at}
+use Rattle.cx_second.specs.Statements.{Stated, operation_of, placed_items}
+use Rattle.cx_second.specs.Whole.{Whole, counter_of, instruction_context, item_made, pool_of}
+use Rattle.cx_second.specs.SecondFaults.{bases_after}
+
+abbrev pub line : ℕ → What → Line
+line at what = record { at = at; what = what }
+
+-- What stands in the control section: its resolved lines, and the offsets of its relocated words.
+pub record Standing : Type 0 where
+  pub lines : List Line
+  pub relocs : List ℕ
+
+abbrev pub standing : List Line → List ℕ → Standing
+standing lines relocs = record { lines = lines; relocs = relocs }
+
+abbrev pub nothing : Standing
+nothing = standing [] []
+
+abbrev pub joined : Standing → Standing → Standing
+joined one other = standing (one.lines ++ other.lines) (one.relocs ++ other.relocs)
+
+-- ---- constants
+-- so many copies of bytes
+abbrev pub copies : ℕ → List ℕ → List ℕ
+copies zero bytes = []
+copies (suc n) bytes = bytes ++ copies n bytes
+
+-- bytes are a line where there are any, and so is a space
+abbrev pub data_line : ℕ → List ℕ → List Line
+data_line at [] = []
+data_line at (byte ∷ bytes) = line at (Data (byte ∷ bytes)) ∷ []
+
+abbrev pub space_line : ℕ → ℕ → List Line
+space_line at size = if size == 0 then [] else line at (Space size) ∷ []
+
+-- Each copy of an address that is relocated is a relocated word.
+abbrev pub relocated : ℕ → ℕ → Bool → List ℕ
+relocated at count is_relocated = if is_relocated then words_at at count else []
+
+-- a constant, by what one copy of it is; at fault it is nothing
+abbrev pub constant_standing : ℕ → Result Constant FaultKind → Result Made FaultKind → Standing
+constant_standing at (Ok item) (Ok made) = standing (data_line at (copies item.duplication made.bytes)) (relocated at item.duplication made.is_relocated)
+constant_standing at item made = nothing
+
+-- an item of a DC, or a literal, at an offset
+abbrev pub data_standing : Whole → Option Value → List ℕ → ℕ → Standing
+data_standing told here text at = constant_standing at (constant_in false text) (item_made told false here text)
+
+abbrev pub space_standing : ℕ → Result Constant FaultKind → Standing
+space_standing at (Ok item) = standing (space_line at (size_of item)) []
+space_standing at (Err fault) = nothing
+
+-- an item of a DS or DC
+abbrev pub item_standing : Whole → Bool → Stated → List ℕ × ℕ → Standing
+item_standing told true s item = space_standing item.1 (constant_in true item.0)
+item_standing told false s item = data_standing told (here s.place.section item.1 1) item.0 item.1
+
+-- items, one behind the other
+abbrev pub items_standing : Whole → Bool → Stated → List (List ℕ × ℕ) → Standing
+items_standing told is_ds s [] = nothing
+items_standing told is_ds s (item ∷ items) = joined (item_standing told is_ds s item) (items_standing told is_ds s items)
+
+-- ---- literals
+-- In a literal the location counter stands at the statement that uses it first.
+abbrev pub counter_at : List Stated → ℕ → Option Value
+counter_at statements user = option_and_then counter_of (slice_get statements user)
+
+abbrev pub literal_standing : Whole → List Stated → Option (List ℕ × Literal) → Standing
+literal_standing told statements None = nothing
+literal_standing told statements (Some e) = data_standing told (counter_at statements e.1.user) e.0 e.1.offset
+
+abbrev pub pool_standing : Whole → List Stated → Placed → Standing
+pool_standing told statements [] = nothing
+pool_standing told statements (e ∷ pool) =
+    joined (literal_standing told statements (Some e)) (pool_standing told statements pool)
+
+-- ---- statements
+abbrev pub instruction_lines : ℕ → Result Instruction FaultKind → List Line
+instruction_lines at (Ok made) = line at (Code made) ∷ []
+instruction_lines at (Err fault) = []
+
+abbrev pub instruction_standing : Whole → Bases → Stated → Option Operation → Standing
+instruction_standing told bases s None = nothing
+instruction_standing told bases s (Some operation) =
+    standing (instruction_lines s.place.offset (resolved operation (instruction_context told bases s) s.stmt.operand)) []
+
+abbrev pub role_standing : Whole → List Stated → Bases → Stated → Role → Standing
+role_standing told statements bases s (Machine size) = instruction_standing told bases s (operation_of s)
+role_standing told statements bases s (Storage is_ds) = items_standing told is_ds s (placed_items s)
+role_standing told statements bases s Pool = pool_standing told statements (pool_of told s)
+role_standing told statements bases s role = nothing
+
+-- what a statement makes, where these bases are in use: nothing outside the control section
+unfoldable pub statement_standing : Whole → List Stated → Bases → Stated → Standing
+statement_standing told statements bases s =
+    if is_control s.place.section told.control then role_standing told statements bases s (role_in s.stmt) else nothing
+
+-- ---- the section
+-- the literals that no LTORG has placed stand at its end
+abbrev pub last_pool : Whole → Placed
+last_pool told = unwrap_or (slice_get told.pools (length told.pools - 1)) []
+
+-- what statements make from one on, and the last pool behind them
+abbrev pub standing_from : Whole → List Stated → Bases → List Stated → Standing
+standing_from told statements bases [] = pool_standing told statements (last_pool told)
+standing_from told statements bases (s ∷ rest) =
+    joined (statement_standing told statements bases s) (standing_from told statements (bases_after told bases s) rest)

@@ -1,0 +1,242 @@
+//! The assembly of a source.
+
+ghost use Rattle.std.specs.Prelude.{◌≡◌, ◌≤◌, IfOk, None, option_map};
+ghost use Rattle.std.specs.Option.{option_map_or};
+ghost use Rattle.cx_source.specs.declared.source.Source.{Source};
+ghost use Rattle.cx_image.specs.Assembled.{IsAssembled};
+ghost use Rattle.cx_places.specs.Placed.{IsPlaced, known_of};
+ghost use Rattle.cx_second.specs.Parts.Telling.{told_by};
+ghost use Rattle.cx_second.specs.Statements.{end_of, placed_of, statements_of};
+ghost use Rattle.cx_asm.specs.Assembly.{Assembles, assembly_of, end_line, entry_by, made_of, second_fault_of, section_of, size_of, unless_refused, unless_too_large};
+
+use crate::faults::{AsmFault, fault_at};
+use crate::listing::listing_of;
+use crate::section::standing_of;
+use crate::standing::Standing;
+use cx_code::{Image, Line, Offsets, Span};
+use cx_image::{Assembled, LARGEST_TEXT, working_storage};
+use cx_places::{PlaceFault, Places, place_all};
+use cx_second::{PlacedItem, Statement, entry_of, first_fault, placed_lines, stated};
+use cx_source::{Source, Text};
+use cx_terms::TermFault;
+use std::alloc::{AllocError, Global};
+use std::marker::Model;
+
+/// What a source is assembled to: its image, its listing, its spans and its resolved lines. `assemble` alone makes one, so text
+/// and spans give the resolved lines again.
+#[derive(Debug, Drop)]
+pub struct Assembly {
+    section: Assembled,
+    listing: Vec<Text>,
+}
+
+impl Model for Assembly {
+    ghost use Rattle.cx_image.specs.Assembled.{IsAssembled};
+    ghost use Rattle.cx_asm.specs.Assembly.{AssemblyParts, parts};
+
+    ghost Value = { AssemblyParts };
+
+    ghost view = { λ made. parts made.section made.listing.items };
+
+    ghost invariant = { λ made. IsAssembled made.section };
+}
+
+impl Assembly {
+    /// The image: the text has each resolved line's bytes at its place, and zeros elsewhere. It takes no memory.
+    pub fn image(&self) -> &Image
+        ensures { result.now ≡ self.now.section.image }
+    {
+        self.section.image()
+    }
+
+    /// The listing, a line for each of the source's, an EXEC statement's made lines in its place. It takes no memory.
+    pub fn listing(&self) -> &[Text]
+        ensures { result.now ≡ self.now.listing }
+    {
+        self.listing.as_slice()
+    }
+
+    /// The spans of the text, one for each resolved line, in address order. It takes no memory.
+    pub fn spans(&self) -> &[Span]
+        ensures { result.now ≡ self.now.section.spans }
+    {
+        self.section.spans()
+    }
+
+    /// The resolved lines, in address order. It takes no memory.
+    pub fn resolved(&self) -> &[Line]
+        ensures { result.now ≡ self.now.section.resolved }
+    {
+        self.section.resolved()
+    }
+
+    /// The image alone. It takes no memory.
+    pub fn into_image(self) -> Image
+        ensures { result ≡ self.section.image }
+    {
+        let Assembly { section, .. } = self;
+        section.into_image()
+    }
+}
+
+/// The disassembly of an assembly's text by its spans: the source's resolved lines.
+///
+/// An error comes only where a growth was refused.
+pub fn disassembly(alloc: Global, assembly: &Assembly) -> Result<Vec<Line>, AllocError>
+    ensures { IfOk result (λ found. found.items ≡ assembly.now.section.resolved) }
+{
+    assembly.section.disassembly(alloc)
+}
+
+/// The size of the control section; 0 where there is none.
+fn size_of(places: &Places<'_>) -> u128
+    ensures { (source : Source) → IsPlaced (known_of source) places.now → result ≡ size_of source }
+{
+    match places.control {
+        Some(control) => control.length,
+        None => 0,
+    }
+}
+
+/// The first END.
+fn end_of<'a, 'b>(statements: &'b [Statement<'a>]) -> Option<&'b Statement<'a>>
+    ensures { option_map (λ s. s.now) result ≡ end_of statements.now }
+{
+    statements.iter().find(|statement| statement.is_end())
+}
+
+/// The entry that the first END writes, and else 0.
+fn entry(
+    alloc: Global,
+    places: &Places<'_>,
+    statements: &[Statement<'_>],
+) -> Result<u32, AllocError>
+    ensures { IfOk result (λ entry. entry ≡ option_map_or (entry_by (told_by places.now)) (end_of statements.now) 0) }
+{
+    let Some(statement) = end_of(statements) else {
+        return Ok(0);
+    };
+    match entry_of(alloc, places, statement) {
+        Ok(entry) => Ok(entry),
+        Err(TermFault::Refused(_)) => Ok(0),
+        Err(TermFault::Memory) => Err(AllocError),
+    }
+}
+
+/// END's line, and without an END the last.
+fn end_line(source: &Source, statements: &[Statement<'_>]) -> usize
+    requires { statements.now ≡ statements_of source.now }
+    ensures { result ≡ end_line source.now }
+{
+    match end_of(statements) {
+        Some(statement) => statement.line(),
+        None => match source.items.as_slice().last() {
+            Some(item) => item.line,
+            None => 0,
+        },
+    }
+}
+
+/// The section of a source whose statements are placed.
+#[tactic(auto, using(crate::proofs::TellingLemmas::told_is), unfolding(crate::specs::Assembly::section_of, crate::specs::Assembly::standing_of))]
+fn section_of(
+    alloc: Global,
+    source: &Source,
+    places: &Places<'_>,
+    statements: &[Statement<'_>],
+    size: u32,
+) -> Result<Assembled, AllocError>
+    requires sound { (known_of source.now).fault ≡ None }
+    requires placed { IsPlaced (known_of source.now) places.now }
+    requires statements { statements.now ≡ statements_of source.now }
+    requires size { size ≡ size_of source.now }
+    requires fits { size ≤ 65536 }
+    ensures { IfOk result (λ section. section ≡ section_of source.now) }
+{
+    let Standing { lines, relocs } = standing_of(alloc, places, statements)?;
+    if lines.end() > size {
+        return Err(AllocError);
+    }
+    let lines = lines.into_vec();
+    let entry = entry(alloc, places, statements)?;
+    let stg_len = working_storage(places.stg_length);
+    Assembled::new(
+        alloc,
+        lines,
+        size,
+        Offsets::from_vec(relocs),
+        entry,
+        stg_len,
+    )
+}
+
+/// The assembly of a source whose statements are placed and have no fault.
+fn made_of(
+    alloc: Global,
+    source: &Source,
+    places: &Places<'_>,
+    placed: &[PlacedItem<'_>],
+    statements: &[Statement<'_>],
+    size: u32,
+) -> Result<Assembly, AllocError>
+    requires sound { (known_of source.now).fault ≡ None }
+    requires places { IsPlaced (known_of source.now) places.now }
+    requires placed { placed.now ≡ placed_of source.now }
+    requires statements { statements.now ≡ statements_of source.now }
+    requires size { size ≡ size_of source.now }
+    requires fits { size ≤ 65536 }
+    ensures { IfOk result (λ made. made ≡ made_of source.now) }
+{
+    let section = section_of(alloc, source, places, statements, size)?;
+    let text = section.image().text.as_slice();
+    let listing = listing_of(alloc, places, text, placed)?;
+    Ok(Assembly { section, listing })
+}
+
+/// The assembly of a source whose statements are placed.
+#[tactic(auto, using(crate::proofs::TellingLemmas::told_is), unfolding(crate::specs::Assembly::second_fault_of))]
+fn assemble_placed(
+    alloc: Global,
+    source: &Source,
+    places: &Places<'_>,
+) -> Result<Assembly, AsmFault>
+    requires sound { (known_of source.now).fault ≡ None }
+    requires placed { IsPlaced (known_of source.now) places.now }
+    ensures { Assembles (unless_refused (second_fault_of source.now)
+        (unless_too_large (size_of source.now) (end_line source.now) (made_of source.now))) result }
+{
+    let placed = placed_lines(alloc, source, places.statements.as_slice())?;
+    let statements = stated(alloc, placed.as_slice())?;
+    if let Some(first) = first_fault(alloc, places, statements.as_slice())? {
+        return Err(fault_at(first));
+    }
+    let size = size_of(places);
+    if size > u128::from(LARGEST_TEXT) {
+        return Err(AsmFault::TooLarge(end_line(source, statements.as_slice())));
+    }
+    Ok(made_of(
+        alloc,
+        source,
+        places,
+        placed.as_slice(),
+        statements.as_slice(),
+        size as u32,
+    )?)
+}
+
+/// Assembles a source (GC33-4010).
+///
+/// A fault comes with the line of the first statement that has one, and is the lowest of all statements of that line: of the
+/// first pass (operation, name, section, lengths of items and literals, the value of EQU), and where that finds none of the
+/// second (operands and values). TooLarge comes only where there is no other fault, for a control section of more than
+/// 65,536 bytes. A source without a fault is assembled, or meets Memory, which comes only where a growth was refused.
+#[tactic(auto, unfolding(crate::specs::Assembly::assembly_of))]
+pub fn assemble(alloc: Global, source: &Source) -> Result<Assembly, AsmFault>
+    ensures { Assembles (assembly_of source.now) result }
+{
+    match place_all(alloc, source) {
+        Ok(places) => assemble_placed(alloc, source, &places),
+        Err(PlaceFault::Refused(first)) => Err(fault_at(first)),
+        Err(PlaceFault::Memory) => Err(AsmFault::Memory),
+    }
+}

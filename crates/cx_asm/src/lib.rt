@@ -1,0 +1,12 @@
+//! The assembler: the image, the listing and the resolved lines of a source.
+#![tactic(auto)]
+
+mod assembly;
+mod constants;
+mod faults;
+mod listing;
+mod section;
+mod standing;
+
+pub use assembly::{Assembly, assemble, disassembly};
+pub use faults::AsmFault;

@@ -1,0 +1,150 @@
+//! The listing.
+
+ghost use Rattle.std.specs.Prelude.{◌≡◌, IfOk, drop, map, take, false, None, [], option_map};
+ghost use Rattle.cx_terms.specs.Items.{constant_in};
+ghost use Rattle.cx_places.specs.Known.{role_in};
+ghost use Rattle.cx_image.specs.Listing.{listing_line};
+ghost use Rattle.cx_second.specs.Parts.Telling.{told_by};
+ghost use Rattle.cx_asm.specs.Listing.{constant_size, end_behind, item_end, line_with, listed, object_length, object_of, offset_shown};
+
+use crate::section::is_control;
+use cx_image::listing_line;
+use cx_places::{Places, Role};
+use cx_pools::capped;
+use cx_second::{PlacedItem, Statement, StatementItem, control_name, placed_items};
+use cx_source::Text;
+use cx_terms::Constant;
+use std::alloc::{AllocError, Global};
+
+/// The offset that a statement of a role is listed with.
+fn offset_shown(at: u128, role: Role) -> Option<u128>
+    ensures { result ≡ offset_shown at role }
+{
+    match role {
+        Role::Instruction(_) | Role::Storage { is_ds: _ } => Some(at),
+        _ => None,
+    }
+}
+
+/// How many bytes an item of a DC has.
+fn constant_size(text: &[u8]) -> u128
+    ensures { result ≡ constant_size (constant_in false text.now) }
+{
+    match Constant::read(text, false) {
+        Ok(item) => item.size(),
+        Err(_) => 0,
+    }
+}
+
+/// The offset behind an item of a DC.
+fn item_end(item: &StatementItem<'_>) -> u128
+    ensures { result ≡ item_end item.now }
+{
+    capped(item.offset()) + capped(constant_size(item.text()))
+}
+
+/// The offset behind a DC's items.
+fn end_behind(at: u128, items: &[StatementItem<'_>]) -> u128
+    ensures { result ≡ end_behind at items.now }
+{
+    match items.last() {
+        Some(item) => item_end(item),
+        None => at,
+    }
+}
+
+/// How many bytes a statement of a role has.
+fn object_length(alloc: Global, statement: &Statement<'_>, role: Role) -> Result<u128, AllocError>
+    ensures { IfOk result (λ length. length ≡ object_length statement.now role) }
+{
+    match role {
+        Role::Instruction(size) => Ok(size as u128),
+        Role::Storage { is_ds: false } => {
+            let items = placed_items(alloc, statement)?;
+            let at = statement.place().offset;
+            Ok(end_behind(at, items.as_slice()).saturating_sub(at))
+        }
+        _ => Ok(0),
+    }
+}
+
+/// The bytes of a text from an offset on, at most so many.
+fn bytes_at(text: &[u8], at: u128, count: u128) -> &[u8]
+    ensures { result.now ≡ take count (drop at text.now) }
+{
+    let (_, behind) = text.split_at((text.len() as u128).min(at) as usize);
+    let (bytes, _) = behind.split_at((behind.len() as u128).min(count) as usize);
+    bytes
+}
+
+/// The bytes that a statement is listed with.
+fn object_of<'b>(
+    alloc: Global,
+    places: &Places<'_>,
+    text: &'b [u8],
+    statement: &Statement<'_>,
+) -> Result<&'b [u8], AllocError>
+    ensures { IfOk result (λ object. object.now ≡ object_of (told_by places.now) text.now statement.now) }
+{
+    if !is_control(statement.place().section, control_name(places)) {
+        return Ok(&[]);
+    }
+    let length = object_length(alloc, statement, statement.role())?;
+    Ok(bytes_at(text, statement.place().offset, length))
+}
+
+/// A line of the listing with this statement, if it has one.
+fn line_with(
+    alloc: Global,
+    places: &Places<'_>,
+    text: &[u8],
+    number: usize,
+    written: &[u8],
+    statement: Option<Statement<'_>>,
+) -> Result<Text, AllocError>
+    ensures { IfOk result (λ line. line ≡ line_with (told_by places.now) text.now number written.now statement.entry) }
+{
+    let Some(statement) = statement else {
+        return listing_line(alloc, None, b"", number, written);
+    };
+    let at = offset_shown(statement.place().offset, statement.role());
+    let object = object_of(alloc, places, text, &statement)?;
+    listing_line(alloc, at, object, number, written)
+}
+
+/// A line of the listing.
+#[tactic(auto, unfolding(crate::specs::Listing::listed))]
+fn listed(
+    alloc: Global,
+    places: &Places<'_>,
+    text: &[u8],
+    placed: &PlacedItem<'_>,
+) -> Result<Text, AllocError>
+    ensures { IfOk result (λ line. line ≡ listed (told_by places.now) text.now placed.now) }
+{
+    let item = placed.item();
+    line_with(
+        alloc,
+        places,
+        text,
+        item.line,
+        item.text.as_slice(),
+        placed.statement(),
+    )
+}
+
+/// The listing of lines, with the text of their section.
+pub(crate) fn listing_of(
+    alloc: Global,
+    places: &Places<'_>,
+    text: &[u8],
+    placed: &[PlacedItem<'_>],
+) -> Result<Vec<Text>, AllocError>
+    ensures { IfOk result (λ lines. lines.items ≡ map (listed (told_by places.now) text.now) placed.now) }
+{
+    let mut lines = Vec::with_capacity(alloc, placed.len())?;
+    for line in placed {
+        lines.push(listed(alloc, places, text, line)?)?;
+    }
+    Ok(lines)
+}

@@ -1,0 +1,6 @@
+-- The definitions, in reading order.
+pub mod Statements
+pub mod Whole
+pub mod SecondFaults
+-- Words of private functions.
+pub mod Parts

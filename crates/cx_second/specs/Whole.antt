@@ -1,0 +1,76 @@
+-- What the whole source tells, and what a statement's operand is read by (GC33-4010, "Symbols", "Location Counter Reference", "Literals").
+use Rattle.std.specs.Prelude.{ℕ, Bool, false, Option, Some, None, option_and_then, unwrap_or, Result, Ok, Err, List, [], slice_get}
+use Rattle.std.specs.Map.{lookup}
+use Rattle.std.specs.Str.{bytes_eq}
+use Rattle.cx_terms.specs.Items.{Constant, constant_in, length_of}
+use Rattle.cx_terms.specs.Bytes.{Made}
+use Rattle.cx_terms.specs.declared.values.Value.{Value}
+use Rattle.cx_terms.specs.declared.faults.FaultKind.{FaultKind}
+use Rattle.cx_pools.specs.Pools.{Placed, literal_text}
+use Rattle.cx_pools.specs.declared.closed.Literal.{Literal}
+use Rattle.cx_places.specs.Given.{here}
+use Rattle.cx_places.specs.Known.{Known, role_in}
+use Rattle.cx_places.specs.Placed.{all_pools, known_of}
+use Rattle.cx_places.specs.declared.roles.Role.{Role}
+use Rattle.cx_places.specs.declared.roles.Role.TheVariants.{Instruction}
+use Rattle.cx_source.specs.declared.source.Source.{Source}
+use Rattle.cx_operands.specs.Bases.{Bases}
+use Rattle.cx_operands.specs.Context.{Context, context}
+use Rattle.cx_operands.specs.Forms.{literal_in}
+use Rattle.cx_operands.specs.Values.{item_in}
+use Rattle.cx_second.specs.Statements.{Stated}
+
+-- the symbols, the literal pools and the control section
+pub record Whole : Type 0 where
+  pub find : List ℕ → Option Value
+  pub pools : List Placed
+  pub control : Option (List ℕ)
+
+abbrev pub whole : (List ℕ → Option Value) → List Placed → Option (List ℕ) → Whole
+whole find pools control = record { find = find; pools = pools; control = control }
+
+abbrev pub whole_known : Known → Whole
+whole_known known = whole known.symbols (all_pools known) known.control
+
+abbrev pub whole_of : Source → Whole
+whole_of source = whole_known (known_of source)
+
+-- ---- the location counter
+-- `*` has the length of an instruction, and else 1
+abbrev pub own_length : Role → ℕ
+own_length (Instruction size) = size
+own_length _ = 1
+
+-- what the location counter stands at for a statement
+abbrev pub counter_of : Stated → Option Value
+counter_of s = here s.place.section s.place.offset (own_length (role_in s.stmt))
+
+-- ---- literals
+-- the pool that a statement's literals are in
+abbrev pub pool_of : Whole → Stated → Placed
+pool_of told s = unwrap_or (slice_get told.pools s.place.pool) []
+
+-- the length of one copy
+abbrev pub length_once : Result Constant FaultKind → ℕ
+length_once (Ok item) = length_of item
+length_once (Err fault) = 1
+
+-- The literal of a text stands for its place, with the length of one copy.
+abbrev pub literal_place : Whole → Stated → List ℕ → Option Value
+literal_place told s text =
+    option_and_then (λ literal. here s.place.section literal.offset (length_once (constant_in false text))) (lookup (bytes_eq text) (pool_of told s))
+
+-- that of the statement's last operand, where it is a literal
+abbrev pub literal_of : Whole → Stated → Option Value
+literal_of told s = option_and_then (literal_place told s) (option_and_then literal_text (literal_in s.stmt.operand))
+
+-- ---- what operands are read by, where these bases are in use
+abbrev pub instruction_context : Whole → Bases → Stated → Context
+instruction_context told bases s = context told.find (counter_of s) bases (literal_of told s)
+
+abbrev pub directive_context : Whole → Bases → Stated → Context
+directive_context told bases s = context told.find (counter_of s) bases None
+
+-- one copy of an item of a DS, or of a DC or a literal, which the location counter stands at
+abbrev pub item_made : Whole → Bool → Option Value → List ℕ → Result Made FaultKind
+item_made told is_ds at text = item_in is_ds told.find at told.control text
