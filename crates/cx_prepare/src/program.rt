@@ -69,7 +69,6 @@ fn written(alloc: Global, listing: bool, disassembly: bool, assembly: &Assembly)
 }
 
 /// A translated source assembled.
-#[tactic(auto, using(crate::proofs::StageLemmas::assembly_told))]
 fn by_assembly(alloc: Global, listing: bool, disassembly: bool, source: &Source) -> Result<Prepared, PrepareFault>
     ensures { Prepares (by_assembly listing disassembly (assembly_of source.now)) result }
 {
@@ -85,7 +84,6 @@ fn by_assembly(alloc: Global, listing: bool, disassembly: bool, source: &Source)
 }
 
 /// A source translated and assembled.
-#[tactic(auto, using(crate::proofs::StageLemmas::translation_told))]
 fn by_translation(alloc: Global, listing: bool, disassembly: bool, source: Source) -> Result<Prepared, PrepareFault>
     ensures { Prepares (by_translation listing disassembly (translation_of source)) result }
 {
@@ -128,7 +126,7 @@ fn fed(alloc: Global, lines: &[Text]) -> Result<SourceReader, AllocError>
 ///
 /// The fault is that of the source's first faulty line; without one, that of its first faulty EXEC statement; without one,
 /// the assembler's. Memory comes only where a growth was refused.
-#[tactic(auto, unfolding(crate::specs::Prepared::prepared_of), using(crate::proofs::StageLemmas::source_told))]
+#[tactic(auto, unfolding(crate::specs::Prepared::prepared_of))]
 pub fn prepare(
     alloc: Global,
     lines: Vec<Text>,
