@@ -1,11 +1,10 @@
 -- What stands behind line 10,001 of a source doesn't matter.
-use Rattle.std.proofs.Common.{◌≡◌, ◌≤◌, ℕ, zero, suc, ◌+◌, Bool, true, false, cond, List, [], ◌∷◌, length, map, take, Option, Some, None, Result, Ok, Err, refl, sym, ap, ◌∙◌, arith}
+use Rattle.std.proofs.Common.{◌≡◌, ◌≤◌, ℕ, zero, suc, ◌+◌, Bool, true, false, cond, List, [], ◌∷◌, length, map, take, Option, Some, None, refl, sym, ap, ◌∙◌, arith}
 use Rattle.std.specs.Prelude.{nat_lt, ◌||◌}
 use Rattle.std.specs.Option.{option_or}
 use Rattle.cx_source.specs.Faults.{fault_of, first_fault, has_bad_character, has_bad_continuation, has_bad_name, judged, source_from, source_in}
 use Rattle.cx_source.specs.Lines.{text_of}
 use Rattle.cx_source.specs.Statements.{is_continued, is_last, up_to_end}
-use Rattle.cx_source.specs.declared.source.Source.{Source}
 use Rattle.cx_source.specs.declared.source.SourceFault.{SourceFault}
 use Rattle.cx_source.specs.declared.source.SourceFault.TheVariants.{BadCharacter, BadName, BadContinuation, TooLong}
 use Rattle.cx_prepare.specs.Prepared.{by_source, prepared_of}
@@ -35,24 +34,27 @@ past continues n line e =
 longer : (continues : Bool) (n : ℕ) (line : List ℕ) (some all : List (List ℕ)) (fault : Option SourceFault) (last : Bool)
     → fault_of continues n line ≡ fault → is_last continues (text_of line) ≡ last
     → (fault ≡ None → Same (is_continued continues (text_of line)) (n + 1) some all) → Same continues n (line ∷ some) (line ∷ all)
-longer continues n line some all (Some fault) last f l h =
-    (ap (λ o. option_or o (cond (is_last continues (text_of line)) None (first_fault (is_continued continues (text_of line)) (n + 1) some))) f
-     ∙ sym (ap (λ o. option_or o (cond (is_last continues (text_of line)) None (first_fault (is_continued continues (text_of line)) (n + 1) all))) f),
-     λ e. let no : Some fault ≡ None = sym (ap (λ o. option_or o (cond (is_last continues (text_of line)) None (first_fault (is_continued continues (text_of line)) (n + 1) all))) f) ∙ e in absurd (cc))
-longer continues n line some all None true f l h =
-    (ap (λ b. option_or (fault_of continues n line) (cond b None (first_fault (is_continued continues (text_of line)) (n + 1) some))) l
-     ∙ sym (ap (λ b. option_or (fault_of continues n line) (cond b None (first_fault (is_continued continues (text_of line)) (n + 1) all))) l),
-     λ e. ap (λ b. text_of line ∷ cond b [] (texts_up_to_end (is_continued continues (text_of line)) some)) l
-      ∙ sym (ap (λ b. text_of line ∷ cond b [] (texts_up_to_end (is_continued continues (text_of line)) all)) l))
+longer continues n line some all (Some fault) last f l h = (
+  ap (λ o. option_or o (cond (is_last continues (text_of line)) None (first_fault (is_continued continues (text_of line)) (n + 1) some))) f
+      ∙ sym (ap (λ o. option_or o (cond (is_last continues (text_of line)) None (first_fault (is_continued continues (text_of line)) (n + 1) all))) f),
+  λ e. let no : Some fault ≡ None = sym (ap (λ o. option_or o (cond (is_last continues (text_of line)) None (first_fault (is_continued continues (text_of line)) (n + 1) all))) f) ∙ e in absurd (cc),
+)
+longer continues n line some all None true f l h = (
+  ap (λ b. option_or (fault_of continues n line) (cond b None (first_fault (is_continued continues (text_of line)) (n + 1) some))) l
+      ∙ sym (ap (λ b. option_or (fault_of continues n line) (cond b None (first_fault (is_continued continues (text_of line)) (n + 1) all))) l),
+  λ e. ap (λ b. text_of line ∷ cond b [] (texts_up_to_end (is_continued continues (text_of line)) some)) l
+      ∙ sym (ap (λ b. text_of line ∷ cond b [] (texts_up_to_end (is_continued continues (text_of line)) all)) l),
+)
 longer continues n line some all None false f l h =
     let rest = h refl in
     let here : first_fault continues n (line ∷ all) ≡ first_fault (is_continued continues (text_of line)) (n + 1) all =
-        ap (λ o. option_or o (cond (is_last continues (text_of line)) None (first_fault (is_continued continues (text_of line)) (n + 1) all))) f
-        ∙ ap (λ b. cond b None (first_fault (is_continued continues (text_of line)) (n + 1) all)) l in
-    (ap (λ next. option_or (fault_of continues n line) (cond (is_last continues (text_of line)) None next)) rest.0,
-     λ e. ap (λ b. text_of line ∷ cond b [] (texts_up_to_end (is_continued continues (text_of line)) some)) l
-      ∙ ap (λ texts. text_of line ∷ texts) (rest.1 (sym here ∙ e))
-      ∙ sym (ap (λ b. text_of line ∷ cond b [] (texts_up_to_end (is_continued continues (text_of line)) all)) l))
+    ap (λ o. option_or o (cond (is_last continues (text_of line)) None (first_fault (is_continued continues (text_of line)) (n + 1) all))) f
+    ∙ ap (λ b. cond b None (first_fault (is_continued continues (text_of line)) (n + 1) all)) l in (
+      ap (λ next. option_or (fault_of continues n line) (cond (is_last continues (text_of line)) None next)) rest.0,
+      λ e. ap (λ b. text_of line ∷ cond b [] (texts_up_to_end (is_continued continues (text_of line)) some)) l
+          ∙ ap (λ texts. text_of line ∷ texts) (rest.1 (sym here ∙ e))
+          ∙ sym (ap (λ b. text_of line ∷ cond b [] (texts_up_to_end (is_continued continues (text_of line)) all)) l),
+    )
 
 same : (k : ℕ) (continues : Bool) (n : ℕ) (all : List (List ℕ)) → n + k ≡ 10002 → n ≤ 10001 → Same continues n (take k all) all
 same zero continues n all e h = absurd (omega (arith, e, h))

@@ -82,7 +82,10 @@ impl From<SourceFault> for PrepareFault {
         match fault {
             SourceFault::BadCharacter(line) => PrepareFault::At(line, SourceKind::BadCharacter),
             SourceFault::BadName(line) => PrepareFault::At(line, SourceKind::BadName),
-            SourceFault::BadContinuation(line) => PrepareFault::At(line, SourceKind::BadContinuation),
+            SourceFault::BadContinuation(line) => PrepareFault::At(
+                line,
+                SourceKind::BadContinuation,
+            ),
             SourceFault::TooLong(line) => PrepareFault::At(line, SourceKind::TooLong),
             SourceFault::NoEnd(line) => PrepareFault::At(line, SourceKind::NoEnd),
             SourceFault::Memory => PrepareFault::Memory,
@@ -102,7 +105,10 @@ impl From<TransFault> for PrepareFault {
             TransFault::UnknownOption(line) => PrepareFault::At(line, SourceKind::UnknownOption),
             TransFault::MissingOption(line) => PrepareFault::At(line, SourceKind::MissingOption),
             TransFault::Conflict(line) => PrepareFault::At(line, SourceKind::Conflict),
-            TransFault::TooManyConditions(line) => PrepareFault::At(line, SourceKind::TooManyConditions),
+            TransFault::TooManyConditions(line) => PrepareFault::At(
+                line,
+                SourceKind::TooManyConditions,
+            ),
             TransFault::BadArgument(line) => PrepareFault::At(line, SourceKind::BadArgument),
             TransFault::Memory => PrepareFault::Memory,
         }
@@ -117,10 +123,16 @@ impl From<AsmFault> for PrepareFault {
     #[tactic(auto, unfolding(crate::specs::Kinds::of_assembly))]
     fn from(fault: AsmFault) -> PrepareFault {
         match fault {
-            AsmFault::UnknownOperation(line) => PrepareFault::At(line, SourceKind::UnknownOperation),
+            AsmFault::UnknownOperation(line) => PrepareFault::At(
+                line,
+                SourceKind::UnknownOperation,
+            ),
             AsmFault::UndefinedSymbol(line) => PrepareFault::At(line, SourceKind::UndefinedSymbol),
             AsmFault::DuplicateSymbol(line) => PrepareFault::At(line, SourceKind::DuplicateSymbol),
-            AsmFault::NoAddressability(line) => PrepareFault::At(line, SourceKind::NoAddressability),
+            AsmFault::NoAddressability(line) => PrepareFault::At(
+                line,
+                SourceKind::NoAddressability,
+            ),
             AsmFault::BadOperand(line) => PrepareFault::At(line, SourceKind::BadOperand),
             AsmFault::ValueOutOfRange(line) => PrepareFault::At(line, SourceKind::ValueOutOfRange),
             AsmFault::NotRelocatable(line) => PrepareFault::At(line, SourceKind::NotRelocatable),

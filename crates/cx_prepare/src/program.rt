@@ -54,7 +54,12 @@ fn push_disassembly(alloc: Global, text: &mut Vec<u8>, lines: &[Line]) -> Result
 
 /// What is written of an assembly.
 #[tactic(auto, unfolding(crate::specs::Prepared::written))]
-fn written(alloc: Global, listing: bool, disassembly: bool, assembly: &Assembly) -> Result<Vec<u8>, AllocError>
+fn written(
+    alloc: Global,
+    listing: bool,
+    disassembly: bool,
+    assembly: &Assembly,
+) -> Result<Vec<u8>, AllocError>
     ensures { IfOk result (λ text. text.items ≡ written listing disassembly assembly.now) }
 {
     let mut text = Vec::new(alloc);
@@ -69,7 +74,12 @@ fn written(alloc: Global, listing: bool, disassembly: bool, assembly: &Assembly)
 }
 
 /// A translated source assembled.
-fn by_assembly(alloc: Global, listing: bool, disassembly: bool, source: &Source) -> Result<Prepared, PrepareFault>
+fn by_assembly(
+    alloc: Global,
+    listing: bool,
+    disassembly: bool,
+    source: &Source,
+) -> Result<Prepared, PrepareFault>
     ensures { Prepares (by_assembly listing disassembly (assembly_of source.now)) result }
 {
     let assembly = match assemble(alloc, source) {
@@ -84,7 +94,12 @@ fn by_assembly(alloc: Global, listing: bool, disassembly: bool, source: &Source)
 }
 
 /// A source translated and assembled.
-fn by_translation(alloc: Global, listing: bool, disassembly: bool, source: Source) -> Result<Prepared, PrepareFault>
+fn by_translation(
+    alloc: Global,
+    listing: bool,
+    disassembly: bool,
+    source: Source,
+) -> Result<Prepared, PrepareFault>
     ensures { Prepares (by_translation listing disassembly (translation_of source)) result }
 {
     let translated = match translate(alloc, &source) {
