@@ -98,7 +98,12 @@ fn a_line_fed_at_once_keeps_its_carriage_return(rt: HostRuntime) -> Result<(), F
     assert!(rt; matches!(reader.finish(), Err(kept) if kept == fault));
     let line_feed = read_by_lines(rt.alloc(), &[b"X\n", b"         END"]);
     assert!(rt; matches!(line_feed, Err(SourceFault::BadCharacter(1))));
-    assert!(rt; matches!(read_by_lines(rt.alloc(), &[b"*", b""]), Err(SourceFault::NoEnd(3))));
+    assert!(rt;
+        matches!(
+            read_by_lines(rt.alloc(), &[b"*", b""]),
+            Err(SourceFault::NoEnd(3))
+        )
+    );
     Ok(())
 }
 
