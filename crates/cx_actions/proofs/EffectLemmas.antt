@@ -1,5 +1,5 @@
 -- An action performed, by what the region answered.
-use Rattle.std.proofs.Common.{◌≡◌, ℕ, List, None, Some, codes}
+use Rattle.std.proofs.Common.{◌≡◌, ℕ, ◌++◌, List, None, Some, codes}
 use Rattle.cx_code.specs.declared.image.Image.{Image}
 use Rattle.cx_load.specs.Fault.{IsFit, IsLowestFault, fault_name}
 use Rattle.cx_load.specs.declared.fault.ImageFault.{ImageFault}
@@ -42,3 +42,8 @@ display_shown old new name text n t = (t, n)
 pub previous_shown : (old new : EdfState) (name : List ℕ) (k : ℕ) (text : List ℕ) → new ≡ old → text ≡ display_text name (main_page_back old name k) → Performs old (action.Previous name k) text new
 unfolding Performs
 previous_shown old new name k text n t = (t, n)
+
+pub source_defined : (old new : EdfState) (name before : List ℕ) (image : Image) (own text : List ℕ)
+    → Performs old (action.Image name image) own new → text ≡ before ++ own → Performs old (action.Source name before image) text new
+unfolding Performs
+source_defined old new name before image own text checks written = record { own = own; checks = checks; written = written }

@@ -16,10 +16,12 @@ use Rattle.cx_actions.specs.declared.actions.Line.{Line}
 use Rattle.cx_actions.specs.declared.actions.Line.TheVariants as line
 use Rattle.cx_actions.specs.declared.actions.Verb.{Verb}
 use Rattle.cx_actions.specs.declared.actions.Verb.TheVariants as verb
+use Rattle.cx_actions.specs.declared.actions.Wanted.{Wanted}
 
 -- the word that a line of each kind begins with
 abbrev pub verb_name : Verb → List ℕ
 verb_name verb.Image = codes "IMAGE"
+verb_name verb.Source = codes "SOURCE"
 verb_name verb.Transaction = codes "TRANSACTION"
 verb_name verb.Terminal = codes "TERMINAL"
 verb_name verb.Clock = codes "CLOCK"
@@ -30,7 +32,7 @@ verb_name verb.Screen = codes "SCREEN"
 verb_name verb.Display = codes "DISPLAY"
 
 abbrev pub verbs : List Verb
-verbs = verb.Image ∷ verb.Transaction ∷ verb.Terminal ∷ verb.Clock ∷ verb.Key ∷ verb.Turn ∷ verb.Edf ∷ verb.Screen ∷ verb.Display ∷ []
+verbs = verb.Image ∷ verb.Source ∷ verb.Transaction ∷ verb.Terminal ∷ verb.Clock ∷ verb.Key ∷ verb.Turn ∷ verb.Edf ∷ verb.Screen ∷ verb.Display ∷ []
 
 unfoldable pub verb_of : List ℕ → Option Verb
 verb_of text = find (λ v. bytes_eq (verb_name v) text) verbs
@@ -74,9 +76,22 @@ display_line name (Some back) = option_map (λ k. line.Action (action.Previous n
 abbrev pub with_text : List ℕ × Aid × Option (List ℕ) → Option Line
 with_text key = option_map (λ bytes. does (edf.Plain (event.Key key.0 key.1 bytes))) (codes_of_key (unwrap_or key.2 []))
 
+-- what is written of a source: the listing, the disassembly, or both, in this order; nothing where no word stands there
+abbrev pub wanted_of : Option (List ℕ) → Option Wanted
+wanted_of None = Some (record { listing = false; disassembly = false })
+wanted_of (Some text) =
+    if bytes_eq text (codes "LIST") then Some (record { listing = true; disassembly = false })
+    else if bytes_eq text (codes "DISASM") then Some (record { listing = false; disassembly = true })
+    else if bytes_eq text (codes "LIST DISASM") then Some (record { listing = true; disassembly = true }) else None
+
+-- the line that begins a source's block
+abbrev pub source_line : List ℕ → Option (List ℕ) → Option Line
+source_line name rest = option_map (λ wanted. line.Source name wanted) (wanted_of rest)
+
 -- what a line asks by its first word and the words behind it
 unfoldable pub asked : Verb → List ℕ → Option Line
 asked verb.Image text = option_map (λ p. line.Image p.0 p.1) (pair_of (name_of 8) (number_of 1 9) text)
+asked verb.Source text = option_and_then (λ name. source_line name (behind text)) (name_of 8 (word text))
 asked verb.Transaction text = option_map (λ p. does (edf.Plain (event.Transaction p.0 p.1))) (pair_of (name_of 4) (name_of 8) text)
 asked verb.Terminal text = option_map (λ name. does (edf.Plain (event.Terminal name))) (name_of 4 text)
 asked verb.Clock text = option_map (λ p. does (edf.Plain (event.Clock p.0 p.1))) (pair_of (number_of 6 6) (number_of 5 5) text)

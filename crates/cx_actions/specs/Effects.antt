@@ -1,5 +1,5 @@
 -- What an action does to the region, and what is written for it (own).
-use Rattle.std.specs.Prelude.{◌≡◌, ℕ, List, [], codes, Option, Some, None}
+use Rattle.std.specs.Prelude.{◌≡◌, ℕ, ◌++◌, List, [], codes, Option, Some, None}
 use Rattle.std.specs.Option.{option_and_then, option_map}
 use Rattle.cx_code.specs.declared.image.Image.{Image}
 use Rattle.cx_load.specs.Fault.{IsFit, IsLowestFault, fault_name}
@@ -45,6 +45,12 @@ pub record Checks (old : EdfState) (name : List ℕ) (image : Image) (text : Lis
   pub finds : Finds image fault
   pub does : ByFault fault old name image text new
 
+-- What is written of a source comes before what its image gives.
+pub record Prepares (old : EdfState) (name before : List ℕ) (image : Image) (text : List ℕ) (new : EdfState) : Type 0 where
+  pub own : List ℕ
+  pub checks : Checks old name image own new
+  pub written : text ≡ before ++ own
+
 -- the screen of a terminal
 abbrev pub screen_of : RegionState → List ℕ → Option (List (List ℕ))
 screen_of region name = option_map (λ terminal. terminal.screen) (terminal_of region name)
@@ -66,6 +72,7 @@ main_page_back state name k = option_map (λ display. display.main) (option_and_
 -- One action: the region under EDF before, the action, what is written for it, and the region after.
 unfoldable pub Performs : EdfState → Action → List ℕ → EdfState → Type 0
 Performs old (action.Image name image) text new = Checks old name image text new
+Performs old (action.Source name before image) text new = Prepares old name before image text new
 Performs old (action.Event event) text new = Replies old event text new
 Performs old (action.Screen name) text new = (text ≡ screen_text name (screen_of old.region name)) × (new ≡ old)
 Performs old (action.Display name) text new = (text ≡ display_text name (shown_page old name)) × (new ≡ old)

@@ -2,25 +2,36 @@
 
 ghost use Rattle.std.specs.Prelude.{◌≡◌, IfOk, IfSome};
 ghost use Rattle.std.specs.List.{find};
-ghost use Rattle.std.specs.Option.{option_map};
+ghost use Rattle.std.specs.Option.{option_copied, option_map};
 ghost use Rattle.cx_ebcdic.specs.Aids.{key_of};
 ghost use Rattle.std.specs.Str.{bytes_eq};
 ghost use Rattle.cx_actions.specs.Allowed.{IsAllowedLine};
-ghost use Rattle.cx_actions.specs.Actions.{aid_of, asked, does, is_idle, key_words, line_of, switch_of, verb_name, verb_of};
+ghost use Rattle.cx_actions.specs.Actions.{aid_of, asked, does, is_idle, key_words, line_of, switch_of, verb_name, verb_of, wanted_of};
 ghost use Rattle.cx_edf.specs.declared.answers.EdfEvent.TheVariants as edf;
 
 use crate::words::{codes_of_key, name4, name8, number, split_word};
-use cx_code::Image;
+use cx_code::{Bytes, Image};
 use cx_ebcdic::{Aid, Name4, Name8};
 use cx_edf::EdfEvent;
 use cx_region::Event;
 use std::alloc::{AllocError, Global};
+
+/// What is to be written of a source.
+#[derive(Clone, Copy, Debug, PartialEq, Eq)]
+pub struct Wanted {
+    /// The listing.
+    pub listing: bool,
+    /// The disassembly of the text, behind the listing.
+    pub disassembly: bool,
+}
 
 /// What is done for a line, or for a block of lines.
 #[derive(Drop)]
 pub enum Action {
     /// Checks an image, and defines a program from it where it has no fault.
     Image(Name8, Image),
+    /// Writes what is to be written of a source, then does so with its image.
+    Source(Name8, Bytes, Image),
     /// An event of the region, or of EDF.
     Event(EdfEvent),
     /// Shows the screen of a terminal.
@@ -35,6 +46,7 @@ pub enum Action {
 #[derive(Clone, Copy, Debug, PartialEq, Eq)]
 pub enum Verb {
     Image,
+    Source,
     Transaction,
     Terminal,
     Clock,
@@ -47,8 +59,9 @@ pub enum Verb {
 
 impl Verb {
     /// All of these words.
-    pub const ALL: [Verb; 9] = [
+    pub const ALL: [Verb; 10] = [
         Verb::Image,
+        Verb::Source,
         Verb::Transaction,
         Verb::Terminal,
         Verb::Clock,
@@ -65,6 +78,7 @@ impl Verb {
     {
         match self {
             Verb::Image => b"IMAGE",
+            Verb::Source => b"SOURCE",
             Verb::Transaction => b"TRANSACTION",
             Verb::Terminal => b"TERMINAL",
             Verb::Clock => b"CLOCK",
@@ -84,6 +98,8 @@ pub enum Line {
     Idle,
     /// It begins the block of an image: its name, and the length of its working storage.
     Image(Name8, u32),
+    /// It begins the block of a source: its program's name, and what is to be written of it.
+    Source(Name8, Wanted),
     /// An action.
     Action(Action),
 }
@@ -136,6 +152,47 @@ fn image_line(text: &[u8]) -> Option<Line>
     let name = name8(word)?;
     let length = number(rest?, 1, 9)?;
     Some(Line::Image(name, length))
+}
+
+/// What is to be written of a source, by the words behind its name.
+fn wanted_of(rest: Option<&[u8]>) -> Option<Wanted>
+    ensures { result ≡ wanted_of (option_copied rest.entry) }
+{
+    let Some(text) = rest else {
+        return Some(Wanted {
+            listing: false,
+            disassembly: false,
+        });
+    };
+    if text == b"LIST".as_slice() {
+        Some(Wanted {
+            listing: true,
+            disassembly: false,
+        })
+    } else if text == b"DISASM".as_slice() {
+        Some(Wanted {
+            listing: false,
+            disassembly: true,
+        })
+    } else if text == b"LIST DISASM".as_slice() {
+        Some(Wanted {
+            listing: true,
+            disassembly: true,
+        })
+    } else {
+        None
+    }
+}
+
+/// The line that begins a source's block, by what is behind its first word.
+#[tactic(auto, unfolding(crate::specs::Actions::asked))]
+fn source_line(text: &[u8]) -> Option<Line>
+    ensures { result ≡ asked Verb.Source text.now }
+{
+    let (word, rest) = split_word(text);
+    let name = name8(word)?;
+    let wanted = wanted_of(rest)?;
+    Some(Line::Source(name, wanted))
 }
 
 /// TRANSACTION, by what is behind its first word.
@@ -239,6 +296,7 @@ fn asked(alloc: Global, verb: Verb, text: &[u8]) -> Result<Option<Line>, AllocEr
 {
     match verb {
         Verb::Image => Ok(image_line(text)),
+        Verb::Source => Ok(source_line(text)),
         Verb::Transaction => Ok(transaction_line(text)),
         Verb::Terminal => Ok(name4(text).map(|name| event_line(Event::Terminal(name)))),
         Verb::Clock => Ok(clock_line(text)),

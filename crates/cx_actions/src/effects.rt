@@ -10,7 +10,7 @@ ghost use Rattle.cx_actions.specs.declared.actions.Action.TheVariants as action;
 
 use crate::actions::Action;
 use crate::texts::{answer_text, display_text, refused_image, screen_text};
-use cx_code::Image;
+use cx_code::{Bytes, Image};
 use cx_ebcdic::{Name4, Name8};
 use cx_edf::{Debugged, Display, EdfEvent, PageName};
 use cx_load::check;
@@ -62,6 +62,23 @@ fn define_image<S: Store + Drop>(
         ),
         Err((_, fault)) => refused_image(alloc, name, fault),
     }
+}
+
+/// Defines a program from a source's image: what is written of the source, then as of any image.
+#[tactic(auto, using(crate::proofs::EffectLemmas::source_defined))]
+fn define_source<S: Store + Drop>(
+    region: &mut Debugged<S>,
+    alloc: Global,
+    name: Name8,
+    before: Bytes,
+    image: Image,
+) -> Result<Vec<u8>, AllocError>
+    ensures { IfOk result (λ text. Performs region.old (action.Source name before image) text.items region.new) }
+{
+    let mut text = before.into_vec();
+    let own = define_image(region, alloc, name, image)?;
+    text.extend_from_slice(own.as_slice())?;
+    Ok(text)
 }
 
 /// Shows the screen of a terminal.
@@ -122,6 +139,7 @@ impl<S: Store + Drop> Stage for Debugged<S> {
     fn perform(&mut self, alloc: Global, action: Action) -> Result<Vec<u8>, AllocError> {
         match action {
             Action::Image(name, image) => define_image(self, alloc, name, image),
+            Action::Source(name, before, image) => define_source(self, alloc, name, before, image),
             Action::Event(event) => do_event(self, alloc, &event),
             Action::Screen(name) => show_screen(self, alloc, name),
             Action::Display(name) => show_display(self, alloc, name),

@@ -6,5 +6,5 @@ mod effects;
 mod texts;
 mod words;
 
-pub use actions::{Action, Line, Verb, line_of};
+pub use actions::{Action, Line, Verb, Wanted, line_of};
 pub use effects::Stage;

@@ -13,7 +13,7 @@ use Rattle.cx_edf.specs.Runs.{Trace, last_state}
 use Rattle.cx_actions.specs.Effects.{Checks, Finds, Performs, Replies, ByFault}
 use Rattle.cx_actions.specs.Texts.{answer_text}
 use Rattle.cx_script.specs.Transcript.{Runs}
-use Rattle.cx_script.specs.Laws.Events.{AreTold, IsRun, IsToldBy, ScriptsRunTheirEvents, event_of, events_of, program_event}
+use Rattle.cx_script.specs.Laws.Events.{AreTold, IsRun, IsToldBy, ScriptsRunTheirEvents, event_of, events_of, program_event, written_before}
 use Rattle.cx_actions.specs.declared.actions.Action.{Action}
 use Rattle.cx_actions.specs.declared.actions.Action.TheVariants as action
 
@@ -44,26 +44,30 @@ pub actions_decide : EdfEventsDecide → (old : EdfState) (a : Action) (text oth
     → Performs old a text new → Performs old a other another → (text ≡ other) × (new ≡ another)
 unfolding Performs
 actions_decide events old (action.Image name image) text other new another p q = image_decides events (fault_of image) old name image text other new another (does_by_cascade old name image text new p) (does_by_cascade old name image other another q)
+actions_decide events old (action.Source name before image) text other new another p q =
+    let same = image_decides events (fault_of image) old name image p.own q.own new another (does_by_cascade old name image p.own new p.checks) (does_by_cascade old name image q.own another q.checks) in
+    (p.written ∙ ap (λ own. before ++ own) same.0 ∙ sym q.written, same.1)
 actions_decide events old (action.Event event) text other new another p q = replies_decide events old event text other new another p q
 actions_decide events old (action.Screen name) text other new another p q = (p.0 ∙ sym q.0, p.1 ∙ sym q.1)
 actions_decide events old (action.Display name) text other new another p q = (p.0 ∙ sym q.0, p.1 ∙ sym q.1)
 actions_decide events old (action.Previous name k) text other new another p q = (p.0 ∙ sym q.0, p.1 ∙ sym q.1)
 
 -- ---- events
--- what an action did, by the event that it gives
-abbrev Gives : Option EdfEvent → EdfState → List ℕ → EdfState → Type 0
-Gives None old text new = new ≡ old
-Gives (Some event) old text new = (given : Answer) × EdfHappens old event given new × (text ≡ answer_text event given)
+-- what an action did, by the event that it gives and what it writes before
+abbrev Gives : Option EdfEvent → List ℕ → EdfState → List ℕ → EdfState → Type 0
+Gives None before old text new = new ≡ old
+Gives (Some event) before old text new = (given : Answer) × EdfHappens old event given new × (text ≡ before ++ answer_text event given)
 
-image_gives : (fault : Option ImageFault) (old : EdfState) (name : List ℕ) (image : Image) (text : List ℕ) (new : EdfState)
-    → ByFault fault old name image text new → Gives (program_event fault name image) old text new
+image_gives : (fault : Option ImageFault) (old : EdfState) (name before : List ℕ) (image : Image) (own text : List ℕ) (new : EdfState)
+    → ByFault fault old name image own new → text ≡ before ++ own → Gives (program_event fault name image) before old text new
 unfolding Replies
-image_gives None old name image text new p = p
-image_gives (Some fault) old name image text new p = p.1
+image_gives None old name before image own text new p w = (p.0, p.1, w ∙ ap (λ t. before ++ t) p.2)
+image_gives (Some fault) old name before image own text new p w = p.1
 
-gives : (old : EdfState) (a : Action) (text : List ℕ) (new : EdfState) → Performs old a text new → Gives (event_of a) old text new
+gives : (old : EdfState) (a : Action) (text : List ℕ) (new : EdfState) → Performs old a text new → Gives (event_of a) (written_before a) old text new
 unfolding Performs Replies
-gives old (action.Image name image) text new p = image_gives (fault_of image) old name image text new (does_by_cascade old name image text new p)
+gives old (action.Image name image) text new p = image_gives (fault_of image) old name [] image text text new (does_by_cascade old name image text new p) refl
+gives old (action.Source name before image) text new p = image_gives (fault_of image) old name before image p.own text new (does_by_cascade old name image p.own new p.checks) p.written
 gives old (action.Event event) text new p = p
 gives old (action.Screen name) text new p = p.1
 gives old (action.Display name) text new p = p.1
@@ -71,7 +75,7 @@ gives old (action.Previous name k) text new p = p.1
 
 -- one action in front of a run
 runs_on : (given : Option EdfEvent) (a : Action) (actions : List Action) (old between new : EdfState) (first rest : List ℕ) → event_of a ≡ given
-    → Gives given old first between → IsRun between actions rest new → IsRun old (a ∷ actions) (first ++ rest) new
+    → Gives given (written_before a) old first between → IsRun between actions rest new → IsRun old (a ∷ actions) (first ++ rest) new
 unfolding AreTold Trace last_state
 runs_on None a actions old between new first rest e p r =
     record {
@@ -81,7 +85,7 @@ runs_on None a actions old between new first rest e p r =
       ends = subst (λ (s : EdfState). last_state s r.states ≡ new) p r.ends;
       texts = first ∷ r.texts;
       whole = ap (λ (l : List ℕ). first ++ l) r.whole;
-      told = subst (λ (o : Option EdfEvent). IsToldBy o r.answers first (λ left. AreTold actions left r.texts)) (sym e) r.told;
+      told = subst (λ (o : Option EdfEvent). IsToldBy o (written_before a) r.answers first (λ left. AreTold actions left r.texts)) (sym e) r.told;
     }
 runs_on (Some event) a actions old between new first rest e p r =
     record {
@@ -91,7 +95,7 @@ runs_on (Some event) a actions old between new first rest e p r =
       ends = r.ends;
       texts = first ∷ r.texts;
       whole = ap (λ (l : List ℕ). first ++ l) r.whole;
-      told = subst (λ (o : Option EdfEvent). IsToldBy o (p.0 ∷ r.answers) first (λ left. AreTold actions left r.texts)) (sym e) (p.2, r.told);
+      told = subst (λ (o : Option EdfEvent). IsToldBy o (written_before a) (p.0 ∷ r.answers) first (λ left. AreTold actions left r.texts)) (sym e) (p.2, r.told);
     }
 
 pub scripts_run_their_events : ScriptsRunTheirEvents

@@ -6,9 +6,14 @@ use Rattle.std.specs.Str.{bytes_eq}
 use Rattle.cx_script.specs.declared.blocks.Block.{Block}
 use Rattle.cx_actions.specs.Actions.{line_of}
 use Rattle.std.specs.Option.{ok_or}
+use Rattle.cx_prepare.specs.Prepared.{prepared_of}
+use Rattle.cx_prepare.specs.declared.faults.PrepareFault.{PrepareFault}
+use Rattle.cx_prepare.specs.declared.faults.PrepareFault.TheVariants as prepare
+use Rattle.cx_prepare.specs.declared.program.Prepared.{Prepared}
 use Rattle.cx_script.specs.ImageBlock.{ImageBlock}
+use Rattle.cx_script.specs.SourceBlock.{SourceBlock}
 use Rattle.cx_script.specs.declared.blocks.Block.TheVariants as kind
-use Rattle.cx_script.specs.Blocks.{continued, ended, first_line, image_action, step_at, step_in, step_of, with_bytes, with_line}
+use Rattle.cx_script.specs.Blocks.{continued, ended, first_line, image_action, source_action, source_ended, step_at, step_in, step_of, with_bytes, with_line}
 use Rattle.cx_lines.specs.Lines.{is_too_long, lines_met}
 use Rattle.cx_script.specs.Script.{Script, script_of, script_from, fault_at, before, led_to}
 use Rattle.cx_actions.specs.Words.{hex_bytes}
@@ -18,7 +23,7 @@ use Rattle.cx_actions.specs.declared.actions.Line.{Line}
 use Rattle.cx_actions.specs.declared.actions.Line.TheVariants as line
 use Rattle.cx_script.specs.declared.blocks.Step.{Step}
 use Rattle.cx_script.specs.declared.faults.RunFault.{RunFault}
-use Rattle.cx_script.specs.declared.faults.RunFault.TheVariants.{BadLine, Read}
+use Rattle.cx_script.specs.declared.faults.RunFault.TheVariants.{BadLine, Source, Read, Memory}
 use Rattle.cx_lines.specs.declared.input.Ending.{Ending}
 use Rattle.cx_lines.specs.declared.input.Ending.TheVariants.{AtEnd, Failed, PastBound}
 use Rattle.cx_script.proofs.FaultLemmas.{fault_before, is_own, led_own, MayBeLed}
@@ -36,8 +41,18 @@ told : (number : ℕ) (block : Option Block) (text : List ℕ) (fault : RunFault
 told number block text fault e h = subst (Told number block text) (sym e) (refl, h)
 
 -- an end has no BadLine
+source_told : (number : ℕ) (block : SourceBlock) (text : List ℕ) (due : Result Prepared PrepareFault) (fault : RunFault) → source_ended block due ≡ Err fault
+    → Told number (Some (kind.Source block)) text fault
+source_told number block text (Ok prepared) fault e = cc
+source_told number block text (Err (prepare.At n k)) fault e =
+    let same : Source (block.line + n) k ≡ fault = cc in subst (Told number (Some (kind.Source block)) text) same tt
+source_told number block text (Err prepare.Memory) fault e =
+    let same : Memory ≡ fault = cc in subst (Told number (Some (kind.Source block)) text) same tt
+
 end_told : (number : ℕ) (block : Block) (text : List ℕ) (fault : RunFault) → ended block ≡ Err fault → Told number (Some block) text fault
 end_told number (kind.Image block) text fault e = cc
+end_told number (kind.Source block) text fault e =
+    source_told number block text (prepared_of block.wanted.listing block.wanted.disassembly block.lines) fault e
 
 within_told : (number : ℕ) (block : Block) (text : List ℕ) (end : Bool) (fault : RunFault) → bytes_eq text (codes "/*") ≡ end
     → cond end (ended block) (ok_or (option_map continued (with_line block text)) (BadLine number)) ≡ Err fault → Told number (Some block) text fault
@@ -67,6 +82,7 @@ began_line : (number : ℕ) (asked : Option Line) (step : Step) → ok_or (optio
 began_line number None step e = cc
 began_line number (Some line.Idle) step e = let same : step_of number line.Idle ≡ step = cc in subst (Began number None) same tt
 began_line number (Some (line.Image name len)) step e = let same : step_of number (line.Image name len) ≡ step = cc in subst (Began number None) same (refl, refl)
+began_line number (Some (line.Source name wanted)) step e = let same : step_of number (line.Source name wanted) ≡ step = cc in subst (Began number None) same (refl, refl)
 began_line number (Some (line.Action a)) step e = let same : step_of number (line.Action a) ≡ step = cc in subst (Began number None) same tt
 
 began_more : (number : ℕ) (block : Block) (more : Option Block) (step : Step) → IfSome more (λ next. first_line next ≡ first_line block)
@@ -81,11 +97,21 @@ same_first block (Some bytes) = refl
 
 line_kept : (block : Block) (text : List ℕ) → IfSome (with_line block text) (λ next. first_line next ≡ first_line block)
 line_kept (kind.Image block) text = same_first block (hex_bytes text)
+line_kept (kind.Source block) text = refl
+
+began_source : (number : ℕ) (block : SourceBlock) (due : Result Prepared PrepareFault) (step : Step) → source_ended block due ≡ Ok step
+    → Began number (Some (kind.Source block)) step
+began_source number block (Err fault) step e = cc
+began_source number block (Ok prepared) step e =
+    let done : Step = record { action = Some (source_action block prepared); block = None } in
+    let same : done ≡ step = cc in subst (Began number (Some (kind.Source block))) same tt
 
 began_end : (number : ℕ) (block : Block) (step : Step) → ended block ≡ Ok step → Began number (Some block) step
 began_end number (kind.Image block) step e =
     let done : Step = record { action = Some (image_action block); block = None } in
     let same : done ≡ step = cc in subst (Began number (Some (kind.Image block))) same tt
+began_end number (kind.Source block) step e =
+    began_source number block (prepared_of block.wanted.listing block.wanted.disassembly block.lines) step e
 
 began_within : (number : ℕ) (block : Block) (text : List ℕ) (end : Bool) (step : Step)
     → cond end (ended block) (ok_or (option_map continued (with_line block text)) (BadLine number)) ≡ Ok step → Began number (Some block) step

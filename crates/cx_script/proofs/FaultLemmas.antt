@@ -1,24 +1,31 @@
 -- Which faults a script may have, by why no more of it was read.
-use Rattle.std.proofs.Common.{◌≡◌, ℕ, ◌+◌, Bool, true, false, List, [], ◌∷◌, None, Some, Option, Result, Ok, Err, cond, codes, refl, sym, ap, ◌∙◌}
+use Rattle.std.proofs.Common.{◌≡◌, ◌≢◌, ℕ, ◌+◌, Bool, true, false, List, [], ◌∷◌, None, Some, Option, Result, Ok, Err, cond, codes, refl, sym, ap, ◌∙◌}
 use Rattle.cx_script.specs.declared.blocks.Block.{Block}
 use Rattle.std.specs.Option.{ok_or}
 use Rattle.std.specs.Option.{option_map}
 use Rattle.std.specs.Str.{bytes_eq}
 use Rattle.cx_script.specs.declared.blocks.Block.TheVariants as kind
 use Rattle.cx_actions.specs.Actions.{line_of}
-use Rattle.cx_script.specs.Blocks.{continued, ended, step_at, step_in, step_of, with_line}
+use Rattle.cx_script.specs.Blocks.{continued, ended, source_ended, step_at, step_in, step_of, with_line}
+use Rattle.cx_prepare.specs.Facts.Faults.{prepared_not_memory}
+use Rattle.cx_prepare.specs.Prepared.{prepared_of}
+use Rattle.cx_prepare.specs.declared.faults.PrepareFault.{PrepareFault}
+use Rattle.cx_prepare.specs.declared.faults.PrepareFault.TheVariants as prepare
+use Rattle.cx_prepare.specs.declared.program.Prepared.{Prepared}
+use Rattle.cx_script.specs.SourceBlock.{SourceBlock}
 use Rattle.cx_lines.specs.Lines.{is_too_long, lines_met}
 use Rattle.cx_script.specs.Script.{Script, script_of, script_from, fault_at, before, led_to}
 use Rattle.cx_actions.specs.declared.actions.Action.{Action}
 use Rattle.cx_script.specs.declared.blocks.Step.{Step}
 use Rattle.cx_script.specs.declared.faults.RunFault.{RunFault}
-use Rattle.cx_script.specs.declared.faults.RunFault.TheVariants.{BadLine, Read, Write, Memory, ReadBound}
+use Rattle.cx_script.specs.declared.faults.RunFault.TheVariants.{BadLine, Source, Read, Write, Memory, ReadBound}
 use Rattle.cx_lines.specs.declared.input.Ending.{Ending}
 use Rattle.cx_lines.specs.declared.input.Ending.TheVariants.{AtEnd, Failed, PastBound}
 
 -- whether a script that was read so far may have this fault, or none
 abbrev pub may_have : Ending → Option RunFault → Bool
 may_have ending (Some (BadLine n)) = true
+may_have ending (Some (Source n kind)) = true
 may_have AtEnd None = true
 may_have Failed (Some Read) = true
 may_have PastBound (Some ReadBound) = true
@@ -31,6 +38,7 @@ fault_before (Some action) script = refl
 -- what a line's fault may be
 abbrev pub is_own : RunFault → Bool
 is_own (BadLine n) = true
+is_own (Source n kind) = true
 is_own _ = false
 
 -- a step, or a fault that a line may have
@@ -42,8 +50,17 @@ own_bad : (o : Option Step) (number : ℕ) → MayBeLed (ok_or o (BadLine number
 own_bad None number = refl
 own_bad (Some step) number = tt
 
+-- what a source's end leads to: want of memory is no fault of a source
+own_source : (block : SourceBlock) (due : Result Prepared PrepareFault) → due ≢ Err prepare.Memory → MayBeLed (source_ended block due)
+own_source block (Ok prepared) h = tt
+own_source block (Err (prepare.At n k)) h = refl
+own_source block (Err prepare.Memory) h = absurd (h refl)
+
 own_end : (block : Block) → MayBeLed (ended block)
 own_end (kind.Image block) = tt
+own_end (kind.Source block) =
+    own_source block (prepared_of block.wanted.listing block.wanted.disassembly block.lines)
+    (prepared_not_memory block.wanted.listing block.wanted.disassembly block.lines)
 
 own_within : (number : ℕ) (block : Block) (text : List ℕ) (end : Bool) → MayBeLed (cond end (ended block) (ok_or (option_map continued (with_line block text)) (BadLine number)))
 own_within number block text true = own_end block
@@ -60,6 +77,7 @@ led_own number block text = own_in number block text (is_too_long text)
 
 own_may : (ending : Ending) (fault : RunFault) → is_own fault ≡ true → may_have ending (Some fault) ≡ true
 own_may ending (BadLine n) e = refl
+own_may ending (Source n kind) e = refl
 own_may ending Read e = cc
 own_may ending Write e = cc
 own_may ending Memory e = cc

@@ -12,7 +12,7 @@ use Rattle.cx_script.specs.Outcome.{HasRead}
 use Rattle.cx_script.specs.Laws.Inputs.{was_stopped, InputsDecide, IsPastBound, IsTold, FailuresAreTold, PastTheBoundIsReadBound, ReadBoundIsPastTheBound, ReadIsAFailure}
 use Rattle.cx_actions.specs.declared.actions.Action.{Action}
 use Rattle.cx_script.specs.declared.faults.RunFault.{RunFault}
-use Rattle.cx_script.specs.declared.faults.RunFault.TheVariants.{BadLine, Read, Write, Memory, ReadBound}
+use Rattle.cx_script.specs.declared.faults.RunFault.TheVariants.{BadLine, Source, Read, Write, Memory, ReadBound}
 use Rattle.cx_script.specs.declared.faults.Summary.{Summary}
 use Rattle.cx_lines.specs.declared.input.Ending.{Ending}
 use Rattle.cx_lines.specs.declared.input.Ending.TheVariants.{AtEnd, Failed, PastBound}
@@ -24,6 +24,7 @@ read_of : (answer : Result Summary RunFault) (ending : Ending) (left after : Opt
     → HasRead answer ending left after bytes → Reads most_bytes ending left after bytes
 read_of (Ok s) ending left after bytes e p = p
 read_of (Err (BadLine n)) ending left after bytes e p = p
+read_of (Err (Source n which)) ending left after bytes e p = p
 read_of (Err Read) ending left after bytes e p = p
 read_of (Err Write) ending left after bytes e p = cc
 read_of (Err Memory) ending left after bytes e p = cc
@@ -58,6 +59,7 @@ own : {S : Type 0} (performs : S → Action → List ℕ → S → Type 0) (old 
     → (script.fault ≡ Some fault) × WroteAll performs old script.actions before after
 unfolding Stops
 own performs old script (BadLine n) before after e s = s
+own performs old script (Source n which) before after e s = s
 own performs old script Read before after e s = s
 own performs old script Write before after e s = cc
 own performs old script Memory before after e s = cc

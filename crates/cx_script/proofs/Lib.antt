@@ -7,5 +7,6 @@ pub mod WholeLemmas
 pub mod ActionLemmas
 pub mod InputLemmas
 pub mod BadLineLemmas
+pub mod BlockLemmas
 pub mod PieceLemmas
 pub mod FrontLemmas

@@ -7,7 +7,7 @@ use Rattle.cx_script.specs.Transcript.{Stops, Runs}
 use Rattle.cx_actions.specs.Effects.{Performs, fresh_state}
 use Rattle.cx_script.specs.Outcome.{RanScript, HasRead, IsFront}
 use Rattle.cx_script.specs.declared.faults.RunFault.{RunFault}
-use Rattle.cx_script.specs.declared.faults.RunFault.TheVariants.{BadLine, Read, Write, Memory, ReadBound}
+use Rattle.cx_script.specs.declared.faults.RunFault.TheVariants.{BadLine, Source, Read, Write, Memory, ReadBound}
 use Rattle.cx_script.specs.declared.faults.Summary.{Summary}
 use Rattle.cx_lines.specs.declared.input.Ending.{Ending}
 use Rattle.cx_lines.specs.declared.input.Ending.TheVariants.{AtEnd, Failed, PastBound}
@@ -28,6 +28,7 @@ front_read most PastBound (Some x) after bytes p = (drop most x, sym (take-appen
 pub has_read : (r : Result Summary RunFault) (ending : Ending) (before after : Option (List ℕ)) (bytes : List ℕ) → Reads most_bytes ending before after bytes → HasRead r ending before after bytes
 has_read (Ok s) ending before after bytes p = p
 has_read (Err (BadLine n)) ending before after bytes p = p
+has_read (Err (Source n which)) ending before after bytes p = p
 has_read (Err Read) ending before after bytes p = p
 has_read (Err Write) ending before after bytes p = p
 has_read (Err ReadBound) ending before after bytes p = p

@@ -21,7 +21,7 @@ use Rattle.cx_script.specs.Parts.Progress.{Acted, TakesLine, behind_done, Came, 
 use Rattle.cx_lines.specs.Unbroken.{IsUnbroken}
 use Rattle.cx_actions.specs.declared.actions.Action.{Action}
 use Rattle.cx_script.specs.declared.faults.RunFault.{RunFault}
-use Rattle.cx_script.specs.declared.faults.RunFault.TheVariants.{BadLine, Read, Write, Memory, ReadBound}
+use Rattle.cx_script.specs.declared.faults.RunFault.TheVariants.{BadLine, Source, Read, Write, Memory, ReadBound}
 use Rattle.cx_script.specs.declared.faults.Summary.{Summary}
 use Rattle.cx_lines.specs.declared.input.Ending.{Ending}
 use Rattle.cx_lines.specs.declared.input.Ending.TheVariants.{AtEnd, Failed, PastBound}
@@ -137,6 +137,7 @@ module _ {S : Type 0} (performs : S → Action → List ℕ → S → Type 0) wh
   joined_stops old mid script left done text Write first after last e r a s =
       (length done + s.0, subst (λ (l : List Action). SentSome performs old l first last) (front_of script left done s.0 e) (wrote_some_more old mid done (take s.0 left.actions) text first after last r a s.1))
   joined_stops old mid script left done text (BadLine n) first after last e r a s = own_stops old mid script left done text (BadLine n) first after last e r a s
+  joined_stops old mid script left done text (Source n which) first after last e r a s = own_stops old mid script left done text (Source n which) first after last e r a s
   joined_stops old mid script left done text Read first after last e r a s = own_stops old mid script left done text Read first after last e r a s
   joined_stops old mid script left done text ReadBound first after last e r a s = own_stops old mid script left done text ReadBound first after last e r a s
 
@@ -236,6 +237,7 @@ module _ {S : Type 0} (performs : S → Action → List ℕ → S → Type 0) wh
   halts_flushed old script Memory first b c waits n h w = (h.0, sent_flushed old (take h.0 script.actions) first b c waits h.1 w)
   halts_flushed old script Write first b c waits n h w = absurd (n refl)
   halts_flushed old script (BadLine m) first b c waits n h w = (h.0, sent_flushed old script.actions first b c waits h.1 w)
+  halts_flushed old script (Source m which) first b c waits n h w = (h.0, sent_flushed old script.actions first b c waits h.1 w)
   halts_flushed old script Read first b c waits n h w = (h.0, sent_flushed old script.actions first b c waits h.1 w)
   halts_flushed old script ReadBound first b c waits n h w = (h.0, sent_flushed old script.actions first b c waits h.1 w)
 
@@ -245,6 +247,7 @@ module _ {S : Type 0} (performs : S → Action → List ℕ → S → Type 0) wh
   halts_front old script Memory first b c waits n h w = (h.0, sent_front old (take h.0 script.actions) first b c waits h.1 w)
   halts_front old script Write first b c waits n h w = absurd (n refl)
   halts_front old script (BadLine m) first b c waits n h w = (length script.actions, all_front old script.actions first b c waits h.1 w)
+  halts_front old script (Source m which) first b c waits n h w = (length script.actions, all_front old script.actions first b c waits h.1 w)
   halts_front old script Read first b c waits n h w = (length script.actions, all_front old script.actions first b c waits h.1 w)
   halts_front old script ReadBound first b c waits n h w = (length script.actions, all_front old script.actions first b c waits h.1 w)
 
@@ -303,6 +306,7 @@ module _ {S : Type 0} (performs : S → Action → List ℕ → S → Type 0) wh
   served_failed (Ok done) old n block ahead first b waits s w = tt
   served_failed (Err Write) old n block ahead first b waits s w = stopped_write old n block ahead first b waits s
   served_failed (Err (BadLine m)) old n block ahead first b waits s w = cc
+  served_failed (Err (Source m which)) old n block ahead first b waits s w = cc
   served_failed (Err Read) old n block ahead first b waits s w = cc
   served_failed (Err Memory) old n block ahead first b waits s w = cc
   served_failed (Err ReadBound) old n block ahead first b waits s w = cc
@@ -333,6 +337,7 @@ module _ {S : Type 0} (performs : S → Action → List ℕ → S → Type 0) wh
   stopped_written old script Memory first last h = (h.0, all_written old (take h.0 script.actions) first last h.1)
   stopped_written old script Write first last h = (h.0, record { text = h.1.text; new = h.1.new; runs = h.1.runs; written = h.1.written })
   stopped_written old script (BadLine n) first last h = (h.0, all_written old script.actions first last h.1)
+  stopped_written old script (Source n which) first last h = (h.0, all_written old script.actions first last h.1)
   stopped_written old script Read first last h = (h.0, all_written old script.actions first last h.1)
   stopped_written old script ReadBound first last h = (h.0, all_written old script.actions first last h.1)
 

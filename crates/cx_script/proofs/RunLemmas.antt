@@ -12,7 +12,7 @@ use Rattle.cx_script.specs.Parts.Progress.{Acts, Acted, Closes, Halts, SentAll, 
 use Rattle.cx_actions.specs.declared.actions.Action.{Action}
 use Rattle.cx_script.specs.declared.blocks.Step.{Step}
 use Rattle.cx_script.specs.declared.faults.RunFault.{RunFault}
-use Rattle.cx_script.specs.declared.faults.RunFault.TheVariants.{BadLine, Read, Write, Memory, ReadBound}
+use Rattle.cx_script.specs.declared.faults.RunFault.TheVariants.{BadLine, Source, Read, Write, Memory, ReadBound}
 use Rattle.cx_lines.specs.declared.input.Ending.{Ending}
 
 -- the actions of a line
@@ -117,6 +117,7 @@ module _ {S : Type 0} (performs : S → Action → List ℕ → S → Type 0) wh
       → Halts performs old script fault first last
   unfolding script_from TakesLine Acted Halts
   stops_line old mid new script first after last ending n block next line lines (BadLine m) r t = own_fault old mid script first after last ending n block line lines (BadLine m) r t
+  stops_line old mid new script first after last ending n block next line lines (Source m which) r t = own_fault old mid script first after last ending n block line lines (Source m which) r t
   stops_line old mid new script first after last ending n block next line lines Memory r t =
       let f = reached_front old mid script (script_from ending n block (line ∷ lines)) first after r in
       (f.0, subst (SentAll performs old (take f.0 script.actions) first) (sym t) f.1)
@@ -144,6 +145,7 @@ module _ {S : Type 0} (performs : S → Action → List ℕ → S → Type 0) wh
       let f = reached_front old mid script (script_from ending n block []) first after r in
       (f.0, record { text = f.1.text; new = f.1.new; runs = f.1.runs; written = sends_all first after f.1.text f.1.written })
   ends_badly old mid script first after ending n block (BadLine m) r e = (ap (λ (s : Script). s.fault) r.splits ∙ e, reached_all old mid script (script_from ending n block []) first after r refl)
+  ends_badly old mid script first after ending n block (Source m which) r e = (ap (λ (s : Script). s.fault) r.splits ∙ e, reached_all old mid script (script_from ending n block []) first after r refl)
   ends_badly old mid script first after ending n block Read r e = (ap (λ (s : Script). s.fault) r.splits ∙ e, reached_all old mid script (script_from ending n block []) first after r refl)
   ends_badly old mid script first after ending n block ReadBound r e = (ap (λ (s : Script). s.fault) r.splits ∙ e, reached_all old mid script (script_from ending n block []) first after r refl)
 

@@ -9,7 +9,7 @@ use Rattle.cx_script.specs.Transcript.{is_memory, is_write}
 use Rattle.cx_actions.specs.declared.actions.Action.{Action}
 use Rattle.cx_script.specs.declared.blocks.Step.{Step}
 use Rattle.cx_script.specs.declared.faults.RunFault.{RunFault}
-use Rattle.cx_script.specs.declared.faults.RunFault.TheVariants.{BadLine, Read, Write, Memory, ReadBound}
+use Rattle.cx_script.specs.declared.faults.RunFault.TheVariants.{BadLine, Source, Read, Write, Memory, ReadBound}
 
 nothing : (before after : Option (List ℕ)) (waits : List ℕ) → told after waits ≡ told before [] → told after [] ≡ told before []
 nothing before after waits e = ap (λ (t : Told). told t.written []) e
@@ -25,6 +25,7 @@ module _ {S : Type 0} (performs : S → Action → List ℕ → S → Type 0) wh
   unfolding TakesLine
   line_faulty due (Ok step) fault old before block e h w = cc
   line_faulty due (Err (BadLine m)) fault old before block e h w = let same : (BadLine m) ≡ fault = cc in own due (BadLine m) fault old before block same (sym (h refl), refl)
+  line_faulty due (Err (Source m which)) fault old before block e h w = let same : (Source m which) ≡ fault = cc in own due (Source m which) fault old before block same (sym (h refl), refl)
   line_faulty due (Err Read) fault old before block e h w = let same : Read ≡ fault = cc in own due Read fault old before block same (sym (h refl), refl)
   line_faulty due (Err ReadBound) fault old before block e h w = let same : ReadBound ≡ fault = cc in own due ReadBound fault old before block same (sym (h refl), refl)
   line_faulty due (Err Write) fault old before block e h w = cc
@@ -38,6 +39,7 @@ module _ {S : Type 0} (performs : S → Action → List ℕ → S → Type 0) wh
   line_acted due step old new before after (Err Memory) e a = a
   line_acted due step old new before after (Err Write) e a = (step, e, a)
   line_acted due step old new before after (Err (BadLine m)) e a = absurd a
+  line_acted due step old new before after (Err (Source m which)) e a = absurd a
   line_acted due step old new before after (Err Read) e a = absurd a
   line_acted due step old new before after (Err ReadBound) e a = absurd a
 
@@ -59,6 +61,7 @@ module _ {S : Type 0} (performs : S → Action → List ℕ → S → Type 0) wh
       → TakesLine performs due old (told before []) (Err fault) new (told after waits) block → TakesLine performs due old (told before []) (Err fault) new (told after []) block
   unfolding TakesLine Acted
   line_failed due (BadLine n) old new before after waits block t = (t.0, nothing before after waits t.1)
+  line_failed due (Source n which) old new before after waits block t = (t.0, nothing before after waits t.1)
   line_failed due Read old new before after waits block t = (t.0, nothing before after waits t.1)
   line_failed due ReadBound old new before after waits block t = (t.0, nothing before after waits t.1)
   line_failed due Memory old new before after waits block t = nothing before after waits t

@@ -1,15 +1,21 @@
 -- Lines and blocks: what each line of a script leads to (own).
-use Rattle.std.specs.Prelude.{ℕ, ◌++◌, if◌then◌else◌, Option, Some, None, Result, Ok, Err, List, [], take, codes}
+use Rattle.std.specs.Prelude.{ℕ, ◌+◌, ◌++◌, ◌∷◌, if◌then◌else◌, Option, Some, None, Result, Ok, Err, List, [], take, codes}
 use Rattle.std.specs.Option.{ok_or}
 use Rattle.std.specs.Option.{option_map}
 use Rattle.std.specs.Str.{bytes_eq}
 use Rattle.cx_code.specs.declared.image.Image.{Image}
 use Rattle.cx_script.specs.ImageBlock.{ImageBlock}
+use Rattle.cx_script.specs.SourceBlock.{SourceBlock}
 use Rattle.cx_script.specs.declared.blocks.Block.{Block}
 use Rattle.cx_script.specs.declared.blocks.Block.TheVariants as kind
 use Rattle.cx_script.specs.declared.blocks.Step.{Step}
 use Rattle.cx_script.specs.declared.faults.RunFault.{RunFault}
-use Rattle.cx_script.specs.declared.faults.RunFault.TheVariants.{BadLine}
+use Rattle.cx_script.specs.declared.faults.RunFault.TheVariants.{BadLine, Source, Memory}
+use Rattle.cx_prepare.specs.Prepared.{prepared_of}
+use Rattle.cx_prepare.specs.declared.faults.PrepareFault.{PrepareFault}
+use Rattle.cx_prepare.specs.declared.faults.PrepareFault.TheVariants.{At}
+use Rattle.cx_prepare.specs.declared.faults.PrepareFault.TheVariants as without
+use Rattle.cx_prepare.specs.declared.program.Prepared.{Prepared}
 use Rattle.cx_lines.specs.Lines.{is_too_long}
 use Rattle.cx_actions.specs.Words.{hex_bytes}
 use Rattle.cx_actions.specs.Actions.{line_of}
@@ -21,6 +27,7 @@ use Rattle.cx_actions.specs.declared.actions.Line.TheVariants as line
 -- the number of the line that begins a block
 abbrev pub first_line : Block → ℕ
 first_line (kind.Image block) = block.line
+first_line (kind.Source block) = block.line
 
 -- an image has entry 0 and no relocated words
 abbrev pub image_of : ImageBlock → Image
@@ -33,6 +40,7 @@ image_action block = action.Image block.name (image_of block)
 abbrev pub step_of : ℕ → Line → Step
 step_of number line.Idle = record { action = None; block = None }
 step_of number (line.Image name stg_len) = record { action = None; block = Some (kind.Image (record { line = number; name = name; stg_len = stg_len; text = [] })) }
+step_of number (line.Source name wanted) = record { action = None; block = Some (kind.Source (record { line = number; name = name; wanted = wanted; lines = [] })) }
 step_of number (line.Action a) = record { action = Some a; block = None }
 
 -- No more than 65,537 bytes of a text are kept: one that is longer than 65,536 is BadLength, whatever follows.
@@ -43,16 +51,39 @@ kept text = take 65537 text
 abbrev pub with_bytes : ImageBlock → List ℕ → Block
 with_bytes block bytes = kind.Image (record { line = block.line; name = block.name; stg_len = block.stg_len; text = kept (block.text ++ bytes) })
 
+-- No more than 10,001 lines of a source are kept: one that has not ended with the 10,000th is TooLong, whatever follows.
+unfoldable pub kept_lines : List (List ℕ) → List (List ℕ)
+kept_lines lines = take 10001 lines
+
+abbrev pub with_source_line : SourceBlock → List ℕ → Block
+with_source_line block text =
+    kind.Source (record { line = block.line; name = block.name; wanted = block.wanted; lines = kept_lines (block.lines ++ text ∷ []) })
+
 -- a block with one more line, which in an image's is hexadecimal digits; None where it may not have that line
 abbrev pub with_line : Block → List ℕ → Option Block
 with_line (kind.Image block) text = option_map (with_bytes block) (hex_bytes text)
+with_line (kind.Source block) text = Some (with_source_line block text)
 
 abbrev pub continued : Block → Step
 continued block = record { action = None; block = Some block }
 
--- what the line that ends a block leads to
+-- A source's fault is told by the script's line: of NoEnd that is the line that ends the block.
+abbrev pub located : ℕ → PrepareFault → RunFault
+located first (At number kind) = Source (first + number) kind
+located first without.Memory = Memory
+
+-- what is written of the source, and its image
+abbrev pub source_action : SourceBlock → Prepared → Action
+source_action block prepared = action.Source block.name prepared.text prepared.image
+
+abbrev pub source_ended : SourceBlock → Result Prepared PrepareFault → Result Step RunFault
+source_ended block (Ok prepared) = Ok (record { action = Some (source_action block prepared); block = None })
+source_ended block (Err fault) = Err (located block.line fault)
+
+-- What the line that ends a block leads to. A source is judged there, whole.
 abbrev pub ended : Block → Result Step RunFault
 ended (kind.Image block) = Ok (record { action = Some (image_action block); block = None })
+ended (kind.Source block) = source_ended block (prepared_of block.wanted.listing block.wanted.disassembly block.lines)
 
 -- a line inside a block: its end, or one more line of it
 abbrev pub step_within : ℕ → Block → List ℕ → Result Step RunFault

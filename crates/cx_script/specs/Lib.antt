@@ -1,5 +1,6 @@
 -- The definitions, in reading order.
 pub mod ImageBlock
+pub mod SourceBlock
 pub mod Blocks
 pub mod Script
 pub mod Transcript
@@ -10,6 +11,8 @@ pub mod Parts
 pub use Rattle.cx_lines.specs.Devices
 pub use Rattle.cx_lines.specs.Input
 pub use Rattle.cx_lines.specs.Lines
+pub use Rattle.cx_prepare.specs.Kinds
+pub use Rattle.cx_prepare.specs.Prepared
 pub use Rattle.cx_actions.specs.Words
 pub use Rattle.cx_actions.specs.Actions
 pub use Rattle.cx_actions.specs.Texts

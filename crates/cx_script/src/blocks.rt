@@ -1,16 +1,18 @@
 //! Lines and blocks: what each line of a script leads to.
 
-ghost use Rattle.std.specs.Prelude.{◌≡◌, ◌≤◌, ◌/◌, ◌++◌, [], None, IfOk, IfSome, MatchOption, true, false, length};
+ghost use Rattle.std.specs.Prelude.{◌≡◌, ◌≤◌, ◌/◌, ◌++◌, ◌∷◌, [], None, Err, IfOk, IfSome, OnOk, MatchOption, true, false, length};
 ghost use Rattle.cx_actions.specs.Allowed.{IsAllowed};
 ghost use Rattle.cx_actions.specs.Words.{hex_bytes};
-ghost use Rattle.cx_script.specs.Blocks.{ended, first_line, image_action, kept, step_at, step_in, step_of, step_within, with_line};
+ghost use Rattle.cx_script.specs.Blocks.{ended, first_line, image_action, kept, kept_lines, located, step_at, step_in, step_of, step_within, with_line};
 ghost use Rattle.cx_script.specs.Transcript.{is_memory, is_read, is_write};
 
 use crate::faults::RunFault;
-use cx_actions::{Action, Line, line_of};
+use cx_actions::{Action, Line, Wanted, line_of};
 use cx_code::{Bytes, Image, Offsets};
 use cx_ebcdic::Name8;
 use cx_lines::is_too_long;
+use cx_prepare::{PrepareFault, prepare};
+use cx_source::Text;
 use std::alloc::{AllocError, Global};
 use std::marker::Model;
 
@@ -20,11 +22,16 @@ const MOST_IN_LINE: usize = 2_048;
 /// The most bytes of a text that are kept: one byte more than an image may have.
 const MOST_KEPT: usize = 65_537;
 
+/// The most lines of a source that are kept: one line more than it may have.
+const MOST_LINES: usize = 10_001;
+
 /// A block, up to some line of it.
 #[derive(Drop)]
 pub enum Block {
     /// That of an image.
     Image(ImageBlock),
+    /// That of a source.
+    Source(SourceBlock),
 }
 
 /// An image's block, up to some line of it.
@@ -77,6 +84,76 @@ impl ImageBlock {
     }
 }
 
+/// A source's block, up to some line of it.
+#[derive(Drop)]
+pub struct SourceBlock {
+    line: usize,
+    name: Name8,
+    wanted: Wanted,
+    lines: Vec<Text>,
+}
+
+impl Model for SourceBlock {
+    ghost use Rattle.cx_script.specs.SourceBlock.{SourceBlock as Collected};
+
+    ghost Value = { Collected };
+
+    ghost view = { λ block. record { line = block.line; name = block.name; wanted = block.wanted; lines = block.lines.items } };
+}
+
+impl SourceBlock {
+    /// A block that has no line yet.
+    fn new(alloc: Global, line: usize, name: Name8, wanted: Wanted) -> SourceBlock
+        ensures { result ≡ record { line = line; name = name; wanted = wanted; lines = [] } }
+    {
+        SourceBlock {
+            line,
+            name,
+            wanted,
+            lines: Vec::new(alloc),
+        }
+    }
+
+    /// What its end leads to: the program of its source, or the fault.
+    #[tactic(auto, using(crate::proofs::BlockLemmas::source_refused))]
+    fn end(self, alloc: Global) -> Result<Step, RunFault>
+        ensures value { is_memory result ≡ false → result ≡ ended (Block.Source self) }
+        ensures allowed { IfOk result (λ step. IfSome step.action IsAllowed) }
+        ensures unwritten { is_write result ≡ false }
+        ensures unread { is_read result ≡ false }
+    {
+        let SourceBlock {
+            line,
+            name,
+            wanted,
+            lines,
+        } = self;
+        match prepare(alloc, lines, wanted.listing, wanted.disassembly) {
+            Ok(prepared) => Ok(Step {
+                action: Some(Action::Source(name, prepared.text, prepared.image)),
+                block: None,
+            }),
+            Err(fault) => refused(line, fault),
+        }
+    }
+}
+
+/// The fault of a source that begins behind this line. No source has so many lines that the sum doesn't fit.
+fn refused(first: usize, fault: PrepareFault) -> Result<Step, RunFault>
+    ensures value { is_memory result ≡ false → result ≡ Err (located first fault) }
+    ensures allowed { IfOk result (λ step. IfSome step.action IsAllowed) }
+    ensures unwritten { is_write result ≡ false }
+    ensures unread { is_read result ≡ false }
+{
+    match fault {
+        PrepareFault::At(number, kind) => match first.checked_add(number) {
+            Some(line) => Err(RunFault::Source(line, kind)),
+            None => Err(RunFault::Memory),
+        },
+        PrepareFault::Memory => Err(RunFault::Memory),
+    }
+}
+
 impl Block {
     /// The number of the line that begins it.
     pub fn line(&self) -> usize
@@ -84,12 +161,13 @@ impl Block {
     {
         match self {
             Block::Image(block) => block.line,
+            Block::Source(block) => block.line,
         }
     }
 
     /// What its end leads to.
     fn end(self, alloc: Global) -> Result<Step, RunFault>
-        ensures value { result ≡ ended self }
+        ensures value { is_memory result ≡ false → result ≡ ended self }
         ensures allowed { IfOk result (λ step. IfSome step.action IsAllowed) }
         ensures unwritten { is_write result ≡ false }
         ensures unread { is_read result ≡ false }
@@ -99,11 +177,12 @@ impl Block {
                 action: Some(block.action(alloc)),
                 block: None,
             }),
+            Block::Source(block) => block.end(alloc),
         }
     }
 
     /// The block with one more line, where it may have that line.
-    fn with_line(self, line: &[u8]) -> Result<Option<Block>, AllocError>
+    fn with_line(self, alloc: Global, line: &[u8]) -> Result<Option<Block>, AllocError>
         requires { length line.now ≤ 4096 }
         ensures { IfOk result (λ block. block ≡ with_line self line.now) }
     {
@@ -113,6 +192,10 @@ impl Block {
                     return Ok(None);
                 }
                 Ok(Some(Block::Image(block)))
+            }
+            Block::Source(mut block) => {
+                append_text(alloc, &mut block.lines, line)?;
+                Ok(Some(Block::Source(block)))
             }
         }
     }
@@ -137,6 +220,10 @@ fn step_of(alloc: Global, number: usize, line: Line) -> Step
         Line::Image(name, stg_len) => Step {
             action: None,
             block: Some(Block::Image(ImageBlock::new(alloc, number, name, stg_len))),
+        },
+        Line::Source(name, wanted) => Step {
+            action: None,
+            block: Some(Block::Source(SourceBlock::new(alloc, number, name, wanted))),
         },
         Line::Action(action) => Step {
             action: Some(action),
@@ -177,6 +264,16 @@ fn append_line(text: &mut Vec<u8>, line: &[u8]) -> Result<bool, AllocError>
     Ok(true)
 }
 
+/// Adds a line of a source, as far as they are kept.
+#[tactic(auto, unfolding(crate::specs::Blocks::kept_lines))]
+fn append_text(alloc: Global, lines: &mut Vec<Text>, line: &[u8]) -> Result<(), AllocError>
+    ensures { OnOk result (lines.new.items ≡ kept_lines (lines.old.items ++ line.now ∷ [])) }
+{
+    lines.push(Text::from_slice(alloc, line)?)?;
+    lines.truncate(MOST_LINES);
+    Ok(())
+}
+
 /// What a line inside a block leads to.
 fn step_within(alloc: Global, number: usize, block: Block, line: &[u8]) -> Result<Step, RunFault>
     requires { length line.now ≤ 4096 }
@@ -188,7 +285,7 @@ fn step_within(alloc: Global, number: usize, block: Block, line: &[u8]) -> Resul
     if line == b"/*".as_slice() {
         return block.end(alloc);
     }
-    match block.with_line(line)? {
+    match block.with_line(alloc, line)? {
         Some(block) => Ok(Step {
             action: None,
             block: Some(block),

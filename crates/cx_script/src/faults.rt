@@ -4,6 +4,7 @@ ghost use Rattle.std.specs.Prelude.{◌≡◌};
 ghost use Rattle.cx_script.specs.Status.{status_of};
 ghost use Rattle.cx_script.specs.declared.faults.RunFault.TheVariants.{Memory};
 
+use cx_prepare::SourceKind;
 use std::alloc::{AllocError, AllocFailed};
 use thiserror::Error;
 
@@ -14,6 +15,9 @@ pub enum RunFault {
     /// The line with this number, counted from 1, is no line of a script; or it begins a block that is not ended.
     #[error("cicsedf: line {0}: BadLine")]
     BadLine(usize),
+    /// The line with this number, counted from 1, is a faulty one of a source; of NoEnd it is the line that ends the block.
+    #[error("cicsedf: line {0}: {1}")]
+    Source(usize, SourceKind),
     /// A read failed.
     #[error("cicsedf: read")]
     Read,
@@ -58,7 +62,7 @@ pub fn status(answer: &Result<Summary, RunFault>) -> u8
 {
     match answer {
         Ok(_) => 0,
-        Err(RunFault::BadLine(_)) => 1,
+        Err(RunFault::BadLine(_) | RunFault::Source(_, _)) => 1,
         Err(RunFault::Read | RunFault::Write | RunFault::ReadBound) => 3,
         Err(RunFault::Memory) => 4,
     }

@@ -8,5 +8,6 @@ mod run;
 mod script;
 
 pub use cx_lines::{DeviceFault, Ending, MemoryIn, MemoryOut, ScriptIn, ScriptOut, Std};
+pub use cx_prepare::SourceKind;
 pub use faults::{RunFault, Summary, status};
 pub use script::run_script;

@@ -16,4 +16,6 @@ mod pieces;
 #[cfg(test)]
 mod runs;
 #[cfg(test)]
+mod sources;
+#[cfg(test)]
 mod transcripts;

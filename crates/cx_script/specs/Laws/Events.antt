@@ -1,5 +1,5 @@
 -- A run of a script is a run of its events under EDF.
-use Rattle.std.specs.Prelude.{◌≡◌, ℕ, List, [], ◌∷◌, Option, Some, None}
+use Rattle.std.specs.Prelude.{◌≡◌, ℕ, List, [], ◌∷◌, ◌++◌, Option, Some, None}
 use Rattle.std.specs.List.{filter_map, flat_map}
 use Rattle.cx_code.specs.declared.image.Image.{Image}
 use Rattle.cx_load.specs.Facts.Cascade.{fault_of}
@@ -23,6 +23,7 @@ program_event (Some fault) name image = None
 
 abbrev pub event_of : Action → Option EdfEvent
 event_of (action.Image name image) = program_event (fault_of image) name image
+event_of (action.Source name before image) = program_event (fault_of image) name image
 event_of (action.Event event) = Some event
 event_of (action.Screen name) = None
 event_of (action.Display name) = None
@@ -31,16 +32,21 @@ event_of (action.Previous name k) = None
 abbrev pub events_of : List Action → List EdfEvent
 events_of actions = filter_map event_of actions
 
--- the text of an action that gives an event is that of the event's answer
-abbrev pub IsToldBy : Option EdfEvent → List Answer → List ℕ → (List Answer → Type 0) → Type 0
-IsToldBy None answers text Rest = Rest answers
-IsToldBy (Some event) [] text Rest = ⊥
-IsToldBy (Some event) (answer ∷ answers) text Rest = (text ≡ answer_text event answer) × Rest answers
+-- what an action writes in front of that: of a source its listing and disassembly, where they are wanted
+abbrev pub written_before : Action → List ℕ
+written_before (action.Source name before image) = before
+written_before _ = []
+
+-- the text of an action that gives an event is that of the event's answer, behind what is written before
+abbrev pub IsToldBy : Option EdfEvent → List ℕ → List Answer → List ℕ → (List Answer → Type 0) → Type 0
+IsToldBy None before answers text Rest = Rest answers
+IsToldBy (Some event) before [] text Rest = ⊥
+IsToldBy (Some event) before (answer ∷ answers) text Rest = (text ≡ before ++ answer_text event answer) × Rest answers
 
 -- the answers, in order, are those that the texts of these actions tell
 unfoldable pub AreTold : List Action → List Answer → List (List ℕ) → Type 0
 AreTold [] [] [] = Unit {0}
-AreTold (action ∷ actions) answers (text ∷ texts) = IsToldBy (event_of action) answers text (λ left. AreTold actions left texts)
+AreTold (action ∷ actions) answers (text ∷ texts) = IsToldBy (event_of action) (written_before action) answers text (λ left. AreTold actions left texts)
 AreTold _ _ _ = ⊥
 
 -- the state behind the actions is that behind their events, in order, with the answers that were written

@@ -1,0 +1,18 @@
+-- What the end of a source's block leads to.
+use Rattle.std.proofs.Common.{◌≡◌, true, false, Result, Err, sym, ap, ◌∙◌}
+use Rattle.cx_prepare.specs.Prepared.{Prepares}
+use Rattle.cx_prepare.specs.declared.faults.PrepareFault.{PrepareFault}
+use Rattle.cx_prepare.specs.declared.faults.PrepareFault.TheVariants as prepare
+use Rattle.cx_prepare.specs.declared.program.Prepared.{Prepared}
+use Rattle.cx_script.specs.Blocks.{located, source_ended}
+use Rattle.cx_script.specs.SourceBlock.{SourceBlock}
+use Rattle.cx_script.specs.Transcript.{is_memory}
+use Rattle.cx_script.specs.declared.blocks.Step.{Step}
+use Rattle.cx_script.specs.declared.faults.RunFault.{RunFault}
+
+-- a source's fault, told by the script's line, is what its end leads to
+pub source_refused : (block : SourceBlock) (due : Result Prepared PrepareFault) (fault : PrepareFault) (result : Result Step RunFault) → Prepares due (Err fault)
+    → (is_memory result ≡ false → result ≡ Err (located block.line fault)) → is_memory result ≡ false → result ≡ source_ended block due
+source_refused block due (prepare.At n k) result h f m = f m ∙ sym (ap (source_ended block) h)
+source_refused block due prepare.Memory result h f m =
+    let no : true ≡ false = sym (ap is_memory (f m)) ∙ m in absurd (cc)
