@@ -1,5 +1,6 @@
 -- No source is refused for want of memory.
 use Rattle.std.proofs.Common.{◌≢◌, ℕ, ◌+◌, Bool, true, false, cond, List, [], ◌∷◌, map, Option, Some, None, Result, Ok, Err, refl, ap}
+use Rattle.std.specs.Prelude.{nat_le}
 use Rattle.std.specs.Option.{option_or}
 use Rattle.std.specs.List.{list_any}
 use Rattle.cx_command.specs.declared.commands.Command.{Command}
@@ -18,7 +19,11 @@ use Rattle.cx_translate.specs.Words.{words_of}
 use Rattle.cx_translate.specs.declared.faults.TransFault.{TransFault}
 use Rattle.cx_translate.specs.declared.faults.TransFault.TheVariants as trans
 use Rattle.cx_translate.specs.declared.words.Word.{Word}
-use Rattle.cx_asm.specs.Assembly.{AssemblyParts, assembly_of}
+use Rattle.cx_asm.specs.Assembly.{AssemblyParts, assembly_of, end_line, fault_on, made_of, second_fault_of, size_of, unless_refused}
+use Rattle.cx_places.specs.Placed.{known_of}
+use Rattle.cx_places.specs.declared.place.LineFault.{LineFault}
+use Rattle.cx_terms.specs.declared.faults.FaultKind.{FaultKind}
+use Rattle.cx_terms.specs.declared.faults.FaultKind.TheVariants as reason
 use Rattle.cx_asm.specs.declared.faults.AsmFault.{AsmFault}
 use Rattle.cx_asm.specs.declared.faults.AsmFault.TheVariants as asm
 use Rattle.cx_prepare.specs.Kinds.{of_assembly, of_source, of_translation}
@@ -123,9 +128,29 @@ by_assembly_sound : (listing disassembly : Bool) (due : Result AssemblyParts Asm
 by_assembly_sound listing disassembly (Ok assembly) h = tt
 by_assembly_sound listing disassembly (Err fault) h = assembly_fault_sound fault (λ e. h (ap Err e))
 
+kind_not_memory : (line : ℕ) (k : FaultKind) → fault_on line k ≢ asm.Memory
+kind_not_memory line reason.UnknownOperation = λ e. cc
+kind_not_memory line reason.UndefinedSymbol = λ e. cc
+kind_not_memory line reason.DuplicateSymbol = λ e. cc
+kind_not_memory line reason.NoAddressability = λ e. cc
+kind_not_memory line reason.BadOperand = λ e. cc
+kind_not_memory line reason.ValueOutOfRange = λ e. cc
+kind_not_memory line reason.NotRelocatable = λ e. cc
+kind_not_memory line reason.TooLarge = λ e. cc
+
+refused_not_memory : (o : Option LineFault) (result : Result AssemblyParts AsmFault) → result ≢ Err asm.Memory → unless_refused o result ≢ Err asm.Memory
+refused_not_memory None result h = h
+refused_not_memory (Some first) result h = λ e. let same : fault_on first.line first.kind ≡ asm.Memory = cc in kind_not_memory first.line first.kind same
+
+large_not_memory : (fits : Bool) (line : ℕ) (made : AssemblyParts) → cond fits (Ok made) (Err (asm.TooLarge line)) ≢ Err asm.Memory
+large_not_memory true line made = λ e. cc
+large_not_memory false line made = λ e. cc
+
 assembly_not_memory : (s : Source) → assembly_of s ≢ Err asm.Memory
 unfolding assembly_of
-assembly_not_memory s = λ e. cc
+assembly_not_memory s =
+    refused_not_memory (known_of s).fault _
+    (refused_not_memory (second_fault_of s) _ (large_not_memory (nat_le (size_of s) 65536) (end_line s) (made_of s)))
 
 translation_fault_sound : (fault : TransFault) → sound_statement (Some fault) → Sound (Err (of_translation fault))
 unfolding of_translation
