@@ -1,6 +1,6 @@
 -- Hexadecimal digits decoded into a buffer, and the number that its bytes are.
-use Rattle.std.proofs.Common.{◌≡◌, ℕ, ◌+◌, ◌*◌, ◌/◌, ◌%◌, ◌<◌, ◌≤◌, ◌^◌, false, List, [], ◌∷◌, length, Some, None, Result, Ok, Err, MatchResult, is_ok, refl, sym, ◌∙◌, add-one, lit<, arith, inl, inr}
-use Rattle.std.specs.Prelude.{◌==◌, if◌then◌else◌, slice_index}
+use Rattle.std.proofs.Common.{◌≡◌, ℕ, true, slice_index_or, ◌+◌, ◌*◌, ◌/◌, ◌%◌, ◌<◌, ◌≤◌, ◌^◌, false, List, [], ◌∷◌, length, Some, None, Result, Ok, Err, MatchResult, is_ok, refl, sym, ◌∙◌, add-one, lit<, arith, inl, inr}
+use Rattle.std.specs.Prelude.{◌==◌, if◌then◌else◌, Option, Bool}
 use Rattle.std.specs.Option.{option_map}
 use Rattle.std.proofs.Math.Nat.{pow-le-pow_right}
 use Rattle.std.proofs.lemmas.Bool.{cases_eq, eq-eqb, ne_eqb}
@@ -34,11 +34,15 @@ spelled n word r new h = sym (sized n word) ∙ go (decode_sized word n) h
     go (Ok bytes) h = rw (h.0, h.1) refl
     go (Err e) h = rw h refl
 
--- the number that one byte is
-pub one_byte : (bytes : List ℕ) → length bytes ≡ 1 → slice_index bytes 0 ≡ number_in bytes
-one_byte [] one = cc
-one_byte (b ∷ []) one = refl
-one_byte (b ∷ c ∷ more) one = cc
+-- the byte that two digits spell
+both : {a b : ℕ} → a ≡ b → Some a ≡ Some b
+both same = rw same refl
+
+pub one_byte : (bytes : List ℕ) (spelt : Option ℕ) (decoded : Bool) → length bytes ≡ 1 → decoded ≡ true → spelt ≡ (if decoded then Some (number_in bytes) else None)
+    → Some (slice_index_or bytes 0 0) ≡ spelt
+one_byte [] spelt decoded one h is = cc
+one_byte (b ∷ []) spelt decoded one h is = let same : b ≡ number_in (b ∷ []) = omega arith in rw (is, h) (both same)
+one_byte (b ∷ c ∷ more) spelt decoded one h is = cc
 
 -- so many bytes are a number below that power of 256
 pub power_bound : (i : ℕ) → i < 4 → 256 ^ i ≤ 16777216

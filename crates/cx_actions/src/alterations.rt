@@ -58,7 +58,6 @@ fn hex_address(word: &[u8]) -> Option<u32>
 }
 
 /// The number that two hexadecimal digits spell.
-#[tactic(auto, using(crate::proofs::HexLemmas::one_byte))]
 fn hex_byte(word: &[u8]) -> Option<u8>
     ensures { result ≡ hex_number 1 word.now }
 {
