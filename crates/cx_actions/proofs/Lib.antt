@@ -1,3 +1,4 @@
 pub mod WordLemmas
 pub mod EffectLemmas
 pub mod ScreenLemmas
+pub mod HexLemmas

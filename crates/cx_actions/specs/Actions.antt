@@ -10,7 +10,8 @@ use Rattle.cx_ebcdic.specs.declared.aids.Aid.TheVariants.{Enter, Clear, Pa1, Pa2
 use Rattle.cx_region.specs.declared.replies.Event.TheVariants as event
 use Rattle.cx_edf.specs.declared.answers.EdfEvent.{EdfEvent}
 use Rattle.cx_edf.specs.declared.answers.EdfEvent.TheVariants as edf
-use Rattle.cx_actions.specs.Words.{word, behind, number_of, codes_of_key}
+use Rattle.cx_actions.specs.Words.{word, behind, pair_of, number_of, codes_of_key}
+use Rattle.cx_actions.specs.Alterations.{change_of}
 use Rattle.cx_actions.specs.declared.actions.Action.TheVariants as action
 use Rattle.cx_actions.specs.declared.actions.Line.{Line}
 use Rattle.cx_actions.specs.declared.actions.Line.TheVariants as line
@@ -30,9 +31,10 @@ verb_name verb.Turn = codes "TURN"
 verb_name verb.Edf = codes "EDF"
 verb_name verb.Screen = codes "SCREEN"
 verb_name verb.Display = codes "DISPLAY"
+verb_name verb.Alter = codes "ALTER"
 
 abbrev pub verbs : List Verb
-verbs = verb.Image ∷ verb.Source ∷ verb.Transaction ∷ verb.Terminal ∷ verb.Clock ∷ verb.Key ∷ verb.Turn ∷ verb.Edf ∷ verb.Screen ∷ verb.Display ∷ []
+verbs = verb.Image ∷ verb.Source ∷ verb.Transaction ∷ verb.Terminal ∷ verb.Clock ∷ verb.Key ∷ verb.Turn ∷ verb.Edf ∷ verb.Screen ∷ verb.Display ∷ verb.Alter ∷ []
 
 unfoldable pub verb_of : List ℕ → Option Verb
 verb_of text = find (λ v. bytes_eq (verb_name v) text) verbs
@@ -43,11 +45,6 @@ aids = Enter ∷ Clear ∷ Pa1 ∷ Pa2 ∷ Pf1 ∷ Pf2 ∷ Pf3 ∷ Pf4 ∷ Pf5 �
 -- the key of a name
 unfoldable pub aid_of : List ℕ → Option Aid
 aid_of text = find (λ aid. bytes_eq (key_of aid).name text) aids
-
--- what two words spell, both of which must be there
-abbrev pub pair_of : {A B : Type 0} → (List ℕ → Option A) → (List ℕ → Option B) → List ℕ → Option (A × B)
-pair_of first second text =
-    option_and_then (λ a. option_map (λ b. (a, b)) (option_and_then second (behind text))) (first (word text))
 
 -- a terminal and a key, and what is behind a blank after them, where there is one
 abbrev pub key_words : List ℕ → Option (List ℕ × Aid × Option (List ℕ))
@@ -100,6 +97,7 @@ asked verb.Turn text = option_map (λ name. does (edf.Plain (event.Turn name))) 
 asked verb.Edf text = option_map (λ p. does (switched p)) (pair_of (name_of 4) switch_of text)
 asked verb.Display text = option_and_then (λ name. display_line name (behind text)) (name_of 4 (word text))
 asked verb.Screen text = option_map (λ name. line.Action (action.Screen name)) (name_of 4 text)
+asked verb.Alter text = option_map (λ p. does (edf.Plain (event.Alter p.0 p.1))) (pair_of (name_of 4) change_of text)
 
 -- an empty line, or one that begins with an asterisk
 abbrev pub is_idle : List ℕ → Bool

@@ -1,5 +1,6 @@
 -- The definitions, in reading order.
 pub mod Words
+pub mod Alterations
 pub mod Actions
 pub mod Allowed
 pub mod Texts

@@ -18,7 +18,8 @@ use Rattle.cx_region.specs.declared.replies.Event.TheVariants as event
 use Rattle.cx_region.specs.declared.replies.Reply.{Reply}
 use Rattle.cx_region.specs.declared.replies.Reply.TheVariants as reply
 use Rattle.cx_region.specs.declared.replies.KeyReply.{KeyReply}
-use Rattle.cx_region.specs.Replies.{define_fault_name, key_reply_name}
+use Rattle.cx_region.specs.Replies.{alter_reply_name, define_fault_name, key_reply_name}
+use Rattle.cx_region.specs.declared.changes.AlterReply.{AlterReply}
 use Rattle.cx_state.specs.Replies.{turn_reply_name}
 use Rattle.cx_state.specs.declared.replies.TurnReply.{TurnReply}
 use Rattle.cx_state.specs.declared.replies.TurnReply.TheVariants as turn
@@ -54,6 +55,9 @@ key_text name reply = written_line (codes "KEY") (shown_name name ∷ key_reply_
 unfoldable pub turn_text : List ℕ → TurnReply → List ℕ
 turn_text name reply = written_line (codes "TURN") (shown_name name ∷ turn_reply_name reply ∷ option_to_list (turn_reply_detail reply))
 
+unfoldable pub alter_text : List ℕ → AlterReply → List ℕ
+alter_text name reply = written_line (codes "ALTER") (shown_name name ∷ alter_reply_name reply ∷ [])
+
 -- what is written for the reply to an event
 unfoldable pub reply_text : Event → Reply → List ℕ
 reply_text (event.Program name image) (reply.Program answer) = program_text name answer
@@ -62,13 +66,14 @@ reply_text (event.Terminal name) (reply.Terminal answer) = defined_text (codes "
 reply_text (event.Clock time date) reply.Clock = clock_text
 reply_text (event.Key name aid bytes) (reply.Key answer) = key_text name answer
 reply_text (event.Turn name) (reply.Turn answer) = turn_text name answer
+reply_text (event.Alter name change) (reply.Alter answer) = alter_text name answer
 reply_text _ _ = []
 
 -- ---- EDF
 unfoldable pub edf_text : List ℕ → EdfReply → List ℕ
 edf_text name reply = written_line (codes "EDF") (shown_name name ∷ edf_reply_name reply ∷ [])
 
--- a key that is EDF's, and a turn that is held
+-- a key that is EDF's, a turn that is held
 unfoldable pub to_edf_text : Event → List ℕ
 to_edf_text (event.Key name aid bytes) = written_line (codes "KEY") (shown_name name ∷ codes "ToEdf" ∷ [])
 to_edf_text _ = []
@@ -77,11 +82,17 @@ unfoldable pub held_text : Event → List ℕ
 held_text (event.Turn name) = written_line (codes "TURN") (shown_name name ∷ codes "Held" ∷ [])
 held_text _ = []
 
+-- an alteration of a terminal that isn't in Stopped
+unfoldable pub not_stopped_text : Event → List ℕ
+not_stopped_text (event.Alter name change) = written_line (codes "ALTER") (shown_name name ∷ codes "NotStopped" ∷ [])
+not_stopped_text _ = []
+
 -- what is written for the answer to an event under EDF
 unfoldable pub answer_text : EdfEvent → Answer → List ℕ
 answer_text (edf_event.Plain e) (answer.Region reply) = reply_text e reply
 answer_text (edf_event.Plain e) answer.ToEdf = to_edf_text e
 answer_text (edf_event.Plain e) answer.Held = held_text e
+answer_text (edf_event.Plain e) answer.NotStopped = not_stopped_text e
 answer_text (edf_event.On name) (answer.Edf reply) = edf_text name reply
 answer_text (edf_event.Off name) (answer.Edf reply) = edf_text name reply
 answer_text _ _ = []

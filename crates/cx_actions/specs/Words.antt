@@ -1,6 +1,7 @@
 -- The words of a line, which are separated by one blank, and what they spell (own).
 use Rattle.std.specs.Prelude.{ℕ, ◌+◌, ◌-◌, ◌*◌, ◌&&◌, ◌==◌, Bool, nat_le, if◌then◌else◌, Option, Some, None, is_some, Result, Ok, Err, List, length, take, drop, fold, position}
 use Rattle.std.specs.List.{filter_map, list_all}
+use Rattle.std.specs.Option.{option_and_then, option_map}
 use Rattle.std.specs.Char.{is_ascii_digit}
 use Rattle.hex.specs.Hex.{decode_of}
 use Rattle.cx_ebcdic.specs.Characters.{code_of}
@@ -25,6 +26,11 @@ word text = up_to text (position is_blank text)
 -- what stands behind the first blank, where there is one
 abbrev pub behind : List ℕ → Option (List ℕ)
 behind text = behind_place text (position is_blank text)
+
+-- what two words spell, both of which must be there
+abbrev pub pair_of : {A B : Type 0} → (List ℕ → Option A) → (List ℕ → Option B) → List ℕ → Option (A × B)
+pair_of first second text =
+    option_and_then (λ a. option_map (λ b. (a, b)) (option_and_then second (behind text))) (first (word text))
 
 -- the number that decimal digits spell
 abbrev pub with_digit : ℕ → ℕ → ℕ

@@ -9,6 +9,7 @@ ghost use Rattle.cx_actions.specs.Allowed.{IsAllowedLine};
 ghost use Rattle.cx_actions.specs.Actions.{aid_of, asked, does, is_idle, key_words, line_of, switch_of, verb_name, verb_of, wanted_of};
 ghost use Rattle.cx_edf.specs.declared.answers.EdfEvent.TheVariants as edf;
 
+use crate::alterations::change_of;
 use crate::words::{codes_of_key, name4, name8, number, split_word};
 use cx_code::{Bytes, Image};
 use cx_ebcdic::{Aid, Name4, Name8};
@@ -55,11 +56,12 @@ pub enum Verb {
     Edf,
     Screen,
     Display,
+    Alter,
 }
 
 impl Verb {
     /// All of these words.
-    pub const ALL: [Verb; 10] = [
+    pub const ALL: [Verb; 11] = [
         Verb::Image,
         Verb::Source,
         Verb::Transaction,
@@ -70,6 +72,7 @@ impl Verb {
         Verb::Edf,
         Verb::Screen,
         Verb::Display,
+        Verb::Alter,
     ];
 
     /// The word as it is written.
@@ -87,6 +90,7 @@ impl Verb {
             Verb::Edf => b"EDF",
             Verb::Screen => b"SCREEN",
             Verb::Display => b"DISPLAY",
+            Verb::Alter => b"ALTER",
         }
     }
 }
@@ -288,6 +292,18 @@ fn display_line(text: &[u8]) -> Option<Line>
     Some(Line::Action(Action::Previous(name, back as usize)))
 }
 
+/// ALTER, by what is behind its first word.
+#[tactic(auto, unfolding(crate::specs::Actions::asked))]
+fn alter_line(text: &[u8]) -> Option<Line>
+    ensures value { result ≡ asked Verb.Alter text.now }
+    ensures allowed { IfSome result IsAllowedLine }
+{
+    let (word, rest) = split_word(text);
+    let name = name4(word)?;
+    let change = change_of(rest?)?;
+    Some(event_line(Event::Alter(name, change)))
+}
+
 /// What a line asks by its first word and what is behind it.
 #[tactic(auto, unfolding(crate::specs::Actions::asked))]
 fn asked(alloc: Global, verb: Verb, text: &[u8]) -> Result<Option<Line>, AllocError>
@@ -305,6 +321,7 @@ fn asked(alloc: Global, verb: Verb, text: &[u8]) -> Result<Option<Line>, AllocEr
         Verb::Edf => Ok(edf_line(text)),
         Verb::Display => Ok(display_line(text)),
         Verb::Screen => Ok(name4(text).map(|name| Line::Action(Action::Screen(name)))),
+        Verb::Alter => Ok(alter_line(text)),
     }
 }
 

@@ -2,6 +2,7 @@
 #![tactic(auto)]
 
 mod actions;
+mod alterations;
 mod effects;
 mod texts;
 mod words;

@@ -4,12 +4,12 @@ ghost use Rattle.std.specs.Prelude.{◌≡◌, IfOk, [], ◌∷◌, codes};
 ghost use Rattle.std.specs.Option.{option_copied, option_map};
 ghost use Rattle.cx_load.specs.Fault.{fault_name};
 ghost use Rattle.cx_text.specs.Texts.{shown_name, written_line};
-ghost use Rattle.cx_actions.specs.Texts.{answer_text, clock_text, defined_text, display_text, edf_text, held_text, key_text, program_text, refused_text, reply_text, screen_text, to_edf_text, turn_reply_detail, turn_text};
+ghost use Rattle.cx_actions.specs.Texts.{alter_text, answer_text, clock_text, defined_text, display_text, edf_text, held_text, key_text, not_stopped_text, program_text, refused_text, reply_text, screen_text, to_edf_text, turn_reply_detail, turn_text};
 
 use cx_ebcdic::{Name4, Name8};
 use cx_edf::{Answer, EdfEvent, EdfReply};
 use cx_load::{ImageFault, Loaded};
-use cx_region::{DefineFault, Event, KeyReply, Reply, TurnReply};
+use cx_region::{AlterReply, DefineFault, Event, KeyReply, Reply, TurnReply};
 use cx_service::Screen;
 use cx_text::{Page, hexadecimal, shown, shown_name, written_line};
 use std::alloc::{AllocError, Global};
@@ -157,6 +157,15 @@ fn turn_text(alloc: Global, name: Name4, reply: TurnReply) -> Result<Vec<u8>, Al
     }
 }
 
+/// The line of an alteration.
+#[tactic(auto, unfolding(crate::specs::Texts::alter_text))]
+fn alter_text(alloc: Global, name: Name4, reply: AlterReply) -> Result<Vec<u8>, AllocError>
+    ensures { IfOk result (λ text. text.items ≡ alter_text name reply) }
+{
+    let name = shown_name(alloc, name)?;
+    reply_line(alloc, b"ALTER", &name, reply.name().as_bytes())
+}
+
 /// What is written for the reply to an event.
 #[tactic(auto, unfolding(crate::specs::Texts::reply_text))]
 fn reply_text(alloc: Global, event: &Event, reply: Reply) -> Result<Vec<u8>, AllocError>
@@ -171,6 +180,7 @@ fn reply_text(alloc: Global, event: &Event, reply: Reply) -> Result<Vec<u8>, All
         (Event::Clock(_, _), Reply::Clock) => clock_text(alloc),
         (Event::Key(name, _, _), Reply::Key(answer)) => key_text(alloc, *name, answer),
         (Event::Turn(name), Reply::Turn(answer)) => turn_text(alloc, *name, answer),
+        (Event::Alter(name, _), Reply::Alter(answer)) => alter_text(alloc, *name, answer),
         _ => Ok(Vec::new(alloc)),
     }
 }
@@ -197,6 +207,17 @@ fn held_text(alloc: Global, event: &Event) -> Result<Vec<u8>, AllocError>
     }
 }
 
+/// The line of an alteration of a terminal that isn't in Stopped.
+#[tactic(auto, unfolding(crate::specs::Texts::not_stopped_text))]
+fn not_stopped_text(alloc: Global, event: &Event) -> Result<Vec<u8>, AllocError>
+    ensures { IfOk result (λ text. text.items ≡ not_stopped_text event.now) }
+{
+    match event {
+        Event::Alter(name, _) => named_line(alloc, b"ALTER", *name, b"NotStopped"),
+        _ => Ok(Vec::new(alloc)),
+    }
+}
+
 /// What is written for the answer to an event under EDF.
 #[tactic(auto, unfolding(crate::specs::Texts::answer_text))]
 pub fn answer_text(alloc: Global, event: &EdfEvent, answer: Answer) -> Result<Vec<u8>, AllocError>
@@ -206,6 +227,7 @@ pub fn answer_text(alloc: Global, event: &EdfEvent, answer: Answer) -> Result<Ve
         (EdfEvent::Plain(event), Answer::Region(reply)) => reply_text(alloc, event, reply),
         (EdfEvent::Plain(event), Answer::ToEdf) => to_edf_text(alloc, event),
         (EdfEvent::Plain(event), Answer::Held) => held_text(alloc, event),
+        (EdfEvent::Plain(event), Answer::NotStopped) => not_stopped_text(alloc, event),
         (EdfEvent::On(name), Answer::Edf(reply)) => edf_text(alloc, *name, reply),
         (EdfEvent::Off(name), Answer::Edf(reply)) => edf_text(alloc, *name, reply),
         _ => Ok(Vec::new(alloc)),

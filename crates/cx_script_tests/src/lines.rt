@@ -35,6 +35,44 @@ fn bad_lines_are_found(rt: HostRuntime) {
 }
 
 #[test]
+fn bad_alterations_are_found(rt: HostRuntime) {
+    let cases: [&[u8]; 14] = [
+        b"ALTER T001\n",
+        b"ALTER T0011 NOP\n",
+        b"ALTER T001 nop\n",
+        b"ALTER T001 NOP 1\n",
+        b"ALTER T001 ABEND \n",
+        b"ALTER T001 REG 16 00000000\n",
+        b"ALTER T001 REG 001 00000000\n",
+        b"ALTER T001 REG 1 0000000\n",
+        b"ALTER T001 REG 1 000000000\n",
+        b"ALTER T001 REG 1\n",
+        b"ALTER T001 BYTE 00000 00\n",
+        b"ALTER T001 BYTE 0000000 00\n",
+        b"ALTER T001 BYTE 000000 0\n",
+        b"ALTER T001 BYTE 00000G 00\n",
+    ];
+    for script in cases {
+        expect_run(&rt, script, Err(RunFault::BadLine(1)), b"");
+    }
+}
+
+#[test]
+fn alterations_of_no_terminal_are_answered(rt: HostRuntime) {
+    let cases: [&[u8]; 6] = [
+        b"ALTER T009 NOP\n",
+        b"ALTER T009 ABEND\n",
+        b"ALTER T009 REG 0 fFfFfFfF\n",
+        b"ALTER T009 REG 09 00000000\n",
+        b"ALTER T009 REG 15 01234567\n",
+        b"ALTER T009 BYTE FFFFFF ff\n",
+    ];
+    for script in cases {
+        expect_run(&rt, script, Ok(Summary { lines: 1 }), b"ALTER T009 NoSuchTerminal\n");
+    }
+}
+
+#[test]
 fn lines_end_in_their_ways(rt: HostRuntime) {
     let cases: [(&[u8], usize, &[u8]); 5] = [
         (b"", 0, b""),
