@@ -1,10 +1,8 @@
 -- The listing (GC33-4010, "Assembler Listing"; the columns are own).
-use Rattle.std.specs.Prelude.{false, ℕ, ◌+◌, ◌-◌, if◌then◌else◌, Option, Some, None, Result, Ok, Err, List, [], ◌∷◌, length, map, slice_get, take, drop}
+use Rattle.std.specs.Prelude.{ℕ, ◌+◌, ◌-◌, if◌then◌else◌, Option, Some, None, List, [], ◌∷◌, length, map, slice_get, take, drop}
 use Rattle.std.specs.Option.{option_map_or}
 use Rattle.cx_source.specs.declared.source.Source.{Source}
-use Rattle.cx_terms.specs.Items.{Constant, constant_in, size_of}
-use Rattle.cx_terms.specs.declared.faults.FaultKind.{FaultKind}
-use Rattle.cx_pools.specs.Pools.{capped}
+use Rattle.cx_pools.specs.Pools.{capped, literal_size}
 use Rattle.cx_places.specs.Known.{is_control, role_in}
 use Rattle.cx_places.specs.declared.roles.Role.{Role}
 use Rattle.cx_places.specs.declared.roles.Role.TheVariants.{Instruction, Storage}
@@ -19,12 +17,8 @@ offset_shown at (Storage is_ds) = Some at
 offset_shown at role = None
 
 -- the offset behind an item of a DC
-abbrev pub constant_size : Result Constant FaultKind → ℕ
-constant_size (Ok item) = size_of item
-constant_size (Err fault) = 0
-
 abbrev pub item_end : List ℕ × ℕ → ℕ
-item_end item = capped item.1 + capped (constant_size (constant_in false item.0))
+item_end item = capped item.1 + capped (literal_size item.0)
 
 -- and behind the last one
 abbrev pub end_behind : ℕ → List (List ℕ × ℕ) → ℕ

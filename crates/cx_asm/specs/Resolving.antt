@@ -11,7 +11,7 @@ use Rattle.cx_terms.specs.declared.values.Value.{Value}
 use Rattle.cx_terms.specs.declared.faults.FaultKind.{FaultKind}
 use Rattle.cx_pools.specs.Pools.{Placed}
 use Rattle.cx_pools.specs.declared.closed.Literal.{Literal}
-use Rattle.cx_places.specs.Given.{here}
+use Rattle.cx_places.specs.Given.{location_counter}
 use Rattle.cx_places.specs.Known.{is_control, role_in}
 use Rattle.cx_places.specs.declared.roles.Role.{Role}
 use Rattle.cx_places.specs.declared.roles.Role.TheVariants.{Instruction as Machine, Storage, Pool}
@@ -65,7 +65,7 @@ constant_standing at item made = nothing
 
 -- an item of a DC, or a literal, at an offset
 abbrev pub data_standing : Whole → Option Value → List ℕ → ℕ → Standing
-data_standing told here text at = constant_standing at (constant_in false text) (item_made told false here text)
+data_standing told counter text at = constant_standing at (constant_in false text) (item_made told false counter text)
 
 abbrev pub space_standing : ℕ → Result Constant FaultKind → Standing
 space_standing at (Ok item) = standing (space_line at (size_of item)) []
@@ -74,7 +74,7 @@ space_standing at (Err fault) = nothing
 -- an item of a DS or DC
 abbrev pub item_standing : Whole → Bool → Stated → List ℕ × ℕ → Standing
 item_standing told true s item = space_standing item.1 (constant_in true item.0)
-item_standing told false s item = data_standing told (here s.place.section item.1 1) item.0 item.1
+item_standing told false s item = data_standing told (location_counter s.place.section item.1 1) item.0 item.1
 
 -- items, one behind the other
 abbrev pub items_standing : Whole → Bool → Stated → List (List ℕ × ℕ) → Standing

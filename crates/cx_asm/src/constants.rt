@@ -9,7 +9,7 @@ ghost use Rattle.cx_second.specs.Whole.{item_made};
 ghost use Rattle.cx_asm.specs.Resolving.{counter_at, data_standing, item_standing, items_standing, joined, literal_standing, pool_standing, space_standing};
 
 use crate::standing::Standing;
-use cx_places::{Places, here};
+use cx_places::{Places, location_counter};
 use cx_pools::{Literal, Pool};
 use cx_second::{Statement, StatementItem, counter_of, item_made};
 use cx_terms::{Constant, TermFault, Value};
@@ -61,7 +61,7 @@ fn push_item(
     if is_ds {
         return push_space(at, item.text(), standing);
     }
-    let counter = here(statement.place().section, at, 1);
+    let counter = location_counter(statement.place().section, at, 1);
     push_constant(alloc, places, counter, item.text(), at, standing)
 }
 

@@ -1,11 +1,11 @@
 //! The listing.
 
-ghost use Rattle.std.specs.Prelude.{◌≡◌, IfOk, drop, map, take, false, None, [], option_map};
-ghost use Rattle.cx_terms.specs.Items.{constant_in};
+ghost use Rattle.std.specs.Prelude.{◌≡◌, IfOk, drop, map, take, None, [], option_map};
+ghost use Rattle.cx_pools.specs.Pools.{literal_size};
 ghost use Rattle.cx_places.specs.Known.{role_in};
 ghost use Rattle.cx_image.specs.Listing.{listing_line};
 ghost use Rattle.cx_second.specs.Parts.Telling.{told_by};
-ghost use Rattle.cx_asm.specs.Listing.{constant_size, end_behind, item_end, line_with, listed, object_length, object_of, offset_shown};
+ghost use Rattle.cx_asm.specs.Listing.{end_behind, item_end, line_with, listed, object_length, object_of, offset_shown};
 
 use crate::section::is_control;
 use cx_image::listing_line;
@@ -28,7 +28,7 @@ fn offset_shown(at: u128, role: Role) -> Option<u128>
 
 /// How many bytes an item of a DC has.
 fn constant_size(text: &[u8]) -> u128
-    ensures { result ≡ constant_size (constant_in false text.now) }
+    ensures { result ≡ literal_size text.now }
 {
     match Constant::read(text, false) {
         Ok(item) => item.size(),

@@ -14,8 +14,8 @@ use Rattle.cx_operations.specs.declared.operations.Directive.{Directive}
 use Rattle.cx_operands.specs.Bases.{Bases, none_in_use}
 use Rattle.cx_operands.specs.Directives.{bases_behind, bases_fault, copy_fault, entry_in}
 use Rattle.cx_operands.specs.Forms.{resolved}
-use Rattle.cx_places.specs.Given.{here}
-use Rattle.cx_places.specs.Known.{met, parts_in}
+use Rattle.cx_places.specs.Given.{location_counter}
+use Rattle.cx_places.specs.Known.{first_fault_behind, parts_in}
 use Rattle.cx_places.specs.declared.place.LineFault.{LineFault}
 use Rattle.cx_second.specs.Statements.{Stated, operation_of, placed_items}
 use Rattle.cx_second.specs.Whole.{Whole, counter_of, directive_context, instruction_context, item_made, pool_of}
@@ -37,7 +37,7 @@ literals_fault told number s = lowest (map (part_fault told number s) (parts_in 
 
 -- the items of a DS or DC, with their offsets
 abbrev pub item_fault : Whole → Bool → Stated → List ℕ × ℕ → Option FaultKind
-item_fault told is_ds s item = result_err (item_made told is_ds (here s.place.section item.1 1) item.0)
+item_fault told is_ds s item = result_err (item_made told is_ds (location_counter s.place.section item.1 1) item.0)
 
 abbrev pub items_fault : Whole → Bool → Stated → Option FaultKind
 items_fault told is_ds s = lowest (map (item_fault told is_ds s) (placed_items s))
@@ -91,7 +91,7 @@ judged bases fault = record { bases = bases; fault = fault }
 -- behind the statement of a number, from 0
 unfoldable pub judged_after : Whole → ℕ → Stated → Judged → Judged
 judged_after told number s before =
-    judged (bases_after told before.bases s) (met s.line (second_fault told before.bases number s) before.fault)
+    judged (bases_after told before.bases s) (first_fault_behind s.line (second_fault told before.bases number s) before.fault)
 
 -- by statements, the latest first
 abbrev pub judged_behind : Whole → List Stated → Judged

@@ -8,7 +8,7 @@ use Rattle.cx_terms.specs.declared.values.Value.{Value}
 use Rattle.cx_terms.specs.declared.faults.FaultKind.{FaultKind}
 use Rattle.cx_pools.specs.Pools.{Placed, literal_text}
 use Rattle.cx_pools.specs.declared.closed.Literal.{Literal}
-use Rattle.cx_places.specs.Given.{here}
+use Rattle.cx_places.specs.Given.{location_counter}
 use Rattle.cx_places.specs.Known.{Known, role_in}
 use Rattle.cx_places.specs.Placed.{all_pools, known_of}
 use Rattle.cx_places.specs.declared.roles.Role.{Role}
@@ -43,7 +43,7 @@ own_length _ = 1
 
 -- what the location counter stands at for a statement
 abbrev pub counter_of : Stated → Option Value
-counter_of s = here s.place.section s.place.offset (own_length (role_in s.stmt))
+counter_of s = location_counter s.place.section s.place.offset (own_length (role_in s.stmt))
 
 -- ---- literals
 -- the pool that a statement's literals are in
@@ -58,7 +58,7 @@ length_once (Err fault) = 1
 -- The literal of a text stands for its place, with the length of one copy.
 abbrev pub literal_place : Whole → Stated → List ℕ → Option Value
 literal_place told s text =
-    option_and_then (λ literal. here s.place.section literal.offset (length_once (constant_in false text))) (lookup (bytes_eq text) (pool_of told s))
+    option_and_then (λ literal. location_counter s.place.section literal.offset (length_once (constant_in false text))) (lookup (bytes_eq text) (pool_of told s))
 
 -- that of the statement's last operand, where it is a literal
 abbrev pub literal_of : Whole → Stated → Option Value

@@ -16,7 +16,7 @@ use crate::whole::{control_name, counter_of, item_made, literal_of, pool_of};
 use cx_code::Inst;
 use cx_operands::{Bases, Context, copy_fault, read_entry, resolve};
 use cx_operations::{Directive, Operation};
-use cx_places::{Places, here};
+use cx_places::{Places, location_counter};
 use cx_pools::literal_text;
 use cx_source::{Mark, cut};
 use cx_terms::{FaultKind, TermFault, Value, lower};
@@ -118,7 +118,7 @@ fn item_fault(
 ) -> Result<Option<FaultKind>, AllocError>
     ensures { IfOk result (λ fault. fault ≡ item_fault (told_by places.now) is_ds statement.now item.now) }
 {
-    let at = here(statement.place().section, item.offset(), 1);
+    let at = location_counter(statement.place().section, item.offset(), 1);
     made_fault(alloc, places, is_ds, at, item.text())
 }
 

@@ -9,7 +9,7 @@ use crate::statements::Statement;
 use crate::whole::counter_of;
 use cx_operands::Bases;
 use cx_operations::Operation;
-use cx_places::{LineFault, Places, met};
+use cx_places::{LineFault, Places, first_fault_behind};
 use cx_terms::{FaultKind, lower};
 use std::alloc::{AllocError, Global};
 use std::marker::Model;
@@ -84,7 +84,7 @@ fn judge(
     let operation = statement.operation();
     let operands = operand_fault(alloc, places, &judging.bases, number, statement, operation)?;
     let using = pass_using(alloc, places, &mut judging.bases, statement, operation)?;
-    judging.fault = met(statement.line(), lower(operands, using), judging.fault);
+    judging.fault = first_fault_behind(statement.line(), lower(operands, using), judging.fault);
     Ok(())
 }
 

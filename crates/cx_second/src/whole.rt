@@ -10,7 +10,7 @@ ghost use Rattle.cx_second.specs.Whole.{counter_of, item_made, length_once, lite
 use crate::statements::Statement;
 use cx_ebcdic::Name8;
 use cx_operands::{item_bytes, literal_in};
-use cx_places::{Places, Role, here};
+use cx_places::{Places, Role, location_counter};
 use cx_pools::{Pool, literal_text};
 use cx_terms::{Constant, ConstantBytes, TermFault, Value};
 use std::alloc::{AllocError, Global};
@@ -40,7 +40,7 @@ pub fn counter_of(statement: &Statement<'_>) -> Option<Value>
     ensures { result ≡ counter_of statement.now }
 {
     let place = statement.place();
-    here(place.section, place.offset, own_length(statement.role()))
+    location_counter(place.section, place.offset, own_length(statement.role()))
 }
 
 /// The pool that a statement's literals are in. It takes no memory.
@@ -66,7 +66,7 @@ fn literal_place(places: &Places<'_>, statement: &Statement<'_>, text: &[u8]) ->
 {
     let pool = pool_of(places, statement)?;
     let literal = pool.get(text)?;
-    here(statement.place().section, literal.offset, length_once(text))
+    location_counter(statement.place().section, literal.offset, length_once(text))
 }
 
 /// The place of the statement's last operand, where it is a literal.
