@@ -1,7 +1,11 @@
-//! Runs vectors of single statements: reads them from standard input, a line each, prints each line that the library
-//! assembles to other bytes, and last how many lines there were and how many of them differ.
+//! Runs vectors of single statements and of whole sources, which it reads from standard input. A statement is a line: its
+//! bytes as hexadecimal digits, and itself. A source begins with a line `SOURCE` with its number and ends with `/*`; behind
+//! it stand its text, its relocated words, its entry, and the lines listed with an offset (`PLACES`, the last line). Each
+//! statement and the first line of each source that the library assembles to something else is printed, and last how many
+//! there were and how many of them differ.
 #![tactic(auto)]
 
+mod source;
 mod vector;
 
 use std::alloc::{AllocError, Global};
@@ -24,16 +28,106 @@ fn agrees(alloc: Global, digits: &str, statement: &str) -> Result<bool, AllocErr
     }
 }
 
-fn main(rt: HostRuntime) -> io::Result<()> {
-    let (mut done, mut differ) = (0u64, 0u64);
-    for line in BufReader::new(rt.alloc(), rt.reader())?.lines(rt.alloc()) {
-        let line = line?;
-        let (digits, statement) = line.as_str().split_once(' ').unwrap_or((line.as_str(), ""));
-        done = done.saturating_add(1);
-        if !agrees(rt.alloc(), digits, statement)? {
-            differ = differ.saturating_add(1);
-            rt.println(line.as_str())?;
+// Where a line stands.
+#[derive(Drop)]
+enum State {
+    // Outside a source.
+    Statements,
+    // In a source's lines.
+    Source,
+    // Behind them.
+    Made,
+}
+
+// What was read so far.
+#[derive(Drop)]
+struct Run {
+    state: State,
+    // The first line of the last source, its lines, and the lines behind them.
+    name: String,
+    text: String,
+    made: String,
+    statements: u64,
+    sources: u64,
+    differ: u64,
+}
+
+impl Run {
+    fn new(alloc: Global) -> Run {
+        Run {
+            state: State::Statements,
+            name: String::new(alloc),
+            text: String::new(alloc),
+            made: String::new(alloc),
+            statements: 0,
+            sources: 0,
+            differ: 0,
         }
     }
-    println!(rt; "{done} done, {differ} differ")
+
+    // Takes a statement. Whether it agrees.
+    fn statement(&mut self, alloc: Global, line: &str) -> Result<bool, AllocError> {
+        self.statements = self.statements.saturating_add(1);
+        let (digits, statement) = line.split_once(' ').unwrap_or((line, ""));
+        agrees(alloc, digits, statement)
+    }
+
+    // Begins a source.
+    fn begin(&mut self, line: &str) -> Result<(), AllocError> {
+        self.state = State::Source;
+        self.name.clear();
+        self.name.push_str(line)?;
+        self.text.clear();
+        self.made.clear();
+        Ok(())
+    }
+
+    // Takes a line behind a source. Whether the source agrees, once the last is there.
+    fn behind(&mut self, alloc: Global, line: &str) -> Result<bool, AllocError> {
+        self.made.push_str(line)?;
+        self.made.push_str("\n")?;
+        if !line.starts_with("PLACES") {
+            return Ok(true);
+        }
+        self.state = State::Statements;
+        self.sources = self.sources.saturating_add(1);
+        let made = source::made_lines(alloc, self.text.as_bytes())?;
+        Ok(made.as_str() == self.made.as_str())
+    }
+
+    // Takes a line. Whether what ends with it agrees.
+    fn line(&mut self, alloc: Global, line: &str) -> Result<bool, AllocError> {
+        match self.state {
+            State::Statements => {
+                self.name.clear();
+                if line.starts_with("SOURCE ") {
+                    self.begin(line)?;
+                    return Ok(true);
+                }
+                self.name.push_str(line)?;
+                self.statement(alloc, line)
+            }
+            State::Source if line == "/*" => {
+                self.state = State::Made;
+                Ok(true)
+            }
+            State::Source => {
+                self.text.push_str(line)?;
+                self.text.push_str("\n")?;
+                Ok(true)
+            }
+            State::Made => self.behind(alloc, line),
+        }
+    }
+}
+
+fn main(rt: HostRuntime) -> io::Result<()> {
+    let mut run = Run::new(rt.alloc());
+    for line in BufReader::new(rt.alloc(), rt.reader())?.lines(rt.alloc()) {
+        if !run.line(rt.alloc(), line?.as_str())? {
+            run.differ = run.differ.saturating_add(1);
+            rt.println(run.name.as_str())?;
+        }
+    }
+    println!(rt; "{} statements and {} sources done, {} differ", run.statements, run.sources, run.differ)
 }

@@ -1,0 +1,9 @@
+//! Tests of the assembler, over public calls.
+#![tactic(auto)]
+
+#[cfg(test)]
+mod images;
+#[cfg(test)]
+mod refused;
+#[cfg(test)]
+mod texts;

@@ -1,0 +1,30 @@
+//! Which sources are refused, at which line, and as what.
+use crate::texts::assembled;
+use std::test::Fail;
+
+#[rattlefmt::skip]
+const REFUSED: [(&[u8], &str); 14] = [
+    (b"P CSECT\n MVC 8(2,13),=C'AB'\n L 1,=F'1'\n END\n", "line 2: NoAddressability"),
+    (b"D DSECT\nX DS F\nP CSECT\n DC A(X)\n END\n", "line 4: NotRelocatable"),
+    (b"P CSECT\n LR 1,2\n END 2\n", "line 3: NotRelocatable"),
+    (b"P CSECT\n DS 65537X\n END P+65536\n", "line 3: ValueOutOfRange"),
+    (b"P CSECT\n DC X'G'\n DS 65537X\n END\n", "line 2: BadOperand"),
+    (b"P CSECT\n L 1,NOWHERE\n MVCX 1\n END\n", "line 3: UnknownOperation"),
+    (b"P CSECT\n LR 16,NOWHERE\n END\n", "line 2: UndefinedSymbol"),
+    (b"P CSECT\n LR 1,2\n USING 5,5\n END\n", "line 3: NotRelocatable"),
+    (b" COPY OTHER\n END\n", "line 1: BadOperand"),
+    (b"P CSECT\n L 1,=F'99999999999'\n END\n", "line 2: NoAddressability"),
+    (b"P CSECT\n USING P,5\n L 1,X\n DS 1023F\nX DS F\n END\n", "line 3: NoAddressability"),
+    (b"P CSECT\n DC F'2147483648'\n END\n", "line 2: ValueOutOfRange"),
+    (b"E EQU X'FFFFFFFF'\nF EQU E+E\n END\n", "line 2: ValueOutOfRange"),
+    (b"P CSECT\n LR 1,2\n USING P,15\n L 1,X(2,5)\nX DS F\n MVC X(257),X\n END\n", "line 4: BadOperand"),
+];
+
+#[test]
+fn sources_are_refused_so(rt: HostRuntime) -> Result<(), Fail> {
+    for (source, fault) in REFUSED {
+        let found = assembled(rt.alloc(), source)?;
+        assert!(rt; found.as_str() == fault, "{found}");
+    }
+    Ok(())
+}
