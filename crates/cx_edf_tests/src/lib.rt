@@ -2,6 +2,4 @@
 #![tactic(auto)]
 
 #[cfg(test)]
-mod alterations;
-#[cfg(test)]
 mod runs;
