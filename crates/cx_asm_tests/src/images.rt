@@ -48,7 +48,10 @@ fn a_program_is_disassembled(rt: HostRuntime) -> Result<(), Fail> {
 
 #[test]
 fn instructions_of_two_lengths_and_masks_are_disassembled(rt: HostRuntime) -> Result<(), Fail> {
-    let lines = disassembled(rt.alloc(), b"P CSECT\n PACK 8(3,5),0(5,5)\n ICM 1,7,0(5)\n END\n")?;
+    let lines = disassembled(
+        rt.alloc(),
+        b"P CSECT\n PACK 8(3,5),0(5,5)\n ICM 1,7,0(5)\n END\n",
+    )?;
     assert!(rt; lines.as_str() == "PACK 8(3,5),0(5,5);ICM 1,7,0(5);");
     Ok(())
 }

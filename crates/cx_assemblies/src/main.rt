@@ -129,5 +129,8 @@ fn main(rt: HostRuntime) -> io::Result<()> {
             rt.println(run.name.as_str())?;
         }
     }
-    println!(rt; "{} statements and {} sources done, {} differ", run.statements, run.sources, run.differ)
+    println!(rt;
+        "{} statements and {} sources done, {} differ",
+        run.statements, run.sources, run.differ
+    )
 }

@@ -29,7 +29,11 @@ fn relocs_line(alloc: Global, image: &Image) -> Result<String, AllocError> {
 fn place_of(line: &Text) -> Option<&str> {
     let digits = line.as_slice().get(..6)?;
     let digits = std::str::from_utf8(digits).ok()?;
-    if digits.starts_with(' ') { None } else { Some(digits) }
+    if digits.starts_with(' ') {
+        None
+    } else {
+        Some(digits)
+    }
 }
 
 // The numbers of the lines that are listed with an offset, each with it.
