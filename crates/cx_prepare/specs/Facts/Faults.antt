@@ -1,5 +1,5 @@
 -- No source is refused for want of memory.
-use Rattle.std.proofs.Common.{◌≢◌, ℕ, ◌+◌, Bool, true, false, cond, List, [], ◌∷◌, map, Option, Some, None, Result, Ok, Err, refl, ap}
+use Rattle.std.proofs.Common.{◌≡◌, ◌≢◌, ℕ, ◌+◌, Bool, true, false, cond, List, [], ◌∷◌, map, Option, Some, None, Result, Ok, Err, refl, ap}
 use Rattle.std.specs.Prelude.{nat_le}
 use Rattle.std.specs.Option.{option_or}
 use Rattle.std.specs.List.{list_any}
