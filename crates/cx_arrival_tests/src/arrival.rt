@@ -95,8 +95,14 @@ fn listed_conditions_arrive(rt: HostRuntime) -> Result<(), Fail> {
     assert!(rt; task.advance(8) == Halt::AtEntry);
     match task.call() {
         Ok(call) => {
-            let lengerr = ListedCondition { number: 22, label: 0x80 };
-            let error = ListedCondition { number: 1, label: 0 };
+            let lengerr = ListedCondition {
+                number: 22,
+                label: 0x80,
+            };
+            let error = ListedCondition {
+                number: 1,
+                label: 0,
+            };
             assert!(rt; call.command() == Command::HandleCondition);
             assert!(rt; call.conditions() == [lengerr, error].as_slice());
             assert!(rt; call.places() == [0x01_0022].as_slice());

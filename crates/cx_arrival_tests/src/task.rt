@@ -35,7 +35,11 @@ impl Task {
         regs[3] = place;
         regs[13] = STG;
         Ok(Task {
-            cpu: Cpu { regs, cc: 0, next: place },
+            cpu: Cpu {
+                regs,
+                cc: 0,
+                next: place,
+            },
             store,
         })
     }

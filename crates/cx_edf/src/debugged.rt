@@ -99,7 +99,8 @@ impl<S: Store + Drop> Debugged<S> {
         ensures { result ≡ ends_by_key self.now name aid }
     {
         match aid {
-            Aid::Pf12 => table::is_stopped(&self.sessions, name) && below::has_task(&self.region, name),
+            Aid::Pf12 => table::is_stopped(&self.sessions, name)
+                && below::has_task(&self.region, name),
             _ => false,
         }
     }

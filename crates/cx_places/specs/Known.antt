@@ -141,7 +141,7 @@ line_fault line kind = record { line = line; kind = kind }
 -- The first fault stays; of several on its line it is the lowest.
 abbrev pub first_fault_behind : ℕ → Option FaultKind → Option LineFault → Option LineFault
 first_fault_behind line fault None = option_map (line_fault line) fault
-first_fault_behind line fault (Some first) = 
+first_fault_behind line fault (Some first) =
     if line == first.line then option_map (line_fault first.line) (lower (Some first.kind) fault) else Some first
 
 -- ---- what the statement behind it is told besides

@@ -156,12 +156,7 @@ fn alter_terminal<S: Store + Drop>(change: &Change, shared: &mut Shared<S>, term
     requires { IsAllowedChange change.now }
     ensures { AlteredAt change.now shared.old terminal.old shared.new terminal.new }
 {
-    alter_parts(
-        change,
-        shared,
-        &mut terminal.station,
-        &mut terminal.task,
-    );
+    alter_parts(change, shared, &mut terminal.station, &mut terminal.task);
 }
 
 /// Changes what the task of the terminal of a name reaches, where there is one.

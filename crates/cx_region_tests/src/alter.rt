@@ -42,8 +42,10 @@ fn answer(alloc: Global, change: Change, count: usize) -> Result<Option<Reply>, 
 
 /// Whether the alteration is done, and the turn behind it is answered so.
 fn turns_to(alloc: Global, change: Change, turned: TurnReply) -> Result<bool, Fail> {
-    Ok(answer(alloc, change, 6)? == Some(Reply::Alter(AlterReply::Altered))
-        && answer(alloc, change, 7)? == Some(Reply::Turn(turned)))
+    Ok(
+        answer(alloc, change, 6)? == Some(Reply::Alter(AlterReply::Altered))
+            && answer(alloc, change, 7)? == Some(Reply::Turn(turned)),
+    )
 }
 
 fn abended(code: [u8; 4]) -> TurnReply {
@@ -69,7 +71,13 @@ fn behind_an_alteration_the_turn_is_another(rt: HostRuntime) -> Result<(), Fail>
     // R1 addresses no argument list.
     assert!(rt; turns_to(rt.alloc(), Change::Register(1, 0), abended(XARG))?);
     assert!(rt; turns_to(rt.alloc(), Change::Abend, TurnReply::Idle)?);
-    assert!(rt; turns_to(rt.alloc(), Change::Register(15, 0xFFFF_FFFF), TurnReply::Ended)?);
+    assert!(rt;
+        turns_to(
+            rt.alloc(),
+            Change::Register(15, 0xFFFF_FFFF),
+            TurnReply::Ended
+        )?
+    );
     Ok(())
 }
 
@@ -88,8 +96,24 @@ fn refuses(
 fn refusals_have_an_order(rt: HostRuntime) -> Result<(), Fail> {
     let absent = Change::Byte(0, 0);
     assert!(rt; refuses(rt.alloc(), 5, FIRST, absent, AlterReply::NoByte)?);
-    assert!(rt; refuses(rt.alloc(), 5, FIRST, Change::Byte(0x0100_0000, 0), AlterReply::NoByte)?);
-    assert!(rt; refuses(rt.alloc(), 5, FIRST, Change::Byte(0xFFFF_FFFF, 0), AlterReply::NoByte)?);
+    assert!(rt;
+        refuses(
+            rt.alloc(),
+            5,
+            FIRST,
+            Change::Byte(0x0100_0000, 0),
+            AlterReply::NoByte
+        )?
+    );
+    assert!(rt;
+        refuses(
+            rt.alloc(),
+            5,
+            FIRST,
+            Change::Byte(0xFFFF_FFFF, 0),
+            AlterReply::NoByte
+        )?
+    );
     assert!(rt; refuses(rt.alloc(), 5, NONE, Change::Nop, AlterReply::NoSuchTerminal)?);
     assert!(rt; refuses(rt.alloc(), 5, NONE, absent, AlterReply::NoSuchTerminal)?);
     assert!(rt; refuses(rt.alloc(), 3, FIRST, Change::Nop, AlterReply::NoTask)?);
@@ -97,7 +121,15 @@ fn refusals_have_an_order(rt: HostRuntime) -> Result<(), Fail> {
     assert!(rt; refuses(rt.alloc(), 3, FIRST, Change::Abend, AlterReply::NoTask)?);
     assert!(rt; refuses(rt.alloc(), 4, FIRST, Change::Nop, AlterReply::NotDue)?);
     assert!(rt; refuses(rt.alloc(), 4, FIRST, absent, AlterReply::NoByte)?);
-    assert!(rt; refuses(rt.alloc(), 4, FIRST, Change::Register(1, 0), AlterReply::Altered)?);
+    assert!(rt;
+        refuses(
+            rt.alloc(),
+            4,
+            FIRST,
+            Change::Register(1, 0),
+            AlterReply::Altered
+        )?
+    );
     Ok(())
 }
 
@@ -111,7 +143,9 @@ fn a_dropped_command_changes_no_more_than_it_says(rt: HostRuntime) -> Result<(),
     assert!(rt; old.due && old.cpu.next == 0x800 && !new.due && new.cpu.next == 0x01_0016);
     assert!(rt; new.cpu.regs == old.cpu.regs && new.cpu.cc == old.cpu.cc);
     // The EIB is as it was: no command has written it.
-    assert!(rt; bytes(rt.alloc(), after, 0x20_0000, 88)? == bytes(rt.alloc(), before, 0x20_0000, 88)?);
+    assert!(rt;
+        bytes(rt.alloc(), after, 0x20_0000, 88)? == bytes(rt.alloc(), before, 0x20_0000, 88)?
+    );
     Ok(())
 }
 

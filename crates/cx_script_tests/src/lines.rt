@@ -68,7 +68,12 @@ fn alterations_of_no_terminal_are_answered(rt: HostRuntime) {
         b"ALTER T009 BYTE FFFFFF ff\n",
     ];
     for script in cases {
-        expect_run(&rt, script, Ok(Summary { lines: 1 }), b"ALTER T009 NoSuchTerminal\n");
+        expect_run(
+            &rt,
+            script,
+            Ok(Summary { lines: 1 }),
+            b"ALTER T009 NoSuchTerminal\n",
+        );
     }
 }
 

@@ -180,9 +180,10 @@ inside_line : (before : List Item) (line : ℕ) (stmt : Option Stmt) (stretches 
     → ((known_behind before).fault ≡ None → AreInside (known_behind before) stretches) → AreInside (after_line line stmt (known_behind before)) (stretch_before stmt (known_behind before) stretches)
 unfolding AreInside
 inside_line before line None stretches e h = h e
-inside_line before line (Some stmt) stretches e h =
-    (new_inside line stmt (known_behind before),
-    still_inside (known_behind before) (after line stmt (known_behind before)) stretches (lengths_grow before line stmt e) (h (none_before line stmt (known_behind before) e)))
+inside_line before line (Some stmt) stretches e h = (
+  new_inside line stmt (known_behind before),
+  still_inside (known_behind before) (after line stmt (known_behind before)) stretches (lengths_grow before line stmt e) (h (none_before line stmt (known_behind before) e)),
+)
 
 inside_behind : (items : List Item) → (known_behind items).fault ≡ None → AreInside (known_behind items) (stretches_behind items)
 unfolding AreInside
@@ -193,9 +194,10 @@ behind_all : (known : Known) (later : Stretch) (stretches : List Stretch) → la
     → AllByRecursion (IsBehind later) stretches
 unfolding AreInside
 behind_all known later [] e le all = tt
-behind_all known later (stretch ∷ stretches) e le all =
-    ((λ name own other. omega (arith, all.0 name other, subst (λ s. length_of_section s known.lengths ≤ later.offset) (sym e ∙ own) le)),
-    behind_all known later stretches e le all.1)
+behind_all known later (stretch ∷ stretches) e le all = (
+  (λ name own other. omega (arith, all.0 name other, subst (λ s. length_of_section s known.lengths ≤ later.offset) (sym e ∙ own) le)),
+  behind_all known later stretches e le all.1,
+)
 
 apart_line : (before : List Item) (line : ℕ) (stmt : Option Stmt) → (after_line line stmt (known_behind before)).fault ≡ None
     → ((known_behind before).fault ≡ None → AreApart (stretches_behind before)) → AreApart (stretch_before stmt (known_behind before) (stretches_behind before))

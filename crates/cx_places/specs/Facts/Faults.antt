@@ -47,14 +47,14 @@ sound_own stmt known e =
     let valued = lower_none (result_err (given_in stmt known)) (lower (duplicate known.symbols (definitions_in stmt known)) None) in
     let laid = lower_none (laid_in stmt known).fault (lower (result_err (given_in stmt known)) (lower (duplicate known.symbols (definitions_in stmt known)) None)) in
     let placed = lower_none (section_fault (role_in stmt) (name_in stmt) known.section known.control)
-        (lower (laid_in stmt known).fault (lower (result_err (given_in stmt known)) (lower (duplicate known.symbols (definitions_in stmt known)) None))) in
+    (lower (laid_in stmt known).fault (lower (result_err (given_in stmt known)) (lower (duplicate known.symbols (definitions_in stmt known)) None))) in
     let titled = lower_none (name_fault (role_in stmt) stmt.name)
-        (lower (section_fault (role_in stmt) (name_in stmt) known.section known.control)
-        (lower (laid_in stmt known).fault (lower (result_err (given_in stmt known)) (lower (duplicate known.symbols (definitions_in stmt known)) None)))) in
+    (lower (section_fault (role_in stmt) (name_in stmt) known.section known.control)
+    (lower (laid_in stmt known).fault (lower (result_err (given_in stmt known)) (lower (duplicate known.symbols (definitions_in stmt known)) None)))) in
     let operated = lower_none (operation_fault (role_in stmt))
-        (lower (name_fault (role_in stmt) stmt.name)
-        (lower (section_fault (role_in stmt) (name_in stmt) known.section known.control)
-        (lower (laid_in stmt known).fault (lower (result_err (given_in stmt known)) (lower (duplicate known.symbols (definitions_in stmt known)) None))))) in
+    (lower (name_fault (role_in stmt) stmt.name)
+    (lower (section_fault (role_in stmt) (name_in stmt) known.section known.control)
+    (lower (laid_in stmt known).fault (lower (result_err (given_in stmt known)) (lower (duplicate known.symbols (definitions_in stmt known)) None))))) in
     let h = (laid (placed (titled (operated e).1).1).1) in
     record { laid = h.0; definitions = (inner (valued h.1).1).0 }
 

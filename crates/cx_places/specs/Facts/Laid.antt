@@ -164,9 +164,11 @@ pool_apart (e ∷ es) at is within =
 stands_at : (role : Role) (operands : List (List ℕ)) (pool : Pooled) (at : ℕ) → IsPool pool → (laid role operands (pool_extent pool) at).end ≤ bound
     → Stands role operands pool at (laid role operands (pool_extent pool) at)
 unfolding laid
-stands_at (Instruction size) operands pool at is within =
-    (aligned_behind 2 at (omega arith), aligned_multiple 2 at,
-    ap (λ n. aligned 2 at + n) (capped_same size (capped_within size (omega (arith, within)))))
+stands_at (Instruction size) operands pool at is within = (
+  aligned_behind 2 at (omega arith),
+  aligned_multiple 2 at,
+  ap (λ n. aligned 2 at + n) (capped_same size (capped_within size (omega (arith, within)))),
+)
 stands_at (Storage is_ds) operands pool at is within = items_stand (items_in is_ds operands) at within
 stands_at Pool operands pool at is within = ((pool_begins (pool_extent pool) at).0, pool_apart pool at is within)
 stands_at Unknown operands pool at is within = (refl, refl)

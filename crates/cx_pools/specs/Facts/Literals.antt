@@ -184,7 +184,7 @@ in_groups es =
     let last : AreInGroups 1 (of_group 1 es) = subst (AreInGroups 1) (append_none (of_group 1 es)) (group_then 1 es [] tt) in
     let two : AreInGroups 2 (of_group 2 es ++ of_group 1 es) = group_then 2 es (of_group 1 es) (lower_group 1 2 (of_group 1 es) (omega arith) last) in
     let four : AreInGroups 4 (of_group 4 es ++ (of_group 2 es ++ of_group 1 es)) =
-        group_then 4 es (of_group 2 es ++ of_group 1 es) (lower_group 2 4 (of_group 2 es ++ of_group 1 es) (omega arith) two) in
+    group_then 4 es (of_group 2 es ++ of_group 1 es) (lower_group 2 4 (of_group 2 es ++ of_group 1 es) (omega arith) two) in
     subst (AreInGroups 8) (sym (four_in_turn (of_group 8 es) (of_group 4 es) (of_group 2 es) (of_group 1 es)))
     (group_then 8 es (of_group 4 es ++ (of_group 2 es ++ of_group 1 es)) (lower_group 4 8 (of_group 4 es ++ (of_group 2 es ++ of_group 1 es)) (omega arith) four))
 
@@ -224,14 +224,15 @@ placed_stand group from (e ∷ es) is multiple down sizes within =
     let own = multiple_below from group (group_of e.1.size) is (group_is e.1.size) down.0 multiple in
     let inside : (from + e.1.size) + size_sum es ≤ bound = omega (arith, within) in
     let rest : StandFrom (group_of e.1.size) (from + e.1.size) (placed_from (from + e.1.size) es) ((from + e.1.size) + size_sum es) =
-        placed_stand (group_of e.1.size) (from + e.1.size) es (group_is e.1.size) (multiple_sum from e.1.size (group_of e.1.size) (group_is e.1.size) own (own_multiple e.1.size)) down.1 sizes.1 inside in
+    placed_stand (group_of e.1.size) (from + e.1.size) es (group_is e.1.size) (multiple_sum from e.1.size (group_of e.1.size) (group_is e.1.size) own (own_multiple e.1.size)) down.1 sizes.1 inside in
     let moved : StandFrom (group_of e.1.size) (from + e.1.size) (placed_from (capped (from + e.1.size)) es) (from + (e.1.size + size_sum es)) =
-        subst (λ n. StandFrom (group_of e.1.size) (from + e.1.size) (placed_from n es) (from + (e.1.size + size_sum es))) (sym (capped_same (from + e.1.size) (omega (arith, within))))
-        (subst (λ n. StandFrom (group_of e.1.size) (from + e.1.size) (placed_from (from + e.1.size) es) n) (omega arith) rest) in
-    (refl,
-    subst (λ s. from % group_of s ≡ 0) sizes.0 own,
-    subst (λ s. group_of s ≤ group) sizes.0 down.0,
-    subst (λ s. StandFrom (group_of s) (from + s) (placed_from (capped (from + e.1.size)) es) (from + (e.1.size + size_sum es))) sizes.0 moved)
+    subst (λ n. StandFrom (group_of e.1.size) (from + e.1.size) (placed_from n es) (from + (e.1.size + size_sum es))) (sym (capped_same (from + e.1.size) (omega (arith, within))))
+    (subst (λ n. StandFrom (group_of e.1.size) (from + e.1.size) (placed_from (from + e.1.size) es) n) (omega arith) rest) in (
+      refl,
+      subst (λ s. from % group_of s ≡ 0) sizes.0 own,
+      subst (λ s. group_of s ≤ group) sizes.0 down.0,
+      subst (λ s. StandFrom (group_of s) (from + s) (placed_from (capped (from + e.1.size)) es) (from + (e.1.size + size_sum es))) sizes.0 moved,
+    )
 
 placed_texts : (from : ℕ) (es : Pooled) → keys_of (placed_from from es) ≡ keys_of es
 placed_texts from [] = refl

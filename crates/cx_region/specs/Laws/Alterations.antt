@@ -54,9 +54,9 @@ pub record AlterKeepsStorage (old : RegionState) (change : Change) (new : Region
 -- and what it leaves where it ends the task: the areas, with their bytes, and the resources of all others
 pub record AlterKeepsOthers (old : RegionState) (name : List ℕ) (new : RegionState) : Type 0 where
   pub areas : MatchOption (terminal_of old name) (new.storage ≡ old.storage) (λ terminal.
-    with_areas_kept (is_of_other_slot terminal.slot) new.storage ≡ with_areas_kept (is_of_other_slot terminal.slot) old.storage)
+      with_areas_kept (is_of_other_slot terminal.slot) new.storage ≡ with_areas_kept (is_of_other_slot terminal.slot) old.storage)
   pub resources : MatchOption (terminal_of old name) (new.resources ≡ old.resources) (λ terminal.
-    without_owner new.resources terminal.slot ≡ without_owner old.resources terminal.slot)
+      without_owner new.resources terminal.slot ≡ without_owner old.resources terminal.slot)
 
 abbrev pub AlterationsKeepToTheirTask : Type 0
 AlterationsKeepToTheirTask = (old : RegionState) (name : List ℕ) (change : Change) (reply : AlterReply) (new : RegionState)
