@@ -52,18 +52,29 @@ try_each() {
   done
 }
 
-# try_numbers TO_EACH JUDGE NAME CALLS SHORT PIECE: runs an example for each number up to count, on all processors, so many by
+# The numbers of the calls to be refused: each up to count; of more than 2,000 the first 500, a fixed choice of those behind, and
+# the last.
+numbers() {
+  if [ "$count" -le 2000 ]; then
+    seq "$count"
+  else
+    awk -v count="$count" 'BEGIN { for (n = 1; n <= count; n++) if (n <= 500 || n * 7919 % 101 < 4 || n == count) print n }'
+  fi
+}
+
+# try_numbers TO_EACH JUDGE NAME CALLS SHORT PIECE: runs an example for each of these numbers, on all processors, so many by
 # one process. Prints the runs that did not end as they should; false where there are any. The file verdicts has JUDGE's words.
 try_numbers() {
   local to_each=$1
   shift
-  seq "$count" | xargs -P "$(nproc)" -n "$to_each" bash -c 'try_each "$@"' _ "$@" "$count" > "$verdicts" 2>&1
+  tried=$(numbers | wc -l)
+  numbers | xargs -P "$(nproc)" -n "$to_each" bash -c 'try_each "$@"' _ "$@" "$count" > "$verdicts" 2>&1
   grep -vx '[a-z]*' "$verdicts" | head -20
-  [ "$(grep -cx '[a-z]*' "$verdicts")" = "$count" ] || { echo "$2, $3: not all of $count runs ended as they should" && false; }
+  [ "$(grep -cx '[a-z]*' "$verdicts")" = "$tried" ] || { echo "$2, $3: not all of $tried runs ended as they should" && false; }
 }
 
 # try_all JUDGE NAME CALLS SHORT PIECE: runs an example with each of its calls refused, as try_numbers. Sets count, how many
-# they are.
+# they are, and tried, how many of them were refused.
 try_all() {
   count=0
   REFUSE_COUNT=$made/count run_refused "$2" "$3" 0 0 "$5"
