@@ -192,11 +192,9 @@ fn fields_at(op: Op, bytes: &[u8]) -> Fields
     requires { length_of op ≤ length bytes.now }
     ensures { result ≡ fields_at op bytes.now }
 {
-    let fields = fields_in(op.format(), bytes);
-    if op.is_shift() {
-        fields.without_r3()
-    } else {
-        fields
+    match fields_in(op.format(), bytes) {
+        Fields::Rs { r1, b2, d2, .. } if op.is_shift() => Fields::Rs { r1, r3: 0, b2, d2 },
+        fields => fields,
     }
 }
 

@@ -571,6 +571,7 @@ impl Op {
 
     /// The format, which says what fields the instruction has.
     #[tactic(auto, unfolding(crate::specs::Table::row_of))]
+    #[inline]
     pub fn format(self) -> Format
         ensures { result ≡ format_of self }
     {

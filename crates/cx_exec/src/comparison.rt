@@ -67,6 +67,7 @@ fn string_order(first: &[u8], second: &[u8]) -> u8
 
 /// CLC. The operands, of `n` bytes, begin at `a1` and `a2`.
 #[tactic(auto, unfolding(crate::specs::Comparison::ComparesStrings))]
+#[inline(never)]
 pub(crate) fn clc<S: Store>(
     cpu: &mut Cpu,
     store: &S,

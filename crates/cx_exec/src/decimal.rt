@@ -77,6 +77,7 @@ fn convert(cpu: &mut Cpu, r1: u8, number: i64, updated: Updated) -> Result<(), I
 /// CVB. `r1` is below 16, and the 8 bytes begin at `a`. At interruption 9 the register is changed all the
 /// same.
 #[tactic(auto, unfolding(crate::specs::Decimal::CvbEffect))]
+#[inline(never)]
 pub(crate) fn cvb<S: Store>(
     cpu: &mut Cpu,
     store: &S,
@@ -130,6 +131,7 @@ fn decimal_bytes(word: u32) -> [u8; 8]
 
 /// CVD. `r1` is below 16, and the 8 bytes begin at `a`.
 #[tactic(auto, unfolding(crate::specs::Decimal::CvdEffect))]
+#[inline(never)]
 pub(crate) fn cvd<S: Store>(
     cpu: &mut Cpu,
     store: &mut S,

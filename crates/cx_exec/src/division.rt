@@ -28,6 +28,7 @@ pub(crate) fn division(dividend: i64, divisor: i64) -> Option<(i64, i64)>
 /// Divides the pair by a word: the remainder into its first register, the quotient into its second.
 /// Interruption 9, and no change, where no word holds the quotient or the divisor is zero.
 #[tactic(auto, unfolding(crate::specs::Division::Divided))]
+#[inline(never)]
 pub(crate) fn divide(cpu: &mut Cpu, r: u8, word: u32, updated: Updated) -> Result<(), Interruption>
     requires register { r < 15 }
     requires address { updated.address < 2 ^ 24 }

@@ -60,6 +60,7 @@ fn take_bytes(mask: u8, word: u32, buffer: &mut [u8; 4]) -> usize
 
 /// STCM. `r1` and the mask are below 16, and the bytes begin at `a`.
 #[tactic(auto, unfolding(crate::specs::Masks::StcmEffect))]
+#[inline(never)]
 pub(crate) fn stcm<S: Store>(
     cpu: &mut Cpu,
     store: &mut S,
@@ -122,6 +123,7 @@ fn insert_code(bytes: &[u8]) -> u8
 
 /// ICM. `r1` and the mask are below 16, and the bytes begin at `a`.
 #[tactic(auto, unfolding(crate::specs::Masks::IcmEffect))]
+#[inline(never)]
 pub(crate) fn icm<S: Store>(
     cpu: &mut Cpu,
     store: &S,

@@ -70,6 +70,7 @@ pub(crate) fn write_registers(regs: &[u32; 16], first: u8, count: usize, bytes: 
 
 /// Stores the registers from the first through the last one: all of their bytes, or none and
 /// interruption 5.
+#[inline(never)]
 pub(crate) fn store_multiple<S: Store>(
     cpu: &mut Cpu,
     store: &mut S,
@@ -93,6 +94,7 @@ pub(crate) fn store_multiple<S: Store>(
 
 /// Loads the registers from the first through the last one: all of them, or none and interruption 5.
 #[tactic(auto, unfolding(crate::specs::Registers::LoadsRegisters))]
+#[inline(never)]
 pub(crate) fn load_multiple<S: Store>(
     cpu: &mut Cpu,
     store: &S,

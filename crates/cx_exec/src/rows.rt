@@ -53,6 +53,7 @@ pub(crate) fn effective(regs: &[u32; 16], index: u8, base: u8, displacement: u16
 
 /// Rows of format RR. `r1`, a register or a mask, and `r2` are below 16.
 #[tactic(auto, unfolding(crate::specs::Rows::RrEffect))]
+#[inline(always)]
 fn rr_effect(cpu: &mut Cpu, op: Op, r1: u8, r2: u8, updated: Updated) -> Result<(), Interruption>
     requires first { r1 < 16 }
     requires second { r2 < 16 }
@@ -90,6 +91,7 @@ fn rr_effect(cpu: &mut Cpu, op: Op, r1: u8, r2: u8, updated: Updated) -> Result<
 
 /// Rows of format RX but EX, with the second operand's address. `r1`, a register or a mask, is below 16.
 #[tactic(auto, unfolding(crate::specs::Rows::RxEffect))]
+#[inline(always)]
 fn rx_effect<S: Store>(
     cpu: &mut Cpu,
     store: &mut S,
@@ -136,6 +138,7 @@ fn rx_effect<S: Store>(
 /// Rows of format RS with the second operand's address, which is a shift's amount. `r1` and `r3`, a register
 /// or a mask, are below 16.
 #[tactic(auto, unfolding(crate::specs::Rows::RsEffect))]
+#[inline(always)]
 fn rs_effect<S: Store>(
     cpu: &mut Cpu,
     store: &mut S,
@@ -170,6 +173,7 @@ fn rs_effect<S: Store>(
 
 /// Rows of format SI with the first operand's address.
 #[tactic(auto, unfolding(crate::specs::Rows::SiEffect))]
+#[inline(always)]
 fn si_effect<S: Store>(
     cpu: &mut Cpu,
     store: &mut S,
@@ -196,6 +200,7 @@ fn si_effect<S: Store>(
 
 /// Rows of format SS with one length: both operands have `n` bytes (at most 256).
 #[tactic(auto, unfolding(crate::specs::Rows::SsEffect))]
+#[inline(never)]
 fn ss_effect<S: Store>(
     cpu: &mut Cpu,
     store: &mut S,
@@ -224,6 +229,7 @@ fn ss_effect<S: Store>(
 
 /// Rows of format SS with two lengths: the operands have `n1` and `n2` bytes (1 to 16).
 #[tactic(auto, unfolding(crate::specs::Rows::Ss2Effect))]
+#[inline(never)]
 fn ss2_effect<S: Store>(
     cpu: &mut Cpu,
     store: &mut S,
@@ -253,6 +259,7 @@ fn ss2_effect<S: Store>(
 
 /// The effect of every row but EX.
 #[tactic(auto, unfolding(crate::specs::Rows::Effect))]
+#[inline(always)]
 pub(crate) fn effect<S: Store>(
     cpu: &mut Cpu,
     store: &mut S,

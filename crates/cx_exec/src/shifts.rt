@@ -70,6 +70,7 @@ pub(crate) fn shift_right(cpu: &mut Cpu, r: u8, n: u8, updated: Updated) -> Resu
 }
 
 /// Shifts a register left by n bits but for its sign bit, which stays.
+#[inline(never)]
 pub(crate) fn shift_left(cpu: &mut Cpu, r: u8, n: u8, updated: Updated) -> Result<(), Interruption>
     requires register { r < 16 }
     requires amount { n < 64 }
@@ -90,6 +91,7 @@ pub(crate) fn shift_left(cpu: &mut Cpu, r: u8, n: u8, updated: Updated) -> Resul
 }
 
 /// Shifts the pair right by n bits, its sign filled in.
+#[inline(never)]
 pub(crate) fn shift_pair(cpu: &mut Cpu, r: u8, n: u8, updated: Updated) -> Result<(), Interruption>
     requires register { r < 15 }
     requires amount { n < 64 }

@@ -38,36 +38,37 @@ fn target_at<S: Store>(cpu: &Cpu, store: &S, r1: u8, a: u32) -> Result<Inst, Int
 
 /// The instruction that is performed at the next address: for EX its target.
 #[tactic(auto, unfolding(crate::specs::Step::performed))]
+#[inline(always)]
 fn performed<S: Store>(cpu: &Cpu, store: &S) -> Result<Due, Interruption>
     ensures value { result ≡ performed (machine cpu.now (S.storage store.now)) }
     ensures length { IfOk result (λ due. due.updated.length_code ≤ 3) }
     ensures address { IfOk result (λ due. due.updated.address < 2 ^ 24) }
 {
     let code = code_at(store, cpu.next)?;
-    let inst = code.read()?;
     let updated = Updated {
         length_code: (code.len() / 2) as u8,
         address: along(cpu.next, code.len() as u32),
     };
-    if inst.op() == Op::Ex {
-        if let Fields::Rx { r1, x2, b2, d2 } = inst.fields() {
+    let inst = code.read()?;
+    match inst.fields() {
+        Fields::Rx { r1, x2, b2, d2 } if inst.op() == Op::Ex => {
             let a = effective(&cpu.regs, x2, b2, d2);
             let target = target_at(cpu, store, r1, a)?;
-            let next = updated.address;
-            return Ok(Due {
+            Ok(Due {
                 inst: target,
                 updated: Updated {
                     length_code: 2,
-                    address: next,
+                    address: updated.address,
                 },
-            });
+            })
         }
+        _ => Ok(Due { inst, updated }),
     }
-    Ok(Due { inst, updated })
 }
 
 /// Performs the instruction at the next address.
 #[tactic(auto, unfolding(crate::specs::Step::Runs))]
+#[inline(always)]
 fn run<S: Store>(cpu: &mut Cpu, store: &mut S) -> Result<(), Interruption>
     ensures { Runs (machine cpu.old (S.storage store.old)) result (machine cpu.new (S.storage store.new)) }
 {
@@ -86,6 +87,7 @@ fn run<S: Store>(cpu: &mut Cpu, store: &mut S) -> Result<(), Interruption>
 ///
 /// Principles of Operation, "Instruction Execution", "Execute", "Program Interruption".
 #[tactic(auto, unfolding(crate::specs::Step::Steps))]
+#[inline(always)]
 pub fn step<S: Store>(cpu: &mut Cpu, store: &mut S) -> Step
     ensures { Steps (machine cpu.old (S.storage store.old)) result (machine cpu.new (S.storage store.new)) }
 {

@@ -125,6 +125,7 @@ fn join<S: Store>(
 
 /// MVC. The operands, of `n` bytes, begin at `a1` and `a2`.
 #[tactic(auto, unfolding(crate::specs::Strings::MvcEffect))]
+#[inline(never)]
 pub(crate) fn mvc<S: Store>(
     cpu: &mut Cpu,
     store: &mut S,
@@ -153,6 +154,7 @@ pub(crate) fn mvc<S: Store>(
 
 /// XC. The operands, of `n` bytes, begin at `a1` and `a2`.
 #[tactic(auto, unfolding(crate::specs::Strings::XcEffect))]
+#[inline(never)]
 pub(crate) fn xc<S: Store>(
     cpu: &mut Cpu,
     store: &mut S,

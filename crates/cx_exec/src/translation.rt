@@ -56,6 +56,7 @@ fn translate_bytes<S: Store>(store: &S, n: u32, a1: u32, a2: u32, new: &mut [u8;
 
 /// TR. The argument, of `n` bytes, begins at `a1`, the table at `a2`.
 #[tactic(auto, unfolding(crate::specs::Translation::TrEffect))]
+#[inline(never)]
 pub(crate) fn tr<S: Store>(
     cpu: &mut Cpu,
     store: &mut S,
@@ -122,6 +123,7 @@ fn set_found(cpu: &mut Cpu, n: u32, a1: u32, k: u32, byte: u8, updated: Updated)
 
 /// TRT. The argument, of `n` bytes, begins at `a1`, the table at `a2`.
 #[tactic(auto, unfolding(crate::specs::Translation::TrtEffect, crate::specs::Translation::Finds))]
+#[inline(never)]
 pub(crate) fn trt<S: Store>(
     cpu: &mut Cpu,
     store: &S,
