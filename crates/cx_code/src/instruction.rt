@@ -2,7 +2,6 @@
 
 ghost use Rattle.std.specs.Prelude.{◌≡◌, ◌↔◌, IsTrue, IsSome, IfSome};
 ghost use Rattle.cx_code.specs.Spelling.{Instruction, instruction, AreInRange, format_with, r3_of, IsWellFormed};
-ghost use Rattle.cx_code.specs.Reading.{without_r3};
 
 use crate::table::{Format, Op};
 use std::marker::Model;
@@ -78,16 +77,6 @@ impl Fields {
         match self {
             Fields::Rs { r3, .. } => r3,
             _ => 0,
-        }
-    }
-
-    /// The fields with the third register put to zero.
-    pub(crate) fn without_r3(self) -> Fields
-        ensures { result ≡ without_r3 self }
-    {
-        match self {
-            Fields::Rs { r1, b2, d2, .. } => Fields::Rs { r1, r3: 0, b2, d2 },
-            _ => self,
         }
     }
 

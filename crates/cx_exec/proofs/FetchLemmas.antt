@@ -41,7 +41,7 @@ span_front s a n m bytes low e h =
     span_from s a m (take m bytes) low (length-take-le m bytes (omega (arith, long, h)))
     (λ k l. span_at s a n bytes k low e (omega (arith, l, h)) ∙ ap Some (sym (get_or-take m bytes k 0 l)))
 
-length_small : (code : ℕ) → length_of_code code ≤ 6
+length_small : (code : ℕ) → length_of_code code ≤ 8
 length_small code = elim (cases_eq (code / 64) 0) [
   | inl e ↦ rw (eq-eqb (code / 64) 0 e) (omega arith)
   | inr ne ↦ elim (cases_eq (code / 64) 3) [
@@ -50,12 +50,12 @@ length_small code = elim (cases_eq (code / 64) 0) [
   ]
 ]
 
--- an instruction stands in the six bytes from its address on
-pub lent_is_code : (s : Storage) (a : ℕ) (bytes : List ℕ) → a < 2 ^ 24 → span s a 6 ≡ Some bytes
+-- an instruction stands in the eight bytes from its address on
+pub lent_is_code : (s : Storage) (a : ℕ) (bytes : List ℕ) → a < 2 ^ 24 → span s a 8 ≡ Some bytes
     → code_bytes s a ≡ Some (take (length_of_code (slice_index bytes 0)) bytes)
 lent_is_code s a bytes low e =
-    let first = first_byte s a 6 bytes e (omega arith) in
-    rw first (span_front s a 6 (length_of_code (slice_index bytes 0)) bytes low e (length_small (slice_index bytes 0)))
+    let first = first_byte s a 8 bytes e (omega arith) in
+    rw first (span_front s a 8 (length_of_code (slice_index bytes 0)) bytes low e (length_small (slice_index bytes 0)))
 
 pub reads_as : (bytes : List ℕ) (i : Instruction) → reading bytes ≡ Some i → read_as bytes ≡ Ok i
 unfolding read_as

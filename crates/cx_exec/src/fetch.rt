@@ -1,6 +1,8 @@
 //! Fetching an instruction.
 
 ghost use Rattle.std.specs.Prelude.{◌≡◌, ◌≤◌, ◌<◌, ◌^◌, length, Ok, Some, OnOk, IfOk, IfSome};
+ghost use Rattle.std.specs.Option.{ok_or};
+ghost use Rattle.cx_exec.specs.declared.machine.Interruption.TheVariants as interruption;
 ghost use Rattle.cx_exec.specs.Fetch.{code_at, code_bytes, read_as};
 ghost use Rattle.cx_exec.specs.Step.{joined_second};
 
@@ -9,10 +11,10 @@ use cx_code::{Inst, decode, instruction_length};
 use cx_storage::Store;
 use std::marker::Model;
 
-/// The bytes of one instruction.
+/// The bytes of one instruction, the first ones of eight.
 #[derive(Drop)]
 pub(crate) struct Code {
-    bytes: [u8; 6],
+    bytes: [u8; 8],
     length: usize,
 }
 
@@ -57,18 +59,36 @@ impl Code {
     }
 }
 
-/// The bytes of the instruction at an address, where six bytes from there on are lent in one piece.
+/// The bytes of the instruction at an address, where eight bytes from there on are lent in one piece.
 #[tactic(auto, using(crate::proofs::FetchLemmas::lent_is_code, cx_storage::specs::Facts::Spans::span_length))]
 #[inline(always)]
 fn lent_code<S: Store>(store: &S, at: u32) -> Option<Code>
     requires { at < 2 ^ 24 }
     ensures { IfSome result (λ code. code_bytes (S.storage store.now) at ≡ Some code) }
 {
-    let part = store.slice(at, 6)?;
-    let mut bytes = [0; 6];
+    let part = store.slice(at, 8)?;
+    let mut bytes = [0; 8];
     bytes.copy_from_slice(part);
     let length = instruction_length(bytes[0]);
     Some(Code { bytes, length })
+}
+
+/// The bytes of the instruction at an address, wherever they stand.
+#[inline(never)]
+fn code_apart<S: Store>(store: &S, at: u32) -> Result<Code, Interruption>
+    requires { at < 2 ^ 24 }
+    ensures { result ≡ ok_or (code_bytes (S.storage store.now) at) interruption.Addressing }
+{
+    let Some(first) = store.byte(at) else {
+        return Err(Interruption::Addressing);
+    };
+    let length = instruction_length(first);
+    let mut bytes = [0; 8];
+    let code = &mut bytes[..length];
+    if !store.read(at, code) {
+        return Err(Interruption::Addressing);
+    }
+    Ok(Code { bytes, length })
 }
 
 /// The bytes of the instruction at an address.
@@ -81,17 +101,8 @@ pub(crate) fn code_at<S: Store>(store: &S, at: u32) -> Result<Code, Interruption
     if at % 2 == 1 {
         return Err(Interruption::Specification);
     }
-    if let Some(code) = lent_code(store, at) {
-        return Ok(code);
+    match lent_code(store, at) {
+        Some(code) => Ok(code),
+        None => code_apart(store, at),
     }
-    let Some(first) = store.byte(at) else {
-        return Err(Interruption::Addressing);
-    };
-    let length = instruction_length(first);
-    let mut bytes = [0; 6];
-    let code = &mut bytes[..length];
-    if !store.read(at, code) {
-        return Err(Interruption::Addressing);
-    }
-    Ok(Code { bytes, length })
 }

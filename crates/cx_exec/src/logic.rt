@@ -34,6 +34,7 @@ pub(crate) fn test_code(mask: u8, byte: u8) -> u8
 }
 
 /// Stores one byte, with the code of a logical result.
+#[inline(always)]
 pub(crate) fn put_logical<S: Store>(
     cpu: &mut Cpu,
     store: &mut S,

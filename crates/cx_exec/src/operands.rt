@@ -1,17 +1,19 @@
 //! Operands in storage and in pairs of registers.
 
-ghost use Rattle.std.specs.Prelude.{◌≡◌, ◌<◌, ◌≤◌, ◌^◌, ◌%◌, ◌==◌, length, true, false, Some, None, MatchResult};
+ghost use Rattle.std.specs.Prelude.{◌≡◌, ◌<◌, ◌≤◌, ◌^◌, ◌%◌, ◌==◌, length, true, false, Some, None, IfSome, MatchResult};
 ghost use Rattle.cx_storage.specs.Storage.{byte_at};
-ghost use Rattle.cx_storage.specs.Word.{word_at};
+ghost use Rattle.cx_storage.specs.Word.{halfword_at, word_at};
 ghost use Rattle.cx_exec.specs.declared.machine.Interruption.TheVariants as interruption;
 ghost use Rattle.cx_exec.specs.Machine.{machine};
 ghost use Rattle.cx_exec.specs.Operands.{extended_at, Stores};
 
 use crate::machine::{Cpu, Interruption, Updated};
 use crate::numbers::extended;
+use byteorder::{BigEndian, ByteOrder};
 use cx_storage::Store;
 
 /// The byte at an address, or interruption 5.
+#[inline(always)]
 pub(crate) fn byte_at<S: Store>(store: &S, a: u32) -> Result<u8, Interruption>
     requires { a < 2 ^ 24 }
     ensures { MatchResult result (λ x. byte_at (S.storage store.now) a ≡ Some x) (λ cause. (byte_at (S.storage store.now) a ≡ None) × (cause ≡ interruption.Addressing)) }
@@ -19,24 +21,72 @@ pub(crate) fn byte_at<S: Store>(store: &S, a: u32) -> Result<u8, Interruption>
     store.byte(a).ok_or(Interruption::Addressing)
 }
 
+/// The halfword at an address, where its bytes are lent in one piece.
+#[tactic(auto, using(cx_storage::specs::Facts::Spans::span_length), unfolding(cx_storage::specs::Word::halfword_at))]
+#[inline(always)]
+fn lent_halfword<S: Store>(store: &S, a: u32) -> Option<u16>
+    requires { a < 2 ^ 24 }
+    ensures { IfSome result (λ x. halfword_at (S.storage store.now) a ≡ Some x) }
+{
+    let part = store.slice(a, 2)?;
+    Some(BigEndian::read_u16(part))
+}
+
+/// The halfword at an address, wherever its bytes stand.
+#[inline(never)]
+fn halfword_apart<S: Store>(store: &S, a: u32) -> Option<u16>
+    requires { a < 2 ^ 24 }
+    ensures { result ≡ halfword_at (S.storage store.now) a }
+{
+    cx_storage::halfword_at(store, a)
+}
+
 /// The halfword at an address, extended to a word by its sign, or interruption 5.
 #[tactic(auto, unfolding(crate::specs::Operands::extended_at))]
+#[inline(always)]
 pub(crate) fn halfword_at<S: Store>(store: &S, a: u32) -> Result<u32, Interruption>
     requires { a < 2 ^ 24 }
     ensures { MatchResult result (λ x. extended_at (S.storage store.now) a ≡ Some x) (λ cause. (extended_at (S.storage store.now) a ≡ None) × (cause ≡ interruption.Addressing)) }
 {
-    match cx_storage::halfword_at(store, a) {
+    if let Some(halfword) = lent_halfword(store, a) {
+        return Ok(extended(halfword));
+    }
+    match halfword_apart(store, a) {
         Some(halfword) => Ok(extended(halfword)),
         None => Err(Interruption::Addressing),
     }
 }
 
+/// The word at an address, where its bytes are lent in one piece.
+#[tactic(auto, using(cx_storage::specs::Facts::Spans::span_length), unfolding(cx_storage::specs::Word::word_at))]
+#[inline(always)]
+fn lent_word<S: Store>(store: &S, a: u32) -> Option<u32>
+    requires { a < 2 ^ 24 }
+    ensures { IfSome result (λ x. word_at (S.storage store.now) a ≡ Some x) }
+{
+    let part = store.slice(a, 4)?;
+    Some(BigEndian::read_u32(part))
+}
+
+/// The word at an address, wherever its bytes stand.
+#[inline(never)]
+fn word_apart<S: Store>(store: &S, a: u32) -> Option<u32>
+    requires { a < 2 ^ 24 }
+    ensures { result ≡ word_at (S.storage store.now) a }
+{
+    cx_storage::word_at(store, a)
+}
+
 /// The word at an address, or interruption 5.
+#[inline(always)]
 pub(crate) fn word_at<S: Store>(store: &S, a: u32) -> Result<u32, Interruption>
     requires { a < 2 ^ 24 }
     ensures { MatchResult result (λ x. word_at (S.storage store.now) a ≡ Some x) (λ cause. (word_at (S.storage store.now) a ≡ None) × (cause ≡ interruption.Addressing)) }
 {
-    cx_storage::word_at(store, a).ok_or(Interruption::Addressing)
+    if let Some(word) = lent_word(store, a) {
+        return Ok(word);
+    }
+    word_apart(store, a).ok_or(Interruption::Addressing)
 }
 
 /// The first register of a pair, which is even, or interruption 6.
@@ -53,6 +103,7 @@ pub(crate) fn even(r: u8) -> Result<u8, Interruption>
 /// Stores bytes, at most 65,536, from an address on, and sets the condition code: all of them, or nothing and
 /// interruption 5.
 #[tactic(auto, using(crate::proofs::Storing::not_written), unfolding(crate::specs::Operands::Stores))]
+#[inline(always)]
 pub(crate) fn put_bytes<S: Store>(
     cpu: &mut Cpu,
     store: &mut S,

@@ -61,13 +61,21 @@ fn rr_effect(cpu: &mut Cpu, op: Op, r1: u8, r2: u8, updated: Updated) -> Result<
     requires address { updated.address < 2 ^ 24 }
     ensures { (storage : Storage) → RrEffect op r1 r2 updated (machine cpu.old storage) result (machine cpu.new storage) }
 {
-    let to = branch_address(&cpu.regs, r2, updated);
     let first = cpu.regs[r1 as usize];
     let second = cpu.regs[r2 as usize];
     match op {
-        Op::Balr => link(cpu, r1, to, updated),
-        Op::Bctr => count(cpu, r1, to, updated),
-        Op::Bcr => branch(cpu, r1, to, updated),
+        Op::Balr => {
+            let to = branch_address(&cpu.regs, r2, updated);
+            link(cpu, r1, to, updated)
+        }
+        Op::Bctr => {
+            let to = branch_address(&cpu.regs, r2, updated);
+            count(cpu, r1, to, updated)
+        }
+        Op::Bcr => {
+            let to = branch_address(&cpu.regs, r2, updated);
+            branch(cpu, r1, to, updated)
+        }
         Op::Ltr => load_coded(cpu, r1, second, sign_code(second), updated),
         Op::Lcr => put_sum(cpu, r1, complement(second), updated),
         Op::Clr => set_code(cpu, logical_order(first, second), updated),

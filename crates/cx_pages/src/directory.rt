@@ -10,6 +10,7 @@ use std::alloc::{AllocError, Global};
 
 /// The byte at an address, where it is present.
 #[tactic(auto, unfolding(crate::specs::Parts::Directory::there))]
+#[inline(always)]
 pub(crate) fn byte_in(pages: &Vec<Page>, a: u32) -> Option<u8>
     ensures { result ≡ there pages.now.items a }
 {
@@ -87,6 +88,7 @@ pub(crate) fn make_in(
 }
 
 /// The `n` bytes from `a` on, where all of them are in one page and present.
+#[inline(always)]
 pub(crate) fn part_in(pages: &Vec<Page>, a: u32, n: usize) -> Option<&[u8]>
     ensures there { IfSome result (λ part. (x : ℕ) → a ≤ x → x < a + n → there pages.now.items x ≡ slice_get part.now (x - a)) }
     ensures len { IfSome result (λ part. length part.now ≡ n) }
@@ -106,6 +108,7 @@ pub(crate) fn part_in(pages: &Vec<Page>, a: u32, n: usize) -> Option<&[u8]>
 }
 
 /// Writes bytes from `a` on, where all of the addresses are in one page and present; else it changes nothing.
+#[inline(always)]
 pub(crate) fn write_in(pages: &mut Vec<Page>, a: u32, source: &[u8]) -> bool
     ensures gap { result ≡ false → (x : ℕ) → there pages.new.items x ≡ there pages.old.items x }
     ensures there { result ≡ true → (x : ℕ) → a ≤ x → x < a + length source.now → there pages.new.items x ≡ slice_get source.now (x - a) }

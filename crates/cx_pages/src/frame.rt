@@ -52,6 +52,7 @@ fn zero_granule(bytes: &mut [u8], from: usize)
 }
 
 /// Copies `source` into the bytes from `from` on.
+#[inline(always)]
 fn copy_bytes(bytes: &mut [u8], from: usize, source: &[u8])
     requires { from + length source.now ≤ length bytes.old }
     ensures { (j : ℕ) → slice_get bytes.new j ≡ (if nat_le from j && nat_lt j (from + length source.now) then slice_get source.now (j - from) else slice_get bytes.old j) }
@@ -75,6 +76,7 @@ impl Frame {
 
     /// The byte at the place `k`, where it is present.
     #[tactic(auto, unfolding(crate::specs::Parts::Frame::seen))]
+    #[inline(always)]
     pub(crate) fn byte(&self, k: usize) -> Option<u8>
         requires { k < 4096 }
         ensures { result ≡ seen self.now k }
@@ -114,6 +116,7 @@ impl Frame {
 
     /// Whether the bytes from `from` to before `to` are present.
     #[tactic(auto, using(crate::proofs::FrameLemmas::has_all, crate::proofs::FrameLemmas::has_short, crate::proofs::FrameLemmas::has_last), unfolding(crate::specs::Parts::Frame::seen))]
+    #[inline(always)]
     pub(crate) fn has(&self, from: usize, to: usize) -> bool
         requires { to ≤ 4096 }
         ensures all { result ≡ true → HasAll (seen self.now) from to }
@@ -132,6 +135,7 @@ impl Frame {
     }
 
     /// The bytes from `from` to before `to`, where all of them are present.
+    #[inline(always)]
     pub(crate) fn part(&self, from: usize, to: usize) -> Option<&[u8]>
         requires order { from ≤ to }
         requires within { to ≤ 4096 }
@@ -148,6 +152,7 @@ impl Frame {
 
     /// Writes bytes from the place `from` on. False, and no change, where one of the places isn't present.
     #[tactic(auto, unfolding(crate::specs::Parts::Frame::seen))]
+    #[inline(always)]
     pub(crate) fn write(&mut self, from: usize, source: &[u8]) -> bool
         requires { from + length source.now ≤ 4096 }
         ensures gap { result ≡ false → self.new ≡ self.old }

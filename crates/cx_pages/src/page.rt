@@ -37,6 +37,7 @@ impl Page {
 
     /// The byte at the place `k`, where it is present.
     #[tactic(auto, unfolding(crate::specs::Parts::Page::found))]
+    #[inline(always)]
     pub(crate) fn byte(&self, k: usize) -> Option<u8>
         requires { k < 4096 }
         ensures { result ≡ found self.now k }
@@ -89,6 +90,7 @@ impl Page {
 
     /// The bytes from `from` to before `to`, where all of them are present.
     #[tactic(auto, unfolding(crate::specs::Parts::Page::found))]
+    #[inline(always)]
     pub(crate) fn part(&self, from: usize, to: usize) -> Option<&[u8]>
         requires order { from < to }
         requires within { to ≤ 4096 }
@@ -104,6 +106,7 @@ impl Page {
 
     /// Writes bytes from the place `from` on. False, and no change, where one of the places isn't present.
     #[tactic(auto, unfolding(crate::specs::Parts::Page::found))]
+    #[inline(always)]
     pub(crate) fn write(&mut self, from: usize, source: &[u8]) -> bool
         requires { from + length source.now ≤ 4096 }
         ensures gap { result ≡ false → (k : ℕ) → found self.new k ≡ found self.old k }

@@ -43,6 +43,7 @@ impl Store for PagedStore {
 
     ghost sound = { λ s. IsShown-sound s.areas.items s.pages.items s.shown };
 
+    #[inline(always)]
     fn byte(&self, a: u32) -> Option<u8> {
         byte_of(&self.areas, &self.pages, a)
     }
@@ -51,7 +52,7 @@ impl Store for PagedStore {
         set_of(&self.areas, &mut self.pages, a, value)
     }
 
-    #[inline]
+    #[inline(always)]
     fn slice(&self, a: u32, n: usize) -> Option<&[u8]> {
         slice_of(&self.areas, &self.pages, a, n)
     }
@@ -65,7 +66,7 @@ impl Store for PagedStore {
         read_of(&self.areas, &self.pages, a, buffer)
     }
 
-    #[inline]
+    #[inline(always)]
     fn write(&mut self, a: u32, bytes: &[u8]) -> bool {
         write_of(&self.areas, &mut self.pages, a, bytes)
     }

@@ -15,6 +15,7 @@ use cx_storage::{Area, Owner, along, next_address};
 use std::alloc::{AllocError, Global};
 
 /// The byte at an address, where an area has it.
+#[inline(always)]
 pub(crate) fn byte_of(areas: &Vec<Area>, pages: &Vec<Page>, a: u32) -> Option<u8>
     requires { IsShown areas.now.items pages.now.items }
     ensures { result ≡ byte_at (storage_of areas.now.items pages.now.items) a }
@@ -141,7 +142,7 @@ pub(crate) fn free_slot_of(areas: &mut Vec<Area>, pages: &mut Vec<Page>, slot: u
 }
 
 /// The bytes of a span, where one page has all of them.
-#[inline]
+#[inline(always)]
 pub(crate) fn slice_of<'a>(
     areas: &Vec<Area>,
     pages: &'a Vec<Page>,
@@ -158,6 +159,7 @@ pub(crate) fn slice_of<'a>(
 }
 
 /// Whether each byte of a span is in an area.
+#[inline(never)]
 pub(crate) fn has_span_of(areas: &Vec<Area>, pages: &Vec<Page>, a: u32, n: usize) -> bool
     requires shown { IsShown areas.now.items pages.now.items }
     requires address { a < 2 ^ 24 }
@@ -215,7 +217,7 @@ fn write_each(areas: &Vec<Area>, pages: &mut Vec<Page>, a: u32, bytes: &[u8])
 }
 
 /// Writes a span.
-#[inline]
+#[inline(always)]
 pub(crate) fn write_of(areas: &Vec<Area>, pages: &mut Vec<Page>, a: u32, bytes: &[u8]) -> bool
     requires shown { IsShown areas.now.items pages.old.items }
     requires address { a < 2 ^ 24 }
