@@ -1,9 +1,7 @@
 //! Fetching an instruction.
 
 ghost use Rattle.std.specs.Prelude.{◌≡◌, ◌≤◌, ◌<◌, ◌^◌, length, Ok, Some, OnOk, IfOk, IfSome};
-ghost use Rattle.std.specs.Option.{ok_or};
-ghost use Rattle.cx_exec.specs.declared.machine.Interruption.TheVariants as interruption;
-ghost use Rattle.cx_exec.specs.Fetch.{code_at, code_bytes, read_as};
+ghost use Rattle.cx_exec.specs.Fetch.{code_at, read_as};
 ghost use Rattle.cx_exec.specs.Step.{joined_second};
 
 use crate::machine::Interruption;
@@ -59,13 +57,16 @@ impl Code {
     }
 }
 
-/// The bytes of the instruction at an address, where eight bytes from there on are lent in one piece.
-#[tactic(auto, using(crate::proofs::FetchLemmas::lent_is_code, cx_storage::specs::Facts::Spans::span_length))]
+/// The bytes of the instruction at an address, where it is even and eight bytes from there on are lent in one piece.
+#[tactic(auto, using(crate::proofs::FetchLemmas::lent_is_code, cx_storage::specs::Facts::Spans::span_length), unfolding(crate::specs::Fetch::code_at))]
 #[inline(always)]
-fn lent_code<S: Store>(store: &S, at: u32) -> Option<Code>
+pub(crate) fn lent_code<S: Store>(store: &S, at: u32) -> Option<Code>
     requires { at < 2 ^ 24 }
-    ensures { IfSome result (λ code. code_bytes (S.storage store.now) at ≡ Some code) }
+    ensures { IfSome result (λ code. code_at (S.storage store.now) at ≡ Ok code) }
 {
+    if at % 2 == 1 {
+        return None;
+    }
     let part = store.slice(at, 8)?;
     let mut bytes = [0; 8];
     bytes.copy_from_slice(part);
@@ -73,12 +74,15 @@ fn lent_code<S: Store>(store: &S, at: u32) -> Option<Code>
     Some(Code { bytes, length })
 }
 
-/// The bytes of the instruction at an address, wherever they stand.
-#[inline(never)]
-fn code_apart<S: Store>(store: &S, at: u32) -> Result<Code, Interruption>
+/// The bytes of the instruction at an address.
+#[tactic(auto, unfolding(crate::specs::Fetch::code_at))]
+pub(crate) fn code_at<S: Store>(store: &S, at: u32) -> Result<Code, Interruption>
     requires { at < 2 ^ 24 }
-    ensures { result ≡ ok_or (code_bytes (S.storage store.now) at) interruption.Addressing }
+    ensures { result ≡ code_at (S.storage store.now) at }
 {
+    if at % 2 == 1 {
+        return Err(Interruption::Specification);
+    }
     let Some(first) = store.byte(at) else {
         return Err(Interruption::Addressing);
     };
@@ -89,20 +93,4 @@ fn code_apart<S: Store>(store: &S, at: u32) -> Result<Code, Interruption>
         return Err(Interruption::Addressing);
     }
     Ok(Code { bytes, length })
-}
-
-/// The bytes of the instruction at an address.
-#[tactic(auto, unfolding(crate::specs::Fetch::code_at))]
-#[inline(always)]
-pub(crate) fn code_at<S: Store>(store: &S, at: u32) -> Result<Code, Interruption>
-    requires { at < 2 ^ 24 }
-    ensures { result ≡ code_at (S.storage store.now) at }
-{
-    if at % 2 == 1 {
-        return Err(Interruption::Specification);
-    }
-    match lent_code(store, at) {
-        Some(code) => Ok(code),
-        None => code_apart(store, at),
-    }
 }

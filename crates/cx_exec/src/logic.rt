@@ -7,7 +7,7 @@ ghost use Rattle.cx_exec.specs.Logic.{logical_code, test_code, StoresLogical};
 
 use crate::machine::{Cpu, Interruption, Updated};
 use crate::numbers::eight_at;
-use crate::operands::put_bytes;
+use crate::operands::put_byte;
 use cx_storage::Store;
 
 /// The condition code of a logical result.
@@ -47,7 +47,7 @@ pub(crate) fn put_logical<S: Store>(
     ensures { StoresLogical a byte updated (machine cpu.old (S.storage store.old)) result (machine cpu.new (S.storage store.new)) }
 {
     let cc = logical_code(u32::from(byte));
-    put_bytes(cpu, store, a, &[byte], cc, updated)
+    put_byte(cpu, store, a, byte, cc, updated)
 }
 
 /// A number of first bytes that are zero: eight times as many as there are numbers of eight bytes that are.

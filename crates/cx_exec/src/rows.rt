@@ -1,9 +1,12 @@
 //! The effect of each instruction.
 
 ghost use Rattle.std.specs.Prelude.{◌≡◌, ◌<◌, ◌≤◌, ◌^◌};
+ghost use Rattle.cx_code.specs.Table.{length_of_format};
+ghost use Rattle.cx_code.specs.Spelling.{format_with};
 ghost use Rattle.cx_storage.specs.Storage.{Storage};
 ghost use Rattle.cx_exec.specs.Machine.{machine};
 ghost use Rattle.cx_exec.specs.Machine.{given, effective};
+ghost use Rattle.cx_exec.specs.Step.{updated_by};
 ghost use Rattle.cx_exec.specs.Rows.{RrEffect, RxEffect, RsEffect, SiEffect, SsEffect, Ss2Effect, Effect};
 
 use crate::arithmetic::{complement, difference, put_sum, sum};
@@ -11,13 +14,13 @@ use crate::branches::{branch, branch_address, count, link};
 use crate::comparison::{byte_order, clc, logical_order, signed_order};
 use crate::decimal::{cvb, cvd};
 use crate::division::divide;
-use crate::loads::{half_bytes, inserted, word_bytes};
+use crate::loads::{half_bytes, inserted};
 use crate::logic::{logical_code, put_logical, test_code};
 use crate::machine::{Cpu, Interruption, Updated};
 use crate::masks::{icm, stcm};
 use crate::multiplication::multiply;
 use crate::numbers::sign_code;
-use crate::operands::{byte_at, even, halfword_at, put_bytes, word_at};
+use crate::operands::{byte_at, even, halfword_at, put_byte, put_bytes, put_word, word_at};
 use crate::registers::{load_multiple, store_multiple};
 use crate::results::{load, load_coded, set_code};
 use crate::shifts::{shift_left, shift_pair, shift_right, shifted_left, shifted_right};
@@ -25,7 +28,7 @@ use crate::strings::{mvc, xc};
 use crate::translation::{tr, trt};
 use crate::zoned::{pack, unpk};
 use cx_code::{Fields, Inst, Op};
-use cx_storage::Store;
+use cx_storage::{Store, along};
 
 /// What a register gives to an address: register 0 gives zero.
 fn given(regs: &[u32; 16], r: u8) -> u32
@@ -119,7 +122,7 @@ fn rx_effect<S: Store>(
     match op {
         Op::Sth => put_bytes(cpu, store, a, &half_bytes(first), cc, updated),
         Op::La => load(cpu, r1, a, updated),
-        Op::Stc => put_bytes(cpu, store, a, &[(first % 0x100) as u8], cc, updated),
+        Op::Stc => put_byte(cpu, store, a, (first % 0x100) as u8, cc, updated),
         Op::Ic => load(cpu, r1, inserted(first, byte_at(store, a)?), updated),
         Op::Bal => link(cpu, r1, a, updated),
         Op::Bct => count(cpu, r1, a, updated),
@@ -128,7 +131,7 @@ fn rx_effect<S: Store>(
         Op::Ch => set_code(cpu, signed_order(first, halfword_at(store, a)?), updated),
         Op::Ah => put_sum(cpu, r1, sum(first, halfword_at(store, a)?), updated),
         Op::Sh => put_sum(cpu, r1, difference(first, halfword_at(store, a)?), updated),
-        Op::St => put_bytes(cpu, store, a, &word_bytes(first), cc, updated),
+        Op::St => put_word(cpu, store, a, first, updated),
         Op::Cl => set_code(cpu, logical_order(first, word_at(store, a)?), updated),
         Op::L => load(cpu, r1, word_at(store, a)?, updated),
         Op::C => set_code(cpu, signed_order(first, word_at(store, a)?), updated),
@@ -197,7 +200,7 @@ fn si_effect<S: Store>(
     let cc = cpu.cc;
     match op {
         Op::Tm => set_code(cpu, test_code(i2, byte_at(store, a)?), updated),
-        Op::Mvi => put_bytes(cpu, store, a, &[i2], cc, updated),
+        Op::Mvi => put_byte(cpu, store, a, i2, cc, updated),
         Op::Ni => put_logical(cpu, store, a, byte_at(store, a)? & i2, updated),
         Op::Cli => set_code(cpu, byte_order(byte_at(store, a)?, i2), updated),
         Op::Oi => put_logical(cpu, store, a, byte_at(store, a)? | i2, updated),
@@ -267,7 +270,6 @@ fn ss2_effect<S: Store>(
 
 /// The effect of every row but EX.
 #[tactic(auto, unfolding(crate::specs::Rows::Effect))]
-#[inline(always)]
 pub(crate) fn effect<S: Store>(
     cpu: &mut Cpu,
     store: &mut S,
@@ -318,6 +320,75 @@ pub(crate) fn effect<S: Store>(
                 a2,
                 updated,
             )
+        }
+    }
+}
+
+/// What the program-status word is updated to behind the instruction at an address.
+#[inline(always)]
+fn updated_by(place: u32, length: u32) -> Updated
+    requires { length ≤ 6 }
+    ensures { result ≡ updated_by place length }
+{
+    Updated {
+        length_code: (length / 2) as u8,
+        address: along(place, length),
+    }
+}
+
+/// The effect of every row but EX, of an instruction that isn't a target of EX: its format says where it goes on, so that
+/// the next address needn't wait for what was fetched.
+#[tactic(auto, unfolding(crate::specs::Rows::Effect))]
+#[inline(always)]
+pub(crate) fn effect_in_line<S: Store>(
+    cpu: &mut Cpu,
+    store: &mut S,
+    inst: &Inst,
+    _updated: Updated,
+) -> Result<(), Interruption>
+    requires place { _updated ≡ updated_by cpu.old.next (length_of_format (format_with inst.now.fields)) }
+    ensures { Effect inst.now _updated (machine cpu.old (S.storage store.old)) result (machine cpu.new (S.storage store.new)) }
+{
+    let op = inst.op();
+    match inst.fields() {
+        Fields::Rr { r1, r2 } => {
+            let behind = updated_by(cpu.next, 2);
+            rr_effect(cpu, op, r1, r2, behind)
+        }
+        Fields::Rx { r1, x2, b2, d2 } => {
+            let behind = updated_by(cpu.next, 4);
+            let a = effective(&cpu.regs, x2, b2, d2);
+            rx_effect(cpu, store, op, r1, a, behind)
+        }
+        Fields::Si { i2, b1, d1 } => {
+            let behind = updated_by(cpu.next, 4);
+            let a = effective(&cpu.regs, 0, b1, d1);
+            si_effect(cpu, store, op, i2, a, behind)
+        }
+        Fields::Rs { r1, r3, b2, d2 } => {
+            let behind = updated_by(cpu.next, 4);
+            let a = effective(&cpu.regs, 0, b2, d2);
+            rs_effect(cpu, store, op, r1, r3, a, behind)
+        }
+        Fields::Ss { l, b1, d1, b2, d2 } => {
+            let behind = updated_by(cpu.next, 6);
+            let a1 = effective(&cpu.regs, 0, b1, d1);
+            let a2 = effective(&cpu.regs, 0, b2, d2);
+            ss_effect(cpu, store, op, u32::from(l) + 1, a1, a2, behind)
+        }
+        Fields::Ss2 {
+            l1,
+            l2,
+            b1,
+            d1,
+            b2,
+            d2,
+        } => {
+            let behind = updated_by(cpu.next, 6);
+            let a1 = effective(&cpu.regs, 0, b1, d1);
+            let a2 = effective(&cpu.regs, 0, b2, d2);
+            let (n1, n2) = (u32::from(l1) + 1, u32::from(l2) + 1);
+            ss2_effect(cpu, store, op, n1, n2, a1, a2, behind)
         }
     }
 }

@@ -1,12 +1,14 @@
 //! One step.
 
-ghost use Rattle.std.specs.Prelude.{◌≡◌, ◌<◌, ◌≤◌, ◌^◌, IfOk};
+ghost use Rattle.std.specs.Prelude.{◌≡◌, ◌<◌, ◌≤◌, ◌^◌, Ok, IfOk, IfSome};
+ghost use Rattle.cx_code.specs.Table.{length_of_format};
+ghost use Rattle.cx_code.specs.Spelling.{format_with};
 ghost use Rattle.cx_exec.specs.Machine.{machine};
-ghost use Rattle.cx_exec.specs.Step.{target_at, performed, Runs, Steps};
+ghost use Rattle.cx_exec.specs.Step.{target_at, updated_by, performed, Runs, Steps};
 
-use crate::fetch::code_at;
+use crate::fetch::{code_at, lent_code};
 use crate::machine::{Cpu, ENTRY, Interruption, Step, Updated};
-use crate::rows::{effect, effective};
+use crate::rows::{effect, effect_in_line, effective};
 use cx_code::{Fields, Inst, Op};
 use cx_storage::{Store, along};
 
@@ -38,7 +40,6 @@ fn target_at<S: Store>(cpu: &Cpu, store: &S, r1: u8, a: u32) -> Result<Inst, Int
 
 /// The instruction that is performed at the next address: for EX its target.
 #[tactic(auto, unfolding(crate::specs::Step::performed))]
-#[inline(always)]
 fn performed<S: Store>(cpu: &Cpu, store: &S) -> Result<Due, Interruption>
     ensures value { result ≡ performed (machine cpu.now (S.storage store.now)) }
     ensures length { IfOk result (λ due. due.updated.length_code ≤ 3) }
@@ -66,14 +67,49 @@ fn performed<S: Store>(cpu: &Cpu, store: &S) -> Result<Due, Interruption>
     }
 }
 
+/// The instruction that is performed at the next address, where it stands in eight bytes that are lent, and is no EX.
+#[tactic(auto, unfolding(crate::specs::Step::performed))]
+#[inline(always)]
+fn at_hand<S: Store>(cpu: &Cpu, store: &S) -> Option<Due>
+    ensures value { IfSome result (λ due. performed (machine cpu.now (S.storage store.now)) ≡ Ok due) }
+    ensures length { IfSome result (λ due. due.updated.length_code ≤ 3) }
+    ensures address { IfSome result (λ due. due.updated.address < 2 ^ 24) }
+    ensures place { IfSome result (λ due. due.updated ≡ updated_by cpu.now.next (length_of_format (format_with due.inst.fields))) }
+{
+    let code = lent_code(store, cpu.next)?;
+    let Ok(inst) = code.read() else {
+        return None;
+    };
+    if inst.op() == Op::Ex || code.len() != inst.fields().format().length() {
+        return None;
+    }
+    let updated = Updated {
+        length_code: (code.len() / 2) as u8,
+        address: along(cpu.next, code.len() as u32),
+    };
+    Some(Due { inst, updated })
+}
+
+/// Performs the instruction at the next address, wherever it stands.
+#[tactic(auto, unfolding(crate::specs::Step::Runs))]
+#[inline(never)]
+fn run_apart<S: Store>(cpu: &mut Cpu, store: &mut S) -> Result<(), Interruption>
+    ensures { Runs (machine cpu.old (S.storage store.old)) result (machine cpu.new (S.storage store.new)) }
+{
+    let due = performed(cpu, store)?;
+    effect(cpu, store, &due.inst, due.updated)
+}
+
 /// Performs the instruction at the next address.
 #[tactic(auto, unfolding(crate::specs::Step::Runs))]
 #[inline(always)]
 fn run<S: Store>(cpu: &mut Cpu, store: &mut S) -> Result<(), Interruption>
     ensures { Runs (machine cpu.old (S.storage store.old)) result (machine cpu.new (S.storage store.new)) }
 {
-    let due = performed(cpu, store)?;
-    effect(cpu, store, &due.inst, due.updated)
+    match at_hand(cpu, store) {
+        Some(due) => effect_in_line(cpu, store, &due.inst, due.updated),
+        None => run_apart(cpu, store),
+    }
 }
 
 /// Performs the instruction at the next address, unless that is the entry.
