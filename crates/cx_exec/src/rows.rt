@@ -1,8 +1,6 @@
 //! The effect of each instruction.
 
-ghost use Rattle.std.specs.Prelude.{◌≡◌, ◌<◌, ◌≤◌, ◌^◌};
-ghost use Rattle.cx_code.specs.Table.{length_of_format};
-ghost use Rattle.cx_code.specs.Spelling.{format_with};
+ghost use Rattle.std.specs.Prelude.{◌≡◌, ◌<◌, ◌≤◌, ◌^◌, MatchOption};
 ghost use Rattle.cx_storage.specs.Storage.{Storage};
 ghost use Rattle.cx_exec.specs.Machine.{machine};
 ghost use Rattle.cx_exec.specs.Machine.{given, effective};
@@ -336,59 +334,45 @@ fn updated_by(place: u32, length: u32) -> Updated
     }
 }
 
-/// The effect of every row but EX, of an instruction that isn't a target of EX: its format says where it goes on, so that
-/// the next address needn't wait for what was fetched.
+/// The effect of every row but EX, of an instruction of `length` bytes at the next address, and None, with no change, where
+/// its format has another length. The format says where it goes on: so the next address needn't wait for what was fetched.
 #[tactic(auto, unfolding(crate::specs::Rows::Effect))]
 #[inline(always)]
 pub(crate) fn effect_in_line<S: Store>(
     cpu: &mut Cpu,
     store: &mut S,
     inst: &Inst,
-    _updated: Updated,
-) -> Result<(), Interruption>
-    requires place { _updated ≡ updated_by cpu.old.next (length_of_format (format_with inst.now.fields)) }
-    ensures { Effect inst.now _updated (machine cpu.old (S.storage store.old)) result (machine cpu.new (S.storage store.new)) }
+    length: usize,
+) -> Option<Result<(), Interruption>>
+    ensures { MatchOption result (machine cpu.new (S.storage store.new) ≡ machine cpu.old (S.storage store.old)) (λ outcome. Effect inst.now (updated_by cpu.old.next length) (machine cpu.old (S.storage store.old)) outcome (machine cpu.new (S.storage store.new))) }
 {
     let op = inst.op();
     match inst.fields() {
-        Fields::Rr { r1, r2 } => {
-            let behind = updated_by(cpu.next, 2);
-            rr_effect(cpu, op, r1, r2, behind)
+        Fields::Rr { r1, r2 } if length == 2 => {
+            let updated = updated_by(cpu.next, 2);
+            Some(rr_effect(cpu, op, r1, r2, updated))
         }
-        Fields::Rx { r1, x2, b2, d2 } => {
-            let behind = updated_by(cpu.next, 4);
+        Fields::Rx { r1, x2, b2, d2 } if length == 4 => {
+            let updated = updated_by(cpu.next, 4);
             let a = effective(&cpu.regs, x2, b2, d2);
-            rx_effect(cpu, store, op, r1, a, behind)
+            Some(rx_effect(cpu, store, op, r1, a, updated))
         }
-        Fields::Si { i2, b1, d1 } => {
-            let behind = updated_by(cpu.next, 4);
+        Fields::Si { i2, b1, d1 } if length == 4 => {
+            let updated = updated_by(cpu.next, 4);
             let a = effective(&cpu.regs, 0, b1, d1);
-            si_effect(cpu, store, op, i2, a, behind)
+            Some(si_effect(cpu, store, op, i2, a, updated))
         }
-        Fields::Rs { r1, r3, b2, d2 } => {
-            let behind = updated_by(cpu.next, 4);
+        Fields::Rs { r1, r3, b2, d2 } if length == 4 => {
+            let updated = updated_by(cpu.next, 4);
             let a = effective(&cpu.regs, 0, b2, d2);
-            rs_effect(cpu, store, op, r1, r3, a, behind)
+            Some(rs_effect(cpu, store, op, r1, r3, a, updated))
         }
-        Fields::Ss { l, b1, d1, b2, d2 } => {
-            let behind = updated_by(cpu.next, 6);
+        Fields::Ss { l, b1, d1, b2, d2 } if length == 6 => {
+            let updated = updated_by(cpu.next, 6);
             let a1 = effective(&cpu.regs, 0, b1, d1);
             let a2 = effective(&cpu.regs, 0, b2, d2);
-            ss_effect(cpu, store, op, u32::from(l) + 1, a1, a2, behind)
+            Some(ss_effect(cpu, store, op, u32::from(l) + 1, a1, a2, updated))
         }
-        Fields::Ss2 {
-            l1,
-            l2,
-            b1,
-            d1,
-            b2,
-            d2,
-        } => {
-            let behind = updated_by(cpu.next, 6);
-            let a1 = effective(&cpu.regs, 0, b1, d1);
-            let a2 = effective(&cpu.regs, 0, b2, d2);
-            let (n1, n2) = (u32::from(l1) + 1, u32::from(l2) + 1);
-            ss2_effect(cpu, store, op, n1, n2, a1, a2, behind)
-        }
+        _ => None,
     }
 }

@@ -1,10 +1,8 @@
 //! One step.
 
 ghost use Rattle.std.specs.Prelude.{◌≡◌, ◌<◌, ◌≤◌, ◌^◌, Ok, IfOk, IfSome};
-ghost use Rattle.cx_code.specs.Table.{length_of_format};
-ghost use Rattle.cx_code.specs.Spelling.{format_with};
 ghost use Rattle.cx_exec.specs.Machine.{machine};
-ghost use Rattle.cx_exec.specs.Step.{target_at, updated_by, performed, Runs, Steps};
+ghost use Rattle.cx_exec.specs.Step.{target_at, due, updated_by, performed, Runs, Steps};
 
 use crate::fetch::{code_at, lent_code};
 use crate::machine::{Cpu, ENTRY, Interruption, Step, Updated};
@@ -67,27 +65,29 @@ fn performed<S: Store>(cpu: &Cpu, store: &S) -> Result<Due, Interruption>
     }
 }
 
+/// An instruction at hand, and how many bytes it has.
+#[derive(Drop)]
+pub struct AtHand {
+    pub inst: Inst,
+    pub length: usize,
+}
+
 /// The instruction that is performed at the next address, where it stands in eight bytes that are lent, and is no EX.
 #[tactic(auto, unfolding(crate::specs::Step::performed))]
 #[inline(always)]
-fn at_hand<S: Store>(cpu: &Cpu, store: &S) -> Option<Due>
-    ensures value { IfSome result (λ due. performed (machine cpu.now (S.storage store.now)) ≡ Ok due) }
-    ensures length { IfSome result (λ due. due.updated.length_code ≤ 3) }
-    ensures address { IfSome result (λ due. due.updated.address < 2 ^ 24) }
-    ensures place { IfSome result (λ due. due.updated ≡ updated_by cpu.now.next (length_of_format (format_with due.inst.fields))) }
+fn at_hand<S: Store>(cpu: &Cpu, store: &S) -> Option<AtHand>
+    ensures value { IfSome result (λ found. performed (machine cpu.now (S.storage store.now)) ≡ Ok (due found.inst (updated_by cpu.now.next found.length))) }
+    ensures length { IfSome result (λ found. found.length ≤ 6) }
 {
     let code = lent_code(store, cpu.next)?;
+    let length = code.len();
     let Ok(inst) = code.read() else {
         return None;
     };
-    if inst.op() == Op::Ex || code.len() != inst.fields().format().length() {
-        return None;
+    match inst.fields() {
+        Fields::Rx { .. } if inst.op() == Op::Ex => None,
+        _ => Some(AtHand { inst, length }),
     }
-    let updated = Updated {
-        length_code: (code.len() / 2) as u8,
-        address: along(cpu.next, code.len() as u32),
-    };
-    Some(Due { inst, updated })
 }
 
 /// Performs the instruction at the next address, wherever it stands.
@@ -106,8 +106,11 @@ fn run_apart<S: Store>(cpu: &mut Cpu, store: &mut S) -> Result<(), Interruption>
 fn run<S: Store>(cpu: &mut Cpu, store: &mut S) -> Result<(), Interruption>
     ensures { Runs (machine cpu.old (S.storage store.old)) result (machine cpu.new (S.storage store.new)) }
 {
-    match at_hand(cpu, store) {
-        Some(due) => effect_in_line(cpu, store, &due.inst, due.updated),
+    let Some(found) = at_hand(cpu, store) else {
+        return run_apart(cpu, store);
+    };
+    match effect_in_line(cpu, store, &found.inst, found.length) {
+        Some(outcome) => outcome,
         None => run_apart(cpu, store),
     }
 }
