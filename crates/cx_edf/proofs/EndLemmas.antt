@@ -1,6 +1,5 @@
 -- A key that ends a task.
-use Rattle.std.proofs.Common.{◌≡◌, ℕ, Bool, true, false, List, refl, sym, ◌∙◌, ap, subst, is_some}
-use Rattle.std.specs.Prelude.{◌&&◌}
+use Rattle.std.proofs.Common.{◌≡◌, ℕ, true, List, refl, sym, ◌∙◌, ap, subst, is_some}
 use Rattle.std.proofs.lemmas.Bool.{and_parts, true≢false}
 use Rattle.cx_ebcdic.specs.declared.aids.Aid.{Aid}
 use Rattle.cx_ebcdic.specs.declared.aids.Aid.TheVariants as aid
@@ -13,7 +12,7 @@ use Rattle.cx_region.specs.declared.replies.Reply.TheVariants as reply
 use Rattle.cx_region.specs.State.{RegionState}
 use Rattle.cx_region.specs.Tables.{task_of}
 use Rattle.cx_region.specs.Events.{Happens}
-use Rattle.cx_region.specs.Facts.Alterations.{abends_are_done, alter_reply}
+use Rattle.cx_region_laws.specs.Facts.Alterations.{abends_are_done, alter_reply}
 use Rattle.cx_edf.specs.declared.answers.Answer.TheVariants as answer
 use Rattle.cx_edf.specs.State.{EdfState, ends_by_key, holds, stopped_at}
 use Rattle.cx_edf.specs.Steps.{Passed, sessions_after_alter}

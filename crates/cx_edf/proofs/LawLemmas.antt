@@ -10,7 +10,7 @@ use Rattle.cx_region.specs.State.{RegionState, TerminalState}
 use Rattle.cx_region.specs.Tables.{task_of, terminal_of}
 use Rattle.cx_region.specs.Events.{Happens, Run}
 use Rattle.cx_region.specs.Turn.{TaskTurned, TerminalTurned, Turned}
-use Rattle.cx_region.specs.Laws.Regions.{EventsDecide, RunsDecide}
+use Rattle.cx_region_laws.specs.Laws.Regions.{EventsDecide, RunsDecide}
 use Rattle.cx_region.specs.declared.changes.AlterReply.TheVariants as alter
 use Rattle.cx_region.specs.declared.changes.Change.TheVariants as change
 use Rattle.cx_region.specs.declared.replies.Event.{Event}
@@ -30,7 +30,7 @@ use Rattle.cx_edf.specs.Sessions.{Sessions, is_stopped, is_stopped_in, stop_of, 
 use Rattle.cx_edf.specs.State.{EdfState, ends_by_key, holds, refuses, stopped_at}
 use Rattle.cx_edf.specs.Steps.{EdfHappens, Owned, Passed, Through, sessions_after_alter, sessions_after_key, sessions_after_turn}
 use Rattle.cx_edf.specs.Erasure.{asked_by, is_own, is_refused, left_of, plain_reply, told, told_of}
-use Rattle.cx_edf.specs.Runs.{EdfRun, Trace, last_state}
+use Rattle.cx_edf.specs.Runs.{Trace, last_state}
 use Rattle.cx_edf.specs.Laws.Edf.{EdfEventsDecide, EdfRunsDecide, ErasedEvents, ErasedEventsLeaveTheRegion, OffIsTheRegion, OwnEventsHaveOwnAnswers, PlainRunsAgree, StopsAreMissedUnderSuppression, ToldAreThoseGiven, ends_task, given_by, given_in, is_alteration, is_edfs}
 use Rattle.cx_edf.proofs.EndLemmas.{ends_stopped}
 use Rattle.cx_edf.proofs.StepLemmas.{left_runs}

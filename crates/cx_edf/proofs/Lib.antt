@@ -7,3 +7,4 @@ pub mod KeptLemmas
 pub mod TraceLemmas
 pub mod RunLemmas
 pub mod LawLemmas
+pub mod MemoryLemmas

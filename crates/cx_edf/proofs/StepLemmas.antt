@@ -4,7 +4,7 @@ use Rattle.std.specs.Prelude.{MatchBool, if◌then◌else◌}
 use Rattle.cx_ebcdic.specs.declared.aids.Aid.{Aid}
 use Rattle.cx_region.specs.State.{RegionState}
 use Rattle.cx_region.specs.Alter.{Alters}
-use Rattle.cx_region.specs.Facts.Alterations.{alter_reply, refused_alterations_leave}
+use Rattle.cx_region_laws.specs.Facts.Alterations.{alter_reply, refused_alterations_leave}
 use Rattle.cx_region.specs.declared.changes.AlterReply.{AlterReply}
 use Rattle.cx_region.specs.declared.changes.AlterReply.TheVariants as alter
 use Rattle.cx_region.specs.declared.changes.Change.{Change}

@@ -1,2 +1,3 @@
 -- The statements of laws.
 pub mod Edf
+pub mod Memory

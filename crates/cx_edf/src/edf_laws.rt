@@ -1,18 +1,19 @@
 //! What holds of every event under EDF, and of every run of them.
 ghost use Rattle.cx_edf.specs.Laws.Edf.{EdfEventsDecide, EdfRunsDecide, ErasedEvents, ErasedEventsLeaveTheRegion, OffIsTheRegion, OtherSessionsStay, OwnEventsHaveOwnAnswers, PlainRunsAgree, SessionsAreSet, StopsAreMissedUnderSuppression, ToldAreThoseGiven};
+ghost use Rattle.cx_edf.specs.Laws.Memory.{EdfSoundIsKept, RefusedEdfEventsAreNone, StoppedEdfRunsGoOn};
 
 /// A state and an event decide the answer and the state after it.
 pub fn edf_events_decide()
     ensures { EdfEventsDecide }
 {
-    cx_region::region_laws::events_decide();
+    cx_region_laws::laws::events_decide();
 }
 
 /// A state and a list of events decide their answers and the state after each.
 pub fn edf_runs_decide()
     ensures { EdfRunsDecide }
 {
-    cx_region::region_laws::events_decide();
+    cx_region_laws::laws::events_decide();
 }
 
 /// Every run of the region alone over the events that are left gives the region's replies that were given under EDF, without
@@ -22,7 +23,7 @@ pub fn a_plain_run_agrees()
     ensures run { PlainRunsAgree }
     ensures replies { ToldAreThoseGiven }
 {
-    cx_region::region_laws::runs_decide();
+    cx_region_laws::laws::runs_decide();
 }
 
 /// Nothing is left of an event for that run exactly where its answer is EDF's own (EDF ON and EDF OFF, a key in Stopped, a
@@ -55,3 +56,21 @@ pub fn sessions_keep_apart()
     ensures set { SessionsAreSet }
     ensures others { OtherSessionsStay }
 {}
+
+/// An event under EDF that was refused memory is none: the next one is done as if it had never come, with the answer that it
+/// would have had, and modes and displays likewise. A list that stopped for want of memory, and goes on with the events that
+/// weren't done, is the run of the whole.
+#[tactic(auto, using(crate::proofs::MemoryLemmas::stopped_runs_go_on))]
+pub fn a_refused_event_is_none()
+    ensures event { RefusedEdfEventsAreNone }
+    ensures run { StoppedEdfRunsGoOn }
+{
+    edf_events_decide();
+}
+
+/// An event under EDF leads from a sound region to a sound one, over the definitions alone.
+pub fn sound_is_kept()
+    ensures { EdfSoundIsKept }
+{
+    cx_region_laws::laws::sound_is_kept();
+}

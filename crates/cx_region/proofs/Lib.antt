@@ -1,12 +1,7 @@
 pub mod FreshLemmas
 pub mod PlacingLemmas
-pub mod SoundDefining
-pub mod LiveLemmas
-pub mod SoundAttach
-pub mod SoundTurned
-pub mod KeepsLemmas
+pub mod TurnLemmas
+pub mod KeyLemmas
 pub mod AlterLemmas
-pub mod DecideLemmas
-pub mod RunLawLemmas
 pub mod EventLemmas
 pub mod RunLemmas

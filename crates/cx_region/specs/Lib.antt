@@ -10,7 +10,6 @@ pub mod Events
 pub mod Replies
 pub mod Looking
 pub mod Sound
-pub mod Laws
 pub mod Facts
 pub mod Parts
 pub use Rattle.cx_call.specs.Eib

@@ -565,7 +565,7 @@ impl<S: Store + Drop> Region<S> {
     ///
     /// An error comes only where a growth was refused; then no answer that names or held input give is due, the EIB of a
     /// task to be attached has a place, and all is as before.
-    #[tactic(auto, using(crate::proofs::SoundAttach::keyed_answer), unfolding(crate::specs::Attach::input_from))]
+    #[tactic(auto, using(crate::proofs::KeyLemmas::keyed_answer), unfolding(crate::specs::Attach::input_from))]
     pub fn key(&mut self, name: Name4, aid: Aid, bytes: &[u8]) -> Result<KeyReply, AllocError>
         requires { length bytes.now ≤ 1920 }
         ensures keyed { IfOk result (λ reply. Keyed self.old name (input_from aid bytes.now) reply self.new) }

@@ -228,7 +228,7 @@ fn put_transaction(
 }
 
 /// Loads a program, and puts it last. NoRoom comes exactly where storage has no place for it, before Memory.
-#[tactic(auto, using(cx_storage::specs::Facts::Places::place_decides, crate::proofs::SoundDefining::sound_loaded))]
+#[tactic(auto, using(cx_storage::specs::Facts::Places::place_decides, crate::specs::Facts::SoundDefining::sound_loaded))]
 fn load_program<S: Store>(
     alloc: Global,
     store: &mut S,

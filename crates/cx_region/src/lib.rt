@@ -8,7 +8,6 @@ mod changes;
 mod defining;
 mod events;
 mod looking;
-pub mod region_laws;
 mod replies;
 mod state;
 mod turn;

@@ -56,7 +56,7 @@ fn drop_over(reply: &TurnReply, held: &mut Option<Task>)
 }
 
 /// A half-turn of a terminal's task, where it has one. A task that is over is dropped.
-#[tactic(auto, using(crate::proofs::SoundTurned::turned_on))]
+#[tactic(auto, using(crate::proofs::TurnLemmas::turned_on))]
 fn turn_parts<S: Store + Drop>(
     shared: &mut Shared<S>,
     station: &mut Station,

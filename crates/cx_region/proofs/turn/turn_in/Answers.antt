@@ -1,5 +1,5 @@
 use Rattle.std.proofs.Common.{sym}
-use Rattle.cx_region.proofs.SoundTurned.{put_back_err}
+use Rattle.cx_region.proofs.TurnLemmas.{put_back_err}
 use Rattle.cx_region.proofs.turn.turn_in.Goals as goal
 
 pub returns-clause-err : goal.returns-clause-err

@@ -1,6 +1,7 @@
 use Rattle.std.proofs.Common.{rules}
 use Rattle.cx_region.specs.Parts.Placing.{input_of}
-use Rattle.cx_region.proofs.SoundAttach.{asked_start, grows_seen, keyed_attach, keyed_seen, keyed_unplaced, on_refusal, sound_attach, start_free, start_grows, start_program}
+use Rattle.cx_region.specs.Facts.SoundAttach.{asked_start, start_free, start_program}
+use Rattle.cx_region.proofs.KeyLemmas.{grows_seen, keyed_attach, keyed_seen, keyed_unplaced, on_refusal, sound_attach, start_grows}
 use Rattle.cx_region.proofs.state.Region.attach_task.Goals as goal
 
 pub prepare-prepared-requires-clause-program : goal.prepare-prepared-requires-clause-program

@@ -1,5 +1,5 @@
 use Rattle.std.proofs.Common.{sym}
-use Rattle.cx_region.proofs.SoundDefining.{terminal_room, sound_terminal}
+use Rattle.cx_region.specs.Facts.SoundDefining.{terminal_room, sound_terminal}
 use Rattle.cx_region.proofs.state.Region.define_terminal.Goals as goal
 
 pub put_terminal-requires : goal.put_terminal-requires

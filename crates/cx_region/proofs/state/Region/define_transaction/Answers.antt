@@ -1,5 +1,5 @@
 use Rattle.std.proofs.Common.{sym}
-use Rattle.cx_region.proofs.SoundDefining.{sound_transaction}
+use Rattle.cx_region.specs.Facts.SoundDefining.{sound_transaction}
 use Rattle.cx_region.proofs.state.Region.define_transaction.Goals as goal
 
 pub invariant_of-self-2 : goal.invariant_of-self-2

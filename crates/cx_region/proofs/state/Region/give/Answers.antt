@@ -1,5 +1,6 @@
 use Rattle.cx_region.proofs.EventLemmas.{on_err}
-use Rattle.cx_region.proofs.SoundAttach.{asked_give, given_grows, grows_seen, keyed_give, keyed_seen, sound_give}
+use Rattle.cx_region.specs.Facts.SoundAttach.{asked_give}
+use Rattle.cx_region.proofs.KeyLemmas.{given_grows, grows_seen, keyed_give, keyed_seen, sound_give}
 use Rattle.cx_region.proofs.state.Region.give.Goals as goal
 
 pub returns-in_err-input-clause-grows : goal.returns-in_err-input-clause-grows

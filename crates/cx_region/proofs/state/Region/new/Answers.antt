@@ -1,4 +1,4 @@
-use Rattle.cx_region.proofs.SoundDefining.{sound_fresh}
+use Rattle.cx_region.specs.Facts.SoundDefining.{sound_fresh}
 use Rattle.cx_region.proofs.state.Region.new.Goals as goal
 
 pub invariant_of-result : goal.invariant_of-result

@@ -1,4 +1,4 @@
-use Rattle.cx_region.proofs.SoundTurned.{grows_seen, sound_turn, turned_seen}
+use Rattle.cx_region.proofs.TurnLemmas.{grows_seen, sound_turn, turned_seen}
 use Rattle.cx_region.proofs.state.Region.turn.Goals as goal
 
 pub invariant_of-self : goal.invariant_of-self

@@ -1,8 +1,0 @@
-use Rattle.cx_region.proofs.KeepsLemmas.{turned_keeps, turned_keeps_others}
-use Rattle.cx_region.proofs.region_laws.a_turn_keeps_to_its_task.Goals as goal
-
-pub returns-clause-task : goal.returns-clause-task
-returns-clause-task c = turned_keeps c.half_turns_stay.ensures
-
-pub returns-clause-others : goal.returns-clause-others
-returns-clause-others c = turned_keeps_others c.half_turns_keep.ensures

@@ -1,5 +1,0 @@
-use Rattle.cx_region.proofs.AlterLemmas.{abends_look_at_no_exit}
-use Rattle.cx_region.proofs.region_laws.an_operators_abend_is_taken_by_no_exit.Goals as goal
-
-pub returns-clause-exits : goal.returns-clause-exits
-returns-clause-exits c = abends_look_at_no_exit

@@ -1,5 +1,0 @@
-use Rattle.cx_region.proofs.DecideLemmas.{runs_decide}
-use Rattle.cx_region.proofs.region_laws.runs_decide.Goals as goal
-
-pub returns : goal.returns
-returns c = runs_decide c.events_decide.ensures

@@ -1,3 +1,0 @@
--- What the definitions come to; each is the contract of a public function.
-pub mod Regions
-pub mod Alterations

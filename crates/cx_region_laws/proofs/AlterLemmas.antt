@@ -1,0 +1,119 @@
+-- What alterations leave and keep.
+use Rattle.std.proofs.Common.{◌≡◌, ℕ, false, Option, Some, None, List, refl, sym, ◌∙◌, subst}
+use Rattle.std.specs.Prelude.{◌==◌, MatchOption}
+use Rattle.std.specs.Option.{option_map_or}
+use Rattle.std.proofs.lemmas.Bool.{eq-eqb, true≢false}
+use Rattle.std.proofs.lemmas.Map.{keys-set_value}
+use Rattle.cx_storage.specs.Facts.Writes.{areas_after_set, byte_after_set_elsewhere}
+use Rattle.cx_storage.specs.Storage.{Storage, byte_at, is_of_other_slot, with_areas_kept, with_byte}
+use Rattle.cx_service.specs.Resources.{without_owner}
+use Rattle.cx_state.specs.State.{Reach, TaskState}
+use Rattle.cx_task.specs.Abends.{AbendsAt}
+use Rattle.cx_region.specs.declared.changes.Change.{Change}
+use Rattle.cx_region.specs.declared.changes.Change.TheVariants.{Register, Byte, Nop, Abend}
+use Rattle.cx_region.specs.declared.changes.AlterReply.{AlterReply}
+use Rattle.cx_region.specs.declared.changes.AlterReply.TheVariants as alter
+use Rattle.cx_region.specs.State.{RegionState, TerminalState}
+use Rattle.cx_region.specs.Names.{is_name4}
+use Rattle.cx_region.specs.Tables.{terminal_of}
+use Rattle.cx_region.specs.Turn.{reach_of}
+use Rattle.cx_region.specs.Alter.{Alters, alter_refusal, altered, altered_at, altered_region, ends_task}
+use Rattle.cx_region_laws.specs.Laws.Alterations.{AbendsKeepOthers, AbendsLookAtNoExit, AlterKeeps, AlterKeepsOthers, AlterKeepsStorage, AlterationsKeepStorage, AlterationsKeepToTheirTask}
+use Rattle.cx_region_laws.proofs.KeepsLemmas.{other_stays}
+use Rattle.cx_region.specs.Facts.SoundAlter.{kept_twice, released_twice}
+
+-- ---- what stays: the region, or what is put back at the terminal
+-- what holds of a region as it is, and of one with what is reached after a change of a terminal's task put back
+record EachWay (P : RegionState → Type 0) (old : RegionState) (name : List ℕ) (change : Change) : Type 0 where
+  stays : P old
+  changes : (t : TerminalState) (task : TaskState) → terminal_of old name ≡ Some t → P (altered_at old name change t task)
+
+by_way : (P : RegionState → Type 0) (old : RegionState) (name : List ℕ) (change : Change) (reply : AlterReply) (new : RegionState) → EachWay P old name change → Alters old name change reply new → P new
+unfolding Alters altered_region
+by_way P old name change reply new each h = by_refusal (alter_refusal old name change) h
+  where
+    by_task : (t : TerminalState) → terminal_of old name ≡ Some t → (o : Option TaskState) → P (option_map_or (altered_at old name change t) o old)
+    by_task t there None = each.stays
+    by_task t there (Some task) = each.changes t task there
+
+    by_terminal : (o : Option TerminalState) → terminal_of old name ≡ o → P (option_map_or (λ t. option_map_or (altered_at old name change t) t.task old) o old)
+    by_terminal None there = each.stays
+    by_terminal (Some t) there = by_task t there t.task
+
+    by_refusal : (o : Option AlterReply) → MatchOption o ((reply ≡ alter.Altered) × (new ≡ altered_region old name change)) (λ refusal. (reply ≡ refusal) × (new ≡ old)) → P new
+    by_refusal None done = subst P (sym done.1) (by_terminal (terminal_of old name) refl)
+    by_refusal (Some refusal) h = subst P (sym h.1) each.stays
+
+programs_stay : (change : Change) (before : Reach) → (altered change before).shared.programs ≡ before.shared.programs
+unfolding altered
+programs_stay (Register r v) before = refl
+programs_stay (Byte a v) before = refl
+programs_stay Nop before = refl
+programs_stay Abend before = refl
+
+queues_stay : (change : Change) (before : Reach) → (altered change before).shared.queues ≡ before.shared.queues
+unfolding altered
+queues_stay (Register r v) before = refl
+queues_stay (Byte a v) before = refl
+queues_stay Nop before = refl
+queues_stay Abend before = refl
+
+pub alterations_keep : AlterationsKeepToTheirTask
+alterations_keep old name change reply new h =
+    by_way (AlterKeeps old name) old name change reply new (record {
+      stays = record { others = λ other differ. refl; names = refl; programs = refl; transactions = refl; time = refl; date = refl; counter = refl; queues = refl };
+      changes = λ t task there. record {
+        others = λ other differ. other_stays name other old.terminals _ differ;
+        names = keys-set_value (is_name4 name) old.terminals _;
+        programs = programs_stay change (reach_of old t task);
+        transactions = refl;
+        time = refl;
+        date = refl;
+        counter = refl;
+        queues = queues_stay change (reach_of old t task);
+      };
+    }) h
+
+byte_elsewhere : (s : Storage) (a v x : ℕ) → x == a ≡ false → byte_at (with_byte s a v) x ≡ byte_at s x
+byte_elsewhere s a v x apart = byte_after_set_elsewhere s a v x (λ e. true≢false (sym (eq-eqb x a e) ∙ apart))
+
+live_keeps : (change : Change) (old : RegionState) (name : List ℕ) (t : TerminalState) (task : TaskState) → ends_task change ≡ false → AlterKeepsStorage old change (altered_at old name change t task)
+unfolding altered
+live_keeps (Register r v) old name t task on = record { areas = refl; bytes = λ x other. refl; resources = refl }
+live_keeps (Byte a v) old name t task on =
+    record { areas = areas_after_set old.storage a v; bytes = byte_elsewhere old.storage a v; resources = refl }
+live_keeps Nop old name t task on = record { areas = refl; bytes = λ x other. refl; resources = refl }
+live_keeps Abend old name t task on = absurd (true≢false on)
+
+pub alterations_keep_storage : AlterationsKeepStorage
+alterations_keep_storage old name change reply new h on =
+    by_way (AlterKeepsStorage old change) old name change reply new (record {
+      stays = record { areas = refl; bytes = λ x other. refl; resources = refl };
+      changes = λ t task there. live_keeps change old name t task on;
+    }) h
+
+same_at : {A B : Type 0} (o : Option TerminalState) (x : A) (f : TerminalState → B) → MatchOption o (x ≡ x) (λ t. f t ≡ f t)
+same_at None x f = refl
+same_at (Some t) x f = refl
+
+at_terminal : (P : Type 0) (Q : TerminalState → Type 0) (o : Option TerminalState) (t : TerminalState) → o ≡ Some t → Q t → MatchOption o P Q
+at_terminal P Q o t there q = subst (λ (x : Option TerminalState). MatchOption x P Q) (sym there) q
+
+pub abends_keep_others : AbendsKeepOthers
+unfolding altered
+abends_keep_others old name reply new h =
+    by_way (AlterKeepsOthers old name) old name Abend reply new (record {
+      stays = record {
+        areas = same_at (terminal_of old name) old.storage (λ t. with_areas_kept (is_of_other_slot t.slot) old.storage);
+        resources = same_at (terminal_of old name) old.resources (λ t. without_owner old.resources t.slot);
+      };
+      changes = λ t task there. record {
+        areas = at_terminal _ _ (terminal_of old name) t there (kept_twice (is_of_other_slot t.slot) old.storage);
+        resources = at_terminal _ _ (terminal_of old name) t there (released_twice old.resources t.slot);
+      };
+    }) h
+
+-- ---- the abend
+pub abends_look_at_no_exit : AbendsLookAtNoExit
+unfolding altered AbendsAt
+abends_look_at_no_exit before = record { exit = None; takes = refl; ends = (refl, refl) }

@@ -1,0 +1,6 @@
+pub mod KeepsLemmas
+pub mod AlterLemmas
+pub mod DecideLemmas
+pub mod RunLawLemmas
+pub mod MemoryLemmas
+pub mod SoundLemmas
