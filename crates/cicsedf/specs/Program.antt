@@ -2,10 +2,10 @@
 use Rattle.std.specs.Prelude.{ℕ, Bool, List, Option, Result, Ok, Err}
 use Rattle.cx_script.specs.Effects.{Performs, fresh_state}
 use Rattle.cx_script.specs.Outcome.{RanScript}
-use Rattle.cx_script.specs.Status.{status_of}
-use Rattle.cx_script.specs.declared.faults.RunFault.{RunFault}
-use Rattle.cx_script.specs.declared.faults.Summary.{Summary}
-use Rattle.cx_script.specs.declared.faults.RunFault.TheVariants as fault
+use Rattle.cx_blocks.specs.Status.{status_of}
+use Rattle.cx_blocks.specs.declared.faults.RunFault.{RunFault}
+use Rattle.cx_blocks.specs.declared.faults.Summary.{Summary}
+use Rattle.cx_blocks.specs.declared.faults.RunFault.TheVariants as fault
 use Rattle.cicsedf.specs.declared.program.Refusal.{Refusal}
 use Rattle.cicsedf.specs.declared.program.Refusal.TheVariants.{Usage, Memory}
 

@@ -1,8 +1,8 @@
 //! What the program decides: what it runs, and its status.
 
 ghost use Rattle.std.specs.Prelude.{◌≡◌, false, IfOk, OnErr, Err};
-ghost use Rattle.cx_script.specs.Transcript.{is_write};
-ghost use Rattle.cx_script.specs.declared.faults.RunFault.TheVariants.{Read as ReadFault};
+ghost use Rattle.cx_blocks.specs.Faults.{is_write};
+ghost use Rattle.cx_blocks.specs.declared.faults.RunFault.TheVariants.{Read as ReadFault};
 ghost use Rattle.cicsedf.specs.Program.{RanFrom, program_status};
 
 use cx_script::{RunFault, ScriptOut, Std, Summary, run_script, status};

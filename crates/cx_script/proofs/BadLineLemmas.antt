@@ -3,17 +3,17 @@ use Rattle.std.proofs.Common.{◌≡◌, ℕ, suc, ◌+◌, ◌-◌, ◌<◌, �
 use Rattle.std.specs.Prelude.{slice_get}
 use Rattle.std.specs.Option.{option_map}
 use Rattle.std.specs.Str.{bytes_eq}
-use Rattle.cx_script.specs.declared.blocks.Block.{Block}
+use Rattle.cx_blocks.specs.declared.blocks.Block.{Block}
 use Rattle.cx_actions.specs.Actions.{line_of}
 use Rattle.std.specs.Option.{ok_or}
 use Rattle.cx_prepare.specs.Prepared.{prepared_of}
 use Rattle.cx_prepare.specs.declared.faults.PrepareFault.{PrepareFault}
 use Rattle.cx_prepare.specs.declared.faults.PrepareFault.TheVariants as prepare
 use Rattle.cx_prepare.specs.declared.program.Prepared.{Prepared}
-use Rattle.cx_script.specs.ImageBlock.{ImageBlock}
-use Rattle.cx_script.specs.SourceBlock.{SourceBlock}
-use Rattle.cx_script.specs.declared.blocks.Block.TheVariants as kind
-use Rattle.cx_script.specs.Blocks.{continued, ended, first_line, image_action, source_action, source_ended, step_at, step_in, step_of, with_bytes, with_line}
+use Rattle.cx_blocks.specs.ImageBlock.{ImageBlock}
+use Rattle.cx_blocks.specs.SourceBlock.{SourceBlock}
+use Rattle.cx_blocks.specs.declared.blocks.Block.TheVariants as kind
+use Rattle.cx_blocks.specs.Blocks.{continued, ended, first_line, image_action, source_action, source_ended, step_at, step_in, step_of, with_bytes, with_line}
 use Rattle.cx_lines.specs.Lines.{is_too_long, lines_met}
 use Rattle.cx_script.specs.Script.{Script, script_of, script_from, fault_at, before, led_to}
 use Rattle.cx_actions.specs.Words.{hex_bytes}
@@ -21,9 +21,9 @@ use Rattle.cx_script.specs.Laws.BadLines.{block_after, block_behind, IsBadIn, Is
 use Rattle.cx_actions.specs.declared.actions.Action.{Action}
 use Rattle.cx_actions.specs.declared.actions.Line.{Line}
 use Rattle.cx_actions.specs.declared.actions.Line.TheVariants as line
-use Rattle.cx_script.specs.declared.blocks.Step.{Step}
-use Rattle.cx_script.specs.declared.faults.RunFault.{RunFault}
-use Rattle.cx_script.specs.declared.faults.RunFault.TheVariants.{BadLine, Source, Read, Memory}
+use Rattle.cx_blocks.specs.declared.blocks.Step.{Step}
+use Rattle.cx_blocks.specs.declared.faults.RunFault.{RunFault}
+use Rattle.cx_blocks.specs.declared.faults.RunFault.TheVariants.{BadLine, Source, Read, Memory}
 use Rattle.cx_lines.specs.declared.input.Ending.{Ending}
 use Rattle.cx_lines.specs.declared.input.Ending.TheVariants.{AtEnd, Failed, PastBound}
 use Rattle.cx_script.proofs.FaultLemmas.{fault_before, is_own, led_own, MayBeLed}

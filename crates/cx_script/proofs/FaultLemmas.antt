@@ -1,24 +1,24 @@
 -- Which faults a script may have, by why no more of it was read.
 use Rattle.std.proofs.Common.{◌≡◌, ◌≢◌, ℕ, ◌+◌, Bool, true, false, List, [], ◌∷◌, None, Some, Option, Result, Ok, Err, cond, codes, refl, sym, ap, ◌∙◌}
-use Rattle.cx_script.specs.declared.blocks.Block.{Block}
+use Rattle.cx_blocks.specs.declared.blocks.Block.{Block}
 use Rattle.std.specs.Option.{ok_or}
 use Rattle.std.specs.Option.{option_map}
 use Rattle.std.specs.Str.{bytes_eq}
-use Rattle.cx_script.specs.declared.blocks.Block.TheVariants as kind
+use Rattle.cx_blocks.specs.declared.blocks.Block.TheVariants as kind
 use Rattle.cx_actions.specs.Actions.{line_of}
-use Rattle.cx_script.specs.Blocks.{continued, ended, source_ended, step_at, step_in, step_of, with_line}
+use Rattle.cx_blocks.specs.Blocks.{continued, ended, source_ended, step_at, step_in, step_of, with_line}
 use Rattle.cx_prepare.specs.Facts.Faults.{prepared_not_memory}
 use Rattle.cx_prepare.specs.Prepared.{prepared_of}
 use Rattle.cx_prepare.specs.declared.faults.PrepareFault.{PrepareFault}
 use Rattle.cx_prepare.specs.declared.faults.PrepareFault.TheVariants as prepare
 use Rattle.cx_prepare.specs.declared.program.Prepared.{Prepared}
-use Rattle.cx_script.specs.SourceBlock.{SourceBlock}
+use Rattle.cx_blocks.specs.SourceBlock.{SourceBlock}
 use Rattle.cx_lines.specs.Lines.{is_too_long, lines_met}
 use Rattle.cx_script.specs.Script.{Script, script_of, script_from, fault_at, before, led_to}
 use Rattle.cx_actions.specs.declared.actions.Action.{Action}
-use Rattle.cx_script.specs.declared.blocks.Step.{Step}
-use Rattle.cx_script.specs.declared.faults.RunFault.{RunFault}
-use Rattle.cx_script.specs.declared.faults.RunFault.TheVariants.{BadLine, Source, Read, Write, Memory, ReadBound}
+use Rattle.cx_blocks.specs.declared.blocks.Step.{Step}
+use Rattle.cx_blocks.specs.declared.faults.RunFault.{RunFault}
+use Rattle.cx_blocks.specs.declared.faults.RunFault.TheVariants.{BadLine, Source, Read, Write, Memory, ReadBound}
 use Rattle.cx_lines.specs.declared.input.Ending.{Ending}
 use Rattle.cx_lines.specs.declared.input.Ending.TheVariants.{AtEnd, Failed, PastBound}
 

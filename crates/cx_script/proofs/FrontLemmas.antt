@@ -2,16 +2,16 @@
 use Rattle.std.proofs.Common.{◌≡◌, ℕ, ◌+◌, inl, inr, Bool, true, false, cond, List, [], ◌∷◌, ◌++◌, None, Some, Option, Result, Ok, Err, refl, sym, ap, ◌∙◌, subst, length, arith}
 use Rattle.std.proofs.lemmas.List.{take_all}
 use Rattle.std.specs.Str.Lines.{strip_carriage_return}
-use Rattle.cx_script.specs.declared.blocks.Block.{Block}
-use Rattle.cx_script.specs.Blocks.{step_at}
+use Rattle.cx_blocks.specs.declared.blocks.Block.{Block}
+use Rattle.cx_blocks.specs.Blocks.{step_at}
 use Rattle.cx_lines.specs.Lines.{is_too_long, last_met, lines_met}
 use Rattle.cx_lines.specs.Facts.Lines.{BeginsLong, continues}
 use Rattle.cx_script.specs.Script.{Script, script_from, script_of, fault_at, before, led_to}
 use Rattle.cx_script.specs.Laws.Fronts.{FrontsAreScripts, IsFrontOf}
 use Rattle.cx_actions.specs.declared.actions.Action.{Action}
-use Rattle.cx_script.specs.declared.blocks.Step.{Step}
-use Rattle.cx_script.specs.declared.faults.RunFault.{RunFault}
-use Rattle.cx_script.specs.declared.faults.RunFault.TheVariants.{BadLine}
+use Rattle.cx_blocks.specs.declared.blocks.Step.{Step}
+use Rattle.cx_blocks.specs.declared.faults.RunFault.{RunFault}
+use Rattle.cx_blocks.specs.declared.faults.RunFault.TheVariants.{BadLine}
 use Rattle.cx_lines.specs.declared.input.Ending.{Ending}
 use Rattle.cx_lines.specs.declared.input.Ending.TheVariants.{Failed}
 use Rattle.cx_script.proofs.PieceLemmas.{no_step}

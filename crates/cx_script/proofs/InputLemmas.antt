@@ -11,9 +11,9 @@ use Rattle.cx_actions.specs.Effects.{Performs, fresh_state}
 use Rattle.cx_script.specs.Outcome.{HasRead}
 use Rattle.cx_script.specs.Laws.Inputs.{was_stopped, InputsDecide, IsPastBound, IsTold, FailuresAreTold, PastTheBoundIsReadBound, ReadBoundIsPastTheBound, ReadIsAFailure}
 use Rattle.cx_actions.specs.declared.actions.Action.{Action}
-use Rattle.cx_script.specs.declared.faults.RunFault.{RunFault}
-use Rattle.cx_script.specs.declared.faults.RunFault.TheVariants.{BadLine, Source, Read, Write, Memory, ReadBound}
-use Rattle.cx_script.specs.declared.faults.Summary.{Summary}
+use Rattle.cx_blocks.specs.declared.faults.RunFault.{RunFault}
+use Rattle.cx_blocks.specs.declared.faults.RunFault.TheVariants.{BadLine, Source, Read, Write, Memory, ReadBound}
+use Rattle.cx_blocks.specs.declared.faults.Summary.{Summary}
 use Rattle.cx_lines.specs.declared.input.Ending.{Ending}
 use Rattle.cx_lines.specs.declared.input.Ending.TheVariants.{AtEnd, Failed, PastBound}
 use Rattle.cx_script.proofs.FaultLemmas.{has_this, may_have}

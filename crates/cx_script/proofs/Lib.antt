@@ -1,4 +1,3 @@
-pub mod HexLines
 pub mod RunLemmas
 pub mod TakeLemmas
 pub mod OutcomeLemmas
@@ -7,6 +6,5 @@ pub mod WholeLemmas
 pub mod ActionLemmas
 pub mod InputLemmas
 pub mod BadLineLemmas
-pub mod BlockLemmas
 pub mod PieceLemmas
 pub mod FrontLemmas

@@ -10,19 +10,20 @@ use Rattle.std.proofs.lemmas.Grind.{common_steps}
 use Rattle.std.proofs.lemmas.List.{length-take, length-take-le, take-append-drop, take_all}
 use Rattle.cx_lines.specs.Facts.Devices.{read_end}
 use Rattle.std.proofs.Math.Seq.{take-append-add, take-append_seam}
-use Rattle.cx_script.specs.declared.blocks.Block.{Block}
-use Rattle.cx_script.specs.Blocks.{step_at, step_in}
+use Rattle.cx_blocks.specs.declared.blocks.Block.{Block}
+use Rattle.cx_blocks.specs.Blocks.{step_at, step_in}
 use Rattle.cx_lines.specs.Input.{Reads, is_failure, most_bytes}
 use Rattle.cx_lines.specs.Lines.{is_too_long, last_met, lines_met}
 use Rattle.cx_script.specs.Outcome.{RanScript}
 use Rattle.cx_script.specs.Script.{Script, script_from, script_of, line_count, fault_at, before, led_to}
-use Rattle.cx_script.specs.Transcript.{Runs, WroteAll, Stops, Ends, is_write}
+use Rattle.cx_script.specs.Transcript.{Runs, WroteAll, Stops, Ends}
+use Rattle.cx_blocks.specs.Faults.{is_write}
 use Rattle.cx_script.specs.Parts.Progress.{Acted, TakesLine, behind_done, Came, Closes, Halts, SentAll, SentSome, Stopped, Seen}
 use Rattle.cx_lines.specs.Unbroken.{IsUnbroken}
 use Rattle.cx_actions.specs.declared.actions.Action.{Action}
-use Rattle.cx_script.specs.declared.faults.RunFault.{RunFault}
-use Rattle.cx_script.specs.declared.faults.RunFault.TheVariants.{BadLine, Source, Read, Write, Memory, ReadBound}
-use Rattle.cx_script.specs.declared.faults.Summary.{Summary}
+use Rattle.cx_blocks.specs.declared.faults.RunFault.{RunFault}
+use Rattle.cx_blocks.specs.declared.faults.RunFault.TheVariants.{BadLine, Source, Read, Write, Memory, ReadBound}
+use Rattle.cx_blocks.specs.declared.faults.Summary.{Summary}
 use Rattle.cx_lines.specs.declared.input.Ending.{Ending}
 use Rattle.cx_lines.specs.declared.input.Ending.TheVariants.{AtEnd, Failed, PastBound}
 use Rattle.cx_lines.specs.Facts.Lines.{line_met, none_met, begins_long, long_bytes, unbroken_append, BeginsLong}

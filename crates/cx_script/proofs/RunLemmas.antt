@@ -3,16 +3,16 @@ use Rattle.std.proofs.Common.{◌≡◌, ℕ, ◌+◌, List, [], ◌∷◌, ◌+
 use Rattle.std.proofs.Math.Seq.{take-append_seam}
 use Rattle.cx_lines.specs.Devices.{SentFront, Told}
 use Rattle.cx_lines.specs.Facts.Devices.{sends_all, sends_front, sends_nil, sends_trans}
-use Rattle.cx_script.specs.declared.blocks.Block.{Block}
-use Rattle.cx_script.specs.Blocks.{step_at}
+use Rattle.cx_blocks.specs.declared.blocks.Block.{Block}
+use Rattle.cx_blocks.specs.Blocks.{step_at}
 use Rattle.cx_script.specs.Script.{Script, script_from, fault_at, before, led_to}
-use Rattle.cx_script.specs.declared.faults.Summary.{Summary}
+use Rattle.cx_blocks.specs.declared.faults.Summary.{Summary}
 use Rattle.cx_script.specs.Transcript.{Runs}
 use Rattle.cx_script.specs.Parts.Progress.{Acts, Acted, Closes, Halts, SentAll, SentSome, TakesLine, Reached, behind_done}
 use Rattle.cx_actions.specs.declared.actions.Action.{Action}
-use Rattle.cx_script.specs.declared.blocks.Step.{Step}
-use Rattle.cx_script.specs.declared.faults.RunFault.{RunFault}
-use Rattle.cx_script.specs.declared.faults.RunFault.TheVariants.{BadLine, Source, Read, Write, Memory, ReadBound}
+use Rattle.cx_blocks.specs.declared.blocks.Step.{Step}
+use Rattle.cx_blocks.specs.declared.faults.RunFault.{RunFault}
+use Rattle.cx_blocks.specs.declared.faults.RunFault.TheVariants.{BadLine, Source, Read, Write, Memory, ReadBound}
 use Rattle.cx_lines.specs.declared.input.Ending.{Ending}
 
 -- the actions of a line

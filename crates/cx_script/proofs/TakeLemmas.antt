@@ -3,13 +3,13 @@ use Rattle.std.proofs.Common.{◌≡◌, ℕ, false, List, Option, Result, Ok, E
 use Rattle.std.specs.Io.KnownBytes.{Appends}
 use Rattle.cx_lines.specs.Devices.{Told, WroteFront, told}
 use Rattle.cx_lines.specs.Facts.Devices.{front_flushed, sends_flushed}
-use Rattle.cx_script.specs.declared.blocks.Block.{Block}
+use Rattle.cx_blocks.specs.declared.blocks.Block.{Block}
 use Rattle.cx_script.specs.Parts.Progress.{Acted, TakesLine}
-use Rattle.cx_script.specs.Transcript.{is_memory, is_write}
+use Rattle.cx_blocks.specs.Faults.{is_memory, is_write}
 use Rattle.cx_actions.specs.declared.actions.Action.{Action}
-use Rattle.cx_script.specs.declared.blocks.Step.{Step}
-use Rattle.cx_script.specs.declared.faults.RunFault.{RunFault}
-use Rattle.cx_script.specs.declared.faults.RunFault.TheVariants.{BadLine, Source, Read, Write, Memory, ReadBound}
+use Rattle.cx_blocks.specs.declared.blocks.Step.{Step}
+use Rattle.cx_blocks.specs.declared.faults.RunFault.{RunFault}
+use Rattle.cx_blocks.specs.declared.faults.RunFault.TheVariants.{BadLine, Source, Read, Write, Memory, ReadBound}
 
 nothing : (before after : Option (List ℕ)) (waits : List ℕ) → told after waits ≡ told before [] → told after [] ≡ told before []
 nothing before after waits e = ap (λ (t : Told). told t.written []) e

@@ -1,13 +1,14 @@
 -- The definitions, in reading order.
-pub mod ImageBlock
-pub mod SourceBlock
-pub mod Blocks
 pub mod Script
 pub mod Transcript
 pub mod Outcome
-pub mod Status
 pub mod Laws
 pub mod Parts
+pub use Rattle.cx_blocks.specs.ImageBlock
+pub use Rattle.cx_blocks.specs.SourceBlock
+pub use Rattle.cx_blocks.specs.Blocks
+pub use Rattle.cx_blocks.specs.Faults
+pub use Rattle.cx_blocks.specs.Status
 pub use Rattle.cx_lines.specs.Devices
 pub use Rattle.cx_lines.specs.Input
 pub use Rattle.cx_lines.specs.Lines

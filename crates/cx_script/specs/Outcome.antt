@@ -4,9 +4,9 @@ use Rattle.cx_lines.specs.Input.{Reads, is_failure, most_bytes}
 use Rattle.cx_script.specs.Script.{script_of, line_count}
 use Rattle.cx_script.specs.Transcript.{Ends}
 use Rattle.cx_actions.specs.declared.actions.Action.{Action}
-use Rattle.cx_script.specs.declared.faults.RunFault.{RunFault}
-use Rattle.cx_script.specs.declared.faults.RunFault.TheVariants.{Memory}
-use Rattle.cx_script.specs.declared.faults.Summary.{Summary}
+use Rattle.cx_blocks.specs.declared.faults.RunFault.{RunFault}
+use Rattle.cx_blocks.specs.declared.faults.RunFault.TheVariants.{Memory}
+use Rattle.cx_blocks.specs.declared.faults.Summary.{Summary}
 use Rattle.cx_lines.specs.declared.input.Ending.{Ending}
 use Rattle.cx_lines.specs.declared.input.Ending.TheVariants.{AtEnd}
 

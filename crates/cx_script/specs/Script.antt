@@ -1,14 +1,14 @@
 -- What a script asks: its actions in order, up to its first fault (own).
 use Rattle.std.specs.Prelude.{ℕ, ◌+◌, Option, Some, None, Result, Ok, Err, List, [], ◌∷◌, length}
 use Rattle.cx_actions.specs.declared.actions.Action.{Action}
-use Rattle.cx_script.specs.declared.faults.RunFault.{RunFault}
-use Rattle.cx_script.specs.declared.faults.RunFault.TheVariants as fault
+use Rattle.cx_blocks.specs.declared.faults.RunFault.{RunFault}
+use Rattle.cx_blocks.specs.declared.faults.RunFault.TheVariants as fault
 use Rattle.cx_lines.specs.declared.input.Ending.{Ending}
 use Rattle.cx_lines.specs.declared.input.Ending.TheVariants.{AtEnd, Failed, PastBound}
 use Rattle.cx_lines.specs.Lines.{lines_met}
-use Rattle.cx_script.specs.declared.blocks.Block.{Block}
-use Rattle.cx_script.specs.declared.blocks.Step.{Step}
-use Rattle.cx_script.specs.Blocks.{first_line, step_at}
+use Rattle.cx_blocks.specs.declared.blocks.Block.{Block}
+use Rattle.cx_blocks.specs.declared.blocks.Step.{Step}
+use Rattle.cx_blocks.specs.Blocks.{first_line, step_at}
 
 pub record Script : Type 0 where
   -- what is done, in order, in front of the fault

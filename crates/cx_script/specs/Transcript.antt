@@ -4,9 +4,9 @@ use Rattle.std.specs.Io.KnownBytes.{Appends}
 use Rattle.cx_lines.specs.Devices.{WroteFront}
 use Rattle.cx_script.specs.Script.{Script}
 use Rattle.cx_actions.specs.declared.actions.Action.{Action}
-use Rattle.cx_script.specs.declared.faults.RunFault.{RunFault}
-use Rattle.cx_script.specs.declared.faults.RunFault.TheVariants.{Read, Write, Memory}
-use Rattle.cx_script.specs.declared.faults.Summary.{Summary}
+use Rattle.cx_blocks.specs.declared.faults.RunFault.{RunFault}
+use Rattle.cx_blocks.specs.declared.faults.RunFault.TheVariants.{Read, Write, Memory}
+use Rattle.cx_blocks.specs.declared.faults.Summary.{Summary}
 
 -- Actions one after another on some state, and the transcript: what each writes, in order. `performs` is one action: the
 -- state before, the action, what is written for it, and the state after.
@@ -42,18 +42,3 @@ abbrev pub Ends : {S : Type 0} → (S → Action → List ℕ → S → Type 0) 
 Ends performs old script lines (Ok summary) before after =
     (script.fault ≡ None) × (summary.lines ≡ lines) × WroteAll performs old script.actions before after
 Ends performs old script lines (Err fault) before after = Stops performs old script fault before after
-
--- whether a write failed
-abbrev pub is_write : {A : Type 0} → Result A RunFault → Bool
-is_write (Err Write) = true
-is_write _ = false
-
--- whether a read failed
-abbrev pub is_read : {A : Type 0} → Result A RunFault → Bool
-is_read (Err Read) = true
-is_read _ = false
-
--- whether memory was refused
-abbrev pub is_memory : {A : Type 0} → Result A RunFault → Bool
-is_memory (Err Memory) = true
-is_memory _ = false

@@ -13,7 +13,7 @@ ghost use Rattle.cx_script.specs.Laws.BadLines.{BadLinesAreBad};
 ghost use Rattle.cx_script.specs.Laws.Events.{ScriptsRunTheirEvents};
 ghost use Rattle.cx_script.specs.Laws.Inputs.{FailuresAreTold, InputsDecide, PastTheBoundIsReadBound, ReadBoundIsPastTheBound, ReadIsAFailure};
 ghost use Rattle.cx_actions.specs.declared.actions.Action.{Action};
-ghost use Rattle.cx_script.specs.declared.faults.Summary.{Summary};
+ghost use Rattle.cx_blocks.specs.declared.faults.Summary.{Summary};
 ghost use Rattle.cx_lines.specs.declared.input.Ending.TheVariants.{AtEnd};
 
 /// The lines of a script that is read to its end are those that the standard library cuts a text into: an LF

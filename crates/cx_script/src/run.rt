@@ -2,23 +2,22 @@
 
 ghost use Rattle.std.specs.Prelude.{◌≡◌, ◌+◌, ◌++◌, ◌<◌, ◌≤◌, ◌^◌, ℕ, List, IfOk, IfErr, IfSome, IsOkAnd, OnOk, OnErr, MatchOption, Err, None, [], true, false, length};
 ghost use Rattle.std.specs.Str.Lines.{strip_carriage_return};
-ghost use Rattle.cx_script.specs.Blocks.{step_at};
+ghost use Rattle.cx_blocks.specs.Blocks.{step_at};
 ghost use Rattle.cx_lines.specs.Input.{is_failure};
 ghost use Rattle.cx_lines.specs.Lines.{is_too_long, lines_met};
 ghost use Rattle.cx_script.specs.Outcome.{RanScript};
 ghost use Rattle.cx_script.specs.Script.{fault_at, script_from};
-ghost use Rattle.cx_script.specs.Transcript.{is_read, is_write};
+ghost use Rattle.cx_blocks.specs.Faults.{is_read, is_write};
 ghost use Rattle.cx_actions.specs.Allowed.{IsAllowed};
 ghost use Rattle.cx_script.specs.Parts.Progress.{Acted, Came, Closes, Stopped, TakesLine};
 ghost use Rattle.cx_lines.specs.Devices.{told};
 ghost use Rattle.cx_lines.specs.Unbroken.{IsUnbroken};
 ghost use Rattle.cx_actions.specs.declared.actions.Action.{Action};
-ghost use Rattle.cx_script.specs.declared.faults.RunFault.TheVariants.{BadLine};
+ghost use Rattle.cx_blocks.specs.declared.faults.RunFault.TheVariants.{BadLine};
 
-use crate::blocks::{Block, step_at};
-use crate::faults::{RunFault, Summary};
 use arrayvec::ArrayVec;
 use cx_actions::{Action, Stage};
+use cx_blocks::{Block, RunFault, Summary, step_at};
 use cx_lines::{
     Ending, ScriptIn, ScriptOut, Waiting, in_front, is_too_long, last_line, split_line,
     strip_carriage_return,

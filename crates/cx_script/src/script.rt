@@ -3,10 +3,10 @@
 ghost use Rattle.std.specs.Prelude.{◌≡◌, false};
 ghost use Rattle.cx_actions.specs.Effects.{Performs, fresh_state};
 ghost use Rattle.cx_script.specs.Outcome.{RanScript};
-ghost use Rattle.cx_script.specs.Transcript.{is_read, is_write};
+ghost use Rattle.cx_blocks.specs.Faults.{is_read, is_write};
 
-use crate::faults::{RunFault, Summary};
 use crate::run::Run;
+use cx_blocks::{RunFault, Summary};
 use cx_edf::Debugged;
 use cx_lines::{ScriptIn, ScriptOut};
 use cx_pages::PagedStore;

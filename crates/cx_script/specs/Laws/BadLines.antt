@@ -2,13 +2,13 @@
 use Rattle.std.specs.Prelude.{◌≡◌, ℕ, ◌+◌, ◌-◌, ◌≤◌, ◌⊎◌, true, false, codes, List, [], ◌∷◌, length, take, slice_get, Option, Some, None, Result, Ok, Err, IsSomeAnd}
 use Rattle.std.specs.Str.{bytes_eq}
 use Rattle.cx_actions.specs.Actions.{line_of}
-use Rattle.cx_script.specs.Blocks.{first_line, step_at, with_line}
-use Rattle.cx_script.specs.declared.blocks.Block.{Block}
+use Rattle.cx_blocks.specs.Blocks.{first_line, step_at, with_line}
+use Rattle.cx_blocks.specs.declared.blocks.Block.{Block}
 use Rattle.cx_lines.specs.Lines.{is_too_long, lines_met}
 use Rattle.cx_script.specs.Script.{Script, script_from, script_of}
-use Rattle.cx_script.specs.declared.blocks.Step.{Step}
-use Rattle.cx_script.specs.declared.faults.RunFault.{RunFault}
-use Rattle.cx_script.specs.declared.faults.RunFault.TheVariants.{BadLine, Read}
+use Rattle.cx_blocks.specs.declared.blocks.Step.{Step}
+use Rattle.cx_blocks.specs.declared.faults.RunFault.{RunFault}
+use Rattle.cx_blocks.specs.declared.faults.RunFault.TheVariants.{BadLine, Read}
 use Rattle.cx_lines.specs.declared.input.Ending.{Ending}
 use Rattle.cx_lines.specs.declared.input.Ending.TheVariants.{AtEnd, Failed}
 

@@ -1,7 +1,7 @@
 -- What a front of a script asks stays, however the script goes on.
 use Rattle.std.specs.Prelude.{◌≡◌, ◌⊎◌, ℕ, List, ◌++◌, length, take, Some}
 use Rattle.cx_script.specs.Script.{Script, script_of}
-use Rattle.cx_script.specs.declared.faults.RunFault.TheVariants.{Read}
+use Rattle.cx_blocks.specs.declared.faults.RunFault.TheVariants.{Read}
 use Rattle.cx_lines.specs.declared.input.Ending.{Ending}
 use Rattle.cx_lines.specs.declared.input.Ending.TheVariants.{Failed}
 

@@ -6,9 +6,9 @@ use Rattle.cx_actions.specs.Effects.{Performs, fresh_state}
 use Rattle.cx_lines.specs.Input.{most_bytes}
 use Rattle.cx_script.specs.Outcome.{RanScript}
 use Rattle.cx_script.specs.Script.{script_of}
-use Rattle.cx_script.specs.declared.faults.RunFault.{RunFault}
-use Rattle.cx_script.specs.declared.faults.RunFault.TheVariants.{Read, Write, Memory, ReadBound}
-use Rattle.cx_script.specs.declared.faults.Summary.{Summary}
+use Rattle.cx_blocks.specs.declared.faults.RunFault.{RunFault}
+use Rattle.cx_blocks.specs.declared.faults.RunFault.TheVariants.{Read, Write, Memory, ReadBound}
+use Rattle.cx_blocks.specs.declared.faults.Summary.{Summary}
 use Rattle.cx_lines.specs.declared.input.Ending.TheVariants.{Failed, PastBound}
 
 -- the run was stopped by want of memory, or by the writer

@@ -4,7 +4,7 @@ use Rattle.std.specs.Str.Lines.{lines}
 use Rattle.cx_lines.specs.Input.{most_bytes}
 use Rattle.cx_script.specs.Outcome.{RanScript}
 use Rattle.cx_script.specs.Script.{script_of}
-use Rattle.cx_script.specs.declared.faults.Summary.{Summary}
+use Rattle.cx_blocks.specs.declared.faults.Summary.{Summary}
 use Rattle.cx_script.specs.Transcript.{WroteAll}
 use Rattle.cx_actions.specs.Effects.{Performs, fresh_state}
 use Rattle.cx_lines.specs.declared.input.Ending.TheVariants.{AtEnd}

@@ -2,15 +2,15 @@
 use Rattle.std.specs.Prelude.{◌≡◌, ℕ, ◌+◌, Option, Some, None, Result, Ok, Err, List, [], ◌++◌, length, take}
 use Rattle.std.specs.Io.KnownBytes.{Consumes}
 use Rattle.cx_lines.specs.Devices.{Sends, SentFront, Told, told}
-use Rattle.cx_script.specs.declared.blocks.Block.{Block}
+use Rattle.cx_blocks.specs.declared.blocks.Block.{Block}
 use Rattle.cx_lines.specs.Lines.{lines_met}
 use Rattle.cx_script.specs.Script.{Script, script_from}
 use Rattle.cx_lines.specs.declared.input.Ending.{Ending}
 use Rattle.cx_actions.specs.declared.actions.Action.{Action}
-use Rattle.cx_script.specs.declared.blocks.Step.{Step}
-use Rattle.cx_script.specs.declared.faults.RunFault.{RunFault}
-use Rattle.cx_script.specs.declared.faults.RunFault.TheVariants.{Write, Memory}
-use Rattle.cx_script.specs.declared.faults.Summary.{Summary}
+use Rattle.cx_blocks.specs.declared.blocks.Step.{Step}
+use Rattle.cx_blocks.specs.declared.faults.RunFault.{RunFault}
+use Rattle.cx_blocks.specs.declared.faults.RunFault.TheVariants.{Write, Memory}
+use Rattle.cx_blocks.specs.declared.faults.Summary.{Summary}
 use Rattle.cx_script.specs.Transcript.{Runs}
 
 -- what is done for a line: nothing where it asks none

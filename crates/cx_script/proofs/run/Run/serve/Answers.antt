@@ -1,5 +1,5 @@
 use Rattle.std.proofs.Common.{◌≡◌, ◌∙◌, sym, true, false, Result, Ok, Err, OnOk, OnErr, is_err}
-use Rattle.cx_script.specs.Transcript.{is_write}
+use Rattle.cx_blocks.specs.Faults.{is_write}
 use Rattle.cx_script.proofs.PieceLemmas.{served_failed, served_front, served_stopped}
 use Rattle.cx_script.proofs.run.Run.serve.Goals as goal
 

@@ -1,8 +1,8 @@
 -- The program's status (own).
 use Rattle.std.specs.Prelude.{ℕ, Result, Ok, Err}
-use Rattle.cx_script.specs.declared.faults.RunFault.{RunFault}
-use Rattle.cx_script.specs.declared.faults.RunFault.TheVariants.{BadLine, Source, Read, Write, Memory, ReadBound}
-use Rattle.cx_script.specs.declared.faults.Summary.{Summary}
+use Rattle.cx_blocks.specs.declared.faults.RunFault.{RunFault}
+use Rattle.cx_blocks.specs.declared.faults.RunFault.TheVariants.{BadLine, Source, Read, Write, Memory, ReadBound}
+use Rattle.cx_blocks.specs.declared.faults.Summary.{Summary}
 
 -- 0; a fault in the script; a device's, or too much input; memory
 abbrev pub status_of : Result Summary RunFault → ℕ

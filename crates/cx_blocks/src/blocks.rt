@@ -3,8 +3,8 @@
 ghost use Rattle.std.specs.Prelude.{◌≡◌, ◌≤◌, ◌/◌, ◌++◌, ◌∷◌, [], None, Err, IfOk, IfSome, OnOk, MatchOption, true, false, length};
 ghost use Rattle.cx_actions.specs.Allowed.{IsAllowed};
 ghost use Rattle.cx_actions.specs.Words.{hex_bytes};
-ghost use Rattle.cx_script.specs.Blocks.{ended, first_line, image_action, kept, kept_lines, located, step_at, step_in, step_of, step_within, with_line};
-ghost use Rattle.cx_script.specs.Transcript.{is_memory, is_read, is_write};
+ghost use Rattle.cx_blocks.specs.Blocks.{ended, first_line, image_action, kept, kept_lines, located, step_at, step_in, step_of, step_within, with_line};
+ghost use Rattle.cx_blocks.specs.Faults.{is_memory, is_read, is_write};
 
 use crate::faults::RunFault;
 use cx_actions::{Action, Line, Wanted, line_of};
@@ -44,7 +44,7 @@ pub struct ImageBlock {
 }
 
 impl Model for ImageBlock {
-    ghost use Rattle.cx_script.specs.ImageBlock.{ImageBlock as Gathered};
+    ghost use Rattle.cx_blocks.specs.ImageBlock.{ImageBlock as Gathered};
 
     ghost Value = { Gathered };
 
@@ -94,7 +94,7 @@ pub struct SourceBlock {
 }
 
 impl Model for SourceBlock {
-    ghost use Rattle.cx_script.specs.SourceBlock.{SourceBlock as Collected};
+    ghost use Rattle.cx_blocks.specs.SourceBlock.{SourceBlock as Collected};
 
     ghost Value = { Collected };
 

@@ -4,11 +4,11 @@ use Rattle.cx_prepare.specs.Prepared.{Prepares}
 use Rattle.cx_prepare.specs.declared.faults.PrepareFault.{PrepareFault}
 use Rattle.cx_prepare.specs.declared.faults.PrepareFault.TheVariants as prepare
 use Rattle.cx_prepare.specs.declared.program.Prepared.{Prepared}
-use Rattle.cx_script.specs.Blocks.{located, source_ended}
-use Rattle.cx_script.specs.SourceBlock.{SourceBlock}
-use Rattle.cx_script.specs.Transcript.{is_memory}
-use Rattle.cx_script.specs.declared.blocks.Step.{Step}
-use Rattle.cx_script.specs.declared.faults.RunFault.{RunFault}
+use Rattle.cx_blocks.specs.Blocks.{located, source_ended}
+use Rattle.cx_blocks.specs.SourceBlock.{SourceBlock}
+use Rattle.cx_blocks.specs.Faults.{is_memory}
+use Rattle.cx_blocks.specs.declared.blocks.Step.{Step}
+use Rattle.cx_blocks.specs.declared.faults.RunFault.{RunFault}
 
 -- a source's fault, told by the script's line, is what its end leads to
 pub source_refused : (block : SourceBlock) (due : Result Prepared PrepareFault) (fault : PrepareFault) (result : Result Step RunFault) → Prepares due (Err fault)

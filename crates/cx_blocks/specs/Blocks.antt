@@ -4,13 +4,13 @@ use Rattle.std.specs.Option.{ok_or}
 use Rattle.std.specs.Option.{option_map}
 use Rattle.std.specs.Str.{bytes_eq}
 use Rattle.cx_code.specs.declared.image.Image.{Image}
-use Rattle.cx_script.specs.ImageBlock.{ImageBlock}
-use Rattle.cx_script.specs.SourceBlock.{SourceBlock}
-use Rattle.cx_script.specs.declared.blocks.Block.{Block}
-use Rattle.cx_script.specs.declared.blocks.Block.TheVariants as kind
-use Rattle.cx_script.specs.declared.blocks.Step.{Step}
-use Rattle.cx_script.specs.declared.faults.RunFault.{RunFault}
-use Rattle.cx_script.specs.declared.faults.RunFault.TheVariants.{BadLine, Source, Memory}
+use Rattle.cx_blocks.specs.ImageBlock.{ImageBlock}
+use Rattle.cx_blocks.specs.SourceBlock.{SourceBlock}
+use Rattle.cx_blocks.specs.declared.blocks.Block.{Block}
+use Rattle.cx_blocks.specs.declared.blocks.Block.TheVariants as kind
+use Rattle.cx_blocks.specs.declared.blocks.Step.{Step}
+use Rattle.cx_blocks.specs.declared.faults.RunFault.{RunFault}
+use Rattle.cx_blocks.specs.declared.faults.RunFault.TheVariants.{BadLine, Source, Memory}
 use Rattle.cx_prepare.specs.Prepared.{prepared_of}
 use Rattle.cx_prepare.specs.declared.faults.PrepareFault.{PrepareFault}
 use Rattle.cx_prepare.specs.declared.faults.PrepareFault.TheVariants.{At}

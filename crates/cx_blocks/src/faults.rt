@@ -1,8 +1,8 @@
 //! Why a run of a script ends early.
 
 ghost use Rattle.std.specs.Prelude.{◌≡◌};
-ghost use Rattle.cx_script.specs.Status.{status_of};
-ghost use Rattle.cx_script.specs.declared.faults.RunFault.TheVariants.{Memory};
+ghost use Rattle.cx_blocks.specs.Status.{status_of};
+ghost use Rattle.cx_blocks.specs.declared.faults.RunFault.TheVariants.{Memory};
 
 use cx_prepare::SourceKind;
 use std::alloc::{AllocError, AllocFailed};
