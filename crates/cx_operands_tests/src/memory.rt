@@ -31,8 +31,12 @@ fn is_refused_for_memory(
 #[test]
 fn a_refused_growth_is_no_other_answer(rt: HostRuntime) {
     let alloc = rt.alloc();
-    let Some(symbols) = table(alloc) else {
-        return;
+    let symbols = match table(alloc) {
+        Ok(symbols) => symbols,
+        Err(found) => {
+            assert!(rt; found == TermFault::Memory);
+            return;
+        }
     };
     let mut bases = Bases::new();
     if let Err(found) = put_in_use(alloc, &symbols, &mut bases, b"P,5,6") {

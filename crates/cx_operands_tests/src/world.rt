@@ -7,13 +7,14 @@ use cx_terms::{FaultKind, SymbolTable, TermFault, Value, symbol_name};
 use std::alloc::Global;
 
 /// Each symbol: its name, its section, its number, its length attribute.
-const SYMBOLS: [(&[u8], &[u8], i128, u128); 10] = [
+const SYMBOLS: [(&[u8], &[u8], i128, u128); 11] = [
     (b"P", b"P", 0, 1),
     (b"LOOP", b"P", 4, 4),
     (b"X", b"P", 8, 4),
     (b"Y", b"P", 12, 2),
     (b"FIELD", b"P", 16, 256),
     (b"LONG", b"P", 16, 257),
+    (b"BELOW", b"P", 40, 4),
     (b"FAR", b"P", 4096, 4),
     (b"Q", b"Q", 0, 1),
     (b"Z", b"Q", 8, 4),
@@ -25,8 +26,16 @@ pub(crate) fn name(text: &[u8]) -> Option<Name8> {
     symbol_name(text)
 }
 
-/// The table of the tests' symbols; None where memory ran out.
-pub(crate) fn table(alloc: Global) -> Option<SymbolTable> {
+/// Defines a symbol; a text that is no name is a bad operand.
+fn define(table: &mut SymbolTable, text: &[u8], value: Value) -> Result<(), TermFault> {
+    match name(text) {
+        Some(found) => table.define(found, value),
+        None => Err(TermFault::Refused(FaultKind::BadOperand)),
+    }
+}
+
+/// The table of the tests' symbols; an error where one of them isn't defined.
+pub(crate) fn table(alloc: Global) -> Result<SymbolTable, TermFault> {
     let mut table = SymbolTable::new(alloc);
     for (text, section, number, length) in SYMBOLS {
         let value = Value {
@@ -34,12 +43,9 @@ pub(crate) fn table(alloc: Global) -> Option<SymbolTable> {
             number,
             length,
         };
-        let defined = table.define(name(text)?, value);
-        if defined.is_err() {
-            return None;
-        }
+        define(&mut table, text, value)?;
     }
-    Some(table)
+    Ok(table)
 }
 
 /// A place in P.
