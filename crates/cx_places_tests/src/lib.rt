@@ -1,4 +1,4 @@
-//! Tests of the first pass, over public calls.
+//! Tests of the first pass, over public calls. `examples/refuse-places` refuses each of its allocations in turn.
 #![tactic(auto)]
 
 #[cfg(test)]
