@@ -6,7 +6,7 @@ const PROGRAM: &[u8] =
     b"P        CSECT\n         USING P,15\n         MVC   8(2,13),=C'AB'\n         L     1,=F'1'\n         LH    2,=H'2'\n         A     1,=F'1'\n         END\n";
 
 #[rattlefmt::skip]
-const ASSEMBLED: [(&[u8], &str); 18] = [
+const ASSEMBLED: [(&[u8], &str); 20] = [
     (PROGRAM, "D201D008F01C5810F0184820F01E5A10F01800000000000000000001C1C20002 E0 S80"),
     (b"P CSECT\n DC 2A(P+4)\n END\n", "0000000400000004 R0 R4 E0 S80"),
     (b"P CSECT\n USING P,15\n L 1,=A(P)\n END\n", "5810F0080000000000000000 R8 E0 S80"),
@@ -21,6 +21,8 @@ const ASSEMBLED: [(&[u8], &str); 18] = [
     (b"P CSECT\n USING P,15\n L 1,=F'1'\n LTORG\n A 1,=F'1'\n END\n", "5810F00800000000000000015A10F01000000001 E0 S80"),
     (b"P CSECT\n USING P,5\n USING P+4,6\n L 1,X\n DS F\nX DC F'7'\n END\n", "581060040000000000000007 E0 S80"),
     (b"P CSECT\n USING P,5\n USING P,6\n L 1,X\nX DC F'7'\n END\n", "5810600400000007 E0 S80"),
+    (b"P CSECT\n USING P,15\n DFHREGS\nLOOP BCT R3,LOOP\n BCT R3,OUT\nOUT BR R3\n END\n", "4630F0004630F00807F3 E0 S80"),
+    (b"D DSECT\nX DS XL256\nY DS X\nP CSECT\n USING D,6\n MVC X,Y\n END\n", "D2FF60006100 E0 S80"),
     (b"P CSECT\n DC CL2'ABC',XL2'1ABCD'\n END\n", "C1C2ABCD E0 S80"),
     (b"P CSECT\n DC C'A''B&&'\n END\n", "C17DC250 E0 S80"),
     (b"P CSECT\n PACK 8(3,5),0(5,5)\n ICM 1,7,0(5)\n END\n", "F22450085000BF175000 E0 S80"),

@@ -4,6 +4,8 @@
 #[cfg(test)]
 mod images;
 #[cfg(test)]
+mod lists;
+#[cfg(test)]
 mod refused;
 #[cfg(test)]
 mod texts;

@@ -3,7 +3,7 @@ use crate::texts::assembled;
 use std::test::Fail;
 
 #[rattlefmt::skip]
-const REFUSED: [(&[u8], &str); 14] = [
+const REFUSED: [(&[u8], &str); 15] = [
     (b"P CSECT\n MVC 8(2,13),=C'AB'\n L 1,=F'1'\n END\n", "line 2: NoAddressability"),
     (b"D DSECT\nX DS F\nP CSECT\n DC A(X)\n END\n", "line 4: NotRelocatable"),
     (b"P CSECT\n LR 1,2\n END 2\n", "line 3: NotRelocatable"),
@@ -15,6 +15,7 @@ const REFUSED: [(&[u8], &str); 14] = [
     (b" COPY OTHER\n END\n", "line 1: BadOperand"),
     (b"P CSECT\n L 1,=F'99999999999'\n END\n", "line 2: NoAddressability"),
     (b"P CSECT\n USING P,5\n L 1,X\n DS 1023F\nX DS F\n END\n", "line 3: NoAddressability"),
+    (b"D DSECT\nX DS XL257\nY DS X\nP CSECT\n USING D,6\n MVC X,Y\n END\n", "line 6: ValueOutOfRange"),
     (b"P CSECT\n DC F'2147483648'\n END\n", "line 2: ValueOutOfRange"),
     (b"E EQU X'FFFFFFFF'\nF EQU E+E\n END\n", "line 2: ValueOutOfRange"),
     (b"P CSECT\n LR 1,2\n USING P,15\n L 1,X(2,5)\nX DS F\n MVC X(257),X\n END\n", "line 4: BadOperand"),
