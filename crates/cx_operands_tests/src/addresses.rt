@@ -7,7 +7,7 @@ use std::alloc::Global;
 use std::test::Fail;
 
 /// Two USINGs, the second perhaps left out, and the bytes of an LA of an operand.
-const REACHED: [(&[u8], &[u8], &[u8], &[u8]); 10] = [
+const REACHED: &[(&[u8], &[u8], &[u8], &[u8])] = &[
     (b"P,5", b"P+4,6", b"1,X", b"\x41\x10\x60\x04"),
     (b"P+4,5", b"P+4,6", b"1,X", b"\x41\x10\x60\x04"),
     (b"P+4,6", b"P+4,5", b"1,X", b"\x41\x10\x60\x04"),
@@ -21,7 +21,7 @@ const REACHED: [(&[u8], &[u8], &[u8], &[u8]); 10] = [
 ];
 
 /// Two USINGs, and an operand of an LA that no register reaches.
-const NOT_REACHED: [(&[u8], &[u8], &[u8]); 5] = [
+const NOT_REACHED: &[(&[u8], &[u8], &[u8])] = &[
     (b"P,5", b"", b"1,FAR"),
     (b"P+12,5", b"", b"1,X"),
     (b"P,5,5", b"", b"1,X"),
@@ -46,14 +46,44 @@ fn behind_two(
 fn a_place_has_the_nearest_address(rt: HostRuntime) -> Result<(), Fail> {
     let alloc = rt.alloc();
     let symbols = table(alloc)?;
-    for (first, second, operand, bytes) in REACHED {
+    for &(first, second, operand, bytes) in REACHED {
         assert!(rt; makes(behind_two(alloc, &symbols, first, second, operand), bytes));
     }
-    for (first, second, operand) in NOT_REACHED {
+    for &(first, second, operand) in NOT_REACHED {
         let made = behind_two(alloc, &symbols, first, second, operand);
         assert!(rt; is_refused(made, FaultKind::NoAddressability));
     }
     Ok(())
+}
+
+/// DROPs one after the other, each with its fault and the bytes of an LA of a near and of a far place behind it; no bytes where no
+/// register reaches the place.
+const DROPS: &[(&[u8], Option<FaultKind>, &[u8], &[u8])] = &[
+    (b"6,9", None, b"\x41\x10\x50\x08", b"\x41\x10\x70\x00"),
+    (
+        b"5,16",
+        Some(FaultKind::ValueOutOfRange),
+        b"\x41\x10\x50\x08",
+        b"\x41\x10\x70\x00",
+    ),
+    (b"5", None, b"", b"\x41\x10\x70\x00"),
+    (b"", None, b"", b""),
+];
+
+/// Whether an LA of an operand makes these bytes, or, where there are none, no register reaches its place.
+fn is_reached(
+    alloc: Global,
+    symbols: &SymbolTable,
+    bases: &Bases,
+    operand: &[u8],
+    bytes: &[u8],
+) -> bool {
+    let made = assembled(alloc, symbols, bases, b"LA", operand);
+    if bytes.is_empty() {
+        is_refused(made, FaultKind::NoAddressability)
+    } else {
+        makes(made, bytes)
+    }
 }
 
 #[test]
@@ -63,32 +93,10 @@ fn a_dropped_register_is_no_base(rt: HostRuntime) -> Result<(), Fail> {
     let mut bases = Bases::new();
     put_in_use(alloc, &symbols, &mut bases, b"P,5,7")?;
     put_in_use(alloc, &symbols, &mut bases, b"P+4,6")?;
-    assert!(rt; end_use(alloc, &symbols, &mut bases, b"6,9")?.is_none());
-    assert!(rt;
-        makes(
-            assembled(alloc, &symbols, &bases, b"LA", b"1,X"),
-            b"\x41\x10\x50\x08"
-        )
-    );
-    let faulty = end_use(alloc, &symbols, &mut bases, b"5,16")?;
-    assert!(rt; faulty == Some(FaultKind::ValueOutOfRange));
-    assert!(rt;
-        makes(
-            assembled(alloc, &symbols, &bases, b"LA", b"1,X"),
-            b"\x41\x10\x50\x08"
-        )
-    );
-    assert!(rt; end_use(alloc, &symbols, &mut bases, b"5")?.is_none());
-    let near = assembled(alloc, &symbols, &bases, b"LA", b"1,X");
-    assert!(rt; is_refused(near, FaultKind::NoAddressability));
-    assert!(rt;
-        makes(
-            assembled(alloc, &symbols, &bases, b"LA", b"1,FAR"),
-            b"\x41\x10\x70\x00"
-        )
-    );
-    assert!(rt; end_use(alloc, &symbols, &mut bases, b"")?.is_none());
-    let far = assembled(alloc, &symbols, &bases, b"LA", b"1,FAR");
-    assert!(rt; is_refused(far, FaultKind::NoAddressability));
+    for &(operand, fault, near, far) in DROPS {
+        assert!(rt; end_use(alloc, &symbols, &mut bases, operand) == Ok(fault));
+        assert!(rt; is_reached(alloc, &symbols, &bases, b"1,X", near));
+        assert!(rt; is_reached(alloc, &symbols, &bases, b"1,FAR", far));
+    }
     Ok(())
 }

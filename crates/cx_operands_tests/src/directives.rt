@@ -5,7 +5,7 @@ use cx_terms::{FaultKind, TermFault};
 use std::test::Fail;
 
 /// Operands of USING with their faults.
-const USINGS: [(&[u8], FaultKind); 7] = [
+const USINGS: &[(&[u8], FaultKind)] = &[
     (b"", FaultKind::BadOperand),
     (b"P", FaultKind::BadOperand),
     (b"4096,5", FaultKind::NotRelocatable),
@@ -16,7 +16,7 @@ const USINGS: [(&[u8], FaultKind); 7] = [
 ];
 
 /// Operands of END with their faults.
-const ENTRIES: [(&[u8], FaultKind); 5] = [
+const ENTRIES: &[(&[u8], FaultKind)] = &[
     (b"8", FaultKind::NotRelocatable),
     (b"Z", FaultKind::NotRelocatable),
     (b"P+65536", FaultKind::ValueOutOfRange),
@@ -25,12 +25,12 @@ const ENTRIES: [(&[u8], FaultKind); 5] = [
 ];
 
 #[test]
-fn directives_have_their_operands(rt: HostRuntime) -> Result<(), Fail> {
+fn a_using_has_a_base_and_registers(rt: HostRuntime) -> Result<(), Fail> {
     let alloc = rt.alloc();
     let symbols = table(alloc)?;
     let bases = Bases::new();
     let c = Context::new(&symbols, Some(place(20, 1)), &bases, None);
-    for (operand, fault) in USINGS {
+    for &(operand, fault) in USINGS {
         let given = read_using(alloc, &c, operand);
         assert!(rt; given.err() == Some(TermFault::Refused(fault)));
     }
@@ -39,16 +39,29 @@ fn directives_have_their_operands(rt: HostRuntime) -> Result<(), Fail> {
     assert!(rt; given.registers() == b"\x03\x04".as_slice());
     let dropped = read_drop(alloc, &c, b"3,NONE,16");
     assert!(rt; dropped.err() == Some(TermFault::Refused(FaultKind::UndefinedSymbol)));
-    for (operand, fault) in ENTRIES {
+    Ok(())
+}
+
+#[test]
+fn an_end_has_its_entry(rt: HostRuntime) -> Result<(), Fail> {
+    let alloc = rt.alloc();
+    let symbols = table(alloc)?;
+    let bases = Bases::new();
+    let c = Context::new(&symbols, Some(place(20, 1)), &bases, None);
+    for &(operand, fault) in ENTRIES {
         let entry = read_entry(alloc, &c, name(b"P"), operand);
         assert!(rt; entry.err() == Some(TermFault::Refused(fault)));
     }
     assert!(rt; read_entry(alloc, &c, name(b"P"), b"X") == Ok(8));
     assert!(rt; read_entry(alloc, &c, name(b"P"), b"P+65535") == Ok(65_535));
     assert!(rt; read_entry(alloc, &c, None, b"") == Ok(0));
+    Ok(())
+}
+
+#[test]
+fn one_member_is_copied(rt: HostRuntime) {
     assert!(rt; copy_fault(b"DFHAID").is_none());
     assert!(rt; copy_fault(b"DFHBMSCA") == Some(FaultKind::BadOperand));
-    Ok(())
 }
 
 #[test]

@@ -6,7 +6,7 @@ use std::alloc::Global;
 use std::test::Fail;
 
 /// Statements with their bytes.
-const MADE: [(&[u8], &[u8], &[u8]); 28] = [
+const MADE: &[(&[u8], &[u8], &[u8])] = &[
     (b"AR", b"1,2", b"\x1A\x12"),
     (b"BC", b"15,0(0,3)", b"\x47\xF0\x30\x00"),
     (b"L", b"1,24(0,15)", b"\x58\x10\xF0\x18"),
@@ -38,7 +38,7 @@ const MADE: [(&[u8], &[u8], &[u8]); 28] = [
 ];
 
 /// Statements with their faults.
-const FAULTY: [(&[u8], &[u8], FaultKind); 32] = [
+const FAULTY: &[(&[u8], &[u8], FaultKind)] = &[
     (b"MVC", b"LONG,Y", FaultKind::ValueOutOfRange),
     (b"MVC", b"X(257),Y", FaultKind::ValueOutOfRange),
     (b"PACK", b"FIELD,Y", FaultKind::ValueOutOfRange),
@@ -74,7 +74,7 @@ const FAULTY: [(&[u8], &[u8], FaultKind); 32] = [
 ];
 
 /// Operands of statements with their literals; without one an empty text.
-const LITERALS: [(&[u8], &[u8]); 5] = [
+const LITERALS: &[(&[u8], &[u8])] = &[
     (b"1,=F'1,2'", b"=F'1,2'"),
     (b"=CL2'='", b"=CL2'='"),
     (b"X(2),=C','", b"=C','"),
@@ -84,7 +84,7 @@ const LITERALS: [(&[u8], &[u8]); 5] = [
 
 #[test]
 fn a_literal_is_the_last_operand(rt: HostRuntime) -> Result<(), Fail> {
-    for (operand, literal) in LITERALS {
+    for &(operand, literal) in LITERALS {
         let found = literal_in(rt.alloc(), operand)?;
         assert!(rt; found.unwrap_or(b"") == literal);
     }
@@ -97,7 +97,7 @@ fn a_statement_makes_its_instruction(rt: HostRuntime) -> Result<(), Fail> {
     let symbols = table(alloc)?;
     let mut bases = Bases::new();
     put_in_use(alloc, &symbols, &mut bases, b"P,5")?;
-    for (operation, operand, bytes) in MADE {
+    for &(operation, operand, bytes) in MADE {
         assert!(rt;
             makes(
                 assembled(alloc, &symbols, &bases, operation, operand),
@@ -114,7 +114,7 @@ fn a_faulty_statement_has_its_lowest_fault(rt: HostRuntime) -> Result<(), Fail> 
     let symbols = table(alloc)?;
     let mut bases = Bases::new();
     put_in_use(alloc, &symbols, &mut bases, b"P,5")?;
-    for (operation, operand, fault) in FAULTY {
+    for &(operation, operand, fault) in FAULTY {
         let made = assembled(alloc, &symbols, &bases, operation, operand);
         assert!(rt; is_refused(made, fault));
     }

@@ -7,7 +7,7 @@ use cx_terms::{FaultKind, SymbolTable, TermFault, Value, symbol_name};
 use std::alloc::Global;
 
 /// Each symbol: its name, its section, its number, its length attribute.
-const SYMBOLS: [(&[u8], &[u8], i128, u128); 11] = [
+const SYMBOLS: &[(&[u8], &[u8], i128, u128)] = &[
     (b"P", b"P", 0, 1),
     (b"LOOP", b"P", 4, 4),
     (b"X", b"P", 8, 4),
@@ -37,7 +37,7 @@ fn define(table: &mut SymbolTable, text: &[u8], value: Value) -> Result<(), Term
 /// The table of the tests' symbols; an error where one of them isn't defined.
 pub(crate) fn table(alloc: Global) -> Result<SymbolTable, TermFault> {
     let mut table = SymbolTable::new(alloc);
-    for (text, section, number, length) in SYMBOLS {
+    for &(text, section, number, length) in SYMBOLS {
         let value = Value {
             section: name(section),
             number,
