@@ -6,7 +6,7 @@ const PROGRAM: &[u8] =
     b"P        CSECT\n         USING P,15\n         MVC   8(2,13),=C'AB'\n         L     1,=F'1'\n         LH    2,=H'2'\n         A     1,=F'1'\n         END\n";
 
 #[rattlefmt::skip]
-const ASSEMBLED: [(&[u8], &str); 20] = [
+const ASSEMBLED: &[(&[u8], &str)] = &[
     (PROGRAM, "D201D008F01C5810F0184820F01E5A10F01800000000000000000001C1C20002 E0 S80"),
     (b"P CSECT\n DC 2A(P+4)\n END\n", "0000000400000004 R0 R4 E0 S80"),
     (b"P CSECT\n USING P,15\n L 1,=A(P)\n END\n", "5810F0080000000000000000 R8 E0 S80"),
@@ -31,7 +31,7 @@ const ASSEMBLED: [(&[u8], &str); 20] = [
 
 #[test]
 fn sources_are_assembled_so(rt: HostRuntime) -> Result<(), Fail> {
-    for (source, image) in ASSEMBLED {
+    for &(source, image) in ASSEMBLED {
         let made = assembled(rt.alloc(), source)?;
         assert!(rt; made.as_str() == image, "{made}");
     }

@@ -6,11 +6,11 @@ use std::test::Fail;
 
 /// Statements with their lines' numbers, and the fault of all: line, name, operation, operand.
 #[rattlefmt::skip]
-const LISTS: [([(usize, &[u8], &[u8], &[u8]); 4], AsmFault); 3] = [
-    ([(1, b"P", b"CSECT", b""), (5, b"", b"LR", b"16,1"), (3, b"", b"LR", b"1,"), (5, b"", b"LR", b"1,NONE")], AsmFault::UndefinedSymbol(5)),
-    ([(1, b"P", b"CSECT", b""), (5, b"", b"LR", b"16,1"), (5, b"", b"USING", b"8,5"), (3, b"", b"LR", b"1,NONE")], AsmFault::ValueOutOfRange(5)),
+const LISTS: &[(&[(usize, &[u8], &[u8], &[u8])], AsmFault)] = &[
+    (&[(1, b"P", b"CSECT", b""), (5, b"", b"LR", b"16,1"), (3, b"", b"LR", b"1,"), (5, b"", b"LR", b"1,NONE")], AsmFault::UndefinedSymbol(5)),
+    (&[(1, b"P", b"CSECT", b""), (5, b"", b"LR", b"16,1"), (5, b"", b"USING", b"8,5"), (3, b"", b"LR", b"1,NONE")], AsmFault::ValueOutOfRange(5)),
     // a line that the first pass refuses has the faults of the first pass alone
-    ([(1, b"P", b"CSECT", b""), (5, b"", b"LR", b"1,NONE"), (5, b"", b"DS", b"F,"), (3, b"", b"LR", b"16,1")], AsmFault::BadOperand(5)),
+    (&[(1, b"P", b"CSECT", b""), (5, b"", b"LR", b"1,NONE"), (5, b"", b"DS", b"F,"), (3, b"", b"LR", b"16,1")], AsmFault::BadOperand(5)),
 ];
 
 fn item(
@@ -34,9 +34,9 @@ fn item(
 #[test]
 fn statements_of_one_line_count_together(rt: HostRuntime) -> Result<(), Fail> {
     let alloc = rt.alloc();
-    for (statements, fault) in LISTS {
+    for &(statements, fault) in LISTS {
         let mut items = Vec::new(alloc);
-        for (line, name, operation, operand) in statements {
+        for &(line, name, operation, operand) in statements {
             items.push(item(alloc, line, name, operation, operand)?)?;
         }
         let source = Source {

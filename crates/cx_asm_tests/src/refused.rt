@@ -3,7 +3,7 @@ use crate::texts::assembled;
 use std::test::Fail;
 
 #[rattlefmt::skip]
-const REFUSED: [(&[u8], &str); 15] = [
+const REFUSED: &[(&[u8], &str)] = &[
     (b"P CSECT\n MVC 8(2,13),=C'AB'\n L 1,=F'1'\n END\n", "line 2: NoAddressability"),
     (b"D DSECT\nX DS F\nP CSECT\n DC A(X)\n END\n", "line 4: NotRelocatable"),
     (b"P CSECT\n LR 1,2\n END 2\n", "line 3: NotRelocatable"),
@@ -23,7 +23,7 @@ const REFUSED: [(&[u8], &str); 15] = [
 
 #[test]
 fn sources_are_refused_so(rt: HostRuntime) -> Result<(), Fail> {
-    for (source, fault) in REFUSED {
+    for &(source, fault) in REFUSED {
         let found = assembled(rt.alloc(), source)?;
         assert!(rt; found.as_str() == fault, "{found}");
     }

@@ -7,7 +7,7 @@ use std::alloc::{AllocError, Global};
 use std::test::Fail;
 
 #[rattlefmt::skip]
-const REFUSED: [(&[u8], &str); 36] = [
+const REFUSED: &[(&[u8], &str)] = &[
     (b"P CSECT\n MVCX 1,2\n END\n", "2 UnknownOperation"),
     (b"P CSECT\n EXEC CICS RETURN\n END\n", "2 UnknownOperation"),
     (b"P CSECT\nX\n END\n", "2 UnknownOperation"),
@@ -48,7 +48,7 @@ const REFUSED: [(&[u8], &str); 36] = [
 
 #[test]
 fn sources_are_refused_so(rt: HostRuntime) -> Result<(), Fail> {
-    for (source, fault) in REFUSED {
+    for &(source, fault) in REFUSED {
         let found = placed(rt.alloc(), source)?;
         assert!(rt; found.as_str() == fault, "{}", found.as_str());
     }
@@ -75,20 +75,20 @@ fn item(
 
 /// Statements of lists made by hand: line, name, operation, operand.
 #[rattlefmt::skip]
-const LISTS: [([(usize, &[u8], &[u8], &[u8]); 3], usize, FaultKind); 4] = [
+const LISTS: &[(&[(usize, &[u8], &[u8], &[u8])], usize, FaultKind)] = &[
     // statements of one line count together, wherever they stand
-    ([(7, b"", b"DS", b"F"), (3, b"", b"NOTHING", b""), (7, b"E", b"EQU", b"NONE")], 7, FaultKind::UndefinedSymbol),
-    ([(7, b"P", b"CSECT", b""), (3, b"NINELONGS", b"DS", b"F"), (3, b"", b"NOTHING", b"")], 3, FaultKind::UnknownOperation),
-    ([(1, b"1A", b"CSECT", b""), (2, b"", b"END", b""), (1, b"", b"END", b"")], 1, FaultKind::BadOperand),
-    ([(1, b"", b"END", b""), (2, b"", b"END", b""), (0, b"", b"", b"")], 0, FaultKind::UnknownOperation),
+    (&[(7, b"", b"DS", b"F"), (3, b"", b"NOTHING", b""), (7, b"E", b"EQU", b"NONE")], 7, FaultKind::UndefinedSymbol),
+    (&[(7, b"P", b"CSECT", b""), (3, b"NINELONGS", b"DS", b"F"), (3, b"", b"NOTHING", b"")], 3, FaultKind::UnknownOperation),
+    (&[(1, b"1A", b"CSECT", b""), (2, b"", b"END", b""), (1, b"", b"END", b"")], 1, FaultKind::BadOperand),
+    (&[(1, b"", b"END", b""), (2, b"", b"END", b""), (0, b"", b"", b"")], 0, FaultKind::UnknownOperation),
 ];
 
 #[test]
 fn lists_are_refused_so(rt: HostRuntime) -> Result<(), Fail> {
     let alloc = rt.alloc();
-    for (statements, line, kind) in LISTS {
+    for &(statements, line, kind) in LISTS {
         let mut items = Vec::new(alloc);
-        for (line, name, operation, operand) in statements {
+        for &(line, name, operation, operand) in statements {
             items.push(item(alloc, line, name, operation, operand)?)?;
         }
         let source = Source {

@@ -3,7 +3,7 @@ use crate::texts::{placed, worth};
 use std::test::Fail;
 
 #[rattlefmt::skip]
-const PLACED: [(&[u8], &str); 19] = [
+const PLACED: &[(&[u8], &str)] = &[
     (b"P CSECT\n USING P,15\n MVC 8(2,13),=C'AB'\n L 1,=F'1'\n LH 2,=H'2'\n A 1,=F'1'\n END\n", "0 0 0 6 10 14 18 =24,28,30, L32 S0"),
     (b"P CSECT\n USING P,15\n MVC 8(2,13),=C'AB'\n L 1,=F'1'\n LTORG\n LH 2,=H'2'\n A 1,=F'1'\n END\n", "0 0 0 6 16 22 26 30 =16,20, =32,36, L38 S0"),
     (b"P CSECT\n L 1,X\nD DSECT\nX DS F,C\nP CSECT\n LR 1,2\nD DSECT\n DS 0D,H\n END\n", "0 0 4 0,0,4 5 4 6 8,8,8 10 = L6 S0"),
@@ -27,7 +27,7 @@ const PLACED: [(&[u8], &str); 19] = [
 
 #[test]
 fn statements_and_literals_stand_there(rt: HostRuntime) -> Result<(), Fail> {
-    for (source, places) in PLACED {
+    for &(source, places) in PLACED {
         let found = placed(rt.alloc(), source)?;
         assert!(rt; found.as_str() == places, "{}", found.as_str());
     }
@@ -38,7 +38,7 @@ const SYMBOLS: &[u8] =
     b"P CSECT\nX DS 3F,C\nY DC F'1,2'\nI MVC X,X\nE EQU X+2\nN EQU 5+X-X\nS EQU *\nL EQU L'X\nT LTORG\nLY EQU L'Y\nLI EQU L'I\nLE EQU L'E\nLP EQU L'P\nD DSECT\nQ DS XL300,F\nR DS 0CL8\nV DS X\nU EQU *\n DFHREGS\n COPY DFHAID\n END\n";
 
 #[rattlefmt::skip]
-const WORTH: [(&[u8], &str); 21] = [
+const WORTH: &[(&[u8], &str)] = &[
     (b"P", "0:1+"),
     (b"X", "0:4+"),
     (b"Y", "16:8+"),
@@ -64,7 +64,7 @@ const WORTH: [(&[u8], &str); 21] = [
 
 #[test]
 fn symbols_are_worth_that(rt: HostRuntime) -> Result<(), Fail> {
-    for (name, value) in WORTH {
+    for &(name, value) in WORTH {
         let found = worth(rt.alloc(), SYMBOLS, name)?;
         assert!(rt; found.as_str() == value, "{}", found.as_str());
     }
