@@ -5,8 +5,7 @@ use Rattle.std.specs.List.{list_any}
 use Rattle.std.proofs.lemmas.Bool.{cond-true}
 use Rattle.cx_terms.specs.Items.{Constant, constant_in}
 use Rattle.cx_terms.specs.declared.faults.FaultKind.{FaultKind}
-use Rattle.cx_pools.specs.Pools.{Pooled, is_new_in, is_new_text, is_pooled, literal_text, with_constant, with_literal, with_part, with_parts, with_text}
-use Rattle.cx_pools.specs.declared.open.Used.{Used}
+use Rattle.cx_pools.specs.Pools.{Pooled, is_new_in, is_new_text, is_pooled, literal_text, with_constant, with_part, with_parts, with_text}
 
 pub one_more : (user : ℕ) (pool : Pooled) (operands : List (Bor (List ℕ))) (i : ℕ) (d : Bor (List ℕ)) → i < length operands
     → with_parts user pool (map (λ part. part.now) (take (suc i) operands)) ≡ with_part user (with_parts user pool (map (λ part. part.now) (take i operands))) (get_or operands i d).now

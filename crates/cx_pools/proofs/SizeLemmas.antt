@@ -1,10 +1,10 @@
 -- The size of a pool with one literal more.
-use Rattle.std.proofs.Common.{◌≡◌, None, ℕ, ◌+◌, ◌^◌, List, [], ◌∷◌, ◌++◌, sum_by, false, refl, sym, ◌∙◌, ap, arith}
+use Rattle.std.proofs.Common.{◌≡◌, None, ℕ, ◌+◌, List, [], ◌∷◌, ◌++◌, sum_by, refl, sym, ◌∙◌, ap, arith}
 use Rattle.std.proofs.lemmas.Bool.Decides.{nat_tests}
 use Rattle.std.proofs.lemmas.List.Sums.{sum_by-append}
 use Rattle.std.specs.Prelude.{is_some}
 use Rattle.std.specs.List.{IsDistinct}
-use Rattle.std.specs.Map.{keys_of, lookup}
+use Rattle.std.specs.Map.{lookup}
 use Rattle.std.specs.Str.{bytes_eq}
 use Rattle.cx_pools.specs.Facts.Literals.{once_behind}
 use Rattle.cx_pools.specs.Parts.Texts.{IsOpen}

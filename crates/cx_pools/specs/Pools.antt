@@ -1,5 +1,5 @@
 -- Literals and their pools (GC33-4010, "Literals" and "Literal Pool").
-use Rattle.std.specs.Prelude.{◌≡◌, ℕ, ◌+◌, ◌%◌, Bool, true, false, ◌==◌, nat_le, if◌then◌else◌, ◌&&◌, not, is_ok, is_some, Option, Some, None, option_and_then, Result, Ok, Err, List, [], ◌∷◌, ◌++◌, map, take, drop, slice_index, sum_by}
+use Rattle.std.specs.Prelude.{◌≡◌, ℕ, ◌+◌, ◌%◌, Bool, false, ◌==◌, nat_le, if◌then◌else◌, ◌&&◌, not, is_ok, is_some, Option, Some, None, option_and_then, Result, Ok, Err, List, [], ◌∷◌, ◌++◌, map, take, drop, slice_index, sum_by}
 use Rattle.std.specs.List.{filter}
 use Rattle.std.specs.Map.{lookup}
 use Rattle.std.specs.Result.{result_err}

@@ -1,23 +1,20 @@
 -- The literals of a pool, from the open pool to their places.
 use Rattle.std.specs.Prelude.{◌⊎◌, if◌then◌else◌, ◌==◌, ◌%◌, is_some, sum_by, Result, Ok, Err}
-use Rattle.std.proofs.Common.{◌≡◌, ◌≤◌, ℕ, ◌+◌, ◌^◌, Bool, true, false, cond, Option, Some, None, List, [], ◌∷◌, ◌++◌, refl, sym, ◌∙◌, ap, subst, inl, inr, ⊎_elim, append_assoc, arith}
-use Rattle.std.specs.Cmp.{IsEquivalence}
-use Rattle.std.specs.List.{AllByRecursion, IsDistinct, list_any, filter}
+use Rattle.std.proofs.Common.{◌≡◌, ◌≤◌, ℕ, ◌+◌, Bool, true, false, cond, Option, Some, None, List, [], ◌∷◌, ◌++◌, refl, sym, ◌∙◌, ap, subst, inl, inr, ⊎_elim, append_assoc, arith}
+use Rattle.std.specs.List.{AllByRecursion, IsDistinct}
 use Rattle.std.specs.Map.{lookup, keys_of}
 use Rattle.std.specs.Str.{bytes_eq}
-use Rattle.std.proofs.lemmas.Bool.{cases_Bool, cond-true, cond-false}
+use Rattle.std.proofs.lemmas.Bool.{cases_Bool}
 use Rattle.std.proofs.lemmas.Bool.Decides.{nat_tests}
 use Rattle.std.proofs.lemmas.Cmp.{nat_list_eq_equiv}
-use Rattle.std.proofs.lemmas.List.{map-append}
 use Rattle.std.proofs.lemmas.List.Sums.{sum_by-cons}
 use Rattle.std.proofs.lemmas.Map.Keys.{IsDistinct-head, IsDistinct-tail, IsDistinct-cons}
 use Rattle.cx_terms.specs.Digits.{bound}
 use Rattle.cx_terms.specs.Items.{Constant, constant_in, size_of}
 use Rattle.cx_terms.specs.declared.faults.FaultKind.{FaultKind}
 use Rattle.cx_pools.specs.Laws.Literals.{IsPool, StandFrom, StandApart}
-use Rattle.cx_pools.specs.Pools.{Pooled, Placed, capped, constant_size, group_of, grouped, literal_size, literal_text, of_group, placed, placed_from, pool_size, stands_at, with_constant, with_literal, with_part, with_parts, with_text}
+use Rattle.cx_pools.specs.Pools.{Pooled, capped, constant_size, group_of, grouped, literal_size, literal_text, of_group, placed, placed_from, pool_size, with_constant, with_literal, with_part, with_parts, with_text}
 use Rattle.cx_pools.specs.declared.open.Used.{Used}
-use Rattle.cx_pools.specs.declared.closed.Literal.{Literal}
 
 -- ---- texts that stand once
 -- no literal has the text

@@ -1,7 +1,7 @@
-use Rattle.std.proofs.Common.{◌≡◌, ◌∙◌, ap, sym, ℕ, ◌<◌, List, [], ◌∷◌, length, get_or, drop, map, suc, add-one, drop-cons, arith, Bor}
+use Rattle.std.proofs.Common.{◌∙◌, ap, sym, ℕ, ◌<◌, List, [], length, get_or, drop, map, suc, add-one, drop-cons, arith, Bor}
 use Rattle.std.specs.Prelude.{OnErr, Result, Ok, Err}
 use Rattle.std.specs.List.{take-map}
-use Rattle.cx_pools.specs.Pools.{is_new_in, with_part, with_parts}
+use Rattle.cx_pools.specs.Pools.{with_part, with_parts}
 use Rattle.cx_pools.proofs.FaultLemmas.{lower_in_turn}
 use Rattle.cx_pools.proofs.PartLemmas.{kept_part, none_new, one_more}
 use Rattle.cx_pools.proofs.open.OpenPool.use_parts.Goals as goal
