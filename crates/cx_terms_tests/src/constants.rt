@@ -5,7 +5,7 @@ use std::alloc::Global;
 use std::test::Fail;
 
 /// Items with whether they are of a DS, their alignment, their length and their size.
-const LENGTHS: [(&[u8], bool, u32, u128, u128); 18] = [
+const LENGTHS: &[(&[u8], bool, u32, u128, u128)] = &[
     (b"5H'+1,-2'", false, 2, 4, 20),
     (b"F'1,2'", false, 4, 8, 8),
     (b"2FL3'1,2'", false, 1, 6, 12),
@@ -27,7 +27,7 @@ const LENGTHS: [(&[u8], bool, u32, u128, u128); 18] = [
 ];
 
 /// Items with their bytes.
-const BYTES: [(&[u8], &[u8]); 20] = [
+const BYTES: &[(&[u8], &[u8])] = &[
     (b"C'A''B&&'", b"\xC1\x7D\xC2\x50"),
     (b"CL2'ABC'", b"\xC1\xC2"),
     (b"CL4'AB'", b"\xC1\xC2\x40\x40"),
@@ -51,14 +51,14 @@ const BYTES: [(&[u8], &[u8]); 20] = [
 ];
 
 /// Addresses to which the load address is added, with their bytes.
-const RELOCATED: [(&[u8], &[u8]); 3] = [
+const RELOCATED: &[(&[u8], &[u8])] = &[
     (b"A(P+4)", b"\x00\x00\x00\x04"),
     (b"2AL4(X)", b"\x00\x00\x00\x0C"),
     (b"A(P-5)", b"\xFF\xFF\xFF\xFB"),
 ];
 
 /// Items of a DC that are read, and the faults of their values.
-const VALUE_FAULTS: [(&[u8], FaultKind); 15] = [
+const VALUE_FAULTS: &[(&[u8], FaultKind)] = &[
     (b"F'2147483648'", FaultKind::ValueOutOfRange),
     (b"F'-2147483649'", FaultKind::ValueOutOfRange),
     (b"FL1'-129'", FaultKind::ValueOutOfRange),
@@ -80,7 +80,7 @@ const VALUE_FAULTS: [(&[u8], FaultKind); 15] = [
 ];
 
 /// Items that are refused as they are read, and whether they are of a DS.
-const REFUSED: [(&[u8], bool, FaultKind); 24] = [
+const REFUSED: &[(&[u8], bool, FaultKind)] = &[
     (b"", false, FaultKind::BadOperand),
     (b"C''", false, FaultKind::BadOperand),
     (b"F", false, FaultKind::BadOperand),
@@ -147,7 +147,7 @@ fn is_refused(text: &[u8], is_ds: bool, fault: FaultKind) -> bool {
 
 #[test]
 fn items_have_their_lengths(rt: HostRuntime) {
-    for row in LENGTHS {
+    for &row in LENGTHS {
         assert!(rt; has_lengths(row));
     }
 }
@@ -155,11 +155,11 @@ fn items_have_their_lengths(rt: HostRuntime) {
 #[test]
 fn constants_have_their_bytes(rt: HostRuntime) {
     let alloc = rt.alloc();
-    let symbols = table(alloc).expect(&rt, "memory");
-    for row in BYTES {
+    let symbols = table(alloc).expect(&rt, "the symbols");
+    for &row in BYTES {
         assert!(rt; is_made(alloc, &symbols, row, false));
     }
-    for row in RELOCATED {
+    for &row in RELOCATED {
         assert!(rt; is_made(alloc, &symbols, row, true));
     }
 }
@@ -167,15 +167,15 @@ fn constants_have_their_bytes(rt: HostRuntime) {
 #[test]
 fn values_have_their_faults(rt: HostRuntime) {
     let alloc = rt.alloc();
-    let symbols = table(alloc).expect(&rt, "memory");
-    for (text, fault) in VALUE_FAULTS {
+    let symbols = table(alloc).expect(&rt, "the symbols");
+    for &(text, fault) in VALUE_FAULTS {
         assert!(rt; is_faulty(alloc, &symbols, text, fault));
     }
 }
 
 #[test]
 fn items_are_refused_as_they_are_read(rt: HostRuntime) {
-    for (text, is_ds, fault) in REFUSED {
+    for &(text, is_ds, fault) in REFUSED {
         assert!(rt; is_refused(text, is_ds, fault));
     }
 }

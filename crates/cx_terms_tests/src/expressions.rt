@@ -4,7 +4,7 @@ use cx_terms::{FaultKind, SymbolTable, TermFault, Value, value_of};
 use std::alloc::Global;
 
 /// Expressions with what they are worth: section, number, length attribute. `*` stands at P+20 with the length 6.
-const WORTH: [(&[u8], &[u8], i128, u128); 17] = [
+const WORTH: &[(&[u8], &[u8], i128, u128)] = &[
     (b"L'X+1", b"", 5, 1),
     (b"X-Y", b"", 8, 4),
     (b"Y-X", b"", -8, 2),
@@ -25,7 +25,7 @@ const WORTH: [(&[u8], &[u8], i128, u128); 17] = [
 ];
 
 /// Expressions with their faults.
-const FAULTS: [(&[u8], FaultKind); 20] = [
+const FAULTS: &[(&[u8], FaultKind)] = &[
     (b"X-Z", FaultKind::NotRelocatable),
     (b"X+Y", FaultKind::NotRelocatable),
     (b"P+P-Q", FaultKind::NotRelocatable),
@@ -72,8 +72,8 @@ fn is_fault(alloc: Global, symbols: &SymbolTable, text: &[u8], fault: FaultKind)
 #[test]
 fn expressions_are_worth_their_rows(rt: HostRuntime) {
     let alloc = rt.alloc();
-    let symbols = table(alloc).expect(&rt, "memory");
-    for row in WORTH {
+    let symbols = table(alloc).expect(&rt, "the symbols");
+    for &row in WORTH {
         assert!(rt; is_worth(alloc, &symbols, row));
     }
 }
@@ -81,8 +81,8 @@ fn expressions_are_worth_their_rows(rt: HostRuntime) {
 #[test]
 fn the_lowest_fault_is_answered(rt: HostRuntime) {
     let alloc = rt.alloc();
-    let symbols = table(alloc).expect(&rt, "memory");
-    for (text, fault) in FAULTS {
+    let symbols = table(alloc).expect(&rt, "the symbols");
+    for &(text, fault) in FAULTS {
         assert!(rt; is_fault(alloc, &symbols, text, fault));
     }
     assert!(rt; is_fault(alloc, &symbols, b"*", FaultKind::BadOperand));

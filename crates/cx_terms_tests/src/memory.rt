@@ -33,8 +33,12 @@ fn is_made(alloc: Global, symbols: &SymbolTable, text: &[u8], bytes: &[u8]) -> b
 #[test]
 fn a_refused_growth_is_no_other_answer(rt: HostRuntime) {
     let alloc = rt.alloc();
-    let Some(mut symbols) = table(alloc) else {
-        return;
+    let mut symbols = match table(alloc) {
+        Ok(symbols) => symbols,
+        Err(found) => {
+            assert!(rt; found == TermFault::Memory);
+            return;
+        }
     };
     assert!(rt; is_number(alloc, &symbols, b"1+2-B'1'", 2));
     assert!(rt; is_refused(alloc, &symbols, b"X-Z", FaultKind::NotRelocatable));
@@ -49,9 +53,7 @@ fn a_refused_growth_is_no_other_answer(rt: HostRuntime) {
         )
     );
     assert!(rt; is_made(alloc, &symbols, b"A(X-Y)", b"\x00\x00\x00\x08"));
-    let Some(new) = name(b"NEW") else {
-        return;
-    };
+    let new = name(b"NEW").expect(&rt, "a name");
     let defined = symbols.define(new, Value::absolute(7));
     assert_eq!(rt; symbols.get(new).is_some(), defined.is_ok());
 }

@@ -5,7 +5,7 @@ use std::alloc::Global;
 use std::test::Fail;
 
 /// Each symbol: its name, its section, its number, its length attribute.
-const SYMBOLS: [(&[u8], &[u8], i128, u128); 6] = [
+const SYMBOLS: &[(&[u8], &[u8], i128, u128)] = &[
     (b"P", b"P", 0, 1),
     (b"X", b"P", 12, 4),
     (b"Y", b"P", 4, 2),
@@ -19,30 +19,33 @@ pub(crate) fn name(text: &[u8]) -> Option<Name8> {
     symbol_name(text)
 }
 
-/// The table of the tests' symbols; None where memory ran out.
-pub(crate) fn table(alloc: Global) -> Option<SymbolTable> {
+/// Defines a symbol; a text that is no name is a bad operand.
+fn define(table: &mut SymbolTable, text: &[u8], value: Value) -> Result<(), TermFault> {
+    match name(text) {
+        Some(found) => table.define(found, value),
+        None => Err(TermFault::Refused(FaultKind::BadOperand)),
+    }
+}
+
+/// The table of the tests' symbols; an error where one of them isn't defined.
+pub(crate) fn table(alloc: Global) -> Result<SymbolTable, TermFault> {
     let mut table = SymbolTable::new(alloc);
-    for (text, section, number, length) in SYMBOLS {
+    for &(text, section, number, length) in SYMBOLS {
         let value = Value {
             section: name(section),
             number,
             length,
         };
-        let defined = table.define(name(text)?, value);
-        if defined.is_err() {
-            return None;
-        }
+        define(&mut table, text, value)?;
     }
-    Some(table)
+    Ok(table)
 }
 
 #[test]
 fn a_symbol_is_defined_once(rt: HostRuntime) -> Result<(), Fail> {
     let alloc = rt.alloc();
     let mut symbols = SymbolTable::new(alloc);
-    let Some(one) = name(b"ONE@#$12") else {
-        return Ok(());
-    };
+    let one = name(b"ONE@#$12").ok_or("no name")?;
     assert!(rt; symbols.get(one).is_none());
     symbols.define(one, Value::absolute(1))?;
     assert_eq!(rt; symbols.get(one), Some(Value::absolute(1)));
