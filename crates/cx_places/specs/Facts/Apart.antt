@@ -1,14 +1,11 @@
 -- What stands in a section stands apart, one statement after the other.
-use Rattle.std.specs.Prelude.{Result}
-use Rattle.std.proofs.Common.{◌≡◌, ◌≤◌, ℕ, ◌+◌, ◌^◌, Bool, true, false, cond, Option, Some, None, List, [], ◌∷◌, refl, sym, ◌∙◌, ap, subst, ⊎_elim, arith}
+use Rattle.std.proofs.Common.{◌≡◌, ◌≤◌, ℕ, Bool, true, false, cond, Option, Some, None, List, [], ◌∷◌, refl, sym, ◌∙◌, ap, subst, ⊎_elim, arith}
 use Rattle.std.specs.List.{AllByRecursion}
-use Rattle.std.proofs.lemmas.Bool.{cases_Bool, cond-true, cond-false}
-use Rattle.std.proofs.lemmas.Bool.Decides.{nat_tests}
+use Rattle.std.proofs.lemmas.Bool.{cases_Bool, cond-true}
 use Rattle.cx_ebcdic.specs.Facts.Names.{is_name-decides, is_name-laws}
 use Rattle.cx_source.specs.declared.source.Item.{Item}
 use Rattle.cx_source.specs.declared.source.Stmt.{Stmt}
 use Rattle.cx_terms.specs.Digits.{bound}
-use Rattle.cx_terms.specs.Names.{is_same}
 use Rattle.cx_terms.specs.Weights.{stands_in}
 use Rattle.cx_pools.specs.Facts.Literals.{no_pool, pool_more}
 use Rattle.cx_pools.specs.Laws.Literals.{IsPool}
@@ -17,7 +14,7 @@ use Rattle.cx_places.specs.Facts.Faults.{none_before, sound_statement}
 use Rattle.cx_places.specs.Facts.Laid.{capped_same, laid_begins, laid_stands, laid_within, pool_apart, pool_begins}
 use Rattle.cx_places.specs.Known.{Known, after, after_line, control_after, is_control, known_behind, laid_in, length_after, length_of_section, name_in, next_in, parts_in, pool_after, role_in}
 use Rattle.cx_places.specs.Laws.Apart.{AreApart, ClosesApart, EndWithin, IsBehind, Stands, Stretch, control_length, section_length, stretch_before, stretch_of, stretches_behind}
-use Rattle.cx_places.specs.Layout.{laid, pool_at}
+use Rattle.cx_places.specs.Layout.{laid}
 use Rattle.cx_places.specs.Placed.{closing}
 use Rattle.cx_places.specs.declared.roles.Role.{Role}
 use Rattle.cx_places.specs.declared.roles.Role.TheVariants.{Unknown, Instruction, Control, Dummy, Equate, Storage, Pool, Registers, Member, Nothing}

@@ -1,13 +1,12 @@
 -- Every name has one value.
 use Rattle.std.specs.Prelude.{◌||◌, ◌&&◌, not, codes, if◌then◌else◌, is_some}
-use Rattle.std.proofs.Common.{◌≡◌, ℕ, Bool, true, false, cond, Option, Some, None, List, [], ◌∷◌, ◌++◌, refl, sym, ◌∙◌, ap, subst, ⊎_elim}
+use Rattle.std.proofs.Common.{◌≡◌, ℕ, Bool, true, false, cond, Option, Some, None, List, [], ◌∷◌, ◌++◌, refl, sym, ◌∙◌, ap, subst}
 use Rattle.std.specs.List.{AllByRecursion, IsDistinct, list_any}
-use Rattle.std.specs.Map.{keys_of, lookup}
+use Rattle.std.specs.Map.{keys_of}
 use Rattle.std.specs.Option.{option_or}
 use Rattle.std.specs.Str.{bytes_eq}
-use Rattle.std.proofs.lemmas.Bool.{cases_Bool, cond-true, cond-false}
 use Rattle.std.proofs.lemmas.Map.Keys.{IsDistinct-head, IsDistinct-tail, IsDistinct-cons}
-use Rattle.cx_ebcdic.specs.Facts.Names.{is_name-decides, is_name-laws}
+use Rattle.cx_ebcdic.specs.Facts.Names.{is_name-laws}
 use Rattle.cx_ebcdic.specs.Characters.{code_of, table}
 use Rattle.cx_ebcdic.specs.Names.{is_name_character as is_character, name_code, name_of}
 use Rattle.cx_source.specs.Lines.{is_letter, is_name as is_symbol, is_name_character as is_symbol_character}
@@ -15,12 +14,11 @@ use Rattle.cx_source.specs.declared.source.Item.{Item}
 use Rattle.cx_source.specs.declared.source.Stmt.{Stmt}
 use Rattle.cx_terms.specs.Names.{is_same, symbol_name}
 use Rattle.cx_terms.specs.Symbols.{Symbols, find_in}
-use Rattle.cx_terms.specs.declared.faults.FaultKind.{FaultKind}
 use Rattle.cx_terms.specs.declared.faults.FaultKind.TheVariants.{DuplicateSymbol}
 use Rattle.cx_terms.specs.declared.values.Value.{Value}
 use Rattle.cx_places.specs.Facts.Faults.{none_before, sound_statement}
-use Rattle.cx_places.specs.Given.{aid_rows, definitions, duplicate, is_any_known, named, register_rows, resumes, row_symbols}
-use Rattle.cx_places.specs.Known.{Known, after, after_line, definitions_in, known_behind, name_in, role_in, symbol_after}
+use Rattle.cx_places.specs.Given.{aid_rows, definitions, is_any_known, named, register_rows, resumes, row_symbols}
+use Rattle.cx_places.specs.Known.{Known, after, after_line, definitions_in, known_behind, name_in, role_in}
 use Rattle.cx_places.specs.Laws.Definitions.{definitions_at, definitions_behind}
 use Rattle.cx_places.specs.declared.roles.Role.{Role}
 use Rattle.cx_places.specs.declared.roles.Role.TheVariants.{Unknown, Instruction, Control, Dummy, Equate, Storage, Pool, Registers, Member, Nothing}

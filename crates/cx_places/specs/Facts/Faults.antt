@@ -1,7 +1,7 @@
 -- What holds of statements without a fault.
-use Rattle.std.specs.Prelude.{option_map, Result}
+use Rattle.std.specs.Prelude.{option_map}
 use Rattle.std.specs.Result.{result_err}
-use Rattle.std.proofs.Common.{◌≡◌, ℕ, ◌==◌, Bool, true, false, cond, Option, Some, None, List, [], ◌∷◌, refl, sym, ◌∙◌, ap}
+use Rattle.std.proofs.Common.{◌≡◌, ℕ, ◌==◌, Bool, true, false, cond, Option, Some, None, refl}
 use Rattle.cx_source.specs.declared.source.Stmt.{Stmt}
 use Rattle.cx_terms.specs.Faults.{lower}
 use Rattle.cx_terms.specs.declared.faults.FaultKind.{FaultKind}

@@ -1,13 +1,13 @@
 -- What was told stays told, however many statements follow.
 use Rattle.std.specs.Prelude.{slice_get}
-use Rattle.std.proofs.Common.{◌≡◌, ℕ, zero, suc, Option, Some, None, List, [], ◌∷◌, ◌++◌, length, refl, sym, ◌∙◌, ap}
+use Rattle.std.proofs.Common.{◌≡◌, ℕ, zero, suc, Option, Some, None, List, [], ◌∷◌, ◌++◌, length, refl, ◌∙◌, ap}
 use Rattle.std.specs.Option.{option_or}
 use Rattle.cx_source.specs.declared.source.Item.{Item}
 use Rattle.cx_source.specs.declared.source.Stmt.{Stmt}
 use Rattle.cx_terms.specs.Symbols.{find_in}
 use Rattle.cx_terms.specs.declared.values.Value.{Value}
 use Rattle.cx_pools.specs.Pools.{Pooled, Placed, capped, placed}
-use Rattle.cx_places.specs.Known.{Known, after, after_line, definitions_in, known_behind, laid_in, place_in, pools_after, role_in, symbol_after}
+use Rattle.cx_places.specs.Known.{Known, after, after_line, definitions_in, known_behind, laid_in, place_in, pools_after, role_in}
 use Rattle.cx_places.specs.Placed.{all_pools, closing}
 use Rattle.cx_places.specs.declared.place.Place.{Place}
 use Rattle.cx_places.specs.declared.roles.Role.{Role}

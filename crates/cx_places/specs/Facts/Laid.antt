@@ -1,8 +1,8 @@
 -- What one statement takes of its section.
-use Rattle.std.specs.Prelude.{if◌then◌else◌, is_some, ◌%◌, ◌/◌, ◌*◌, nat_le, Result, Ok, Err}
-use Rattle.std.proofs.Common.{◌≡◌, ◌≤◌, ◌<◌, ℕ, ◌+◌, ◌-◌, ◌^◌, Bool, true, false, cond, Option, Some, None, List, [], ◌∷◌, refl, sym, ◌∙◌, ap, subst, ⊎_elim, arith, lit≤}
+use Rattle.std.specs.Prelude.{if◌then◌else◌, is_some, ◌%◌, ◌/◌, ◌*◌, nat_le, Ok, Err}
+use Rattle.std.proofs.Common.{◌≡◌, ◌≤◌, ◌<◌, ℕ, ◌+◌, ◌-◌, Option, Some, None, List, [], ◌∷◌, refl, sym, ◌∙◌, ap, subst, ⊎_elim, arith, lit≤}
 use Rattle.std.proofs.Math.Nat.{mod-lt, mod-add-div', mul-mod_left}
-use Rattle.std.proofs.lemmas.Bool.{cases_Bool, cond-true, cond-false}
+use Rattle.std.proofs.lemmas.Bool.{cases_Bool, cond-false}
 use Rattle.std.proofs.lemmas.Bool.Decides.{nat_tests}
 use Rattle.cx_terms.specs.Digits.{bound}
 use Rattle.cx_terms.specs.Faults.{lower}
@@ -16,8 +16,7 @@ use Rattle.cx_pools.specs.Facts.Literals.{no_pool_stands, pool_stands}
 use Rattle.cx_pools.specs.Laws.Literals.{IsPool, StandApart}
 use Rattle.cx_pools.specs.Pools.{Pooled, capped, constant_size, placed, pool_extent, pool_size}
 use Rattle.cx_places.specs.Laws.Apart.{ItemsStand, Stands, boundary_of}
-use Rattle.cx_places.specs.Layout.{StorageItem, aligned, beyond, bytes_at, end_from, first_start, item_end, item_start, items_at, items_fault, items_in, laid, offsets_from, pool_at}
-use Rattle.cx_places.specs.declared.layout.Laid.{Laid}
+use Rattle.cx_places.specs.Layout.{StorageItem, aligned, beyond, bytes_at, end_from, first_start, item_end, item_start, items_fault, items_in, laid, offsets_from, pool_at}
 use Rattle.cx_places.specs.declared.roles.Role.{Role}
 use Rattle.cx_places.specs.declared.roles.Role.TheVariants.{Unknown, Instruction, Control, Dummy, Equate, Storage, Pool, Registers, Member, Nothing}
 
