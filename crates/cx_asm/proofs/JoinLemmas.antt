@@ -1,7 +1,7 @@
 -- What stands, put behind what stands.
-use Rattle.std.proofs.Common.{◌≡◌, ◌≤◌, ℕ, zero, suc, ◌+◌, List, [], ◌∷◌, ◌++◌, append-nil, append_assoc, add-one, ◌<◌, drop, drop-cons, get_or, slice_get, length, arith, refl, sym, ◌∙◌, ap}
+use Rattle.std.proofs.Common.{◌≡◌, ℕ, zero, suc, ◌+◌, Bool, List, [], ◌∷◌, ◌++◌, append-nil, append_assoc, add-one, ◌<◌, drop, drop-cons, get_or, slice_get, length, arith, refl, sym, ◌∙◌, ap}
 use Rattle.cx_code.specs.declared.disassembly.Line.{Line}
-use Rattle.cx_asm.specs.Resolving.{Standing, copies, joined, literal_standing, nothing, pool_standing, standing, standing_from, statement_standing}
+use Rattle.cx_asm.specs.Resolving.{Standing, copies, item_standing, items_standing, joined, literal_standing, nothing, pool_standing, standing, standing_from, statement_standing}
 use Rattle.cx_pools.specs.Pools.{Placed}
 use Rattle.cx_operands.specs.Bases.{Bases}
 use Rattle.cx_second.specs.Statements.{Stated}
@@ -47,6 +47,11 @@ pool_next told statements pool i = rw add-one (next pool i)
     next [] (suc i) = refl
     next (e ∷ pool) zero = refl
     next (e ∷ pool) (suc i) = next pool i
+
+-- an item, and those behind it
+pub items_next : (told : Whole) (is_ds : Bool) (s : Stated) (items : List (List ℕ × ℕ)) (d : List ℕ × ℕ) (i : ℕ) → i < length items
+    → items_standing told is_ds s (drop i items) ≡ joined (item_standing told is_ds s (get_or items i d)) (items_standing told is_ds s (drop (i + 1) items))
+items_next told is_ds s items d i within = rw (add-one, drop-cons items i d within) refl
 
 pub standing_next : (told : Whole) (statements : List Stated) (bases : Bases) (xs : List Stated) (d : Stated) (i : ℕ) → i < length xs
     → standing_from told statements bases (drop i xs)

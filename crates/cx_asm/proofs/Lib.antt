@@ -1,2 +1,6 @@
+mod FitLemmas
+mod SectionLemmas
+mod WithinLemmas
+mod MadeLemmas
 pub mod TellingLemmas
 pub mod JoinLemmas

@@ -3,14 +3,13 @@ use Rattle.std.proofs.Common.{◌≡◌, ℕ, Option, Some, None, List, option_m
 use Rattle.std.proofs.Math.Path.{fun_ext}
 use Rattle.cx_source.specs.declared.source.Source.{Source}
 use Rattle.cx_terms.specs.declared.values.Value.{Value}
-use Rattle.cx_terms.specs.Symbols.{find_in}
 use Rattle.cx_pools.specs.Pools.{Placed}
 use Rattle.cx_places.specs.Known.{Known}
-use Rattle.cx_places.specs.Placed.{IsPlaced, control_section, known_of}
+use Rattle.cx_places.specs.Placed.{IsPlaced, known_of}
 use Rattle.cx_places.specs.declared.place.ControlSection.{ControlSection}
 use Rattle.cx_places.specs.declared.places.Places.{Places}
 use Rattle.cx_second.specs.Parts.Telling.{told_by}
-use Rattle.cx_second.specs.Whole.{Whole, whole, whole_known, whole_of}
+use Rattle.cx_second.specs.Whole.{whole, whole_known, whole_of}
 
 named_back : (control : Option (List ℕ)) (length : ℕ) → option_map (λ (c : ControlSection). c.name) (option_map (λ name. record { name = name; length = length }) control) ≡ control
 named_back None length = refl

@@ -1,11 +1,10 @@
 -- What a source is assembled to, or why it is refused (GC33-4010, "END"; the faults and the limit of 65,536 bytes are own).
-use Rattle.std.specs.Prelude.{◌≡◌, ℕ, ◌-◌, nat_le, if◌then◌else◌, Option, Some, None, unwrap_or, Result, Ok, Err, List, map, length, reverse, slice_get}
+use Rattle.std.specs.Prelude.{◌≡◌, ℕ, ◌-◌, nat_le, if◌then◌else◌, Option, Some, None, unwrap_or, Result, Ok, Err, List, length, reverse, slice_get}
 use Rattle.std.specs.Option.{option_map_or}
 use Rattle.std.specs.Result.{result_ok}
 use Rattle.cx_source.specs.declared.source.Source.{Source}
 use Rattle.cx_terms.specs.declared.faults.FaultKind.{FaultKind}
 use Rattle.cx_terms.specs.declared.faults.FaultKind.TheVariants as kind
-use Rattle.cx_places.specs.Known.{Known}
 use Rattle.cx_places.specs.Placed.{control_section, known_of, storage_length}
 use Rattle.cx_places.specs.declared.place.LineFault.{LineFault}
 use Rattle.cx_operands.specs.Bases.{none_in_use}

@@ -2,3 +2,5 @@
 pub mod Resolving
 pub mod Listing
 pub mod Assembly
+-- Statements of laws.
+pub mod Laws

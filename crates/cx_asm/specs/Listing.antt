@@ -1,5 +1,5 @@
 -- The listing (GC33-4010, "Assembler Listing"; the columns are own).
-use Rattle.std.specs.Prelude.{ℕ, ◌+◌, ◌-◌, if◌then◌else◌, Option, Some, None, List, [], ◌∷◌, length, map, slice_get, take, drop}
+use Rattle.std.specs.Prelude.{ℕ, ◌+◌, ◌-◌, if◌then◌else◌, Option, Some, None, List, [], length, map, slice_get, take, drop}
 use Rattle.std.specs.Option.{option_map_or}
 use Rattle.cx_source.specs.declared.source.Source.{Source}
 use Rattle.cx_pools.specs.Pools.{capped, literal_size}

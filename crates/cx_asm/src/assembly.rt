@@ -10,6 +10,7 @@ ghost use Rattle.cx_second.specs.Statements.{end_of, placed_of, statements_of};
 ghost use Rattle.cx_asm.specs.Assembly.{Assembles, assembly_of, end_line, entry_by, made_of, second_fault_of, section_of, size_of, unless_refused, unless_too_large};
 
 use crate::faults::{AsmFault, fault_at};
+use crate::laws::what_stands_stands_apart;
 use crate::listing::listing_of;
 use crate::section::standing_of;
 use crate::standing::Standing;
@@ -153,10 +154,8 @@ fn section_of(
     requires fits { size ≤ 65536 }
     ensures { IfOk result (λ section. section ≡ section_of source.now) }
 {
+    what_stands_stands_apart();
     let Standing { lines, relocs } = standing_of(alloc, places, statements)?;
-    if lines.end() > size {
-        return Err(AllocError);
-    }
     let lines = lines.into_vec();
     let entry = entry(alloc, places, statements)?;
     let stg_len = working_storage(places.stg_length);

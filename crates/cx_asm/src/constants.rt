@@ -6,6 +6,7 @@ ghost use Rattle.cx_terms.specs.Items.{constant_in};
 ghost use Rattle.cx_pools.specs.Pools.{Placed};
 ghost use Rattle.cx_second.specs.Parts.Telling.{told_by};
 ghost use Rattle.cx_second.specs.Whole.{item_made};
+ghost use Rattle.cx_asm.specs.Laws.Standing.{IsWithin};
 ghost use Rattle.cx_asm.specs.Resolving.{counter_at, data_standing, item_standing, items_standing, joined, literal_standing, pool_standing, space_standing};
 
 use crate::standing::Standing;
@@ -24,6 +25,7 @@ fn push_constant(
     at: u128,
     standing: &mut Standing,
 ) -> Result<(), AllocError>
+    requires { IsWithin 0 (joined standing.old (data_standing (told_by places.now) counter text.now at)) 65536 }
     ensures { OnOk result (standing.new ≡ joined standing.old (data_standing (told_by places.now) counter text.now at)) }
 {
     let Ok(item) = Constant::read(text, false) else {
@@ -38,6 +40,7 @@ fn push_constant(
 
 /// Appends an item of a DS.
 fn push_space(at: u128, text: &[u8], standing: &mut Standing) -> Result<(), AllocError>
+    requires { IsWithin 0 (joined standing.old (space_standing at (constant_in true text.now))) 65536 }
     ensures { OnOk result (standing.new ≡ joined standing.old (space_standing at (constant_in true text.now))) }
 {
     match Constant::read(text, true) {
@@ -55,6 +58,7 @@ fn push_item(
     item: &StatementItem<'_>,
     standing: &mut Standing,
 ) -> Result<(), AllocError>
+    requires { IsWithin 0 (joined standing.old (item_standing (told_by places.now) is_ds statement.now item.now)) 65536 }
     ensures { OnOk result (standing.new ≡ joined standing.old (item_standing (told_by places.now) is_ds statement.now item.now)) }
 {
     let at = item.offset();
@@ -74,6 +78,7 @@ pub(crate) fn push_items(
     items: &[StatementItem<'_>],
     standing: &mut Standing,
 ) -> Result<(), AllocError>
+    requires { IsWithin 0 (joined standing.old (items_standing (told_by places.now) is_ds statement.now items.now)) 65536 }
     ensures { OnOk result (standing.new ≡ joined standing.old (items_standing (told_by places.now) is_ds statement.now items.now)) }
 {
     for item in items {
@@ -97,6 +102,7 @@ fn push_literal(
     literal: Option<(&[u8], Literal)>,
     standing: &mut Standing,
 ) -> Result<(), AllocError>
+    requires { IsWithin 0 (joined standing.old (literal_standing (told_by places.now) statements.now (option_map (λ e. (e.0.now, e.1)) literal))) 65536 }
     ensures { OnOk result (standing.new ≡ joined standing.old (literal_standing (told_by places.now) statements.now (option_map (λ e. (e.0.now, e.1)) literal.entry))) }
 {
     let Some((text, literal)) = literal else {
@@ -114,6 +120,7 @@ pub(crate) fn push_pool(
     pool: &Pool<'_>,
     standing: &mut Standing,
 ) -> Result<(), AllocError>
+    requires { IsWithin 0 (joined standing.old (pool_standing (told_by places.now) statements.now pool.now)) 65536 }
     ensures { OnOk result (standing.new ≡ joined standing.old (pool_standing (told_by places.now) statements.now pool.now)) }
 {
     for index in 0..pool.len() {

@@ -4,6 +4,7 @@
 mod assembly;
 mod constants;
 mod faults;
+pub mod laws;
 mod listing;
 mod section;
 mod standing;

@@ -6,6 +6,7 @@ ghost use Rattle.cx_places.specs.Known.{is_control, role_in};
 ghost use Rattle.cx_second.specs.Statements.{placed_items};
 ghost use Rattle.cx_second.specs.Whole.{pool_of};
 ghost use Rattle.cx_second.specs.Parts.Telling.{told_by};
+ghost use Rattle.cx_asm.specs.Laws.Standing.{IsWithin};
 ghost use Rattle.cx_asm.specs.Resolving.{instruction_standing, items_standing, joined, last_pool, pool_standing, role_standing, standing_from, statement_standing};
 
 use crate::constants::{push_items, push_pool};
@@ -37,6 +38,7 @@ fn push_instruction(
     operation: Option<Operation>,
     standing: &mut Standing,
 ) -> Result<(), AllocError>
+    requires { IsWithin 0 (joined standing.old (instruction_standing (told_by places.now) bases.now statement.now operation)) 65536 }
     ensures { OnOk result (standing.new ≡ joined standing.old (instruction_standing (told_by places.now) bases.now statement.now operation)) }
 {
     let Some(operation) = operation else {
@@ -57,6 +59,7 @@ fn push_storage(
     statement: &Statement<'_>,
     standing: &mut Standing,
 ) -> Result<(), AllocError>
+    requires { IsWithin 0 (joined standing.old (items_standing (told_by places.now) is_ds statement.now (placed_items statement.now))) 65536 }
     ensures { OnOk result (standing.new ≡ joined standing.old (items_standing (told_by places.now) is_ds statement.now (placed_items statement.now))) }
 {
     let items = placed_items(alloc, statement)?;
@@ -71,6 +74,7 @@ fn push_closed_pool(
     statement: &Statement<'_>,
     standing: &mut Standing,
 ) -> Result<(), AllocError>
+    requires { IsWithin 0 (joined standing.old (pool_standing (told_by places.now) statements.now (pool_of (told_by places.now) statement.now))) 65536 }
     ensures { OnOk result (standing.new ≡ joined standing.old (pool_standing (told_by places.now) statements.now (pool_of (told_by places.now) statement.now))) }
 {
     match pool_of(places, statement) {
@@ -88,6 +92,7 @@ fn push_role(
     statement: &Statement<'_>,
     standing: &mut Standing,
 ) -> Result<(), AllocError>
+    requires { IsWithin 0 (joined standing.old (role_standing (told_by places.now) statements.now bases.now statement.now (role_in statement.now.stmt))) 65536 }
     ensures { OnOk result (standing.new ≡ joined standing.old (role_standing (told_by places.now) statements.now bases.now statement.now (role_in statement.now.stmt))) }
 {
     match statement.role() {
@@ -111,6 +116,7 @@ fn push_statement(
     statement: &Statement<'_>,
     standing: &mut Standing,
 ) -> Result<(), AllocError>
+    requires { IsWithin 0 (joined standing.old (statement_standing (told_by places.now) statements.now bases.now statement.now)) 65536 }
     ensures { OnOk result (standing.new ≡ joined standing.old (statement_standing (told_by places.now) statements.now bases.now statement.now)) }
 {
     if !is_control(statement.place().section, control_name(places)) {
@@ -126,6 +132,7 @@ fn push_last_pool(
     statements: &[Statement<'_>],
     standing: &mut Standing,
 ) -> Result<(), AllocError>
+    requires { IsWithin 0 (joined standing.old (pool_standing (told_by places.now) statements.now (last_pool (told_by places.now)))) 65536 }
     ensures { OnOk result (standing.new ≡ joined standing.old (pool_standing (told_by places.now) statements.now (last_pool (told_by places.now)))) }
 {
     match places.pools.as_slice().last() {
@@ -140,6 +147,7 @@ pub(crate) fn standing_of(
     places: &Places<'_>,
     statements: &[Statement<'_>],
 ) -> Result<Standing, AllocError>
+    requires { IsWithin 0 (standing_from (told_by places.now) statements.now none_in_use statements.now) 65536 }
     ensures { IfOk result (λ made. made ≡ standing_from (told_by places.now) statements.now none_in_use statements.now) }
 {
     let mut standing = Standing::new(alloc);

@@ -1,11 +1,12 @@
 //! What stands in the control section, in the making.
 
 ghost use Rattle.std.specs.Prelude.{◌≡◌, ◌++◌, ◌∷◌, [], IfOk, OnOk};
+ghost use Rattle.cx_asm.specs.Laws.Standing.{IsWithin, WordsApart};
 ghost use Rattle.cx_asm.specs.Resolving.{copies, data_line, joined, line as resolved_line, nothing, relocated, space_line, standing};
 ghost use Rattle.cx_code.specs.declared.disassembly.What.TheVariants.{Code};
 
 use cx_code::{Bytes, Inst, Line, What};
-use cx_image::{LARGEST_TEXT, ResolvedLines, push_words};
+use cx_image::{ResolvedLines, push_words};
 use cx_terms::ConstantBytes;
 use std::alloc::{AllocError, Global};
 use std::marker::Model;
@@ -44,29 +45,17 @@ fn copies(alloc: Global, bytes: &[u8], count: u32) -> Result<Vec<u8>, AllocError
 /// Appends the offsets of relocated words, one for each copy.
 fn push_relocated(
     relocs: &mut Vec<u32>,
-    at: u32,
+    at: u128,
     count: u32,
     is_relocated: bool,
 ) -> Result<(), AllocError>
+    requires { WordsApart 0 (relocated at count is_relocated) 65536 }
     ensures { OnOk result (relocs.new.items ≡ relocs.old.items ++ relocated at count is_relocated) }
 {
-    if !is_relocated {
+    if !is_relocated || count == 0 {
         return Ok(());
     }
-    if u64::from(at) + 4 * u64::from(count) > u64::from(LARGEST_TEXT) {
-        return Err(AllocError);
-    }
-    push_words(relocs, at, count)
-}
-
-/// An offset in the largest text.
-fn in_text(at: u128) -> Result<u32, AllocError>
-    ensures { IfOk result (λ offset. offset ≡ at) }
-{
-    match u32::try_from(at) {
-        Ok(offset) => Ok(offset),
-        Err(_) => Err(AllocError),
-    }
+    push_words(relocs, at as u32, count)
 }
 
 impl Standing {
@@ -80,13 +69,11 @@ impl Standing {
         }
     }
 
-    /// Appends a line. Lines come in the order of their places, so that there is always place for one.
+    /// Appends a line, which stands behind those before it.
     fn push(&mut self, line: Line) -> Result<(), AllocError>
+        requires { IsWithin 0 (joined self.old (standing (line ∷ []) [])) 65536 }
         ensures { OnOk result (self.new ≡ joined self.old (standing (line ∷ []) [])) }
     {
-        if !self.lines.has_place_for(&line) {
-            return Err(AllocError);
-        }
         self.lines.push(line)
     }
 
@@ -98,39 +85,41 @@ impl Standing {
         count: u32,
         made: &ConstantBytes,
     ) -> Result<(), AllocError>
+        requires { IsWithin 0 (joined self.old (standing (data_line at (copies count made.now.bytes)) (relocated at count made.now.is_relocated))) 65536 }
         ensures { OnOk result (self.new ≡ joined self.old (standing (data_line at (copies count made.now.bytes)) (relocated at count made.now.is_relocated))) }
     {
-        let at = in_text(at)?;
         push_relocated(&mut self.relocs, at, count, made.is_relocated())?;
         let bytes = copies(alloc, made.as_slice(), count)?;
         if bytes.is_empty() {
             return Ok(());
         }
         self.push(Line {
-            at,
+            at: at as u32,
             what: What::Data(Bytes::from_vec(bytes)),
         })
     }
 
     /// Appends a space at an offset, where it has bytes.
     pub(crate) fn push_space(&mut self, at: u128, size: u128) -> Result<(), AllocError>
+        requires { IsWithin 0 (joined self.old (standing (space_line at size) [])) 65536 }
         ensures { OnOk result (self.new ≡ joined self.old (standing (space_line at size) [])) }
     {
         if size == 0 {
             return Ok(());
         }
         self.push(Line {
-            at: in_text(at)?,
-            what: What::Space(in_text(size)?),
+            at: at as u32,
+            what: What::Space(size as u32),
         })
     }
 
     /// Appends an instruction at an offset.
     pub(crate) fn push_code(&mut self, at: u128, inst: Inst) -> Result<(), AllocError>
+        requires { IsWithin 0 (joined self.old (standing (resolved_line at (Code inst) ∷ []) [])) 65536 }
         ensures { OnOk result (self.new ≡ joined self.old (standing (resolved_line at (Code inst) ∷ []) [])) }
     {
         self.push(Line {
-            at: in_text(at)?,
+            at: at as u32,
             what: What::Code(inst),
         })
     }

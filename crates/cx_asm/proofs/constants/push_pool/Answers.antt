@@ -1,7 +1,5 @@
 use Rattle.cx_second.specs.Parts.Telling.{told_by}
-use Rattle.cx_asm.specs.Resolving.{literal_standing, pool_standing}
-use Rattle.std.proofs.Common.{slice_get, ap, ◌∙◌, ◌+◌, drop, Option, List, ℕ}
-use Rattle.cx_pools.specs.declared.closed.Literal.{Literal}
+use Rattle.cx_asm.proofs.FitLemmas.{fits_first}
 use Rattle.cx_asm.proofs.JoinLemmas.{one_more, pool_next}
 use Rattle.cx_asm.proofs.constants.push_pool.Goals as goal
 
@@ -10,3 +8,8 @@ loop-index-preserved c =
     one_more c.loop-index.standing _ _ _ _ _
     (rw c.literal.ensures at c.in_ok-push_literal.ensures)
     (pool_next (told_by c.args.places.now) c.args.statements.now c.args.pool.now c.loop-index.index) c.loop-index.invariant
+
+pub push_literal-requires : goal.push_literal-requires
+push_literal-requires c =
+    rw (c.literal.ensures)
+    (fits_first c.loop-index.standing _ _ _ _ 65536 (pool_next (told_by c.args.places.now) c.args.statements.now c.args.pool.now c.loop-index.index) c.loop-index.invariant c.requires)

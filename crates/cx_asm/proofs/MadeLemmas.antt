@@ -1,0 +1,185 @@
+-- A constant's bytes are no more than its length.
+use Rattle.std.specs.Prelude.{Result, Ok, Err, ◌&&◌, ◌==◌, ⊤, option_and_then, sum_by, take}
+use Rattle.std.specs.Option.{option_map_or}
+use Rattle.std.specs.Int.{bytes_high_first}
+use Rattle.std.proofs.Common.{◌≡◌, ◌≤◌, ℕ, zero, suc, ℤ, Bool, true, false, cond, Option, Some, None, option_map, List, [], ◌∷◌, length, refl, sym, ◌∙◌, ap, subst, arith}
+use Rattle.std.proofs.lemmas.Bool.Decides.{nat_tests}
+use Rattle.std.proofs.lemmas.List.Concat.{length-flat_map}
+use Rattle.std.proofs.lemmas.List.Sums.{sum_by-le-sum_by}
+use Rattle.std.proofs.lemmas.Option.{none-some}
+use Rattle.cx_terms.specs.Bytes.{Made, address_made, body_made, bytes_of_value, half_bytes, integer_bytes, integer_of, is_absolute_word, made, made_of, made_unless, placed, plain_made, values_bytes, values_fault}
+use Rattle.cx_terms.specs.Digits.{number_in}
+use Rattle.cx_terms.specs.Expressions.{value_of}
+use Rattle.cx_terms.specs.Items.{Constant, Written, at_least_one, at_most, body_length, constant, constant_in, duplication_in, judged, length_of, limited, modifier_in, value_length, values_in, written_in}
+use Rattle.cx_terms.specs.Kinds.{row_of}
+use Rattle.cx_terms.specs.Weights.{stands_in}
+use Rattle.cx_terms.specs.declared.faults.FaultKind.{FaultKind}
+use Rattle.cx_terms.specs.declared.faults.FaultKind.TheVariants.{BadOperand, NotRelocatable, ValueOutOfRange}
+use Rattle.cx_terms.specs.declared.kinds.ConstantKind.{ConstantKind}
+use Rattle.cx_terms.specs.declared.kinds.ConstantKind.TheVariants.{Character, Hexadecimal, Binary, Fullword, Halfword, Packed, Address, External, Doubleword}
+use Rattle.cx_terms.specs.declared.values.Value.{Value}
+use Rattle.cx_operands.specs.Judging.{judged as judged_as}
+use Rattle.cx_operands.specs.Values.{item_in}
+use Rattle.cx_second.specs.Whole.{Whole, item_made}
+
+-- its bytes are no more than a size, which holds a word where it is relocated
+pub record MadeFits (made : Made) (size : ℕ) : Type 0 where
+  pub short : length made.bytes ≤ size
+  pub word : made.is_relocated ≡ true → 4 ≤ size
+
+fits_more : (m : Made) (less more : ℕ) → less ≤ more → MadeFits m less → MadeFits m more
+fits_more m less more le fits = record { short = omega (arith, fits.short, le); word = λ is. omega (arith, fits.word is, le) }
+
+fits_plain : (bytes : List ℕ) (m : Made) (size : ℕ) → length bytes ≤ size → made bytes false ≡ m → MadeFits m size
+fits_plain bytes m size le e = subst (λ m. MadeFits m size) e (record { short = le; word = λ is. cc })
+
+-- ---- bytes
+taken : (n : ℕ) (bytes : List ℕ) → length (take n bytes) ≤ n
+taken zero bytes = omega arith
+taken (suc n) [] = omega arith
+taken (suc n) (byte ∷ bytes) = omega (arith, taken n bytes)
+
+high_first : (n number : ℕ) → length (bytes_high_first n number) ≡ n
+high_first zero number = refl
+high_first (suc n) number = ap suc (high_first n number)
+
+halves : (kind : ConstantKind) (value : List ℕ) (n : ℕ) → length (half_bytes kind value n) ≡ n
+halves kind value zero = refl
+halves kind value (suc n) = ap suc (halves kind value n)
+
+when_word : (is : Bool) (n number : ℕ) → length (cond is (bytes_high_first n number) []) ≤ n
+when_word true n number = omega (arith, high_first n number)
+when_word false n number = omega arith
+
+integers : (n : ℕ) (number : ℤ) → length (integer_bytes n number) ≤ n
+integers n number = when_word _ n _
+
+-- ---- one value
+-- an external address has no length modifier
+abbrev Modified : ConstantKind → Option ℕ → Type 0
+Modified External (Some modifier) = ⊥
+Modified kind modifier = ⊤
+
+value_fits : (kind : ConstantKind) (modifier : Option ℕ) → Modified kind modifier → (value : List ℕ) → length (bytes_of_value kind modifier value) ≤ value_length kind modifier value
+value_fits Character modifier is value = taken (value_length Character modifier value) _
+value_fits Hexadecimal modifier is value = omega (arith, halves Hexadecimal value (value_length Hexadecimal modifier value))
+value_fits Binary modifier is value = omega (arith, halves Binary value (value_length Binary modifier value))
+value_fits Fullword modifier is value = integers (value_length Fullword modifier value) (integer_of value)
+value_fits Halfword modifier is value = integers (value_length Halfword modifier value) (integer_of value)
+value_fits Packed modifier is value = omega (arith, halves Packed value (value_length Packed modifier value))
+value_fits Address modifier is value = omega arith
+value_fits External None is value = omega arith
+value_fits External (Some modifier) is value = absurd is
+value_fits Doubleword modifier is value = omega arith
+
+-- ---- all values
+values_fit : (kind : ConstantKind) (modifier : Option ℕ) → Modified kind modifier → (values : List (List ℕ)) → length (values_bytes kind modifier values) ≤ sum_by (value_length kind modifier) values
+values_fit kind modifier is values =
+    omega (
+      arith,
+      length-flat_map (bytes_of_value kind modifier) values,
+      sum_by-le-sum_by (λ value. length (bytes_of_value kind modifier value)) (value_length kind modifier) values (value_fits kind modifier is),
+    )
+
+unless_fits : (fault : Option FaultKind) (bytes : List ℕ) (m : Made) (size : ℕ) → length bytes ≤ size → made_unless fault bytes ≡ Ok m → MadeFits m size
+unless_fits None bytes m size le e = fits_plain bytes m size le cc
+unless_fits (Some fault) bytes m size le e = cc
+
+plain_fits : (kind : ConstantKind) (modifier : Option ℕ) (body : List ℕ) (m : Made) → Modified kind modifier → plain_made kind modifier body ≡ Ok m → MadeFits m (body_length kind modifier (Some body))
+plain_fits kind modifier body m is e =
+    unless_fits (values_fault kind modifier (values_in (row_of kind).style body)) (values_bytes kind modifier (values_in (row_of kind).style body)) m _
+    (values_fit kind modifier is (values_in (row_of kind).style body)) e
+
+-- ---- addresses
+unless_refused : (is : Bool) (one m : Made) (fault : FaultKind) → cond is (Ok one) (Err fault) ≡ Ok m → (is ≡ true) × (one ≡ m)
+unless_refused true one m fault e = (refl, cc)
+unless_refused false one m fault e = cc
+
+both_true : (a b : Bool) → (a && b) ≡ true → a ≡ true
+both_true true b e = refl
+both_true false b e = e
+
+is_four : (n : ℕ) (b : Bool) → (n == 4 && b) ≡ true → n ≡ 4
+is_four n b e = let f : n == 4 ≡ true = both_true (n == 4) b e in grind (arith, nat_tests)
+
+word_fits : (n : ℕ) (number : ℤ) (m : Made) → n ≡ 4 → made (integer_bytes 4 number) true ≡ m → MadeFits m n
+word_fits n number m is e = subst (λ m. MadeFits m n) e (record { short = omega (arith, integers 4 number, is); word = λ _. omega (arith, is) })
+
+placed_fits : (n : ℕ) (control section : Option (List ℕ)) (number : ℤ) (m : Made) → placed n control section number ≡ Ok m → MadeFits m n
+placed_fits n control None number m e =
+    let h = unless_refused (is_absolute_word n number) (made (integer_bytes n number) false) m ValueOutOfRange e in
+    fits_plain (integer_bytes n number) m n (integers n number) h.1
+placed_fits n control (Some section) number m e =
+    let h = unless_refused (n == 4 && stands_in section control) (made (integer_bytes 4 number) true) m NotRelocatable e in
+    word_fits n number m (is_four n (stands_in section control) h.0) h.1
+
+address_fits : (n : ℕ) (control : Option (List ℕ)) (value : Result Value FaultKind) (m : Made) → address_made n control value ≡ Ok m → MadeFits m n
+address_fits n control (Ok value) m e = placed_fits n control value.section value.number m e
+address_fits n control (Err fault) m e = cc
+
+-- ---- a constant
+body_fits : (find : List ℕ → Option Value) (here : Option Value) (control : Option (List ℕ)) (kind : ConstantKind) (modifier : Option ℕ) (value : Option (List ℕ)) (m : Made)
+    → Modified kind modifier → body_made find here control kind modifier value ≡ Ok m → MadeFits m (body_length kind modifier value)
+body_fits find here control kind modifier None m is e = fits_plain [] m _ (omega arith) cc
+body_fits find here control Address modifier (Some body) m is e =
+    fits_more m (value_length Address modifier body) _ (omega arith) (address_fits (value_length Address modifier body) control (value_of find here body) m e)
+body_fits find here control Character modifier (Some body) m is e = plain_fits Character modifier body m is e
+body_fits find here control Hexadecimal modifier (Some body) m is e = plain_fits Hexadecimal modifier body m is e
+body_fits find here control Binary modifier (Some body) m is e = plain_fits Binary modifier body m is e
+body_fits find here control Fullword modifier (Some body) m is e = plain_fits Fullword modifier body m is e
+body_fits find here control Halfword modifier (Some body) m is e = plain_fits Halfword modifier body m is e
+body_fits find here control Packed modifier (Some body) m is e = plain_fits Packed modifier body m is e
+body_fits find here control External modifier (Some body) m is e = plain_fits External modifier body m is e
+body_fits find here control Doubleword modifier (Some body) m is e = plain_fits Doubleword modifier body m is e
+
+-- ---- length modifiers
+none_least : (n : ℕ) → option_map Some (option_and_then at_least_one (at_most 0 n)) ≡ None
+none_least zero = refl
+none_least (suc n) = grind (arith, nat_tests)
+
+external_modified : (is_ds : Bool) (digits : List ℕ) (modifier : Option ℕ) → modifier_in is_ds External (Some digits) ≡ Some modifier → ⊥
+external_modified true digits modifier e = none-some modifier (sym (none_least (number_in 10 digits)) ∙ e)
+external_modified false digits modifier e = none-some modifier (sym (none_least (number_in 10 digits)) ∙ e)
+
+modified : (is_ds : Bool) (kind : ConstantKind) (digits : Option (List ℕ)) (modifier : Option ℕ) → modifier_in is_ds kind digits ≡ Some modifier → Modified kind modifier
+modified is_ds Character digits modifier e = tt
+modified is_ds Hexadecimal digits modifier e = tt
+modified is_ds Binary digits modifier e = tt
+modified is_ds Fullword digits modifier e = tt
+modified is_ds Halfword digits modifier e = tt
+modified is_ds Packed digits modifier e = tt
+modified is_ds Address digits modifier e = tt
+modified is_ds External digits None e = tt
+modified is_ds External None (Some modifier) e = cc
+modified is_ds External (Some digits) (Some modifier) e = absurd (external_modified is_ds digits (Some modifier) e)
+modified is_ds Doubleword digits modifier e = tt
+
+limited_parts : (duplication : Option ℕ) (modifier : Option (Option ℕ)) (kind : ConstantKind) (value : Option (List ℕ)) (item : Constant) → limited duplication modifier kind value ≡ Ok item
+    → (modifier ≡ Some item.modifier) × (kind ≡ item.kind)
+limited_parts None modifier kind value item e = cc
+limited_parts (Some duplication) None kind value item e = cc
+limited_parts (Some duplication) (Some modifier) kind value item e =
+    let same : constant duplication kind modifier value ≡ item = cc in
+    (ap (λ (i : Constant). Some i.modifier) same, ap (λ (i : Constant). i.kind) same)
+
+judged_modified : (is_ds : Bool) (written : Option Written) (item : Constant) → option_map_or (judged is_ds) written (Err BadOperand) ≡ Ok item → Modified item.kind item.modifier
+judged_modified is_ds None item e = cc
+judged_modified is_ds (Some written) item e =
+    let parts = limited_parts (duplication_in written.duplication) (modifier_in is_ds written.kind written.modifier) written.kind written.value item e in
+    subst (λ kind. Modified kind item.modifier) parts.1 (modified is_ds written.kind written.modifier item.modifier parts.0)
+
+constant_modified : (is_ds : Bool) (text : List ℕ) (item : Constant) → constant_in is_ds text ≡ Ok item → Modified item.kind item.modifier
+unfolding constant_in
+constant_modified is_ds text item e = judged_modified is_ds (written_in is_ds text) item e
+
+made_fits : (find : List ℕ → Option Value) (here : Option Value) (control : Option (List ℕ)) (item : Constant) (m : Made) → Modified item.kind item.modifier
+    → made_of find here control item ≡ Ok m → MadeFits m (length_of item)
+unfolding made_of length_of
+made_fits find here control item m is e = body_fits find here control item.kind item.modifier item.value m is e
+
+-- one copy of an item
+pub item_fits : (told : Whole) (counter : Option Value) (text : List ℕ) (item : Constant) (m : Made) → constant_in false text ≡ Ok item → item_made told false counter text ≡ Ok m → MadeFits m (length_of item)
+unfolding item_in
+item_fits told counter text item m e h =
+    made_fits told.find counter told.control item m (constant_modified false text item e)
+    (subst (λ r. judged_as (made_of told.find counter told.control) r ≡ Ok m) e h)
