@@ -1,6 +1,6 @@
 -- What an answer says of the source that it is of.
 use Rattle.std.specs.Prelude.{Result, Ok, Err, nat_le}
-use Rattle.std.proofs.Common.{◌≡◌, ◌≤◌, ℕ, Bool, true, false, cond, Option, Some, None, List, length, refl, sym, ◌∙◌, ap, subst, arith}
+use Rattle.std.proofs.Common.{◌≡◌, ◌≤◌, ℕ, Bool, true, false, cond, Option, Some, None, List, length, refl, sym, ◌∙◌, subst, arith}
 use Rattle.std.proofs.lemmas.Bool.Decides.{nat_tests}
 use Rattle.cx_code.specs.declared.disassembly.Line.{Line}
 use Rattle.cx_image.specs.Resolved.{AreApart}
@@ -8,7 +8,7 @@ use Rattle.cx_image.specs.Text.{text_of}
 use Rattle.cx_places.specs.Placed.{known_of}
 use Rattle.cx_places.specs.declared.place.LineFault.{LineFault}
 use Rattle.cx_source.specs.declared.source.Source.{Source}
-use Rattle.cx_asm.specs.Assembly.{Assembles, AssemblyParts, assembly_of, end_line, fault_at, made_of, second_fault_of, section_of, size_of, standing_of, unless_refused, unless_too_large}
+use Rattle.cx_asm.specs.Assembly.{Assembles, AssemblyParts, assembly_of, end_line, made_of, second_fault_of, section_of, size_of, standing_of, unless_refused, unless_too_large}
 use Rattle.cx_asm.specs.Laws.Standing.{IsWithin, WordsApart}
 use Rattle.cx_asm.specs.declared.faults.AsmFault.{AsmFault}
 use Rattle.cx_asm.specs.declared.faults.AsmFault.TheVariants as fault
@@ -27,7 +27,7 @@ told due (Err (fault.NotRelocatable line)) e not = e
 told due (Err (fault.TooLarge line)) e not = e
 
 pub one_answer : (due one other : Result AssemblyParts AsmFault) → Assembles due one → Assembles due other → (one ≡ Err fault.Memory → ⊥) → (other ≡ Err fault.Memory → ⊥) → one ≡ other
-one_answer due one other e f no none = sym (told due one e no) ∙ told due other f none
+one_answer due one other e f one_told other_told = sym (told due one e one_told) ∙ told due other f other_told
 
 -- ---- an accepted source
 not_refused : (first : Option LineFault) (result : Result AssemblyParts AsmFault) (made : AssemblyParts) → unless_refused first result ≡ Ok made → (first ≡ None) × (result ≡ Ok made)

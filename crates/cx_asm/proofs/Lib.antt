@@ -1,3 +1,4 @@
+mod AnswerLemmas
 mod FitLemmas
 mod SectionLemmas
 mod WithinLemmas

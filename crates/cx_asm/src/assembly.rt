@@ -45,7 +45,8 @@ impl Model for Assembly {
 impl Assembly {
     /// The image: the text has each resolved line's bytes at its place, and zeros elsewhere. It takes no memory.
     pub fn image(&self) -> &Image
-        ensures { result.now ≡ self.now.section.image }
+        ensures value { result.now ≡ self.now.section.image }
+        ensures parts { IsAssembled self.now.section }
     {
         self.section.image()
     }

@@ -1,14 +1,17 @@
 //! What follows from the definitions of assembling.
 
-ghost use Rattle.std.specs.Prelude.{◌≡◌, ◌≤◌, List, None, Ok, Option, false, length, true, ℕ};
+ghost use Rattle.std.specs.Prelude.{◌≡◌, ◌≢◌, ◌≤◌, Err, List, None, Ok, Option, Result, false, length, true, ℕ};
+ghost use Rattle.cx_image.specs.Resolved.{AreApart};
 ghost use Rattle.cx_terms.specs.Bytes.{Made};
 ghost use Rattle.cx_terms.specs.Items.{Constant, constant_in, length_of};
 ghost use Rattle.cx_terms.specs.declared.values.Value.{Value};
 ghost use Rattle.cx_places.specs.Placed.{known_of};
 ghost use Rattle.cx_source.specs.declared.source.Source.{Source};
 ghost use Rattle.cx_second.specs.Whole.{Whole, item_made};
-ghost use Rattle.cx_asm.specs.Assembly.{size_of, standing_of};
-ghost use Rattle.cx_asm.specs.Laws.Standing.{IsWithin};
+ghost use Rattle.cx_asm.specs.Assembly.{Assembles, AssemblyParts, assembly_of, size_of, standing_of};
+ghost use Rattle.cx_asm.specs.Laws.Standing.{IsWithin, WordsApart};
+ghost use Rattle.cx_asm.specs.declared.faults.AsmFault.{AsmFault};
+ghost use Rattle.cx_asm.specs.declared.faults.AsmFault.TheVariants.{Memory};
 
 /// A copy of an item of a DC, or of a literal, has no more bytes than its length, which is a word's at least where it is
 /// relocated.
@@ -27,4 +30,24 @@ pub fn what_stands_stands_apart()
 {
     cx_operands::laws::what_is_resolved_is_well_formed();
     cx_code::laws::every_spelling();
+}
+
+/// There is one assembly of a source: two answers to one source, neither of them Memory, are one answer.
+pub fn an_assembly_is_one()
+    ensures { (due one other : Result AssemblyParts AsmFault) → Assembles due one → Assembles due other → one ≢ Err Memory → other ≢ Err Memory
+        → one ≡ other }
+{}
+
+/// The text of an accepted source is as long as its control section, 65,536 bytes at most. Its resolved lines ascend, share no byte and end in it, and so
+/// do its relocated words.
+pub fn an_assembly_stands_apart()
+    ensures size { (source : Source) (made : AssemblyParts) → assembly_of source ≡ Ok made → length made.section.image.text ≡ size_of source }
+    ensures short { (source : Source) (made : AssemblyParts) → assembly_of source ≡ Ok made → size_of source ≤ 65536 }
+    ensures lines { (source : Source) (made : AssemblyParts) → assembly_of source ≡ Ok made
+        → AreApart 0 made.section.resolved (length made.section.image.text) }
+    ensures words { (source : Source) (made : AssemblyParts) → assembly_of source ≡ Ok made
+        → WordsApart 0 made.section.image.relocs (length made.section.image.text) }
+{
+    what_stands_stands_apart();
+    cx_image::laws::the_text_is_told_by_its_bytes();
 }

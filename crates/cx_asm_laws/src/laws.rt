@@ -1,0 +1,23 @@
+//! What follows for the loader from the definitions of assembling, on functions that do nothing.
+
+ghost use Rattle.std.specs.Prelude.{◌≡◌, ◌≢◌, IsTrue, Ok, length};
+ghost use Rattle.cx_source.specs.declared.source.Source.{Source};
+ghost use Rattle.cx_load.specs.Fault.{IsLowestFault, all_apart, are_inside};
+ghost use Rattle.cx_load.specs.declared.fault.ImageFault.{ImageFault};
+ghost use Rattle.cx_load.specs.declared.fault.ImageFault.TheVariants.{BadLength, Overlap, RelocOutside};
+ghost use Rattle.cx_asm.specs.Assembly.{AssemblyParts, assembly_of, size_of};
+
+/// The relocated words of an accepted source end inside its text and share no byte. So its image is refused for its length, its
+/// entry or its working storage alone; for its length only where its control section is empty, or it has none.
+pub fn an_assembled_image_is_refused_for_little()
+    ensures inside { (source : Source) (made : AssemblyParts) → assembly_of source ≡ Ok made
+        → IsTrue (are_inside (length made.section.image.text) made.section.image.relocs) }
+    ensures apart { (source : Source) (made : AssemblyParts) → assembly_of source ≡ Ok made → IsTrue (all_apart made.section.image.relocs) }
+    ensures refused { (source : Source) (made : AssemblyParts) (fault : ImageFault) → assembly_of source ≡ Ok made
+        → IsLowestFault made.section.image fault → (fault ≢ RelocOutside) × (fault ≢ Overlap) }
+    ensures length { (source : Source) (made : AssemblyParts) → assembly_of source ≡ Ok made → IsLowestFault made.section.image BadLength
+        → size_of source ≡ 0 }
+{
+    cx_asm::laws::an_assembly_stands_apart();
+    cx_load::laws::words_in_order();
+}
