@@ -2,7 +2,7 @@
 use crate::texts::{assembled, disassembled, listing, text_length};
 use std::test::Fail;
 
-const PROGRAM: &[u8] =
+pub(crate) const PROGRAM: &[u8] =
     b"P        CSECT\n         USING P,15\n         MVC   8(2,13),=C'AB'\n         L     1,=F'1'\n         LH    2,=H'2'\n         A     1,=F'1'\n         END\n";
 
 #[rattlefmt::skip]
@@ -13,6 +13,7 @@ const ASSEMBLED: &[(&[u8], &str)] = &[
     (b"P CSECT\n DC A(5)\n END\n", "00000005 E0 S80"),
     (b"P CSECT\n DC A(P-5)\n END\n", "FFFFFFFB R0 E0 S80"),
     (b"P CSECT\n LR 1,2\nX LR 3,4\n END X\n", "18121834 E2 S80"),
+    (b" END\n", " E0 S80"),
     (b"DFHEISTG DSECT\n DS 81X\n END\n", " E0 S81"),
     (b"DFHEISTG DSECT\n DS 79X\n END\n", " E0 S80"),
     (b"DFHEISTG DSECT\n DS 65520X\n END\n", " E0 S65520"),

@@ -1,5 +1,6 @@
 //! Which sources are refused, at which line, and as what.
-use crate::texts::assembled;
+use crate::images::PROGRAM;
+use crate::texts::{assembled, line_without_end};
 use std::test::Fail;
 
 #[rattlefmt::skip]
@@ -27,5 +28,26 @@ fn sources_are_refused_so(rt: HostRuntime) -> Result<(), Fail> {
         let found = assembled(rt.alloc(), source)?;
         assert!(rt; found.as_str() == fault, "{found}");
     }
+    Ok(())
+}
+
+#[test]
+fn every_front_of_a_program_has_no_end(rt: HostRuntime) -> Result<(), Fail> {
+    let mut front = Vec::new(rt.alloc());
+    let mut behind: usize = 1;
+    let mut begins = true;
+    for byte in PROGRAM {
+        assert!(rt; line_without_end(rt.alloc(), front.as_slice()) == Some(behind));
+        if *byte == b'D' && front.as_slice().ends_with(b" EN") {
+            break;
+        }
+        front.push(*byte)?;
+        if begins {
+            behind = behind.saturating_add(1);
+        }
+        begins = *byte == b'\n';
+    }
+    assert!(rt; behind == 8);
+    assert!(rt; line_without_end(rt.alloc(), PROGRAM) == None);
     Ok(())
 }

@@ -1,7 +1,7 @@
 //! Sources, and what they are assembled to, as text.
 use cx_asm::{AsmFault, Assembly, assemble, disassembly};
 use cx_code::line_text;
-use cx_source::read_source;
+use cx_source::{SourceFault, read_source};
 use std::alloc::Global;
 use std::test::Fail;
 
@@ -27,6 +27,14 @@ pub(crate) fn assembled(alloc: Global, source: &[u8]) -> Result<String, Fail> {
     match assemble(alloc, &source) {
         Ok(assembly) => image_text(alloc, &assembly),
         Err(fault) => fault_text(alloc, fault),
+    }
+}
+
+/// The line at which a source has no END, if that is its fault.
+pub(crate) fn line_without_end(alloc: Global, source: &[u8]) -> Option<usize> {
+    match read_source(alloc, source) {
+        Err(SourceFault::NoEnd(line)) => Some(line),
+        _ => None,
     }
 }
 
