@@ -1,18 +1,10 @@
-//! Tests of scripts, over public calls: transcripts, lines, devices, the program's lines.
+//! Tests of scripts, over public calls: transcripts, lines, sources, the program's lines.
 #![tactic(auto)]
 
-#[cfg(test)]
-mod blocks;
-#[cfg(test)]
-mod bound;
-#[cfg(test)]
-mod devices;
 #[cfg(test)]
 mod full;
 #[cfg(test)]
 mod lines;
-#[cfg(test)]
-mod pieces;
 #[cfg(test)]
 mod runs;
 #[cfg(test)]

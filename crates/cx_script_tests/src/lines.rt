@@ -1,6 +1,7 @@
 //! Lines: their ends, their length, and which are bad.
 
-use crate::runs::{comment, expect_run};
+use crate::runs::expect_run;
+use cx_devices::comment;
 use cx_script::{RunFault, Summary};
 use std::test::Fail;
 
@@ -99,31 +100,31 @@ fn lines_end_in_their_ways(rt: HostRuntime) {
 fn a_line_has_at_most_4096_bytes(rt: HostRuntime) -> Result<(), Fail> {
     expect_run(
         &rt,
-        &comment(&rt, 4096, b"\n")?,
+        &comment(rt.alloc(), 4096, b"\n")?,
         Ok(Summary { lines: 1 }),
         b"",
     );
     expect_run(
         &rt,
-        &comment(&rt, 4096, b"\r\n")?,
+        &comment(rt.alloc(), 4096, b"\r\n")?,
         Ok(Summary { lines: 1 }),
         b"",
     );
     expect_run(
         &rt,
-        &comment(&rt, 4096, b"")?,
+        &comment(rt.alloc(), 4096, b"")?,
         Ok(Summary { lines: 1 }),
         b"",
     );
     expect_run(
         &rt,
-        &comment(&rt, 4096, b"\r")?,
+        &comment(rt.alloc(), 4096, b"\r")?,
         Err(RunFault::BadLine(1)),
         b"",
     );
     expect_run(
         &rt,
-        &comment(&rt, 4097, b"\n")?,
+        &comment(rt.alloc(), 4097, b"\n")?,
         Err(RunFault::BadLine(1)),
         b"",
     );

@@ -169,6 +169,24 @@ fn a_block_is_read_whole_before_its_source_is_judged(rt: HostRuntime) -> Result<
     Ok(())
 }
 
+/// Of a source without END the line of the block's end is told; of one without USING the first that wants a base.
+#[test]
+fn a_source_lacks_a_line(rt: HostRuntime) -> Result<(), Fail> {
+    let instructions =
+        "         MVC   8(2,13),=C'AB'\n         L     1,=F'1'\n         LH    2,=H'2'\n         A     1,=F'1'\n";
+    let unended = format!(in rt.alloc();
+        "SOURCE P LIST DISASM\nP        CSECT\n         USING P,15\n{instructions}/*\n"
+    )?;
+    let no_end = Err(RunFault::Source(8, SourceKind::NoEnd));
+    expect_run(&rt, unended.as_bytes(), no_end, b"");
+    let unbased = format!(in rt.alloc();
+        "SOURCE P LIST DISASM\nP        CSECT\n{instructions}         END\n/*\n"
+    )?;
+    let no_base = Err(RunFault::Source(3, SourceKind::NoAddressability));
+    expect_run(&rt, unbased.as_bytes(), no_base, b"");
+    Ok(())
+}
+
 #[test]
 fn words_behind_source_stand_in_their_order(rt: HostRuntime) {
     let lines: [&[u8]; 9] = [

@@ -2,37 +2,11 @@
 
 ghost use Rattle.std.specs.Prelude.{None, false};
 
-use crate::runs::comment;
+use crate::runs::expect_read;
+use cx_devices::{PieceIn, comment};
 use cx_script::{DeviceFault, MemoryOut, RunFault, ScriptIn, Summary, run_script};
 use std::process::Abort;
 use std::test::Fail;
-
-/// A reader that gives at most so many bytes at a time: `first` at first, then `next`.
-#[derive(Drop)]
-struct Pieces<'a> {
-    rest: &'a [u8],
-    first: usize,
-    next: usize,
-}
-
-impl<'a> ScriptIn for Pieces<'a> {
-    ghost left = { λ _. None };
-
-    ghost has_failed = { λ _. false };
-
-    fn read(&mut self, buffer: &mut [u8]) -> Result<usize, DeviceFault> {
-        let n = buffer.len().min(self.rest.len()).min(self.first.max(1));
-        let (front, behind) = self.rest.split_at(n);
-        buffer[..n].copy_from_slice(front);
-        self.rest = behind;
-        self.first = self.next;
-        Ok(n)
-    }
-
-    fn failed(&self) -> bool {
-        false
-    }
-}
 
 /// Runs a script that is read in pieces, and looks at the answer and the transcript.
 fn expect_pieces<R: Abort + AllocGlobal>(
@@ -42,16 +16,8 @@ fn expect_pieces<R: Abort + AllocGlobal>(
     answer: Result<Summary, RunFault>,
     transcript: &[u8],
 ) {
-    let mut buffer = [0; 512];
-    let mut output = MemoryOut::new(&mut buffer);
-    let mut input = Pieces {
-        rest: script,
-        first,
-        next,
-    };
-    let ran = run_script(rt.alloc(), &mut input, &mut output);
-    assert_eq!(rt; ran, answer, "cut at {first}, then {next}");
-    assert_eq!(rt; output.text(), transcript, "cut at {first}, then {next}");
+    let input = PieceIn::new(script, next).beginning(first);
+    expect_read(rt, input, first, answer, transcript);
 }
 
 const SCRIPT: &[u8] =
@@ -150,7 +116,7 @@ fn long_lines_in_pieces(rt: HostRuntime) -> Result<(), Fail> {
     let ends: [&[u8]; 5] = [b"", b"\n", b"\r\n", b"\r\r\n", b"\r"];
     for len in 4095..4099 {
         for (k, end) in ends.iter().enumerate() {
-            let script = comment(&rt, len, end)?;
+            let script = comment(rt.alloc(), len, end)?;
             let kept = if k == 3 || k == 4 { len + 1 } else { len };
             let answer = if kept <= 4096 {
                 Ok(Summary { lines: 1 })
@@ -169,8 +135,8 @@ fn long_lines_in_pieces(rt: HostRuntime) -> Result<(), Fail> {
 /// A line that is as long as it may be, and one that is longer, cut at every place.
 #[test]
 fn long_lines_are_cut_at_every_place(rt: HostRuntime) -> Result<(), Fail> {
-    let longest = comment(&rt, 4096, b"\r\n")?;
-    let longer = comment(&rt, 4097, b"\n")?;
+    let longest = comment(rt.alloc(), 4096, b"\r\n")?;
+    let longer = comment(rt.alloc(), 4097, b"\n")?;
     for first in 1..4098 {
         expect_pieces(&rt, &longest, (first, 4096), Ok(Summary { lines: 1 }), b"");
         expect_pieces(&rt, &longer, (first, 4096), Err(RunFault::BadLine(1)), b"");
