@@ -1,2 +1,3 @@
 -- The definitions, in reading order.
 pub mod Block
+pub mod Together

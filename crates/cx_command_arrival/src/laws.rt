@@ -1,7 +1,15 @@
 //! What holds of a translated source that was assembled.
 ghost use Rattle.cx_command_arrival.specs.Block.{EibIsLaidOut};
+ghost use Rattle.cx_command_arrival.specs.Together.{MadeStandTogether};
 
 /// The assembler places each field of DFHEIBLK at the offset, and with the length, at which the region writes it.
 pub fn the_eib_is_laid_out()
     ensures { EibIsLaidOut }
+{}
+
+/// The statements made of an EXEC statement stand together, one right behind the other, in the translated source, with the
+/// EXEC statement's line: under its name the stores of the block's address and of each argument's, in the order of their
+/// words, then the call, then the loads of pointers.
+pub fn made_statements_stand_together()
+    ensures { MadeStandTogether }
 {}
