@@ -1,0 +1,52 @@
+//! Calls that take memory, each given once more where it is answered Memory.
+
+ghost use Rattle.std.specs.Prelude.{IfOk, IfSome};
+ghost use Rattle.cx_actions.specs.Allowed.{IsAllowedLine};
+ghost use Rattle.cx_edf.specs.Runs.{IsAllowedEdf};
+
+use cx_actions::{Line, line_of};
+use cx_edf::{Answer, Debugged, EdfEvent};
+use cx_pages::PagedStore;
+use cx_region::Region;
+use std::alloc::{AllocError, Global};
+
+/// A region under EDF.
+fn region(alloc: Global) -> Result<Debugged<PagedStore>, AllocError> {
+    let region = Region::new(alloc, PagedStore::new(alloc))?;
+    Ok(Debugged::new(alloc, region))
+}
+
+/// A region under EDF, begun once more where that is answered Memory.
+pub fn begun(alloc: Global) -> Result<Debugged<PagedStore>, AllocError> {
+    match region(alloc) {
+        Ok(region) => Ok(region),
+        Err(_) => region(alloc),
+    }
+}
+
+/// What a line asks, as a region may be asked it.
+pub fn allowed_line(alloc: Global, line: &[u8]) -> Result<Option<Line>, AllocError>
+    ensures { IfOk result (λ line. IfSome line IsAllowedLine) }
+{
+    match line_of(alloc, line) {
+        Ok(line) => Ok(line),
+        Err(_) => line_of(alloc, line),
+    }
+}
+
+/// Does an event.
+fn happen(region: &mut Debugged<PagedStore>, event: &EdfEvent) -> Result<Answer, AllocError>
+    requires { IsAllowedEdf event.now }
+{
+    region.happen(event)
+}
+
+/// Does an event; where it is answered Memory, it is given once more.
+pub fn done(region: &mut Debugged<PagedStore>, event: &EdfEvent) -> Result<Answer, AllocError>
+    requires { IsAllowedEdf event.now }
+{
+    match happen(region, event) {
+        Ok(answer) => Ok(answer),
+        Err(_) => happen(region, event),
+    }
+}
