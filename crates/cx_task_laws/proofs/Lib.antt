@@ -7,3 +7,6 @@ mod CommandLemmas
 mod ExitLemmas
 mod CallerLemmas
 mod RunLemmas
+mod RowLemmas
+mod MemoryLemmas
+mod ReturnLemmas

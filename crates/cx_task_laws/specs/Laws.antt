@@ -2,3 +2,4 @@
 pub mod Bytes
 pub mod Exits
 pub mod Levels
+pub mod Memory

@@ -1,7 +1,8 @@
 //! What holds of every half-turn.
 ghost use Rattle.cx_task_laws.specs.Laws.Bytes.{CommandsLeaveOthers};
 ghost use Rattle.cx_task_laws.specs.Laws.Exits.{CancelTakesNoExit, ExitsAreNearest, ExitsTakeAbends};
-ghost use Rattle.cx_task_laws.specs.Laws.Levels.{CommandsAreKept, HalfTurnsLeaveCallers, LinksAreReturned, PopsRestore};
+ghost use Rattle.cx_task_laws.specs.Laws.Levels.{CommandsAreKept, HalfTurnsLeaveCallers, LinksAreReturned, PopsRestore, ReturnsHaveCallers};
+ghost use Rattle.cx_task_laws.specs.Laws.Memory.{OnlyTheseTakeMemory};
 
 /// A command leaves the areas of all other slots, and of the region itself. Each of their bytes stays, unless an output
 /// of the command, or RESP's word, has its address.
@@ -37,4 +38,17 @@ pub fn a_link_is_returned_from()
 #[tactic(auto, using(crate::proofs::RunLemmas::pops_restore))]
 pub fn pop_restores_what_push_kept()
     ensures { PopsRestore }
+{}
+
+/// A half-turn that may take memory is one of a command that is due: GETMAIN, READQ TS with SET, WRITEQ TS, ENQ, LINK, XCTL, or
+/// RETURN with bytes in its COMMAREA. So none that runs instructions takes any, and none of another command.
+#[tactic(auto, using(crate::proofs::MemoryLemmas::only_these_take_memory))]
+pub fn only_these_take_memory()
+    ensures { OnlyTheseTakeMemory }
+{}
+
+/// A half-turn is answered Returned only where a level has linked to the current one, which is the current one then.
+#[tactic(auto, using(crate::proofs::ReturnLemmas::returns_have_callers))]
+pub fn a_return_has_a_caller()
+    ensures { ReturnsHaveCallers }
 {}

@@ -1,6 +1,6 @@
 -- What half-turns leave of a task's program levels, and of what each has asked for (Application Programmer's Reference
 -- Manual, SC33-0077, "Program Control", "HANDLE CONDITION", "PUSH HANDLE").
-use Rattle.std.specs.Prelude.{◌≡◌, ℕ, suc, ◌≤◌, false, ⊤, ◌⊎◌, List, [], ◌∷◌, length, drop}
+use Rattle.std.specs.Prelude.{◌≡◌, ℕ, suc, ◌<◌, ◌≤◌, false, ⊤, ◌⊎◌, List, [], ◌∷◌, length, drop}
 use Rattle.std.specs.List.{AllByRecursion}
 use Rattle.cx_program.specs.declared.level.Level.{Level}
 use Rattle.cx_program.specs.Handles.{Handles, no_handles}
@@ -40,6 +40,10 @@ LeavesCallers _ before after = after.levels.callers ≡ before.levels.callers
 
 abbrev pub HalfTurnsLeaveCallers : Type 0
 HalfTurnsLeaveCallers = (before after : Reach) (reply : TurnReply) → HalfTurn before reply after → LeavesCallers reply before.task after.task
+
+-- Returned is answered only where a level has linked to the current one.
+abbrev pub ReturnsHaveCallers : Type 0
+ReturnsHaveCallers = (before after : Reach) → HalfTurn before turn.Returned after → 0 < length before.task.levels.callers
 
 -- the current level keeps the registers and the code that its program has at a command
 pub record Keeps (task : TaskState) : Type 0 where

@@ -1,0 +1,300 @@
+-- A half-turn is answered Returned only where there is a caller.
+use Rattle.std.proofs.Common.{◌≡◌, ℕ, ◌<◌, Bool, true, false, List, [], ◌∷◌, length, Option, Some, None, refl, sym, ◌∙◌, ap, arith, inl, inr}
+use Rattle.std.specs.Prelude.{◌&&◌, not, nat_lt, Result, Ok, Err, MatchBool, MatchOption, MatchResult, if◌then◌else◌}
+use Rattle.std.specs.Option.{option_map_or}
+use Rattle.std.proofs.lemmas.Bool.{cases_Bool, true≢false}
+use Rattle.cx_command.specs.Abends.{abend_code}
+use Rattle.cx_command.specs.declared.abends.Abend.TheVariants as abend
+use Rattle.cx_command.specs.declared.commands.Command.{Command}
+use Rattle.cx_command.specs.declared.commands.Command.TheVariants as command
+use Rattle.cx_command.specs.declared.conditions.Condition.{Condition}
+use Rattle.cx_command.specs.declared.conditions.Condition.TheVariants.{Lengerr, Pgmiderr, Qiderr}
+use Rattle.cx_command.specs.declared.options.OptionName.TheVariants as option
+use Rattle.cx_exec.specs.declared.machine.Halt.{Halt}
+use Rattle.cx_exec.specs.declared.machine.Halt.TheVariants as halt
+use Rattle.cx_program.specs.declared.choice.Choice.{Choice}
+use Rattle.cx_program.specs.declared.choice.Choice.TheVariants as choice
+use Rattle.cx_program.specs.declared.level.Level.{Level}
+use Rattle.cx_service.specs.declared.faults.ServiceFault.{ServiceFault}
+use Rattle.cx_service.specs.declared.resources.ResourceName.{ResourceName}
+use Rattle.cx_service.specs.Queues.{read_fault, rewrite_fault, write_fault}
+use Rattle.cx_service.specs.Resources.{enq_fault}
+use Rattle.cx_call.specs.declared.call.CallFault.{CallFault}
+use Rattle.cx_call.specs.declared.inputs.Piece.{Piece}
+use Rattle.cx_call.specs.Call.{Call, call_of}
+use Rattle.cx_call.specs.Inputs.{are_inputs_there, bytes_of, is_length_negative, measured, piece_of}
+use Rattle.cx_state.specs.State.{Reach}
+use Rattle.cx_state.specs.declared.replies.TurnReply.TheVariants as turn
+use Rattle.cx_state.specs.declared.verdict.Change.{Change}
+use Rattle.cx_state.specs.declared.verdict.Change.TheVariants.{Nothing, Makes, Ends, Gets, Enters, Replaces, LevelEnds, TaskEnds, AbendsWith}
+use Rattle.cx_state.specs.declared.verdict.Copying.{Copying}
+use Rattle.cx_state.specs.declared.verdict.Verdict.{Verdict}
+use Rattle.cx_state.specs.declared.verdict.Verdict.TheVariants.{Meets, Refuses, Waits}
+use Rattle.cx_rows.specs.declared.common.Called.{Called}
+use Rattle.cx_rows.specs.Common.{commarea_of, does, has, named_program, only}
+use Rattle.cx_rows.specs.Services.{unless}
+use Rattle.cx_rows.specs.Abend.{abend_row}
+use Rattle.cx_rows.specs.Address.{address_row}
+use Rattle.cx_rows.specs.Enq.{enq_row, enqueues, is_wrong_length, resource_named}
+use Rattle.cx_rows.specs.Getmain.{GetmainRow, asked_len, filling, gets, is_area_length}
+use Rattle.cx_rows.specs.HandleAbend.{handle_abend_row}
+use Rattle.cx_rows.specs.Handling.{handle_row, ignore_row}
+use Rattle.cx_rows.specs.Judged.{Judged, JudgedBy}
+use Rattle.cx_rows.specs.Link.{LinkRow, Links, enters}
+use Rattle.cx_rows.specs.ReadqTs.{ReadqRow, Reads, ReadsItem, ReadsQueue, item_asked, reading_of, reads_into, reads_to}
+use Rattle.cx_rows.specs.Return.{highest_return, return_row}
+use Rattle.cx_rows.specs.Suspend.{suspend_row}
+use Rattle.cx_rows.specs.WriteqTs.{item_named, writeq_row, written_to}
+use Rattle.cx_rows.specs.Xctl.{Transfers, XctlRow, XctlTo, copying_to, replaces}
+use Rattle.cx_rows.specs.Facts.FitsParts.{by_option, by_test}
+use Rattle.cx_task.specs.declared.way.Way.{Way}
+use Rattle.cx_task.specs.declared.way.Way.TheVariants as way
+use Rattle.cx_task.specs.Abends.{Abends, AbendsAt}
+use Rattle.cx_task.specs.Answers.{Answers, Does, LeavesAll, MeetsWith, has_room, way_at}
+use Rattle.cx_task.specs.Performing.{Called as IsCalled, Commanded, Performs, fault_code, list_of}
+use Rattle.cx_task.specs.Turn.{HalfTurn, Halted, RunsOn}
+use Rattle.cx_task.specs.Ways.{Goes, choice_for, is_normal, is_wait, way_by, way_chosen, way_of}
+use Rattle.cx_task_laws.specs.Laws.Levels.{ReturnsHaveCallers}
+use Rattle.cx_task_laws.proofs.RowLemmas.{IsApart, deleteq_none, deq_none, freemain_none, never, passes, pop_none, push_none, receive_none, send_text_none, unless_none}
+
+-- whether a change ends a level
+ends_level : Change → Bool
+ends_level LevelEnds = true
+ends_level _ = false
+
+apart : IsApart ends_level
+unfolding ends_level
+apart = record { none = refl; ends = λ e. refl; handles = λ r. refl; shows = λ piece erase. refl }
+
+-- ---- rows that end no level
+getmain_none : (call : Call) (r : Reach) (v : Verdict) → GetmainRow r.shared.storage call v → passes ends_level v ≡ true → {P : Type 0} → P
+unfolding GetmainRow passes ends_level
+getmain_none call r v row e = by_test (is_area_length (asked_len r.shared.storage call)) row (λ _ at. got at.place at.is) (λ _ is. never ends_level v (only Lengerr) is refl e)
+  where
+    got : {P : Type 0} (place : Option ℕ) → v ≡ gets (asked_len r.shared.storage call) (filling r.shared.storage call) place → P
+    got None is = never ends_level v _ is refl e
+    got (Some place) is = never ends_level v _ is refl e
+
+readq_none : (call : Call) (r : Reach) (v : Verdict) → ReadqRow r.shared.storage r.shared.queues call v → passes ends_level v ≡ true → {P : Type 0} → P
+unfolding ReadqRow ReadsQueue Reads passes ends_level
+readq_none call r v row e =
+    by_test (has call option.Into && is_length_negative r.shared.storage call) row
+    (λ _ is. never ends_level v (only Lengerr) is refl e)
+    (λ _ named. by_option (bytes_of r.shared.storage call option.Queue 8) named
+    (λ is. never ends_level v (only Qiderr) is refl e)
+    (λ name _ reads. by_fault name (item_asked r.shared.storage r.shared.queues call name) (read_fault r.shared.queues name (item_asked r.shared.storage r.shared.queues call name)) reads))
+  where
+    placed : {P : Type 0} (name : List ℕ) (n : ℕ) (place : Option ℕ) → v ≡ reads_to (reading_of r.shared.queues name n) place → P
+    placed name n None is = never ends_level v _ is refl e
+    placed name n (Some place) is = never ends_level v _ is refl e
+
+    by_fault : {P : Type 0} (name : List ℕ) (n : ℕ) (o : Option ServiceFault) → ReadsItem r.shared.storage r.shared.queues call name n o v → P
+    by_fault name n None reads =
+        by_test (has call option.Set) reads
+        (λ _ at. placed name n at.place at.is)
+        (λ _ is. never ends_level v (reads_into (measured r.shared.storage call) (reading_of r.shared.queues name n)) is refl e)
+    by_fault name n (Some fault) is = never ends_level v (unless (Some fault) (only Qiderr)) is (unless_none ends_level apart (Some fault) (only Qiderr) refl) e
+
+link_none : (call : Call) (r : Reach) (v : Verdict) → LinkRow r.shared.storage r.shared.programs r.task.levels call v → passes ends_level v ≡ true → {P : Type 0} → P
+unfolding LinkRow Links passes ends_level
+link_none call r v row e =
+    by_test (is_length_negative r.shared.storage call) row
+    (λ _ is. never ends_level v (only Lengerr) is refl e)
+    (λ _ named. by_option (named_program r.shared.storage call r.shared.programs) named
+    (λ is. never ends_level v (only Pgmiderr) is refl e)
+    (λ called _ links. by_test (nat_lt (length r.task.levels.callers) 15) links
+    (λ _ at. placed called at.place at.is)
+    (λ _ is. never ends_level v (Refuses abend.Xlvl) is refl e)))
+  where
+    placed : {P : Type 0} (called : Called) (place : Option ℕ) → v ≡ enters called (commarea_of r.shared.storage call) place → P
+    placed called None is = never ends_level v _ is refl e
+    placed called (Some stg) is = never ends_level v _ is refl e
+
+xctl_none : (call : Call) (r : Reach) (v : Verdict) → XctlRow r.shared.storage r.station.slot r.shared.programs call v → passes ends_level v ≡ true → {P : Type 0} → P
+unfolding XctlRow XctlTo passes ends_level
+xctl_none call r v row e =
+    by_test (is_length_negative r.shared.storage call) row
+    (λ _ is. never ends_level v (only Lengerr) is refl e)
+    (λ _ named. by_option (named_program r.shared.storage call r.shared.programs) named
+    (λ is. never ends_level v (only Pgmiderr) is refl e)
+    (λ called _ goes. by_option (commarea_of r.shared.storage call) goes
+    (λ at. placed called None at.place at.is)
+    (λ piece _ copies. copied called piece copies.place copies.goes)))
+  where
+    placed : {P : Type 0} (called : Called) (copying : Option Copying) (place : Option ℕ) → v ≡ replaces called copying place → P
+    placed called copying None is = never ends_level v _ is refl e
+    placed called copying (Some stg) is = never ends_level v _ is refl e
+
+    copied : {P : Type 0} (called : Called) (piece : Piece) (place : Option ℕ)
+        → MatchOption place (v ≡ Refuses abend.Xstg) (λ to. Transfers r.shared.storage r.station.slot called (Some (copying_to piece to)) v) → P
+    copied called piece None is = never ends_level v (Refuses abend.Xstg) is refl e
+    copied called piece (Some to) at = placed called (Some (copying_to piece to)) at.place at.is
+
+writeq_none : (call : Call) (r : Reach) → passes ends_level (writeq_row r.shared.storage r.shared.queues call) ≡ false
+unfolding writeq_row passes ends_level
+writeq_none call r = go (bytes_of r.shared.storage call option.Queue 8)
+  where
+    written : (name : List ℕ) (o : Option Piece) → passes ends_level (written_to r.shared.storage r.shared.queues call name o) ≡ false
+    written name None = refl
+    written name (Some piece) = elim (cases_Bool (has call option.Rewrite)) [
+      | inl t ↦ rw t (unless_none ends_level apart (rewrite_fault r.shared.queues name (item_named r.shared.storage call) piece.len) _ refl)
+      | inr f ↦ rw f (unless_none ends_level apart (write_fault r.shared.queues name piece.len) _ refl)
+    ]
+
+    go : (o : Option (List ℕ)) → passes ends_level (option_map_or (λ name. written_to r.shared.storage r.shared.queues call name (piece_of r.shared.storage call option.From)) o (only Qiderr)) ≡ false
+    go None = refl
+    go (Some name) = written name (piece_of r.shared.storage call option.From)
+
+enq_none : (call : Call) (r : Reach) → passes ends_level (enq_row r.shared.storage r.shared.resources r.station.slot call) ≡ false
+unfolding enq_row passes ends_level
+enq_none call r = elim (cases_Bool (is_wrong_length r.shared.storage call)) [
+  | inl t ↦ rw t refl
+  | inr f ↦ rw f (go (resource_named r.shared.storage call))
+]
+  where
+    go : (o : Option ResourceName) → passes ends_level (option_map_or (enqueues r.shared.resources r.station.slot) o (only Lengerr)) ≡ false
+    go None = refl
+    go (Some name) = unless_none ends_level apart (enq_fault r.shared.resources r.station.slot name) _ refl
+
+-- ---- RETURN
+return_has : (call : Call) (r : Reach) (v : Verdict) → v ≡ return_row r.shared.storage r.task.levels.callers call → passes ends_level v ≡ true → 0 < length r.task.levels.callers
+unfolding return_row passes ends_level
+return_has call r v is e = go r.task.levels.callers (sym (ap (passes ends_level) is) ∙ e)
+  where
+    highest : passes ends_level (highest_return r.shared.storage call) ≡ false
+    highest = elim (cases_Bool (has call option.Commarea && not (has call option.Transid))) [
+      | inl t ↦ rw t refl
+      | inr f ↦ elim (cases_Bool (is_length_negative r.shared.storage call)) [
+        | inl y ↦ rw (f, y) refl
+        | inr n ↦ rw (f, n) refl
+      ]
+    ]
+
+    go : (callers : List Level) → passes ends_level (return_row r.shared.storage callers call) ≡ true → 0 < length callers
+    go [] e = absurd (true≢false (sym e ∙ highest))
+    go (caller ∷ callers) e = omega arith
+
+judged_has : (call : Call) (r : Reach) (v : Verdict) → Judged call r v → passes ends_level v ≡ true → 0 < length r.task.levels.callers
+unfolding Judged address_row abend_row handle_row ignore_row suspend_row handle_abend_row passes ends_level
+judged_has call r v judged e = go call.command judged
+  where
+    go : (c : Command) → JudgedBy c call r v → 0 < length r.task.levels.callers
+    go command.Address is = never ends_level v _ is refl e
+    go command.HandleCondition is = never ends_level v _ is refl e
+    go command.IgnoreCondition is = never ends_level v _ is refl e
+    go command.PushHandle is = never ends_level v _ is (push_none ends_level apart r.task.levels.current.handles.kept) e
+    go command.PopHandle is = never ends_level v _ is (pop_none ends_level apart r.task.levels.current.handles.kept) e
+    go command.Receive is = never ends_level v _ is (receive_none ends_level apart r.station.input _) e
+    go command.WriteqTs is = never ends_level v _ is (writeq_none call r) e
+    go command.ReadqTs row = readq_none call r v row e
+    go command.DeleteqTs is = never ends_level v _ is (deleteq_none ends_level apart r.shared.storage r.shared.queues call) e
+    go command.Getmain row = getmain_none call r v row e
+    go command.Freemain is = never ends_level v _ is (freemain_none ends_level apart r.shared.storage r.station.slot call) e
+    go command.Link row = link_none call r v row e
+    go command.Xctl row = xctl_none call r v row e
+    go command.Return is = return_has call r v is e
+    go command.Abend is = never ends_level v _ is refl e
+    go command.HandleAbend is = never ends_level v _ is refl e
+    go command.Enq is = never ends_level v _ is (enq_none call r) e
+    go command.Deq is = never ends_level v _ is (deq_none ends_level apart r.shared.storage call) e
+    go command.Suspend is = never ends_level v _ is refl e
+    go command.SendText is = never ends_level v _ is (send_text_none ends_level apart r.shared.storage call) e
+
+-- ---- the way of a level's end
+ends_by : (change : Change) → way_by change ≡ way.LevelEnds → ends_level change ≡ true
+unfolding ends_level
+ends_by Nothing e = cc
+ends_by (Makes made) e = cc
+ends_by (Ends ended) e = cc
+ends_by (Gets got) e = cc
+ends_by (Enters level) e = cc
+ends_by (Replaces copying level) e = cc
+ends_by LevelEnds e = refl
+ends_by (TaskEnds next) e = cc
+ends_by (AbendsWith code cancel) e = cc
+
+not_chosen : (chosen : Choice) → way_chosen chosen ≡ way.LevelEnds → {P : Type 0} → P
+not_chosen (choice.Label label) e = cc
+not_chosen choice.GoOn e = cc
+not_chosen choice.Wait e = cc
+not_chosen (choice.Abend code) e = cc
+
+way_ends : (call : Call) (condition : Condition) (change : Change) (r : Reach) → way_at call condition change r ≡ way.LevelEnds → ends_level change ≡ true
+unfolding way_of
+way_ends call condition change r e = either (is_normal condition) e
+  where
+    chosen : Choice
+    chosen = choice_for call r.task.levels.current.handles.active.entries condition
+
+    either : (normal : Bool) → (if normal then way_by change else way_chosen chosen) ≡ way.LevelEnds → ends_level change ≡ true
+    either true e = ends_by change e
+    either false e = not_chosen chosen e
+
+abends_not : (code : List ℕ) (cancel : Bool) (before after : Reach) → Abends code cancel before turn.Returned after → {P : Type 0} → P
+unfolding AbendsAt
+abends_not code cancel before after it = go it.exit it.ends
+  where
+    go : {P : Type 0} (o : Option ℕ) → AbendsAt o code before turn.Returned after → P
+    go None over = let no : turn.Returned ≡ turn.Abended code = over.0 in cc
+    go (Some index) over = let no : turn.Returned ≡ turn.TookExit code = over.0 in cc
+
+goes_ends : (gone : Way) (condition : Condition) (settled after : Reach) → Goes gone condition settled turn.Returned after → gone ≡ way.LevelEnds
+unfolding Goes
+goes_ends way.GoesOn condition settled after goes = let no : turn.Returned ≡ turn.Performed condition = goes.0 in cc
+goes_ends (way.TakesLabel label) condition settled after goes = let no : turn.Returned ≡ turn.TookLabel condition = goes.0 in cc
+goes_ends way.Waits condition settled after goes = let no : turn.Returned ≡ turn.Waiting = goes.0 in cc
+goes_ends (way.Abends code cancel) condition settled after goes = abends_not code cancel settled after goes
+goes_ends (way.Enters level) condition settled after goes = let no : turn.Returned ≡ turn.Entered = goes.0 in cc
+goes_ends (way.Replaces level) condition settled after goes = let no : turn.Returned ≡ turn.Entered = goes.0 in cc
+goes_ends way.LevelEnds condition settled after goes = refl
+goes_ends way.TaskEnds condition settled after goes = let no : turn.Returned ≡ turn.Ended = goes.0 in cc
+
+-- ---- the half-turn
+waits_not : (before after : Reach) → LeavesAll before turn.Returned after → {P : Type 0} → P
+waits_not before after it = let no : turn.Returned ≡ turn.Waiting = it.waiting in cc
+
+answers_has : (verdict : Verdict) (call : Call) (before after : Reach) → Judged call before verdict → Answers verdict call before turn.Returned after → 0 < length before.task.levels.callers
+unfolding Answers MeetsWith passes
+answers_has (Refuses code) call before after judged it = abends_not (abend_code code) false before after it
+answers_has Waits call before after judged it = waits_not before after it
+answers_has (Meets condition outputs change) call before after judged it = by_room (has_room call outputs change before) it
+  where
+    by_wait : (b : Bool) → MatchBool b (LeavesAll before turn.Returned after) (Does call condition outputs change before turn.Returned after) → 0 < length before.task.levels.callers
+    by_wait true leaves = waits_not before after leaves
+    by_wait false does =
+        judged_has call before (Meets condition outputs change) judged
+        (way_ends call condition change before (goes_ends (way_at call condition change before) condition does.settled after does.goes))
+
+    by_room : (b : Bool) → MatchBool b (MatchBool (is_wait (way_at call condition change before)) (LeavesAll before turn.Returned after) (Does call condition outputs change before turn.Returned after))
+        (Abends (abend_code abend.Xarg) false before turn.Returned after) → 0 < length before.task.levels.callers
+    by_room true met = by_wait (is_wait (way_at call condition change before)) met
+    by_room false abends = abends_not (abend_code abend.Xarg) false before after abends
+
+commanded_has : (before after : Reach) → Commanded before turn.Returned after → 0 < length before.task.levels.callers
+unfolding Commanded IsCalled
+commanded_has before after commanded = by_call (call_of before.shared.storage (list_of before.task)) commanded
+  where
+    by_inputs : (call : Call) (b : Bool) → MatchBool b (Performs call before turn.Returned after) (Abends (abend_code abend.Xarg) false before turn.Returned after) → 0 < length before.task.levels.callers
+    by_inputs call true it = answers_has it.verdict call before after it.judged it.answers
+    by_inputs call false abends = abends_not (abend_code abend.Xarg) false before after abends
+
+    by_call : (r : Result Call CallFault) → MatchResult r (λ call. IsCalled call before turn.Returned after) (λ fault. Abends (fault_code fault) false before turn.Returned after) → 0 < length before.task.levels.callers
+    by_call (Ok call) called = by_inputs call (are_inputs_there before.shared.storage call) called
+    by_call (Err fault) abends = abends_not (fault_code fault) false before after abends
+
+runs_not : (before after : Reach) → RunsOn before turn.Returned after → {P : Type 0} → P
+unfolding Halted
+runs_not before after it = by_halt it.how it.ends
+  where
+    by_halt : {P : Type 0} (how : Halt) → Halted how it.between turn.Returned after → P
+    by_halt halt.AtEntry over = let no : turn.Returned ≡ turn.AtCommand = over.0 in cc
+    by_halt (halt.Interrupt cause place) abends = abends_not (abend_code abend.Asra) false it.between after abends
+    by_halt halt.Limit abends = abends_not (abend_code abend.Aica) false it.between after abends
+
+pub returns_have_callers : ReturnsHaveCallers
+unfolding HalfTurn
+returns_have_callers before after half = by_due before.task.due half
+  where
+    by_due : (b : Bool) → MatchBool b (Commanded before turn.Returned after) (RunsOn before turn.Returned after) → 0 < length before.task.levels.callers
+    by_due true commanded = commanded_has before after commanded
+    by_due false runs = runs_not before after runs
