@@ -38,8 +38,8 @@ pub fn an_assembly_is_one()
         → one ≡ other }
 {}
 
-/// The text of an accepted source is as long as its control section, 65,536 bytes at most. Its resolved lines ascend, share no byte and end in it, and so
-/// do its relocated words.
+/// The text of an accepted source is as long as its control section, 65,536 bytes at most. Its resolved lines ascend, share no
+/// byte and end in it, and so do its relocated words.
 pub fn an_assembly_stands_apart()
     ensures size { (source : Source) (made : AssemblyParts) → assembly_of source ≡ Ok made → length made.section.image.text ≡ size_of source }
     ensures short { (source : Source) (made : AssemblyParts) → assembly_of source ≡ Ok made → size_of source ≤ 65536 }
