@@ -1,3 +1,4 @@
+mod FirstLemmas
 mod AnswerLemmas
 mod FitLemmas
 mod SectionLemmas

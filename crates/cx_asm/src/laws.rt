@@ -5,10 +5,14 @@ ghost use Rattle.cx_image.specs.Resolved.{AreApart};
 ghost use Rattle.cx_terms.specs.Bytes.{Made};
 ghost use Rattle.cx_terms.specs.Items.{Constant, constant_in, length_of};
 ghost use Rattle.cx_terms.specs.declared.values.Value.{Value};
+ghost use Rattle.cx_places.specs.Laws.FirstFaults.{IsFirstOf};
 ghost use Rattle.cx_places.specs.Placed.{known_of};
 ghost use Rattle.cx_source.specs.declared.source.Source.{Source};
+ghost use Rattle.cx_second.specs.SecondFaults.{judged_behind};
+ghost use Rattle.cx_second.specs.Statements.{Stated};
 ghost use Rattle.cx_second.specs.Whole.{Whole, item_made};
 ghost use Rattle.cx_asm.specs.Assembly.{Assembles, AssemblyParts, assembly_of, size_of, standing_of};
+ghost use Rattle.cx_asm.specs.Laws.SecondFirst.{second_faults_behind};
 ghost use Rattle.cx_asm.specs.Laws.Standing.{IsWithin, WordsApart};
 ghost use Rattle.cx_asm.specs.declared.faults.AsmFault.{AsmFault};
 ghost use Rattle.cx_asm.specs.declared.faults.AsmFault.TheVariants.{Memory};
@@ -31,6 +35,12 @@ pub fn what_stands_stands_apart()
     cx_operands::laws::what_is_resolved_is_well_formed();
     cx_code::laws::every_spelling();
 }
+
+/// The second pass' first fault is the fault of a statement on its line; the first statement that has such a fault is on that
+/// line; and no statement of that line has one with a lower number. Where there is none no statement has one.
+pub fn the_second_pass_tells_its_first_fault()
+    ensures { (told : Whole) (statements : List Stated) → IsFirstOf (second_faults_behind told statements) (judged_behind told statements).fault }
+{}
 
 /// There is one assembly of a source: two answers to one source, neither of them Memory, are one answer.
 pub fn an_assembly_is_one()
