@@ -1,3 +1,4 @@
 -- The definitions, in reading order.
 pub mod Block
 pub mod Together
+pub mod Standing

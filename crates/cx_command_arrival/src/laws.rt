@@ -1,5 +1,6 @@
 //! What holds of a translated source that was assembled.
 ghost use Rattle.cx_command_arrival.specs.Block.{EibIsLaidOut};
+ghost use Rattle.cx_command_arrival.specs.Standing.{InstructionsStand};
 ghost use Rattle.cx_command_arrival.specs.Together.{MadeStandTogether};
 
 /// The assembler places each field of DFHEIBLK at the offset, and with the length, at which the region writes it.
@@ -12,4 +13,11 @@ pub fn the_eib_is_laid_out()
 /// words, then the call, then the loads of pointers.
 pub fn made_statements_stand_together()
     ensures { MadeStandTogether }
+{}
+
+/// In an accepted source each instruction's statement is a resolved line at the offset of its place, the instruction that its
+/// operation and operand resolve to; and statements with nothing but instructions between them stand one right behind the
+/// other.
+pub fn instructions_stand_one_behind_the_other()
+    ensures { InstructionsStand }
 {}
