@@ -1,3 +1,5 @@
 pub mod BlockLemmas
 pub mod TogetherLemmas
 pub mod StandingLemmas
+pub mod LoadedLemmas
+pub mod RaisedLemmas

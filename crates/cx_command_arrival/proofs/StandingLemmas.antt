@@ -142,12 +142,12 @@ made_joined told all bases (x ∷ xs) ys =
     ∙ sym (append_assoc (statement_standing told all bases x).lines (made_from told all (bases_after told bases x) xs) (made_from told all (bases_from told (bases_after told bases x) xs) ys))
 
 -- ---- an accepted source
-record IsAccepted (source : Source) (assembly : AssemblyParts) : Type 0 where
-  first : (known_of source).fault ≡ None
-  second : second_fault_of source ≡ None
-  made : made_of source ≡ assembly
+pub record IsAccepted (source : Source) (assembly : AssemblyParts) : Type 0 where
+  pub first : (known_of source).fault ≡ None
+  pub second : second_fault_of source ≡ None
+  pub made : made_of source ≡ assembly
 
-accepted : (source : Source) (assembly : AssemblyParts) → assembly_of source ≡ Ok assembly → IsAccepted source assembly
+pub accepted : (source : Source) (assembly : AssemblyParts) → assembly_of source ≡ Ok assembly → IsAccepted source assembly
 unfolding assembly_of
 accepted source assembly e = go (known_of source).fault (second_fault_of source) refl refl e
   where

@@ -43,7 +43,7 @@ drop_past [] ys n le = (let e : n - 0 ≡ n = omega arith in rw e refl)
 drop_past (x ∷ xs) ys zero le = absurd (omega arith)
 drop_past (x ∷ xs) ys (suc n) le = (let e : suc n - length (x ∷ xs) ≡ n - length xs = omega arith in rw e (drop_past xs ys n (omega arith)))
 
-length_joined : {X : Type 0} (xs ys : List X) → length (xs ++ ys) ≡ length xs + length ys
+pub length_joined : {X : Type 0} (xs ys : List X) → length (xs ++ ys) ≡ length xs + length ys
 length_joined [] ys = omega arith
 length_joined (x ∷ xs) ys = (let more = length_joined xs ys in omega (arith, more))
 

@@ -2,3 +2,4 @@
 pub mod Block
 pub mod Together
 pub mod Standing
+pub mod InStorage

@@ -1,5 +1,6 @@
 //! What holds of a translated source that was assembled.
 ghost use Rattle.cx_command_arrival.specs.Block.{EibIsLaidOut};
+ghost use Rattle.cx_command_arrival.specs.InStorage.{CodeIsUnraised, LinesAreLoaded};
 ghost use Rattle.cx_command_arrival.specs.Standing.{InstructionsStand};
 ghost use Rattle.cx_command_arrival.specs.Together.{MadeStandTogether};
 
@@ -20,4 +21,19 @@ pub fn made_statements_stand_together()
 /// other.
 pub fn instructions_stand_one_behind_the_other()
     ensures { InstructionsStand }
+{}
+
+/// Each resolved line of a program, unless it has a word that loading raises, stands in storage at its place when the program
+/// is loaded: an instruction as it is spelled, a constant with its bytes.
+pub fn lines_are_loaded()
+    ensures { LinesAreLoaded }
+{
+    cx_image::laws::the_text_is_told_by_its_bytes();
+    cx_load::laws::relocation();
+    cx_storage::laws::span_is_bytes();
+}
+
+/// No instruction of an accepted source has a word that loading raises.
+pub fn no_instruction_is_raised()
+    ensures { CodeIsUnraised }
 {}
