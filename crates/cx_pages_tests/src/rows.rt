@@ -184,22 +184,104 @@ fn patterns(a: u32) -> [u8; 4]
     [pattern(a), pattern(a + 1), pattern(a + 2), pattern(a + 3)]
 }
 
-/// An area of 10,000 bytes at 010000: the spans inside its blocks of 4,096 bytes are lent, and hold what was
-/// written; those across two blocks are read in any case.
-pub(crate) fn lends_inside_a_block<S: Store>(store: &mut S) -> Result<bool, AllocError> {
-    let mut all = get(store, 0x1_0000, 0x1_FFFF, 10_000, TASK)? == Some(0x1_0000);
-    for k in 0..10_000 {
-        all = all && store.set(0x1_0000 + k, pattern(0x1_0000 + k));
+/// Whether the bytes of an area of 10,000 bytes at 010000 are written.
+fn writes_patterns<S: Store>(store: &mut S) -> bool {
+    for a in 0x1_0000..0x1_2710 {
+        if !store.set(a, pattern(a)) {
+            return false;
+        }
     }
+    true
+}
+
+/// Whether the spans inside a block are lent.
+fn lends_all_of<S: Store>(store: &S, block: u32) -> bool
+    requires { block < 2 ^ 20 }
+{
     for k in 0..4096 {
-        all = all && lends_from(store, 0x1_0000, k) && lends_from(store, 0x1_1000, k);
+        if !lends_from(store, block, k) {
+            return false;
+        }
     }
+    true
+}
+
+/// An area of 10,000 bytes at 010000: the spans inside its blocks of 4,096 bytes are lent, and hold what was
+/// written.
+pub(crate) fn lends_inside_a_block<S: Store>(store: &mut S) -> Result<bool, AllocError> {
+    get(store, 0x1_0000, 0x1_FFFF, 10_000, TASK)?;
+    Ok(writes_patterns(store) && lends_all_of(store, 0x1_0000) && lends_all_of(store, 0x1_1000))
+}
+
+/// Of the last block of that area those inside the area are lent; those across two blocks are read in any case.
+pub(crate) fn lends_to_the_areas_end<S: Store>(store: &mut S) -> Result<bool, AllocError> {
+    get(store, 0x1_0000, 0x1_FFFF, 10_000, TASK)?;
     Ok(
-        all && lends_written(store, 0x1_2000, 10_000 - 8192)
+        writes_patterns(store)
+            && lends_written(store, 0x1_2000, 10_000 - 8192)
             && !lends_some(store, 0x1_2000, 10_000 - 8191)
             && four(store, 0x1_0FFE) == (true, patterns(0x1_0FFE))
             && four(store, 0x1_1FFF) == (true, patterns(0x1_1FFF)),
     )
+}
+
+/// A word and a halfword need no boundary; their first byte is the highest.
+pub(crate) fn words_are_read<S: Store>(store: &mut S) -> Result<bool, AllocError> {
+    get(store, 0xFF_FFF0, LAST, 16, TASK)?;
+    Ok(
+        write(store, 0xFF_FFFB, &[0x81, 2, 3, 4, 5])
+            && word_at(store, 0xFF_FFFB) == Some(0x8102_0304)
+            && halfword_at(store, 0xFF_FFFB) == Some(0x8102)
+            && word_at(store, 0xFF_FFFE).is_none()
+            && halfword_at(store, 0xFF_FFFE) == Some(0x0405)
+            && halfword_at(store, LAST).is_none(),
+    )
+}
+
+/// Areas that touch: a span inside one of them is lent; one over both, or over a border of blocks, is lent as it is or not
+/// at all.
+pub(crate) fn lends_parts<S: Store>(store: &mut S) -> Result<bool, AllocError> {
+    get(store, 0x1_0FF0, 0x1_1FFF, 0x20, TASK)?;
+    get(store, 0x1_1010, 0x1_1FFF, 16, TASK)?;
+    Ok(
+        store.set(0x1_0FFF, 0xC1)
+            && !store.set(0x1_1020, 7)
+            && write(store, 0x1_100F, &[5, 6])
+            && lends(store, 0x1_0FFE, &[0, 0xC1])
+            && lends(store, 0x1_1010, &[6])
+            && (lends(store, 0x1_0FFF, &[0xC1, 0]) || !lends_some(store, 0x1_0FFF, 2))
+            && (lends(store, 0x1_100F, &[5, 6]) || !lends_some(store, 0x1_100F, 2))
+            && !lends_some(store, 0x1_1020, 1),
+    )
+}
+
+/// Whether an area of this length comes to stand at address 0, with its last byte at `last`, and is freed again.
+fn is_made<S: Store>(store: &mut S, last: u32, len: u32) -> Result<bool, AllocError>
+    requires last { last < 2 ^ 24 }
+    requires len { 0 < len }
+{
+    let made = get(store, 0, last, len, TASK)? == Some(0) && byte(store, last) == Some(0);
+    store.free_slot(1);
+    Ok(made && byte(store, last).is_none())
+}
+
+/// The largest DFHEISTG, the longest text, and all of storage in one area.
+pub(crate) fn areas_of_full_size_are_made<S: Store>(store: &mut S) -> Result<bool, AllocError> {
+    Ok(
+        is_made(store, 0xFFEF, 65_520)?
+            && is_made(store, 0xFFFF, 65_536)?
+            && is_made(store, LAST, 0x100_0000)?
+            && get(store, 0, 0xFFFE, 65_536, TASK)?.is_none(),
+    )
+}
+
+/// A growth that is refused, whichever it is, leaves all as it was.
+pub(crate) fn keeps_all_when_refused<S: Store>(store: &mut S) -> bool {
+    let first = get(store, 0x1000, 0x1FFF, 8, TASK).is_ok();
+    let second = get(store, 0x1000, 0x1FFF, 8, OTHER).is_ok();
+    starts(store, 0x1000) == (first || second)
+        && starts(store, 0x1010) == (first && second)
+        && byte(store, 0x1010).is_some() == (first && second)
 }
 
 /// Whether no span over a border of two blocks is lent of such an area, though its bytes are there.

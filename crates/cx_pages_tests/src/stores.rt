@@ -128,3 +128,37 @@ fn the_first_difference_decides(rt: HostRuntime) -> Result<(), Fail> {
     assert!(rt; runs::the_first_difference_decides(&mut PagedStore::new(rt.alloc()))?);
     Ok(())
 }
+
+#[test]
+fn lends_to_the_areas_end(rt: HostRuntime) -> Result<(), Fail> {
+    assert!(rt; rows::lends_to_the_areas_end(&mut FlatStore::new(rt.alloc()))?);
+    assert!(rt; rows::lends_to_the_areas_end(&mut PagedStore::new(rt.alloc()))?);
+    Ok(())
+}
+
+#[test]
+fn words_are_read(rt: HostRuntime) -> Result<(), Fail> {
+    assert!(rt; rows::words_are_read(&mut FlatStore::new(rt.alloc()))?);
+    assert!(rt; rows::words_are_read(&mut PagedStore::new(rt.alloc()))?);
+    Ok(())
+}
+
+#[test]
+fn lends_parts(rt: HostRuntime) -> Result<(), Fail> {
+    assert!(rt; rows::lends_parts(&mut FlatStore::new(rt.alloc()))?);
+    assert!(rt; rows::lends_parts(&mut PagedStore::new(rt.alloc()))?);
+    Ok(())
+}
+
+#[test]
+fn areas_of_full_size_are_made(rt: HostRuntime) -> Result<(), Fail> {
+    assert!(rt; rows::areas_of_full_size_are_made(&mut FlatStore::new(rt.alloc()))?);
+    assert!(rt; rows::areas_of_full_size_are_made(&mut PagedStore::new(rt.alloc()))?);
+    Ok(())
+}
+
+#[test]
+fn keeps_all_when_refused(rt: HostRuntime) {
+    assert!(rt; rows::keeps_all_when_refused(&mut FlatStore::new(rt.alloc())));
+    assert!(rt; rows::keeps_all_when_refused(&mut PagedStore::new(rt.alloc())));
+}
