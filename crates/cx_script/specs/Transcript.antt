@@ -1,11 +1,11 @@
 -- A run of a script: what its actions did in order, and the transcript (own).
-use Rattle.std.specs.Prelude.{◌≡◌, ℕ, Bool, true, false, Option, Some, None, Result, Ok, Err, List, [], ◌∷◌, ◌++◌, take}
+use Rattle.std.specs.Prelude.{◌≡◌, ℕ, Option, Some, None, Result, Ok, Err, List, [], ◌∷◌, ◌++◌, take}
 use Rattle.std.specs.Io.KnownBytes.{Appends}
 use Rattle.cx_lines.specs.Devices.{WroteFront}
 use Rattle.cx_script.specs.Script.{Script}
 use Rattle.cx_actions.specs.declared.actions.Action.{Action}
 use Rattle.cx_blocks.specs.declared.faults.RunFault.{RunFault}
-use Rattle.cx_blocks.specs.declared.faults.RunFault.TheVariants.{Read, Write, Memory}
+use Rattle.cx_blocks.specs.declared.faults.RunFault.TheVariants.{Write, Memory}
 use Rattle.cx_blocks.specs.declared.faults.Summary.{Summary}
 
 -- Actions one after another on some state, and the transcript: what each writes, in order. `performs` is one action: the
