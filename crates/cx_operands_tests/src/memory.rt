@@ -1,5 +1,5 @@
-//! A refused growth is answered as one: no other answer takes its place. Run with each allocation refused in turn.
-use crate::world::{assembled, end_use, is_refused, makes, put_in_use, table};
+//! A refused growth is answered as one: no other answer takes its place. `examples/refuse-tests` refuses each allocation in turn.
+use crate::world::{assembled, end_use, is_refused, put_in_use, table};
 use cx_operands::Bases;
 use cx_terms::{FaultKind, SymbolTable, TermFault};
 use std::alloc::Global;
@@ -12,18 +12,8 @@ fn is_made(
     operand: &[u8],
     bytes: &[u8],
 ) -> bool {
-    is_refused_for_memory(alloc, symbols, bases, operand)
-        || makes(assembled(alloc, symbols, bases, b"MVC", operand), bytes)
-}
-
-fn is_refused_for_memory(
-    alloc: Global,
-    symbols: &SymbolTable,
-    bases: &Bases,
-    operand: &[u8],
-) -> bool {
     match assembled(alloc, symbols, bases, b"MVC", operand) {
-        Ok(_) => false,
+        Ok(made) => made.as_slice() == bytes,
         Err(found) => found == TermFault::Memory,
     }
 }

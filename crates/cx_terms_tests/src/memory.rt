@@ -1,4 +1,4 @@
-//! A refused growth is answered as one: no other answer takes its place. Run with each allocation refused in turn.
+//! A refused growth is answered as one: no other answer takes its place. `examples/refuse-tests` refuses each allocation in turn.
 use crate::symbols::{name, table};
 use cx_terms::{Constant, FaultKind, SymbolTable, TermFault, Value, value_of};
 use std::alloc::Global;
