@@ -78,7 +78,7 @@ fn the_image_has_what_was_given(rt: HostRuntime) {
     assert!(rt; image.entry == 6 && image.stg_len == 100);
 }
 
-/// Run with each allocation refused in turn: no other answer takes the place of the refusal.
+/// No other answer takes the place of a refusal; `examples/refuse-tests` refuses each allocation in turn.
 #[test]
 fn a_refused_growth_is_no_other_answer(rt: HostRuntime) {
     let alloc = rt.alloc();
