@@ -3,3 +3,4 @@ pub mod TogetherLemmas
 pub mod StandingLemmas
 pub mod LoadedLemmas
 pub mod RaisedLemmas
+pub mod ArgumentLemmas

@@ -3,3 +3,4 @@ pub mod Block
 pub mod Together
 pub mod Standing
 pub mod InStorage
+pub mod Arguments

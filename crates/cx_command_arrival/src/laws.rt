@@ -1,4 +1,5 @@
 //! What holds of a translated source that was assembled.
+ghost use Rattle.cx_command_arrival.specs.Arguments.{OperandsAddress};
 ghost use Rattle.cx_command_arrival.specs.Block.{EibIsLaidOut};
 ghost use Rattle.cx_command_arrival.specs.InStorage.{CodeIsUnraised, LinesAreLoaded};
 ghost use Rattle.cx_command_arrival.specs.Standing.{InstructionsStand};
@@ -37,3 +38,12 @@ pub fn lines_are_loaded()
 pub fn no_instruction_is_raised()
     ensures { CodeIsUnraised }
 {}
+
+/// The index, base and displacement that a storage operand is resolved to give, with any registers, the address that its own
+/// expression has: of a place in a section the section's address and the offset, where the base register that was taken holds
+/// its USING's base; of a number the number; in both with what the index holds. A base that is written is taken.
+pub fn operands_address_their_places()
+    ensures { OperandsAddress }
+{
+    cx_operands::laws::an_implied_address_is_nearest();
+}
