@@ -23,7 +23,7 @@ abbrev Nearest : Type 0
 Nearest = (bases : Bases) (section : List ℕ) (number : ℤ) → IsNearest bases section number (nearest bases section number)
 
 -- ---- what was judged
-both_ok : {A B : Type 0} (one : Result A FaultKind) (other : Result B FaultKind) (a : A) (b : B) → both one other ≡ Ok (a, b) → (one ≡ Ok a) × (other ≡ Ok b)
+pub both_ok : {A B : Type 0} (one : Result A FaultKind) (other : Result B FaultKind) (a : A) (b : B) → both one other ≡ Ok (a, b) → (one ≡ Ok a) × (other ≡ Ok b)
 both_ok {A} {B} (Ok one) (Ok other) a b e = (let same : ◌≡◌ {A = A × B} (one, other) (a, b) = cc in (ap (λ p. Ok p.0) same, ap (λ p. Ok p.1) same))
 both_ok {A} {B} (Ok one) (Err fault) a b e = absurd (cc)
 both_ok {A} {B} (Err fault) (Ok other) a b e = absurd (cc)
@@ -33,7 +33,7 @@ judged_ok : {A B : Type 0} (judge : A → Result B FaultKind) (of : Result A Fau
 judged_ok judge (Ok value) b e = (value, refl, e)
 judged_ok judge (Err fault) b e = absurd (cc)
 
-made_ok : {A B : Type 0} (make : A → B) (of : Result A FaultKind) (b : B) → made_of make of ≡ Ok b → (a : A) × (of ≡ Ok a) × (make a ≡ b)
+pub made_ok : {A B : Type 0} (make : A → B) (of : Result A FaultKind) (b : B) → made_of make of ≡ Ok b → (a : A) × (of ≡ Ok a) × (make a ≡ b)
 made_ok make (Ok value) b e = (value, refl, cc)
 made_ok make (Err fault) b e = absurd (cc)
 

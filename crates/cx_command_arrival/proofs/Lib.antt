@@ -4,3 +4,4 @@ pub mod StandingLemmas
 pub mod LoadedLemmas
 pub mod RaisedLemmas
 pub mod ArgumentLemmas
+pub mod StoreLemmas

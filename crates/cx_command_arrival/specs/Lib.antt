@@ -4,3 +4,4 @@ pub mod Together
 pub mod Standing
 pub mod InStorage
 pub mod Arguments
+pub mod Stores

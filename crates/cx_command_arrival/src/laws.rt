@@ -3,6 +3,7 @@ ghost use Rattle.cx_command_arrival.specs.Arguments.{OperandsAddress};
 ghost use Rattle.cx_command_arrival.specs.Block.{EibIsLaidOut};
 ghost use Rattle.cx_command_arrival.specs.InStorage.{CodeIsUnraised, LinesAreLoaded};
 ghost use Rattle.cx_command_arrival.specs.Standing.{InstructionsStand};
+ghost use Rattle.cx_command_arrival.specs.Stores.{StoresAreResolved};
 ghost use Rattle.cx_command_arrival.specs.Together.{MadeStandTogether};
 
 /// The assembler places each field of DFHEIBLK at the offset, and with the length, at which the region writes it.
@@ -47,3 +48,9 @@ pub fn operands_address_their_places()
 {
     cx_operands::laws::an_implied_address_is_nearest();
 }
+
+/// The statements that store a command's arguments are resolved to LA of register 0 with each argument's own index, base and
+/// displacement, and ST of register 0 into its word of DFHEIPL.
+pub fn stores_are_resolved()
+    ensures { StoresAreResolved }
+{}

@@ -1,0 +1,140 @@
+-- Made statements with register 0, operand by operand.
+use Rattle.std.specs.Prelude.{Result, codes, ◌&&◌}
+use Rattle.std.proofs.Common.{◌≡◌, ℕ, ◌+◌, Bool, true, false, cond, Some, Ok, List, [], ◌∷◌, ◌++◌, refl, sym, ◌∙◌, ap}
+use Rattle.std.proofs.lemmas.List.{append_assoc, append-nil}
+use Rattle.cx_code.specs.declared.table.Op.{Op}
+use Rattle.cx_code.specs.declared.table.Op.TheVariants as op
+use Rattle.cx_code.specs.declared.instruction.Fields.{Fields}
+use Rattle.cx_code.specs.declared.instruction.Fields.TheVariants.{Rx}
+use Rattle.cx_code.specs.Spelling.{Instruction, instruction}
+use Rattle.cx_code.specs.Table.{is_shift, length_of, op_named, ops, row_of}
+use Rattle.cx_source.specs.declared.source.Item.{Item}
+use Rattle.cx_source.specs.declared.source.Stmt.{Stmt}
+use Rattle.cx_source.specs.Lines.{is_letter, is_name}
+use Rattle.cx_source.specs.Marks.{depth_behind, is_length_attribute, is_mark, lies_outside, parts_from, passed, within_behind}
+use Rattle.cx_source.specs.declared.marks.Mark.TheVariants.{TopComma}
+use Rattle.cx_source.specs.declared.marks.Scan.{Scan}
+use Rattle.cx_terms.specs.declared.faults.FaultKind.{FaultKind}
+use Rattle.cx_terms.specs.Digits.{digit}
+use Rattle.cx_terms.specs.Expressions.{summed, value_of}
+use Rattle.cx_terms.specs.Terms.{read_term, terms_of}
+use Rattle.cx_terms.specs.Weights.{relocation}
+use Rattle.cx_terms.specs.Worth.{term_worth}
+use Rattle.cx_translate.specs.Made.{made_item}
+use Rattle.cx_operations.specs.Operations.{operation_named}
+use Rattle.cx_operations.specs.declared.operations.Operation.TheVariants as operation
+use Rattle.cx_operands.specs.Bases.{Bases}
+use Rattle.cx_operands.specs.Context.{Context, number_in, register_in}
+use Rattle.cx_operands.specs.Forms.{fields_in, form_of_op, operands_of, resolved}
+use Rattle.cx_operands.specs.Judging.{both}
+use Rattle.cx_operands.specs.Storage.{indexed_in}
+use Rattle.cx_operands.specs.declared.addresses.Address.{Address}
+use Rattle.cx_operands.specs.declared.forms.Form.TheVariants as form
+use Rattle.cx_second.specs.Whole.{Whole}
+use Rattle.cx_command_arrival.specs.Standing.{AreResolved, IsResolved}
+use Rattle.cx_command_arrival.specs.Stores.{AreStores, IsWithRegister0, StoresAreResolved, context_of, load_of, store_of, word_of_list}
+use Rattle.cx_command_arrival.proofs.ArgumentLemmas.{both_ok, made_ok}
+
+-- ---- a text that is one part
+some_part : (scan : Scan) (part text : List ℕ) → parts_from TopComma scan part text ≡ [] → ⊥
+some_part scan part [] e = cc
+some_part scan part (c ∷ behind) e = go (lies_outside scan c behind && is_mark TopComma scan.depth c) (some_part (passed scan c behind) (part ++ (c ∷ [])) behind) e
+  where
+    go : (b : Bool) → (parts_from TopComma (passed scan c behind) (part ++ (c ∷ [])) behind ≡ [] → ⊥)
+        → cond b (part ∷ parts_from TopComma (passed scan c behind) [] behind) (parts_from TopComma (passed scan c behind) (part ++ (c ∷ [])) behind) ≡ [] → ⊥
+    go true f e = cc
+    go false f e = f e
+
+whole_part : (scan : Scan) (part text p : List ℕ) → parts_from TopComma scan part text ≡ p ∷ [] → p ≡ part ++ text
+whole_part scan part [] p e = (let same : part ≡ p = cc in sym same ∙ sym (append-nil part))
+whole_part scan part (c ∷ behind) p e =
+    go (lies_outside scan c behind && is_mark TopComma scan.depth c) (some_part (passed scan c behind) [] behind) (λ f. whole_part (passed scan c behind) (part ++ (c ∷ [])) behind p f) e
+  where
+    go : (b : Bool) → (parts_from TopComma (passed scan c behind) [] behind ≡ [] → ⊥)
+        → (parts_from TopComma (passed scan c behind) (part ++ (c ∷ [])) behind ≡ p ∷ [] → p ≡ part ++ (c ∷ []) ++ behind)
+        → cond b (part ∷ parts_from TopComma (passed scan c behind) [] behind) (parts_from TopComma (passed scan c behind) (part ++ (c ∷ [])) behind) ≡ p ∷ [] → p ≡ part ++ (c ∷ behind)
+    go true never f e = (let rest : parts_from TopComma (passed scan c behind) [] behind ≡ [] = cc in absurd (never rest))
+    go false never f e = f e ∙ append_assoc part (c ∷ []) behind
+
+-- register 0
+zero_is : (c : Context) → register_in c (codes "0") ≡ Ok 0
+unfolding number_in value_of terms_of within_behind read_term is_name is_letter digit term_worth summed relocation
+zero_is c = refl
+
+behind_zero : Scan
+behind_zero = record { within = false; depth = 0; before = 48; last = 44 }
+
+cut_so : (text : List ℕ) → operands_of (codes "0," ++ text) ≡ codes "0" ∷ parts_from TopComma behind_zero [] text
+unfolding within_behind depth_behind is_length_attribute behind_zero
+cut_so text = refl
+
+-- ---- an instruction with it
+record HasRx (c : Context) (text : List ℕ) (fields : Fields) : Type 0 where
+  index : ℕ
+  address : Address
+  operand : indexed_in c text ≡ Ok (index, address)
+  is : fields ≡ Rx 0 index address.base address.displacement
+
+fields_so : (c : Context) (text : List ℕ) (tail : List (List ℕ)) (fields : Fields) → parts_from TopComma behind_zero [] text ≡ tail → fields_in form.Indexed c (codes "0" ∷ tail) ≡ Ok fields → HasRx c text fields
+unfolding fields_in
+fields_so c text [] fields cut e = absurd (cc)
+fields_so c text (one ∷ other ∷ more) fields cut e = absurd (cc)
+fields_so c text (s2 ∷ []) fields cut e =
+    let whole : s2 ≡ text = whole_part behind_zero [] text s2 cut in
+    let made = made_ok (λ (v : ℕ × (ℕ × Address)). Rx v.0 (v.1).0 ((v.1).1).base ((v.1).1).displacement) (both (register_in c (codes "0")) (indexed_in c s2)) fields e in
+    let parts = both_ok (register_in c (codes "0")) (indexed_in c s2) (made.0).0 (made.0).1 made.1 in
+    let zero : (made.0).0 ≡ 0 = (let same : ◌≡◌ {A = Result ℕ FaultKind} (Ok 0) (Ok (made.0).0) = sym (zero_is c) ∙ parts.0 in cc) in
+    record {
+      index = ((made.0).1).0;
+      address = ((made.0).1).1;
+      operand = ap (indexed_in c) (sym whole) ∙ parts.1;
+      is = sym made.2 ∙ ap (λ k. Rx k ((made.0).1).0 (((made.0).1).1).base (((made.0).1).1).displacement) zero;
+    }
+
+with_zero : (o : Op) (c : Context) (text : List ℕ) (i : Instruction) → form_of_op o ≡ form.Indexed → resolved (operation.Machine o) c (codes "0," ++ text) ≡ Ok i → IsWithRegister0 o c text i
+unfolding resolved
+with_zero o c text i indexed e =
+    let made = made_ok (instruction o) (fields_in (form_of_op o) c (operands_of (codes "0," ++ text))) i e in
+    let fields : fields_in form.Indexed c (codes "0" ∷ parts_from TopComma behind_zero [] text) ≡ Ok made.0 =
+    sym (ap (λ k. fields_in k c (codes "0" ∷ parts_from TopComma behind_zero [] text)) indexed) ∙ sym (ap (fields_in (form_of_op o) c) (cut_so text)) ∙ made.1 in
+    let rx = fields_so c text (parts_from TopComma behind_zero [] text) made.0 refl fields in
+    record { index = rx.index; address = rx.address; operand = rx.operand; is = sym made.2 ∙ ap (instruction o) rx.is }
+
+-- ---- made statements
+la_named : operation_named (codes "LA") ≡ Some (operation.Machine op.La)
+unfolding operation_named op_named ops row_of
+la_named = refl
+
+st_named : operation_named (codes "ST") ≡ Some (operation.Machine op.St)
+unfolding operation_named op_named ops row_of
+st_named = refl
+
+la_indexed : form_of_op op.La ≡ form.Indexed
+unfolding row_of is_shift
+la_indexed = refl
+
+st_indexed : form_of_op op.St ≡ form.Indexed
+unfolding row_of is_shift
+st_indexed = refl
+
+resolved_so : (told : Whole) (bases : Bases) (line at : ℕ) (before : List Item) (s : Stmt) (o : Op) (i : Instruction) → operation_named s.operation ≡ Some (operation.Machine o)
+    → IsResolved told bases before at (made_item line s) i → resolved (operation.Machine o) (context_of told bases line before s) s.operand ≡ Ok i
+unfolding made_item
+resolved_so told bases line at before s o i named r =
+    let same : s ≡ r.statement = (let found : Some s ≡ Some r.statement = r.begins in cc) in
+    let one : Some (operation.Machine o) ≡ Some r.operation = sym named ∙ ap (λ k. operation_named k.operation) same ∙ r.named in
+    let made : operation.Machine o ≡ r.operation = cc in
+    ap (λ k. resolved k (context_of told bases line before s) s.operand) made ∙ ap (λ k. resolved r.operation (context_of told bases line before k) k.operand) same ∙ r.resolves
+
+pub stores_resolved : StoresAreResolved
+unfolding AreResolved AreStores
+stores_resolved told bases line at k before [] [] r = tt
+stores_resolved told bases line at k before [] (i ∷ code) r = absurd r
+stores_resolved told bases line at k before (argument ∷ list) [] r = absurd r
+stores_resolved told bases line at k before (argument ∷ list) (i ∷ []) r = absurd r.1
+stores_resolved told bases line at k before (argument ∷ list) (i ∷ j ∷ code) r = (
+  with_zero op.La (context_of told bases line before (load_of argument)) argument i la_indexed (resolved_so told bases line at before (load_of argument) op.La i la_named r.0),
+  with_zero op.St (context_of told bases line (made_item line (load_of argument) ∷ before) (store_of k)) (word_of_list k) j st_indexed
+      (resolved_so told bases line (at + length_of i.op) (made_item line (load_of argument) ∷ before) (store_of k) op.St j st_named (r.1).0),
+  stores_resolved told bases line (at + length_of i.op + length_of j.op) (k + 1) (made_item line (store_of k) ∷ made_item line (load_of argument) ∷ before) list code (r.1).1,
+)

@@ -1,0 +1,54 @@
+-- The instructions that store a command's arguments (Application Programmer's Reference Manual, SC33-0077, the expansion of a
+-- command; GC33-4010, "Machine Instructions"; the argument list is this project's own).
+use Rattle.std.specs.Prelude.{◌≡◌, ℕ, ◌+◌, ◌*◌, Ok, List, [], ◌∷◌, ◌++◌, codes, decimal}
+use Rattle.cx_code.specs.declared.table.Op.{Op}
+use Rattle.cx_code.specs.declared.table.Op.TheVariants as op
+use Rattle.cx_code.specs.declared.instruction.Fields.TheVariants.{Rx}
+use Rattle.cx_code.specs.Spelling.{Instruction, instruction}
+use Rattle.cx_source.specs.declared.source.Item.{Item}
+use Rattle.cx_source.specs.declared.source.Stmt.{Stmt}
+use Rattle.cx_translate.specs.Made.{made_item, stmt, stores}
+use Rattle.cx_translate.specs.Sections.{lines}
+use Rattle.cx_places.specs.Known.{known_behind, place_in}
+use Rattle.cx_operands.specs.Bases.{Bases}
+use Rattle.cx_operands.specs.Context.{Context}
+use Rattle.cx_operands.specs.Storage.{indexed_in}
+use Rattle.cx_operands.specs.declared.addresses.Address.{Address}
+use Rattle.cx_second.specs.Statements.{stated}
+use Rattle.cx_second.specs.Whole.{Whole, instruction_context}
+use Rattle.cx_command_arrival.specs.Standing.{AreResolved}
+
+-- what a made statement's operand is read by, behind lines, the latest first
+abbrev pub context_of : Whole → Bases → ℕ → List Item → Stmt → Context
+context_of told bases line before statement = instruction_context told bases (stated line statement (place_in statement (known_behind before)))
+
+-- An instruction with register 0 and a storage operand, whose index, base and displacement are those that its text resolves to.
+pub record IsWithRegister0 (op : Op) (c : Context) (text : List ℕ) (made : Instruction) : Type 0 where
+  pub index : ℕ
+  pub address : Address
+  pub operand : indexed_in c text ≡ Ok (index, address)
+  pub is : made ≡ instruction op (Rx 0 index address.base address.displacement)
+
+-- the statements of a store
+abbrev pub load_of : List ℕ → Stmt
+load_of argument = stmt [] (codes "LA") (codes "0," ++ argument)
+
+abbrev pub word_of_list : ℕ → List ℕ
+word_of_list k = codes "DFHEIPL+" ++ decimal (4 * k)
+
+abbrev pub store_of : ℕ → Stmt
+store_of k = stmt [] (codes "ST") (codes "0," ++ word_of_list k)
+
+-- For each argument LA 0 of the argument's own operand, and ST 0 into its word, from word k on.
+unfoldable pub AreStores : Whole → Bases → ℕ → List Item → ℕ → List (List ℕ) → List Instruction → Type 0
+AreStores told bases line before k [] [] = Unit {0}
+AreStores told bases line before k (argument ∷ list) (one ∷ other ∷ code) =
+    IsWithRegister0 op.La (context_of told bases line before (load_of argument)) argument one
+    × IsWithRegister0 op.St (context_of told bases line (made_item line (load_of argument) ∷ before) (store_of k)) (word_of_list k) other
+    × AreStores told bases line (made_item line (store_of k) ∷ made_item line (load_of argument) ∷ before) (k + 1) list code
+AreStores told bases line before k list code = ⊥
+
+-- The stores made of an EXEC statement, resolved, are these.
+abbrev pub StoresAreResolved : Type 0
+StoresAreResolved = (told : Whole) (bases : Bases) (line at k : ℕ) (before : List Item) (list : List (List ℕ)) (code : List Instruction)
+    → AreResolved told bases before at (lines line (stores k list)) code → AreStores told bases line before k list code
