@@ -23,7 +23,7 @@ fn balr_links_and_does_not_branch(rt: HostRuntime) -> Result<(), Fail> {
 #[test]
 fn a_loop_reaches_the_limit(rt: HostRuntime) -> Result<(), Fail> {
     let mut machine = Machine::new(rt.alloc(), &[0x47, 0xF0, 0xF0, 0x00])?;
-    assert!(rt; machine.advance(65536) == Halt::Limit);
+    assert!(rt; machine.halts(65536, Halt::Limit));
     assert!(rt; machine.cpu.next == PROGRAM);
     Ok(())
 }
@@ -34,7 +34,7 @@ fn a_store_into_the_next_instruction_is_what_runs(rt: HostRuntime) -> Result<(),
     let program = [0x50, 0x20, 0xF0, 0x04, 0x41, 0x10, 0x00, 0x01];
     let mut machine = Machine::new(rt.alloc(), &program)?;
     machine.set(2, 0x4130_0007);
-    assert!(rt; machine.advance(2) == Halt::Limit);
+    assert!(rt; machine.halts(2, Halt::Limit));
     assert!(rt; machine.has(1, 0));
     assert!(rt; machine.has(3, 7));
     Ok(())
@@ -45,11 +45,11 @@ fn a_return_comes_to_the_entry(rt: HostRuntime) -> Result<(), Fail> {
     // OI 8(15),X'80', then BC 15,X'800'
     let program = [0x96, 0x80, 0xF0, 0x08, 0x47, 0xF0, 0x08, 0x00];
     let mut machine = Machine::new(rt.alloc(), &program)?;
-    assert!(rt; machine.advance(2) == Halt::AtEntry);
+    assert!(rt; machine.halts(2, Halt::AtEntry));
     assert!(rt; machine.cpu.next == ENTRY);
     assert!(rt; machine.cpu.cc == 1);
     assert!(rt; machine.holds(PROGRAM + 8, &[0x80]));
-    assert!(rt; machine.step() == Step::AtEntry);
+    assert!(rt; machine.ends(Step::AtEntry));
     Ok(())
 }
 
@@ -79,7 +79,7 @@ fn divides(
     machine.set(2, high);
     machine.set(3, low);
     machine.set(4, divisor);
-    machine.step() == expected.0 && machine.has(2, expected.1) && machine.has(3, expected.2)
+    machine.ends(expected.0) && machine.has(2, expected.1) && machine.has(3, expected.2)
 }
 
 #[test]
@@ -146,7 +146,7 @@ fn a_store_across_the_last_address_needs_all_bytes(rt: HostRuntime) -> Result<()
     machine.set(0, 0x1122_3344);
     machine.set(1, 0x5566_7788);
     machine.set(2, 0x00FF_F000);
-    assert!(rt; machine.step() == ADDRESSING);
+    assert!(rt; machine.ends(ADDRESSING));
     assert!(rt; machine.holds(0xFF_FFF0, &[0; 16]));
     machine.get(0)?;
     assert!(rt; machine.is_done());
@@ -160,7 +160,7 @@ fn addresses_have_24_bits(rt: HostRuntime) -> Result<(), Fail> {
     // L 1,2(2)
     let mut machine = Machine::new(rt.alloc(), &[0x58, 0x10, 0x20, 0x02])?;
     machine.set(2, 0x00FF_FFFF);
-    assert!(rt; machine.step() == ADDRESSING);
+    assert!(rt; machine.ends(ADDRESSING));
     assert!(rt; machine.cpu.next == PROGRAM);
     machine.get(0)?;
     machine.write(0, &[0, 0x11, 0x22, 0x33, 0x44]);
@@ -175,7 +175,7 @@ fn a_branch_to_an_odd_address_is_done(rt: HostRuntime) -> Result<(), Fail> {
     let mut machine = Machine::new(rt.alloc(), &[0x07, 0xF2])?;
     machine.set(2, 0x0001_0001);
     assert!(rt; machine.is_done());
-    assert!(rt; machine.step() == SPECIFICATION);
+    assert!(rt; machine.ends(SPECIFICATION));
     Ok(())
 }
 
@@ -183,7 +183,7 @@ fn a_branch_to_an_odd_address_is_done(rt: HostRuntime) -> Result<(), Fail> {
 fn ex_of_an_odd_address_is_interrupted(rt: HostRuntime) -> Result<(), Fail> {
     // EX 0,1(15)
     let mut machine = Machine::new(rt.alloc(), &[0x44, 0x00, 0xF0, 0x01])?;
-    assert!(rt; machine.step() == SPECIFICATION);
+    assert!(rt; machine.ends(SPECIFICATION));
     Ok(())
 }
 
@@ -191,7 +191,7 @@ fn ex_of_an_odd_address_is_interrupted(rt: HostRuntime) -> Result<(), Fail> {
 fn ex_of_an_ex_is_interrupted(rt: HostRuntime) -> Result<(), Fail> {
     let mut machine = Machine::new(rt.alloc(), &[0x44, 0x00, 0xF0, 0x00])?;
     let cause = Interruption::Execute;
-    assert!(rt; machine.advance(5) == Halt::Interrupt(cause, PROGRAM));
+    assert!(rt; machine.halts(5, Halt::Interrupt(cause, PROGRAM)));
     assert!(rt; cause.code() == 3);
     Ok(())
 }

@@ -1,6 +1,7 @@
 //! Images with and without faults, and loads at several addresses.
 use cx_code::{Bytes, Image, Offsets};
 use cx_load::{CheckedImage, ImageFault, LoadFault, Loaded, check, has_room, load, program_place};
+use cx_pages::PagedStore;
 use cx_storage::{Area, FlatStore, Kind, Owner, Store};
 use std::alloc::{AllocError, Global};
 use std::test::Fail;
@@ -76,17 +77,21 @@ fn checked(alloc: Global, text: &[u8], relocs: &[u32], stg_len: u32) -> Result<C
 
 // The calls without what their contracts ensure.
 
-fn loads(alloc: Global, image: &CheckedImage, store: &mut FlatStore) -> Result<Loaded, LoadFault> {
+fn loads<S: Store>(
+    alloc: Global,
+    image: &CheckedImage,
+    store: &mut S,
+) -> Result<Loaded, LoadFault> {
     load(alloc, image, store)
 }
 
 /// Where a load put an image; None where it was refused.
-fn place_of(alloc: Global, image: &CheckedImage, store: &mut FlatStore) -> Option<u32> {
+fn place_of<S: Store>(alloc: Global, image: &CheckedImage, store: &mut S) -> Option<u32> {
     load(alloc, image, store).ok().map(|loaded| loaded.at)
 }
 
 /// The place for a program of so many bytes, where there is one, and whether it has room.
-fn room(store: &FlatStore, len: u32) -> (Option<u32>, bool) {
+fn room<S: Store>(store: &S, len: u32) -> (Option<u32>, bool) {
     if len == 0 {
         return (None, false);
     }
@@ -94,12 +99,12 @@ fn room(store: &FlatStore, len: u32) -> (Option<u32>, bool) {
 }
 
 /// Whether storage holds these bytes from an address on.
-fn holds(store: &FlatStore, a: u32, bytes: &[u8; 12]) -> bool {
+fn holds<S: Store>(store: &S, a: u32, bytes: &[u8; 12]) -> bool {
     a < 0x100_0000 && store.slice(a, 12) == Some(bytes.as_slice())
 }
 
 /// Whether a fixed area of this length, and of the region, starts there.
-fn has_area(store: &FlatStore, start: u32, len: u32) -> bool {
+fn has_area<S: Store>(store: &S, start: u32, len: u32) -> bool {
     let owner = Owner {
         slot: 0,
         kind: Kind::Fixed,
@@ -107,53 +112,77 @@ fn has_area(store: &FlatStore, start: u32, len: u32) -> bool {
     start < 0x100_0000 && store.area_at(start) == Some(Area { start, len, owner })
 }
 
-#[test]
-fn words_are_raised_by_the_load_address(rt: HostRuntime) -> Result<(), Fail> {
+/// Whether two loads of one image raise its words by their addresses.
+fn raises_words<S: Store>(alloc: Global, store: &mut S) -> Result<bool, Fail> {
     let text = [
         0x00, 0x00, 0x00, 0x08, 0xC1, 0xC2, 0xC3, 0xFF, 0xFF, 0xFF, 0xFF, 0xC4,
     ];
-    let image = checked(rt.alloc(), &text, &[7, 0], 80)?;
-    let mut store = FlatStore::new(rt.alloc());
+    let image = checked(alloc, &text, &[7, 0], 80)?;
     let first = Loaded {
         at: 0x01_0000,
         len: 12,
         entry: 0x01_0004,
         stg_len: 80,
     };
-    assert!(rt; loads(rt.alloc(), &image, &mut store)? == first);
-    assert!(rt; place_of(rt.alloc(), &image, &mut store) == Some(0x01_0010));
+    let loaded = loads(alloc, &image, store)? == first
+        && place_of(alloc, &image, store) == Some(0x01_0010);
     let low = [
         0x00, 0x01, 0x00, 0x08, 0xC1, 0xC2, 0xC3, 0x00, 0x00, 0xFF, 0xFF, 0xC4,
     ];
-    assert!(rt; holds(&store, 0x01_0000, &low));
     let high = [
         0x00, 0x01, 0x00, 0x18, 0xC1, 0xC2, 0xC3, 0x00, 0x01, 0x00, 0x0F, 0xC4,
     ];
-    assert!(rt; holds(&store, 0x01_0010, &high));
-    assert!(rt; has_area(&store, 0x01_0010, 12));
+    Ok(
+        loaded
+            && holds(store, 0x01_0000, &low)
+            && holds(store, 0x01_0010, &high)
+            && has_area(store, 0x01_0010, 12),
+    )
+}
+
+#[test]
+fn words_are_raised_by_the_load_address(rt: HostRuntime) -> Result<(), Fail> {
+    assert!(rt; raises_words(rt.alloc(), &mut FlatStore::new(rt.alloc()))?);
+    assert!(rt; raises_words(rt.alloc(), &mut PagedStore::new(rt.alloc()))?);
     Ok(())
 }
 
 /// A byte of storage.
-fn byte(store: &FlatStore, a: u32) -> Option<u8> {
+fn byte<S: Store>(store: &S, a: u32) -> Option<u8> {
     if a < 0x100_0000 { store.byte(a) } else { None }
+}
+
+/// Whether 31 programs of the greatest length come to stand one behind the other.
+fn takes_31<S: Store>(alloc: Global, image: &CheckedImage, store: &mut S) -> bool {
+    for k in 1u32..32 {
+        if place_of(alloc, image, store) != Some(k * 0x01_0000) {
+            return false;
+        }
+    }
+    true
+}
+
+/// Whether the last of 32 programs of the greatest length is refused, and changes nothing.
+fn refuses_the_last<S: Store>(alloc: Global, store: &mut S) -> Result<bool, Fail> {
+    let text = bytes(alloc, 65_536)?;
+    let image = checked(alloc, text.as_slice(), &[], 65_520)?;
+    let empty = room(store, 0x1F_0000) == (Some(0x01_0000), true)
+        && room(store, 0x1F_0001) == (None, false);
+    let filled = takes_31(alloc, &image, store);
+    let refused = loads(alloc, &image, store).err() == Some(LoadFault::NoRoom);
+    Ok(
+        empty
+            && filled
+            && refused
+            && room(store, 1) == (None, false)
+            && byte(store, 0x1F_FFFF) == Some(0x07)
+            && byte(store, 0x20_0000).is_none(),
+    )
 }
 
 #[test]
 fn the_last_of_32_long_programs_has_no_room(rt: HostRuntime) -> Result<(), Fail> {
-    let text = bytes(rt.alloc(), 65_536)?;
-    let image = checked(rt.alloc(), text.as_slice(), &[], 65_520)?;
-    let mut store = FlatStore::new(rt.alloc());
-    assert!(rt; room(&store, 0x1F_0000) == (Some(0x01_0000), true));
-    assert!(rt; room(&store, 0x1F_0001) == (None, false));
-    for k in 1u32..32 {
-        let at = place_of(rt.alloc(), &image, &mut store);
-        assert!(rt; at == Some(k * 0x01_0000));
-    }
-    let refused = loads(rt.alloc(), &image, &mut store).err();
-    assert!(rt; refused == Some(LoadFault::NoRoom));
-    assert!(rt; room(&store, 1) == (None, false));
-    assert!(rt; byte(&store, 0x1F_FFFF) == Some(0x07));
-    assert!(rt; byte(&store, 0x20_0000).is_none());
+    assert!(rt; refuses_the_last(rt.alloc(), &mut FlatStore::new(rt.alloc()))?);
+    assert!(rt; refuses_the_last(rt.alloc(), &mut PagedStore::new(rt.alloc()))?);
     Ok(())
 }

@@ -1,7 +1,8 @@
-//! A processor and its storage, for tests of instructions: the calls without what their contracts ensure.
+//! A processor over both stores, for tests of instructions: the calls without what their contracts ensure.
 ghost use Rattle.std.specs.Prelude.{◌<◌, ◌^◌, ◌-◌, ◌≤◌, length};
 
 use cx_exec::{Cpu, Halt, Step, advance, step};
+use cx_pages::PagedStore;
 use cx_storage::{FlatStore, Kind, Owner, Store};
 use std::alloc::{AllocError, Global};
 
@@ -20,24 +21,62 @@ const OWNER: Owner = Owner {
     kind: Kind::Fixed,
 };
 
-/// A processor, and an area of 16,384 bytes that begins with a program.
+/// A processor, and in each store an area of 16,384 bytes that begins with a program.
 #[derive(Drop)]
 pub struct Machine {
     pub cpu: Cpu,
-    pub store: FlatStore,
+    flat: FlatStore,
+    paged: PagedStore,
+}
+
+/// Makes the area that begins with the program.
+fn fill<S: Store>(store: &mut S, program: &[u8]) -> Result<(), AllocError>
+    requires { length program.now ≤ 65536 }
+{
+    store.get_area(PROGRAM, PROGRAM + 0x3FFF, 0x4000, OWNER)?;
+    store.write(PROGRAM, program);
+    Ok(())
+}
+
+/// Whether a store has the bytes from an address on.
+fn has_bytes<S: Store>(store: &S, a: u32, bytes: &[u8]) -> bool
+    requires { a < 2 ^ 24 }
+{
+    let mut buffer = [0; 16];
+    if bytes.len() > 16 {
+        return false;
+    }
+    let found = &mut buffer[..bytes.len()];
+    store.read(a, found) && *found == *bytes
+}
+
+/// A processor like another.
+fn copy_of(cpu: &Cpu) -> Cpu {
+    Cpu {
+        regs: cpu.regs,
+        cc: cpu.cc,
+        next: cpu.next,
+    }
+}
+
+/// Whether two processors are alike.
+fn are_alike(first: &Cpu, second: &Cpu) -> bool {
+    first.regs == second.regs && first.cc == second.cc && first.next == second.next
 }
 
 impl Machine {
-    /// The machine whose area begins with the program, and whose next instruction is its first.
+    /// The machine whose areas begin with the program, and whose next instruction is its first.
     pub fn new(alloc: Global, program: &[u8]) -> Result<Machine, AllocError>
         requires { length program.now ≤ 65536 }
     {
-        let mut store = FlatStore::new(alloc);
-        store.get_area(PROGRAM, PROGRAM + 0x3FFF, 0x4000, OWNER)?;
-        store.write(PROGRAM, program);
+        let mut flat = FlatStore::new(alloc);
+        let mut paged = PagedStore::new(alloc);
+        fill(&mut flat, program)?;
+        fill(&mut paged, program)?;
         Ok(Machine {
             cpu: cpu_at(PROGRAM),
-            store,
+            flat,
+            paged,
         })
     }
 
@@ -55,11 +94,12 @@ impl Machine {
         Ok(machine)
     }
 
-    /// Makes an area of 16 bytes from an address on.
+    /// Makes an area of 16 bytes from an address on, in each store.
     pub fn get(&mut self, first: u32) -> Result<(), AllocError>
         requires { first ≤ 2 ^ 24 - 16 }
     {
-        self.store.get_area(first, first + 15, 16, OWNER)?;
+        self.flat.get_area(first, first + 15, 16, OWNER)?;
+        self.paged.get_area(first, first + 15, 16, OWNER)?;
         Ok(())
     }
 
@@ -68,7 +108,8 @@ impl Machine {
         requires address { a < 2 ^ 24 }
         requires size { length bytes.now ≤ 65536 }
     {
-        self.store.write(a, bytes);
+        self.flat.write(a, bytes);
+        self.paged.write(a, bytes);
     }
 
     /// Begins again at the program, with all registers as at first.
@@ -76,19 +117,25 @@ impl Machine {
         self.cpu = cpu_at(PROGRAM);
     }
 
-    /// Performs one instruction.
-    pub fn step(&mut self) -> Step {
-        step(&mut self.cpu, &mut self.store)
+    /// Performs one instruction over each store, and says whether both end so and leave the same processor.
+    pub fn ends(&mut self, end: Step) -> bool {
+        let mut other = copy_of(&self.cpu);
+        step(&mut self.cpu, &mut self.flat) == end
+            && step(&mut other, &mut self.paged) == end
+            && are_alike(&self.cpu, &other)
     }
 
     /// Performs one instruction, and says whether it was done.
     pub fn is_done(&mut self) -> bool {
-        self.step() == Step::Done
+        self.ends(Step::Done)
     }
 
-    /// Performs so many instructions at most.
-    pub fn advance(&mut self, limit: u32) -> Halt {
-        advance(&mut self.cpu, &mut self.store, limit)
+    /// Performs so many instructions at most over each store, and says whether both end so and leave the same processor.
+    pub fn halts(&mut self, limit: u32, end: Halt) -> bool {
+        let mut other = copy_of(&self.cpu);
+        advance(&mut self.cpu, &mut self.flat, limit) == end
+            && advance(&mut other, &mut self.paged, limit) == end
+            && are_alike(&self.cpu, &other)
     }
 
     /// Sets a register.
@@ -103,16 +150,11 @@ impl Machine {
         self.cpu.regs.get(register) == Some(&value)
     }
 
-    /// Whether storage has the bytes from an address on.
+    /// Whether each store has the bytes from an address on.
     pub fn holds(&self, a: u32, bytes: &[u8]) -> bool
         requires { a < 2 ^ 24 }
     {
-        let mut buffer = [0; 16];
-        if bytes.len() > 16 {
-            return false;
-        }
-        let found = &mut buffer[..bytes.len()];
-        self.store.read(a, found) && *found == *bytes
+        has_bytes(&self.flat, a, bytes) && has_bytes(&self.paged, a, bytes)
     }
 }
 

@@ -40,7 +40,7 @@ fn a_move_over_the_next_instruction_is_what_runs(rt: HostRuntime) -> Result<(), 
     assert!(rt; machine.cpu.cc == 2);
     let mut machine = Machine::new(rt.alloc(), &program)?;
     machine.set(1, 3);
-    assert!(rt; machine.advance(2) == Halt::Limit);
+    assert!(rt; machine.halts(2, Halt::Limit));
     assert!(rt; machine.has(1, 6));
     assert!(rt; machine.cpu.cc == 2);
     Ok(())
@@ -78,7 +78,7 @@ fn cvb_reads_digits_and_a_sign(rt: HostRuntime) -> Result<(), Fail> {
     ] {
         machine.begin();
         machine.write(DATA, &bytes);
-        assert!(rt; machine.step() == ended);
+        assert!(rt; machine.ends(ended));
         assert!(rt; machine.has(1, word));
         assert!(rt; (machine.cpu.next == PROGRAM) == (ended != Step::Done));
     }
@@ -171,7 +171,7 @@ fn whole_operands_are_tested_though_the_answer_is_known(rt: HostRuntime) -> Resu
         machine.write(PROGRAM, &[code, 0x01, 0x50, 0x00, 0x60, 0x00]);
         machine.set(5, PROGRAM + 0x3FFF);
         let refused = Step::Interrupt(Interruption::Addressing);
-        assert!(rt; machine.step() == refused);
+        assert!(rt; machine.ends(refused));
         assert!(rt; machine.cpu.next == PROGRAM);
     }
     Ok(())
@@ -199,7 +199,7 @@ fn a_mask_of_zero_needs_no_storage(rt: HostRuntime) -> Result<(), Fail> {
     let mut machine = Machine::new(rt.alloc(), &program)?;
     machine.cpu.cc = 3;
     machine.set(1, 0x1234_5678);
-    assert!(rt; machine.advance(2) == Halt::Limit);
+    assert!(rt; machine.halts(2, Halt::Limit));
     assert!(rt; machine.has(1, 0x1234_5678));
     assert!(rt; machine.cpu.cc == 0);
     Ok(())
