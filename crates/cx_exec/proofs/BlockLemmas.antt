@@ -1,5 +1,5 @@
 -- MVC and XC of operands of which the first doesn't begin inside the second behind its first byte.
-use Rattle.std.proofs.Common.{◌≡◌, ◌≢◌, ℕ, ◌+◌, ◌-◌, ◌^◌, ◌<◌, ◌≤◌, true, false, Some, List, is_some, None, Option, Err, rules, length, take, slice_index, bit_xor, refl, sym, ◌∙◌, inl, inr, arith, unwrap_or}
+use Rattle.std.proofs.Common.{◌≡◌, ◌≢◌, ℕ, ◌-◌, ◌^◌, ◌<◌, ◌≤◌, true, false, Some, List, is_some, None, Option, Err, rules, length, take, slice_index, bit_xor, refl, sym, ◌∙◌, inl, inr, arith, unwrap_or}
 use Rattle.std.proofs.lemmas.Bool.{cases_lt, le-ltb}
 use Rattle.std.proofs.lemmas.Grind.{same_number_lists}
 use Rattle.std.proofs.lemmas.List.{length-take-le}
