@@ -5,7 +5,7 @@ use Rattle.std.proofs.lemmas.List.{append_assoc, append-nil}
 use Rattle.cx_code.specs.declared.table.Op.{Op}
 use Rattle.cx_code.specs.declared.table.Op.TheVariants as op
 use Rattle.cx_code.specs.declared.instruction.Fields.{Fields}
-use Rattle.cx_code.specs.declared.instruction.Fields.TheVariants.{Rx}
+use Rattle.cx_code.specs.declared.instruction.Fields.TheVariants.{Rr, Rx}
 use Rattle.cx_code.specs.Spelling.{Instruction, instruction}
 use Rattle.cx_code.specs.Table.{is_shift, length_of, op_named, ops, row_of}
 use Rattle.cx_source.specs.declared.source.Item.{Item}
@@ -20,7 +20,7 @@ use Rattle.cx_terms.specs.Expressions.{summed, value_of}
 use Rattle.cx_terms.specs.Terms.{read_term, terms_of}
 use Rattle.cx_terms.specs.Weights.{relocation}
 use Rattle.cx_terms.specs.Worth.{term_worth}
-use Rattle.cx_translate.specs.Made.{made_item}
+use Rattle.cx_translate.specs.Made.{made_item, stmt}
 use Rattle.cx_operations.specs.Operations.{operation_named}
 use Rattle.cx_operations.specs.declared.operations.Operation.TheVariants as operation
 use Rattle.cx_operands.specs.Bases.{Bases}
@@ -32,7 +32,7 @@ use Rattle.cx_operands.specs.declared.addresses.Address.{Address}
 use Rattle.cx_operands.specs.declared.forms.Form.TheVariants as form
 use Rattle.cx_second.specs.Whole.{Whole}
 use Rattle.cx_command_arrival.specs.Standing.{AreResolved, IsResolved}
-use Rattle.cx_command_arrival.specs.Stores.{AreStores, IsWithRegister0, StoresAreResolved, context_of, load_of, store_of, word_of_list}
+use Rattle.cx_command_arrival.specs.Stores.{AreStores, BranchIsResolved, HasOperand, StoresAreResolved, context_of, entry_in_15, list_of_1, load_of, store_of, word_of_list}
 use Rattle.cx_command_arrival.proofs.ArgumentLemmas.{both_ok, made_ok}
 
 -- ---- a text that is one part
@@ -56,49 +56,72 @@ whole_part scan part (c ∷ behind) p e =
     go true never f e = (let rest : parts_from TopComma (passed scan c behind) [] behind ≡ [] = cc in absurd (never rest))
     go false never f e = f e ∙ append_assoc part (c ∷ []) behind
 
--- register 0
+-- ---- registers
 zero_is : (c : Context) → register_in c (codes "0") ≡ Ok 0
 unfolding number_in value_of terms_of within_behind read_term is_name is_letter digit term_worth summed relocation
 zero_is c = refl
 
-behind_zero : Scan
-behind_zero = record { within = false; depth = 0; before = 48; last = 44 }
+one_is : (c : Context) → register_in c (codes "1") ≡ Ok 1
+unfolding number_in value_of terms_of within_behind read_term is_name is_letter digit term_worth summed relocation
+one_is c = refl
 
-cut_so : (text : List ℕ) → operands_of (codes "0," ++ text) ≡ codes "0" ∷ parts_from TopComma behind_zero [] text
-unfolding within_behind depth_behind is_length_attribute behind_zero
-cut_so text = refl
+fifteen_is : (c : Context) → register_in c (codes "15") ≡ Ok 15
+unfolding number_in value_of terms_of within_behind read_term is_name is_letter digit term_worth summed relocation
+fifteen_is c = refl
 
--- ---- an instruction with it
-record HasRx (c : Context) (text : List ℕ) (fields : Fields) : Type 0 where
+-- ---- a register and the rest
+record Cut (text : List ℕ) (register : List ℕ) (rest : List ℕ) : Type 0 where
+  scan : Scan
+  is : operands_of text ≡ register ∷ parts_from TopComma scan [] rest
+
+cut_0 : (text : List ℕ) → Cut (codes "0," ++ text) (codes "0") text
+unfolding within_behind depth_behind is_length_attribute
+cut_0 text = record { scan = record { within = false; depth = 0; before = 48; last = 44 }; is = refl }
+
+cut_1 : (text : List ℕ) → Cut (codes "1," ++ text) (codes "1") text
+unfolding within_behind depth_behind is_length_attribute
+cut_1 text = record { scan = record { within = false; depth = 0; before = 49; last = 44 }; is = refl }
+
+cut_15 : (text : List ℕ) → Cut (codes "15," ++ text) (codes "15") text
+unfolding within_behind depth_behind is_length_attribute
+cut_15 text = record { scan = record { within = false; depth = 0; before = 53; last = 44 }; is = refl }
+
+-- ---- an instruction with one
+record HasRx (register : ℕ) (c : Context) (text : List ℕ) (fields : Fields) : Type 0 where
   index : ℕ
   address : Address
   operand : indexed_in c text ≡ Ok (index, address)
-  is : fields ≡ Rx 0 index address.base address.displacement
+  is : fields ≡ Rx register index address.base address.displacement
 
-fields_so : (c : Context) (text : List ℕ) (tail : List (List ℕ)) (fields : Fields) → parts_from TopComma behind_zero [] text ≡ tail → fields_in form.Indexed c (codes "0" ∷ tail) ≡ Ok fields → HasRx c text fields
+fields_so : (c : Context) (first : List ℕ) (register : ℕ) (scan : Scan) (text : List ℕ) (tail : List (List ℕ)) (fields : Fields) → register_in c first ≡ Ok register
+    → parts_from TopComma scan [] text ≡ tail → fields_in form.Indexed c (first ∷ tail) ≡ Ok fields → HasRx register c text fields
 unfolding fields_in
-fields_so c text [] fields cut e = absurd (cc)
-fields_so c text (one ∷ other ∷ more) fields cut e = absurd (cc)
-fields_so c text (s2 ∷ []) fields cut e =
-    let whole : s2 ≡ text = whole_part behind_zero [] text s2 cut in
-    let made = made_ok (λ (v : ℕ × (ℕ × Address)). Rx v.0 (v.1).0 ((v.1).1).base ((v.1).1).displacement) (both (register_in c (codes "0")) (indexed_in c s2)) fields e in
-    let parts = both_ok (register_in c (codes "0")) (indexed_in c s2) (made.0).0 (made.0).1 made.1 in
-    let zero : (made.0).0 ≡ 0 = (let same : ◌≡◌ {A = Result ℕ FaultKind} (Ok 0) (Ok (made.0).0) = sym (zero_is c) ∙ parts.0 in cc) in
+fields_so c first register scan text [] fields reg cut e = absurd (cc)
+fields_so c first register scan text (one ∷ other ∷ more) fields reg cut e = absurd (cc)
+fields_so c first register scan text (s2 ∷ []) fields reg cut e =
+    let whole : s2 ≡ text = whole_part scan [] text s2 cut in
+    let made = made_ok (λ (v : ℕ × (ℕ × Address)). Rx v.0 (v.1).0 ((v.1).1).base ((v.1).1).displacement) (both (register_in c first) (indexed_in c s2)) fields e in
+    let parts = both_ok (register_in c first) (indexed_in c s2) (made.0).0 (made.0).1 made.1 in
+    let same : (made.0).0 ≡ register = (let found : ◌≡◌ {A = Result ℕ FaultKind} (Ok register) (Ok (made.0).0) = sym reg ∙ parts.0 in cc) in
     record {
       index = ((made.0).1).0;
       address = ((made.0).1).1;
       operand = ap (indexed_in c) (sym whole) ∙ parts.1;
-      is = sym made.2 ∙ ap (λ k. Rx k ((made.0).1).0 (((made.0).1).1).base (((made.0).1).1).displacement) zero;
+      is = sym made.2 ∙ ap (λ k. Rx k ((made.0).1).0 (((made.0).1).1).base (((made.0).1).1).displacement) same;
     }
 
-with_zero : (o : Op) (c : Context) (text : List ℕ) (i : Instruction) → form_of_op o ≡ form.Indexed → resolved (operation.Machine o) c (codes "0," ++ text) ≡ Ok i → IsWithRegister0 o c text i
+with_register : (o : Op) (c : Context) (whole first text : List ℕ) (register : ℕ) (i : Instruction) → form_of_op o ≡ form.Indexed → Cut whole first text → register_in c first ≡ Ok register
+    → resolved (operation.Machine o) c whole ≡ Ok i → HasOperand o register c text i
 unfolding resolved
-with_zero o c text i indexed e =
-    let made = made_ok (instruction o) (fields_in (form_of_op o) c (operands_of (codes "0," ++ text))) i e in
-    let fields : fields_in form.Indexed c (codes "0" ∷ parts_from TopComma behind_zero [] text) ≡ Ok made.0 =
-    sym (ap (λ k. fields_in k c (codes "0" ∷ parts_from TopComma behind_zero [] text)) indexed) ∙ sym (ap (fields_in (form_of_op o) c) (cut_so text)) ∙ made.1 in
-    let rx = fields_so c text (parts_from TopComma behind_zero [] text) made.0 refl fields in
+with_register o c whole first text register i indexed cut reg e =
+    let made = made_ok (instruction o) (fields_in (form_of_op o) c (operands_of whole)) i e in
+    let fields : fields_in form.Indexed c (first ∷ parts_from TopComma cut.scan [] text) ≡ Ok made.0 =
+    sym (ap (λ k. fields_in k c (first ∷ parts_from TopComma cut.scan [] text)) indexed) ∙ sym (ap (fields_in (form_of_op o) c) cut.is) ∙ made.1 in
+    let rx = fields_so c first register cut.scan text (parts_from TopComma cut.scan [] text) made.0 reg refl fields in
     record { index = rx.index; address = rx.address; operand = rx.operand; is = sym made.2 ∙ ap (instruction o) rx.is }
+
+with_zero : (o : Op) (c : Context) (text : List ℕ) (i : Instruction) → form_of_op o ≡ form.Indexed → resolved (operation.Machine o) c (codes "0," ++ text) ≡ Ok i → HasOperand o 0 c text i
+with_zero o c text i indexed e = with_register o c (codes "0," ++ text) (codes "0") text 0 i indexed (cut_0 text) (zero_is c) e
 
 -- ---- made statements
 la_named : operation_named (codes "LA") ≡ Some (operation.Machine op.La)
@@ -138,3 +161,45 @@ stores_resolved told bases line at k before (argument ∷ list) (i ∷ j ∷ cod
       (resolved_so told bases line (at + length_of i.op) (made_item line (load_of argument) ∷ before) (store_of k) op.St j st_named (r.1).0),
   stores_resolved told bases line (at + length_of i.op + length_of j.op) (k + 1) (made_item line (store_of k) ∷ made_item line (load_of argument) ∷ before) list code (r.1).1,
 )
+
+-- ---- the branch
+l_named : operation_named (codes "L") ≡ Some (operation.Machine op.L)
+unfolding operation_named op_named ops row_of
+l_named = refl
+
+balr_named : operation_named (codes "BALR") ≡ Some (operation.Machine op.Balr)
+unfolding operation_named op_named ops row_of
+balr_named = refl
+
+l_indexed : form_of_op op.L ≡ form.Indexed
+unfolding row_of is_shift
+l_indexed = refl
+
+balr_is : (c : Context) → resolved (operation.Machine op.Balr) c (codes "14,15") ≡ Ok (instruction op.Balr (Rr 14 15))
+unfolding resolved fields_in row_of is_shift number_in value_of terms_of within_behind depth_behind is_length_attribute read_term is_name is_letter digit term_worth summed relocation
+balr_is c = refl
+
+pub branch_resolved : BranchIsResolved
+unfolding AreResolved
+branch_resolved told bases line at before [] r = absurd r
+branch_resolved told bases line at before (i ∷ []) r = absurd r.1
+branch_resolved told bases line at before (i ∷ j ∷ []) r = absurd (r.1).1
+branch_resolved told bases line at before (i ∷ j ∷ k ∷ more ∷ code) r = absurd ((r.1).1).1
+branch_resolved told bases line at before (i ∷ j ∷ k ∷ []) r =
+    let one = context_of told bases line before list_of_1 in
+    let behind = made_item line list_of_1 ∷ before in
+    let two = context_of told bases line behind entry_in_15 in
+    let last = stmt [] (codes "BALR") (codes "14,15") in
+    let three = context_of told bases line (made_item line entry_in_15 ∷ behind) last in
+    let balr : resolved (operation.Machine op.Balr) three (codes "14,15") ≡ Ok k =
+    resolved_so told bases line (at + length_of i.op + length_of j.op) (made_item line entry_in_15 ∷ behind) last op.Balr k balr_named ((r.1).1).0 in
+    let same : k ≡ instruction op.Balr (Rr 14 15) = (let found : Ok k ≡ Ok (instruction op.Balr (Rr 14 15)) = sym balr ∙ balr_is three in cc) in
+    record {
+      list = i;
+      entry = j;
+      is = ap (λ l. i ∷ j ∷ l ∷ []) same;
+      loads = with_register op.La one (codes "1,DFHEIPL") (codes "1") (codes "DFHEIPL") 1 i la_indexed (cut_1 (codes "DFHEIPL")) (one_is one)
+          (resolved_so told bases line at before list_of_1 op.La i la_named r.0);
+      takes = with_register op.L two (codes "15,=V(DFHEI1)") (codes "15") (codes "=V(DFHEI1)") 15 j l_indexed (cut_15 (codes "=V(DFHEI1)")) (fifteen_is two)
+          (resolved_so told bases line (at + length_of i.op) behind entry_in_15 op.L j l_named (r.1).0);
+    }

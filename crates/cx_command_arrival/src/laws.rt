@@ -3,7 +3,7 @@ ghost use Rattle.cx_command_arrival.specs.Arguments.{OperandsAddress};
 ghost use Rattle.cx_command_arrival.specs.Block.{EibIsLaidOut};
 ghost use Rattle.cx_command_arrival.specs.InStorage.{CodeIsUnraised, LinesAreLoaded};
 ghost use Rattle.cx_command_arrival.specs.Standing.{InstructionsStand};
-ghost use Rattle.cx_command_arrival.specs.Stores.{StoresAreResolved};
+ghost use Rattle.cx_command_arrival.specs.Stores.{BranchIsResolved, StoresAreResolved};
 ghost use Rattle.cx_command_arrival.specs.Together.{MadeStandTogether};
 
 /// The assembler places each field of DFHEIBLK at the offset, and with the length, at which the region writes it.
@@ -53,4 +53,10 @@ pub fn operands_address_their_places()
 /// displacement, and ST of register 0 into its word of DFHEIPL.
 pub fn stores_are_resolved()
     ensures { StoresAreResolved }
+{}
+
+/// The last three statements made to call a command are resolved to LA of register 1 with the list's address, L of register
+/// 15 with the literal that holds the entry's address, and BALR 14,15.
+pub fn the_branch_is_resolved()
+    ensures { BranchIsResolved }
 {}
