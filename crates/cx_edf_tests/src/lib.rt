@@ -1,5 +1,7 @@
-//! Tests of runs under EDF over its public calls.
+//! Tests of runs and alterations under EDF over its public calls.
 #![tactic(auto)]
 
+#[cfg(test)]
+mod alterations;
 #[cfg(test)]
 mod runs;
