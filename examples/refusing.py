@@ -1,4 +1,4 @@
-"""Runs the program on the examples while calls of the C library fail, for refuse-memory and failing-devices.
+"""Runs programs while calls of the C library fail, for the scripts of this folder that try that.
 
 refuse.c, which makes them fail, is compiled and preloaded into the program, so that each try takes the time of one run.
 """
@@ -19,16 +19,23 @@ MOST = 2_000  # of more calls not each is refused in turn, unless all are asked 
 FIRST = 500  # how many of them are, behind which a fixed choice is
 
 
-def words():
-    """Whether all are asked for, and the program."""
-    given = [word for word in sys.argv[1:] if word != "--all"]
-    program = given[0] if given else os.path.join(FOLDER, "../crates/cicsedf/out/cicsedf")
-    if not os.access(program, os.X_OK):
-        sys.exit(f"no program stands at {program}")
-    return "--all" in sys.argv, os.path.abspath(program)
+EVERYTHING = "--all" in sys.argv
+GIVEN = [os.path.abspath(word) for word in sys.argv[1:] if word != "--all"]
 
 
-EVERYTHING, PROGRAM = words()
+def built(crate, name=None):
+    """A program of a crate, as `rt ci` leaves it."""
+    path = os.path.join(FOLDER, f"../crates/{crate}/out/{name or crate}")
+    if not os.access(path, os.X_OK):
+        sys.exit(f"no program stands at {path}")
+    return path
+
+
+def program(crate="cicsedf"):
+    """The program that was given, or else that of a crate."""
+    return GIVEN[0] if GIVEN else built(crate)
+
+
 os.chdir(FOLDER)
 MADE = tempfile.mkdtemp()
 LIBRARY, COUNT = os.path.join(MADE, "refuse.so"), os.path.join(MADE, "count")
@@ -67,22 +74,23 @@ def text(file):
 
 
 class Sweep:
-    """One example, of which one kind of call fails; refuse.c has the settings."""
+    """Runs of a command of which one kind of call fails; refuse.c has the settings. `whole` is what is written without a failure,
+    and `given` the file that is its standard input, if it has one."""
 
-    def __init__(self, name, calls, short=0, piece=0):
-        self.name, self.calls = name, calls
-        with open(f"{name}.transcript", encoding="utf-8") as file:
-            self.whole = file.read()
+    def __init__(self, name, command, whole, calls, short=0, piece=0, given=None):
+        self.name, self.command, self.whole, self.calls, self.given = name, command, whole, calls, given
         settings = {"REFUSE_CALLS": calls, "REFUSE_SHORT": str(short), "REFUSE_PIECE": str(piece)}
         self.environment = {**os.environ, **settings, "LD_PRELOAD": LIBRARY}
         self.count = 0
 
     def run(self, nth, **more):
-        """The status, the transcript and the line on standard error of a run whose call of that number fails."""
+        """The status, what was written on standard output and what on standard error, of a run whose call of that number fails."""
         out, told = files()
         streams = [(os.POSIX_SPAWN_DUP2, out, 1), (os.POSIX_SPAWN_DUP2, told, 2)]
+        if self.given:
+            streams.append((os.POSIX_SPAWN_OPEN, 0, self.given, os.O_RDONLY, 0))
         environment = {**self.environment, "REFUSE_NTH": str(nth), **more}
-        child = os.posix_spawn(PROGRAM, [PROGRAM, f"{self.name}.script"], environment, file_actions=streams)
+        child = os.posix_spawn(self.command[0], self.command, environment, file_actions=streams)
         signal.signal(signal.SIGALRM, lambda *_: os.kill(child, signal.SIGKILL))
         signal.alarm(SECONDS)
         _, status = os.waitpid(child, 0)
@@ -112,7 +120,7 @@ class Sweep:
                 self.count = int(file.read())
             os.remove(COUNT)
         if not self.count:
-            print(f"{self.name}: no call is counted as {self.calls}: refuse.c does not reach {PROGRAM}")
+            print(f"{self.name}: no call is counted as {self.calls}: refuse.c does not reach {self.command[0]}")
         return self.count > 0
 
     def tried(self, judge):
@@ -123,6 +131,18 @@ class Sweep:
         wrong = [f"{self.name}, {self.calls} {n} of {self.count} FAILED: {word}" for n, word in zip(numbers, words_given) if not word.isalpha()]
         print(*wrong[:20], sep="\n", end="\n" if wrong else "")
         return Counter(words_given), not wrong
+
+
+def of_example(name, calls, short=0, piece=0):
+    """The sweep of an example, whose transcript is what must be written."""
+    with open(f"{name}.transcript", encoding="utf-8") as file:
+        whole = file.read()
+    return Sweep(name, [program(), f"{name}.script"], whole, calls, short, piece)
+
+
+def judge_same(sweep, _nth, ended):
+    """The word for runs that must be as without a failure."""
+    return "same" if sweep.is_same(ended) else None
 
 
 class Try:
@@ -138,7 +158,7 @@ class Try:
 
 
 def end(failed, well):
-    """Ends the sweeps of all examples."""
+    """Ends all sweeps."""
     shutil.rmtree(MADE)
     if not failed:
         print(well)
