@@ -351,17 +351,17 @@ pub(crate) fn a_place_over_a_border<S: Store>(store: &mut S) -> Result<bool, All
 
 /// An area of 65,520 bytes over 17 blocks is present to its last byte; where a growth is refused all stays.
 pub(crate) fn a_large_area<S: Store>(store: &mut S) -> bool {
-    match get(store, 0x1_0010, LAST, 65_520, TASK) {
+    match get(store, 0x1_0FF0, LAST, 65_520, TASK) {
         Ok(start) => {
-            start == Some(0x1_0010)
-                && byte(store, 0x1_FFFF) == Some(0)
-                && byte(store, 0x2_0000).is_none()
-                && store.has_span(0x1_0010, 65_520)
+            start == Some(0x1_0FF0)
+                && byte(store, 0x2_0FDF) == Some(0)
+                && byte(store, 0x2_0FE0).is_none()
+                && store.has_span(0x1_0FF0, 65_520)
         }
         Err(_) => {
-            !starts(store, 0x1_0010)
-                && byte(store, 0x1_0010).is_none()
-                && store.place(0x1_0010, LAST, 16) == Some(0x1_0010)
+            !starts(store, 0x1_0FF0)
+                && byte(store, 0x1_0FF0).is_none()
+                && store.place(0x1_0FF0, LAST, 65_520) == Some(0x1_0FF0)
         }
     }
 }
