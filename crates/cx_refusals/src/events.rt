@@ -1,6 +1,6 @@
 //! Calls that take memory, each given once more where it is answered Memory.
 
-ghost use Rattle.std.specs.Prelude.{IfOk, IfSome};
+ghost use Rattle.std.specs.Prelude.{◌≡◌, [], IfOk, IfSome};
 ghost use Rattle.cx_actions.specs.Allowed.{IsAllowedLine};
 ghost use Rattle.cx_edf.specs.Runs.{IsAllowedEdf};
 
@@ -8,19 +8,30 @@ use cx_actions::{Line, line_of};
 use cx_edf::{Answer, Debugged, EdfEvent};
 use cx_pages::PagedStore;
 use cx_region::Region;
+use cx_storage::{FlatStore, Store};
 use std::alloc::{AllocError, Global};
 
-/// A region under EDF.
-fn region(alloc: Global) -> Result<Debugged<PagedStore>, AllocError> {
-    let region = Region::new(alloc, PagedStore::new(alloc))?;
+/// A region under EDF over an empty store.
+fn region<S: Store + Drop>(alloc: Global, store: S) -> Result<Debugged<S>, AllocError>
+    requires { S.storage store ≡ [] }
+{
+    let region = Region::new(alloc, store)?;
     Ok(Debugged::new(alloc, region))
 }
 
-/// A region under EDF, begun once more where that is answered Memory.
-pub fn begun(alloc: Global) -> Result<Debugged<PagedStore>, AllocError> {
-    match region(alloc) {
+/// A region under EDF over pages, begun once more where that is answered Memory.
+pub fn begun_over_pages(alloc: Global) -> Result<Debugged<PagedStore>, AllocError> {
+    match region(alloc, PagedStore::new(alloc)) {
         Ok(region) => Ok(region),
-        Err(_) => region(alloc),
+        Err(_) => region(alloc, PagedStore::new(alloc)),
+    }
+}
+
+/// The same over the plain store.
+pub fn begun_over_areas(alloc: Global) -> Result<Debugged<FlatStore>, AllocError> {
+    match region(alloc, FlatStore::new(alloc)) {
+        Ok(region) => Ok(region),
+        Err(_) => region(alloc, FlatStore::new(alloc)),
     }
 }
 
@@ -35,14 +46,17 @@ pub fn allowed_line(alloc: Global, line: &[u8]) -> Result<Option<Line>, AllocErr
 }
 
 /// Does an event.
-fn happen(region: &mut Debugged<PagedStore>, event: &EdfEvent) -> Result<Answer, AllocError>
+fn happen<S: Store + Drop>(region: &mut Debugged<S>, event: &EdfEvent) -> Result<Answer, AllocError>
     requires { IsAllowedEdf event.now }
 {
     region.happen(event)
 }
 
 /// Does an event; where it is answered Memory, it is given once more.
-pub fn done(region: &mut Debugged<PagedStore>, event: &EdfEvent) -> Result<Answer, AllocError>
+pub fn done<S: Store + Drop>(
+    region: &mut Debugged<S>,
+    event: &EdfEvent,
+) -> Result<Answer, AllocError>
     requires { IsAllowedEdf event.now }
 {
     match happen(region, event) {

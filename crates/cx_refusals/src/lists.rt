@@ -4,7 +4,7 @@ ghost use Rattle.cx_actions.specs.Allowed.{IsAllowed, IsAllowedLine};
 ghost use Rattle.cx_edf.specs.Runs.{IsAllowedEdf};
 
 use crate::answers::{print_answer, print_refused};
-use crate::events::{allowed_line, begun, done};
+use crate::events::{allowed_line, begun_over_areas, begun_over_pages, done};
 use crate::images::{image_of, split_block};
 use crate::pages::{print_all, print_displays, print_screen};
 use crate::sources::program_of;
@@ -14,8 +14,8 @@ use cx_ebcdic::{Name4, Name8};
 use cx_edf::{Answer, Debugged, EdfEvent};
 use cx_lines::split_line;
 use cx_load::check;
-use cx_pages::PagedStore;
 use cx_region::{Event, Reply};
+use cx_storage::Store;
 use std::alloc::AllocError;
 use std::io;
 
@@ -24,19 +24,19 @@ const MOST_LINES: usize = 65_536;
 
 /// A list up to some line of it.
 #[derive(Drop)]
-struct List {
-    region: Debugged<PagedStore>,
+struct List<S: Store + Drop> {
+    region: Debugged<S>,
     /// The terminals that are defined.
     terminals: Vec<Name4>,
 }
 
-impl List {
+impl<S: Store + Drop> List<S> {
     /// A list of which nothing is done.
-    fn new(rt: &HostRuntime) -> io::Result<List> {
-        Ok(List {
-            region: begun(rt.alloc())?,
+    fn new(rt: &HostRuntime, region: Debugged<S>) -> List<S> {
+        List {
+            region,
             terminals: Vec::new(rt.alloc()),
-        })
+        }
     }
 
     /// Keeps the name of a terminal that was defined.
@@ -154,22 +154,57 @@ fn block_of<'a>(line: &Line, behind: &'a [u8]) -> (&'a [u8], &'a [u8]) {
     }
 }
 
-/// Does lists, one behind the other.
-pub fn do_lists(rt: &HostRuntime, input: &[u8]) -> io::Result<()> {
-    let mut list = List::new(rt)?;
-    let mut rest = input;
+/// Does a list, which may have a heading.
+fn do_list<S: Store + Drop>(rt: &HostRuntime, region: Debugged<S>, lines: &[u8]) -> io::Result<()> {
+    let mut list = List::new(rt, region);
+    let mut rest = lines;
     for _ in 0..MOST_LINES {
         let Some((line, behind)) = split_line(rest) else {
             break;
         };
-        rest = behind;
         if line.starts_with(b"LIST ") {
-            list.end(rt)?;
-            list = List::new(rt)?;
             println!(rt; "{}", std::str::from_utf8(line).unwrap_or("LIST"))?;
+            rest = behind;
         } else {
             rest = list.text(rt, line, behind)?;
         }
     }
     list.end(rt)
+}
+
+/// The lines of a list, and those behind it, which begin with the next one's heading.
+fn split_list(lines: &[u8]) -> (&[u8], &[u8]) {
+    let mut rest = lines;
+    for _ in 0..MOST_LINES {
+        let Some((_, behind)) = split_line(rest) else {
+            break;
+        };
+        rest = behind;
+        if rest.starts_with(b"LIST ") {
+            let end = lines.len().saturating_sub(rest.len());
+            return (lines.get(..end).unwrap_or(lines), rest);
+        }
+    }
+    (lines, b"")
+}
+
+/// Does lists, one behind the other: over the plain store where a line `FLAT` stands before them, else over pages.
+pub fn do_lists(rt: &HostRuntime, input: &[u8]) -> io::Result<()> {
+    let (is_flat, mut rest) = match input.strip_prefix(b"FLAT\n".as_slice()) {
+        Some(lists) => (true, lists),
+        None => (false, input),
+    };
+    for _ in 0..MOST_LINES {
+        if rest.is_empty() {
+            break;
+        }
+        let (list, behind) = split_list(rest);
+        if is_flat {
+            do_list(rt, begun_over_areas(rt.alloc())?, list)?;
+        } else {
+            do_list(rt, begun_over_pages(rt.alloc())?, list)?;
+        }
+        rest = behind;
+    }
+    Ok(())
 }

@@ -3,9 +3,9 @@
 use crate::answers::as_text;
 use cx_ebcdic::Name4;
 use cx_edf::{Debugged, Display, PageName};
-use cx_pages::PagedStore;
 use cx_region::TaskInfo;
 use cx_service::Screen;
+use cx_storage::Store;
 use cx_text::{Page, shown_bytes, trimmed};
 use std::io;
 
@@ -50,14 +50,14 @@ fn print_heading(rt: &HostRuntime, word: &str, name: Name4) -> io::Result<()> {
 }
 
 /// The screen of a terminal.
-fn screen_of(region: &Debugged<PagedStore>, name: Name4) -> Option<&Screen> {
+fn screen_of<S: Store + Drop>(region: &Debugged<S>, name: Name4) -> Option<&Screen> {
     region.screen(name)
 }
 
 /// Prints the screen of a terminal.
-pub fn print_screen(
+pub fn print_screen<S: Store + Drop>(
     rt: &HostRuntime,
-    region: &Debugged<PagedStore>,
+    region: &Debugged<S>,
     name: Name4,
 ) -> io::Result<()> {
     print_heading(rt, "SCREEN", name)?;
@@ -71,7 +71,7 @@ pub fn print_screen(
 }
 
 /// The page that is shown at a terminal.
-fn shown_page(region: &Debugged<PagedStore>, name: Name4) -> Option<&Page> {
+fn shown_page<S: Store + Drop>(region: &Debugged<S>, name: Name4) -> Option<&Page> {
     let (display, view) = region.display(name)?;
     Some(match view.page {
         PageName::Main => &display.main,
@@ -81,14 +81,14 @@ fn shown_page(region: &Debugged<PagedStore>, name: Name4) -> Option<&Page> {
 }
 
 /// A display of a terminal, so many before the newest.
-fn kept(region: &Debugged<PagedStore>, name: Name4, back: usize) -> Option<&Display> {
+fn kept<S: Store + Drop>(region: &Debugged<S>, name: Name4, back: usize) -> Option<&Display> {
     region.previous(name, back)
 }
 
 /// Prints the page that is shown at a terminal, or the main page of the display that is so many before its newest.
-pub fn print_displays(
+pub fn print_displays<S: Store + Drop>(
     rt: &HostRuntime,
-    region: &Debugged<PagedStore>,
+    region: &Debugged<S>,
     name: Name4,
     back: Option<usize>,
 ) -> io::Result<()> {
@@ -120,12 +120,12 @@ fn print_display(rt: &HostRuntime, name: Name4, back: usize, display: &Display) 
 }
 
 /// The live task of a terminal.
-fn task_of(region: &Debugged<PagedStore>, name: Name4) -> Option<TaskInfo> {
+fn task_of<S: Store + Drop>(region: &Debugged<S>, name: Name4) -> Option<TaskInfo> {
     region.task(name)
 }
 
 /// A byte of storage; 0 where there is none.
-fn byte_at(region: &Debugged<PagedStore>, address: u32) -> u8 {
+fn byte_at<S: Store + Drop>(region: &Debugged<S>, address: u32) -> u8 {
     region.byte(address).unwrap_or(0)
 }
 
@@ -140,7 +140,7 @@ fn print_registers(rt: &HostRuntime, registers: &[u32]) -> io::Result<()> {
 }
 
 /// The bytes of a task's EIB.
-fn eib_bytes(region: &Debugged<PagedStore>, start: u32) -> [u8; EIB_LEN] {
+fn eib_bytes<S: Store + Drop>(region: &Debugged<S>, start: u32) -> [u8; EIB_LEN] {
     let mut bytes = [0; EIB_LEN];
     let mut address = start;
     for byte in bytes.iter_mut() {
@@ -151,14 +151,22 @@ fn eib_bytes(region: &Debugged<PagedStore>, start: u32) -> [u8; EIB_LEN] {
 }
 
 /// Prints the bytes of a task's EIB.
-fn print_eib(rt: &HostRuntime, region: &Debugged<PagedStore>, start: u32) -> io::Result<()> {
+fn print_eib<S: Store + Drop>(
+    rt: &HostRuntime,
+    region: &Debugged<S>,
+    start: u32,
+) -> io::Result<()> {
     let mut digits = [0; 2 * EIB_LEN];
     let _ = hex::encode_to_slice(eib_bytes(region, start), &mut digits);
     println!(rt; "EIB {}", std::str::from_utf8(&digits).unwrap_or("?"))
 }
 
 /// Prints a live task of a terminal.
-fn print_live(rt: &HostRuntime, region: &Debugged<PagedStore>, task: &TaskInfo) -> io::Result<()> {
+fn print_live<S: Store + Drop>(
+    rt: &HostRuntime,
+    region: &Debugged<S>,
+    task: &TaskInfo,
+) -> io::Result<()> {
     let program = shown_bytes(&task.program.bytes());
     println!(rt;
         " {:07} LEVELS {} PROGRAM {}",
@@ -173,7 +181,11 @@ fn print_live(rt: &HostRuntime, region: &Debugged<PagedStore>, task: &TaskInfo) 
 }
 
 /// Prints the task of a terminal.
-fn print_task(rt: &HostRuntime, region: &Debugged<PagedStore>, name: Name4) -> io::Result<()> {
+fn print_task<S: Store + Drop>(
+    rt: &HostRuntime,
+    region: &Debugged<S>,
+    name: Name4,
+) -> io::Result<()> {
     print_heading(rt, "TASK", name)?;
     match task_of(region, name) {
         Some(task) => print_live(rt, region, &task),
@@ -182,7 +194,11 @@ fn print_task(rt: &HostRuntime, region: &Debugged<PagedStore>, name: Name4) -> i
 }
 
 /// Prints the task of a terminal, its screen, and all displays that are kept of it, the newest first.
-pub fn print_all(rt: &HostRuntime, region: &Debugged<PagedStore>, name: Name4) -> io::Result<()> {
+pub fn print_all<S: Store + Drop>(
+    rt: &HostRuntime,
+    region: &Debugged<S>,
+    name: Name4,
+) -> io::Result<()> {
     print_task(rt, region, name)?;
     print_screen(rt, region, name)?;
     for back in 0..KEPT {
