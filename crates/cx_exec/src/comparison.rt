@@ -65,10 +65,10 @@ fn string_order(first: &[u8], second: &[u8]) -> u8
     0
 }
 
-/// CLC of operands that are copied.
+/// CLC. The operands, of `n` bytes, begin at `a1` and `a2`.
 #[tactic(auto, unfolding(crate::specs::Comparison::ComparesStrings))]
 #[inline(never)]
-fn compare_copies<S: Store>(
+pub(crate) fn clc<S: Store>(
     cpu: &mut Cpu,
     store: &S,
     n: u32,
@@ -92,32 +92,6 @@ fn compare_copies<S: Store>(
     if !store.read(a2, second) {
         return Err(Interruption::Addressing);
     }
-    set_code(cpu, string_order(first, second), updated)
-}
-
-/// CLC. The operands, of `n` bytes, begin at `a1` and `a2`.
-#[tactic(auto, using(cx_storage::specs::Facts::Spans::span_length), unfolding(crate::specs::Comparison::ComparesStrings))]
-#[inline(never)]
-pub(crate) fn clc<S: Store>(
-    cpu: &mut Cpu,
-    store: &S,
-    n: u32,
-    a1: u32,
-    a2: u32,
-    updated: Updated,
-) -> Result<(), Interruption>
-    requires first { a1 < 2 ^ 24 }
-    requires second { a2 < 2 ^ 24 }
-    requires count { n ≤ 256 }
-    requires address { updated.address < 2 ^ 24 }
-    ensures { ComparesStrings n a1 a2 updated (machine cpu.old (S.storage store.now)) result (machine cpu.new (S.storage store.now)) }
-{
-    let Some(first) = store.slice(a1, n as usize) else {
-        return compare_copies(cpu, store, n, a1, a2, updated);
-    };
-    let Some(second) = store.slice(a2, n as usize) else {
-        return compare_copies(cpu, store, n, a1, a2, updated);
-    };
     let cc = string_order(first, second);
     set_code(cpu, cc, updated)
 }
