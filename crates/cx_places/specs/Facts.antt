@@ -4,3 +4,4 @@ pub mod Faults
 pub mod Apart
 pub mod Kept
 pub mod Definitions
+pub mod First
