@@ -24,7 +24,7 @@ pub fn arrives_in_time()
 pub fn arrivals_decide()
     ensures { ArrivalsDecide }
 {
-    cx_exec::laws::runs_decide();
+    cx_exec_laws::laws::runs_decide();
 }
 
 /// Two instructions are made for each word of the list, and four; all but the last have four bytes, that has two.

@@ -6,9 +6,5 @@ pub mod SequenceLemmas
 pub mod NumberLemmas
 pub mod TranslationLemmas
 pub mod MaskLemmas
-pub mod DecideLemmas
-pub mod LawLemmas
-pub mod StringLaws
 pub mod FetchLemmas
-pub mod InterruptLemmas
 pub mod BlockLemmas

@@ -69,39 +69,3 @@ words_gone s a k (suc n) h none = elim (cases_lt k n) [
 pub words_filled : (s : Storage) (a n word : ℕ) (new : List ℕ) → n < length new → words_at s a n ≡ Some (take n new) → word_at s (along a (4 * n)) ≡ Some word
     → words_at s a (n + 1) ≡ Some (take (n + 1) (slice_set new n word))
 words_filled s a n word new h so_far here = words_more s a n word (take n new) so_far here ∙ ap Some (sym (take_more_set new n word h))
-
-last_of : (front : List ℕ) (x : ℕ) → slice_index (front ++ x ∷ []) (length front) ≡ x
-last_of [] x = refl
-last_of (y ∷ front) x = last_of front x
-
-earlier : (front back : List ℕ) (k : ℕ) → k < length front → slice_index (front ++ back) k ≡ slice_index front k
-earlier [] back k h = absurd (omega arith)
-earlier (y ∷ front) back zero h = refl
-earlier (y ∷ front) back (suc k) h = earlier front back k (omega arith)
-
-pub words_each : (s : Storage) (a n : ℕ) (words : List ℕ) → words_at s a n ≡ Some words
-    → (length words ≡ n) × ((k : ℕ) → k < n → word_at s (along a (4 * k)) ≡ Some (slice_index words k))
-unfolding words_at
-words_each s a zero words e = let none : [] ≡ words = cc in (ap length (sym none), λ k h. absurd (omega (arith, h)))
-words_each s a (suc n) words e = go (words_at s a n) (λ front f. words_each s a n front f) (word_at s (along a (4 * n))) refl e
-  where
-    go : (o : Option (List ℕ))
-        → ((front : List ℕ) → o ≡ Some front → (length front ≡ n) × ((k : ℕ) → k < n → word_at s (along a (4 * k)) ≡ Some (slice_index front k)))
-        → (p : Option ℕ) → word_at s (along a (4 * n)) ≡ p
-        → option_and_then (λ words. option_map (λ word. words ++ word ∷ []) p) o ≡ Some words
-        → (length words ≡ suc n) × ((k : ℕ) → k < suc n → word_at s (along a (4 * k)) ≡ Some (slice_index words k))
-    go None each p f h = cc
-    go (Some front) each None f h = cc
-    go (Some front) each (Some word) f h =
-        let shape : front ++ word ∷ [] ≡ words = cc in
-        let before = each front refl in
-        let long : length front ≡ n = before.0 in (
-          sym (ap length shape) ∙ length-append front (word ∷ []) ∙ omega (arith, long),
-          λ k l. rw (← shape) (elim (cases_lt k n) [
-            | inl lt ↦ before.1 k lt ∙ ap Some (sym (earlier front (word ∷ []) k (omega (arith, long, lt))))
-            | inr ge ↦
-                let same : k ≡ n = omega (arith, l, ge) in
-                let here : slice_index (front ++ word ∷ []) n ≡ word = rw long at (last_of front word) in
-                rw same (f ∙ ap Some (sym here))
-          ]),
-        )

@@ -23,4 +23,3 @@ pub mod Fetch
 pub mod Step
 pub mod Advance
 pub mod Laws
-pub mod Facts

@@ -9,7 +9,7 @@ use Rattle.cx_command.specs.declared.commands.Command.{Command}
 use Rattle.cx_command.specs.declared.legal.ListedCondition.{ListedCondition}
 use Rattle.cx_exec.specs.declared.machine.Halt.{Halt}
 use Rattle.cx_exec.specs.declared.machine.Halt.TheVariants as halt
-use Rattle.cx_exec.specs.Facts.Keeps.{runs_keep_areas}
+use Rattle.cx_exec_laws.specs.Facts.Keeps.{runs_keep_areas}
 use Rattle.cx_storage.specs.Address.{address_in}
 use Rattle.cx_storage.specs.Storage.{Storage, areas_of, IsSound as IsSoundStorage}
 use Rattle.cx_service.specs.Queues.{AreSoundQueues}

@@ -7,7 +7,7 @@ use Rattle.cx_command.specs.declared.conditions.Condition.{Condition}
 use Rattle.cx_exec.specs.declared.machine.Halt.{Halt}
 use Rattle.cx_exec.specs.declared.machine.Halt.TheVariants as halt
 use Rattle.cx_exec.specs.Advance.{Advances}
-use Rattle.cx_exec.specs.Laws.Decide.{RunsDecide}
+use Rattle.cx_exec_laws.specs.Laws.Decide.{RunsDecide}
 use Rattle.cx_program.specs.Facts.NearestExit.{nearest_exit_one}
 use Rattle.cx_program.specs.Levels.{Levels, all_levels}
 use Rattle.cx_service.specs.Screen.{ShowsText}

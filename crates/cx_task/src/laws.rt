@@ -5,7 +5,7 @@ ghost use Rattle.cx_task.specs.Laws.HalfTurns.{HalfTurnsDecide, HalfTurnsKeep, H
 pub fn half_turns_decide()
     ensures { HalfTurnsDecide }
 {
-    cx_exec::laws::runs_decide();
+    cx_exec_laws::laws::runs_decide();
     cx_service::laws::a_shown_text_is_decided();
     cx_rows::laws::a_call_is_judged_once();
 }

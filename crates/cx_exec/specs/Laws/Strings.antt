@@ -1,27 +1,16 @@
--- What the definitions of rows with lengths, decimal numbers and masks come to, as the module `laws` promises it.
-use Rattle.std.specs.Prelude.{◌≡◌, ◌≢◌, ℕ, ◌^◌, ◌<◌, ◌≤◌, Some, is_some, true, List, length, take, map, slice_index, bit_xor, ℤ, unsigned_abs}
+-- What the definitions of rows with lengths and of masks come to, as the module `laws` promises it.
+use Rattle.std.specs.Prelude.{◌≡◌, ◌≢◌, ℕ, ◌^◌, ◌<◌, ◌≤◌, Some, List, length, take, map, slice_index, bit_xor}
 use Rattle.byteorder.specs.Endian.{big_bytes}
-use Rattle.cx_storage.specs.Storage.{Storage, span, written}
-use Rattle.cx_storage.specs.Address.{along, distance}
+use Rattle.cx_storage.specs.Storage.{Storage, span}
+use Rattle.cx_storage.specs.Address.{along}
 use Rattle.cx_exec.specs.Sequence.{stored_by}
 use Rattle.cx_exec.specs.Strings.{moved, xored}
-use Rattle.cx_exec.specs.Decimal.{IsReadAs, decimal_bytes}
 use Rattle.cx_exec.specs.Masks.{byte_of, chosen}
-
--- what CVD writes of a number, CVB reads as that number
-abbrev pub DecimalReadsBack : Type 0
-DecimalReadsBack = (z : ℤ) → unsigned_abs z < 10 ^ 15 → IsReadAs (decimal_bytes z) (Some z)
 
 -- n bytes are stored, and each is what the rule makes of those before it
 abbrev pub EachIsStored : Type 0
 EachIsStored = (rule : List ℕ → ℕ → ℕ) (n k : ℕ) → k < n
     → (length (stored_by rule n) ≡ n) × (slice_index (stored_by rule n) k ≡ rule (take k (stored_by rule n)) k)
-
--- where no byte of the second operand is one of the first, MVC copies it
-abbrev pub ApartIsCopied : Type 0
-ApartIsCopied = (s : Storage) (a1 a2 n : ℕ) → a1 < 2 ^ 24 → a2 < 2 ^ 24 → n ≤ 2 ^ 24
-    → is_some (span s a1 n) ≡ true → is_some (span s a2 n) ≡ true → ((k : ℕ) → k < n → n ≤ distance a1 (along a2 k))
-    → span (written s a1 (stored_by (moved s a1 a2) n)) a1 n ≡ span s a2 n
 
 -- where the first operand doesn't begin inside the second behind its first byte, MVC stores the bytes that stood in the
 -- second before, and XC each byte of the first joined with the one of the second that stood there before

@@ -6,7 +6,7 @@ use Rattle.cx_exec.specs.declared.machine.Interruption.TheVariants as interrupti
 use Rattle.cx_exec.specs.Machine.{Machine}
 use Rattle.cx_exec.specs.Outcome.{Outcome, Completes, Suppressed}
 use Rattle.cx_exec.specs.Operands.{IfPresent, IfEven}
-use Rattle.cx_exec.specs.Laws.Areas.{SameAreas}
+use Rattle.cx_exec_laws.specs.Laws.Areas.{SameAreas}
 use Rattle.cx_exec.specs.Laws.Numbers.{DivisionIsOne}
 
 -- An interruption leaves the machine as it was, or as `aside` says; where it is operation, `unknown` holds.

@@ -1,5 +1,6 @@
 -- The laws of numbers, pairs, shifts and several registers.
-use Rattle.std.proofs.Common.{◌≡◌, ◌≢◌, ℕ, zero, suc, ◌+◌, ◌-◌, ◌*◌, ◌/◌, ◌%◌, ◌^◌, ◌<◌, ◌≤◌, Some, map, true, false, inl, inr, List, ◌++◌, length, take, drop, slice_index, slice_set, nat_le, refl, sym, ◌∙◌, ap, arith, ℤ, pos, negsuc, neg_ℤ, ◌*ℤ◌, ◌<ℤ◌, ◌≤ℤ◌, int_lt, unsigned_abs, FitsSigned}
+use Rattle.std.proofs.Common.{◌≡◌, ◌≢◌, ℕ, zero, suc, ◌+◌, ◌-◌, ◌*◌, ◌/◌, ◌%◌, ◌^◌, ◌<◌, ◌≤◌, Some, map, true, false, inl, inr, List, ◌++◌, length, take, drop, slice_index, slice_set, nat_le, refl, sym, ◌∙◌, ap, arith, ℤ, pos, negsuc, neg_ℤ, ◌*ℤ◌, ◌<ℤ◌, ◌≤ℤ◌, int_lt, unsigned_abs, FitsSigned, [], ◌∷◌, Option, None}
+use Rattle.std.specs.Option.{option_and_then, option_map}
 use Rattle.std.specs.Int.{w32, w64, int_wrap, int_rem_euclid}
 use lib.Signed.{shr_z}
 use Rattle.std.proofs.lemmas.Bool.{cases_Bool, cases_lt}
@@ -16,7 +17,6 @@ use Rattle.cx_exec.specs.Numbers.{signed, word_of, signed_double, double_of, fit
 use Rattle.cx_exec.specs.Results.{pair, with_pair}
 use Rattle.cx_exec.specs.Shifts.{floor_shifted, times_power, shifted_arithmetic}
 use Rattle.cx_exec.specs.Registers.{place_after, register_count, words_at, loaded_register, loaded_registers, register_bytes}
-use Rattle.cx_exec.proofs.RegisterLemmas.{words_each}
 
 fits : (x : ℤ) → fits_word x ≡ true → FitsSigned w32 x
 fits x e = elim (cases_Bool (int_lt x (neg_ℤ (pos (2 ^ 31))))) [
@@ -134,6 +134,42 @@ stored_words regs first (suc n) k h =
           ap (λ (j : ℕ). take 4 (drop (4 * j) (front ++ word))) (sym same) ∙ ap (take 4) (drop_at front word (4 * n) long)
           ∙ ap (λ (j : ℕ). big_bytes 4 (slice_index regs ((first + j) % 16))) same
     ]
+
+last_of : (front : List ℕ) (x : ℕ) → slice_index (front ++ x ∷ []) (length front) ≡ x
+last_of [] x = refl
+last_of (y ∷ front) x = last_of front x
+
+earlier : (front back : List ℕ) (k : ℕ) → k < length front → slice_index (front ++ back) k ≡ slice_index front k
+earlier [] back k h = absurd (omega arith)
+earlier (y ∷ front) back zero h = refl
+earlier (y ∷ front) back (suc k) h = earlier front back k (omega arith)
+
+words_each : (s : Storage) (a n : ℕ) (words : List ℕ) → words_at s a n ≡ Some words
+    → (length words ≡ n) × ((k : ℕ) → k < n → word_at s (along a (4 * k)) ≡ Some (slice_index words k))
+unfolding words_at
+words_each s a zero words e = let none : [] ≡ words = cc in (ap length (sym none), λ k h. absurd (omega (arith, h)))
+words_each s a (suc n) words e = go (words_at s a n) (λ front f. words_each s a n front f) (word_at s (along a (4 * n))) refl e
+  where
+    go : (o : Option (List ℕ))
+        → ((front : List ℕ) → o ≡ Some front → (length front ≡ n) × ((k : ℕ) → k < n → word_at s (along a (4 * k)) ≡ Some (slice_index front k)))
+        → (p : Option ℕ) → word_at s (along a (4 * n)) ≡ p
+        → option_and_then (λ words. option_map (λ word. words ++ word ∷ []) p) o ≡ Some words
+        → (length words ≡ suc n) × ((k : ℕ) → k < suc n → word_at s (along a (4 * k)) ≡ Some (slice_index words k))
+    go None each p f h = cc
+    go (Some front) each None f h = cc
+    go (Some front) each (Some word) f h =
+        let shape : front ++ word ∷ [] ≡ words = cc in
+        let before = each front refl in
+        let long : length front ≡ n = before.0 in (
+          sym (ap length shape) ∙ length-append front (word ∷ []) ∙ omega (arith, long),
+          λ k l. rw (← shape) (elim (cases_lt k n) [
+            | inl lt ↦ before.1 k lt ∙ ap Some (sym (earlier front (word ∷ []) k (omega (arith, long, lt))))
+            | inr ge ↦
+                let same : k ≡ n = omega (arith, l, ge) in
+                let here : slice_index (front ++ word ∷ []) n ≡ word = rw long at (last_of front word) in
+                rw same (f ∙ ap Some (sym here))
+          ]),
+        )
 
 -- the words that are loaded
 place_back : (first k : ℕ) → first < 16 → k < 16 → place_after first ((first + k) % 16) ≡ k

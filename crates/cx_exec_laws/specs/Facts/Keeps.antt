@@ -12,8 +12,8 @@ use Rattle.cx_exec.specs.Outcome.{Outcome, Suppressed}
 use Rattle.cx_exec.specs.Rows.{Effect}
 use Rattle.cx_exec.specs.Step.{performed, Runs, Steps}
 use Rattle.cx_exec.specs.Advance.{Passes, Advances}
-use Rattle.cx_exec.specs.Laws.Areas.{SameAreas}
-use Rattle.cx_exec.specs.Facts.Rows.{effect}
+use Rattle.cx_exec_laws.specs.Laws.Areas.{SameAreas}
+use Rattle.cx_exec_laws.specs.Facts.Rows.{effect}
 
 runs_keeps : (m : Machine) (outcome : Outcome) (after : Machine) → Runs m outcome after → SameAreas m after
 unfolding Runs

@@ -28,9 +28,9 @@ use Rattle.cx_exec.specs.Decimal.{IsReadAs, Converts, CvbEffect, CvdEffect}
 use Rattle.cx_exec.specs.Masks.{IcmEffect, StcmEffect}
 use Rattle.cx_exec.specs.Rows.{RrEffect, RxEffect, RsEffect, SiEffect, SsEffect, Ss2Effect, EffectOf, Effect}
 use Rattle.cx_exec.specs.Step.{is_execute}
-use Rattle.cx_exec.specs.Laws.Areas.{SameAreas}
+use Rattle.cx_exec_laws.specs.Laws.Areas.{SameAreas}
 use Rattle.cx_exec.specs.Laws.Numbers.{DivisionIsOne}
-use Rattle.cx_exec.specs.Facts.Effects.{IsEffect, goes, changed, stops, when_option, when_present, when_even, when_bool, for_one, weaken}
+use Rattle.cx_exec_laws.specs.Facts.Effects.{IsEffect, goes, changed, stops, when_option, when_present, when_even, when_bool, for_one, weaken}
 
 loads : {unknown : Type 0} {aside : Interruption → Machine → Type 0} (operand : Option ℕ) (m : Machine) (left : ℕ → Machine) → ((x : ℕ) → SameAreas m (left x))
     → IsEffect unknown aside m (λ o a. IfPresent operand m o a (λ x. Completes o a (left x)))

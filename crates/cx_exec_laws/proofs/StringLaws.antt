@@ -1,17 +1,16 @@
--- The laws of the rows with lengths, of decimal numbers and of masks.
-use Rattle.std.proofs.Common.{◌≡◌, ℕ, zero, suc, ◌+◌, ◌-◌, ◌*◌, ◌/◌, ◌%◌, ◌^◌, ◌<◌, ◌≤◌, true, Some, List, [], ◌∷◌, is_some, None, Option, length, take, slice_index, refl, sym, ◌∙◌, ap, arith, lit<, lit≤, ℤ, pos, negsuc, neg_ℤ, unsigned_abs}
+-- The laws of decimal numbers and of MVC.
+use Rattle.std.proofs.Common.{◌≡◌, ◌≢◌, ℕ, zero, suc, ◌+◌, ◌-◌, ◌*◌, ◌/◌, ◌%◌, ◌^◌, ◌<◌, ◌≤◌, true, Some, List, [], ◌∷◌, is_some, None, Option, length, refl, sym, ap, arith, lit<, lit≤, ℤ, pos, negsuc, neg_ℤ, unsigned_abs}
 use Rattle.std.proofs.lemmas.Bool.{le-ltb}
 use Rattle.std.proofs.Math.Nat.{div-div-eq-div-mul}
 use Rattle.std.proofs.lemmas.Nat.{pow-add}
-use Rattle.std.proofs.lemmas.Grind.{same_number_lists}
-use Rattle.std.proofs.lemmas.List.{length-take-le}
-use Rattle.cx_storage.specs.Storage.{Storage, span, written}
+use Rattle.cx_storage.specs.Storage.{span, written}
 use Rattle.cx_storage.specs.Address.{along, distance}
-use Rattle.cx_storage.specs.Facts.Spans.{span_at, span_length}
+use Rattle.cx_storage.specs.Facts.Spans.{span_length}
 use Rattle.cx_storage.specs.Facts.Writes.{span_after_write}
-use Rattle.cx_exec.specs.Sequence.{seen, stored_by}
+use Rattle.cx_exec.specs.Sequence.{stored_by}
 use Rattle.cx_exec.specs.Strings.{moved}
-use Rattle.cx_exec.proofs.SequenceLemmas.{stored_length, each_is_stored}
+use Rattle.cx_exec.specs.Laws.Strings.{OutsideIsMoved}
+use Rattle.cx_exec_laws.specs.Laws.Strings.{ApartIsCopied}
 use Rattle.cx_exec.specs.Decimal.{half, IsDecimal, first_digits, decimal_number, IsReadAs, digit, digit_pair, decimal_bytes}
 
 -- a number's digits with a sign
@@ -78,29 +77,15 @@ unfolding IsReadAs decimal_bytes
 decimal_reads_back (pos n) small = let plus = le-ltb n 0 (omega arith) in rw plus (valid n 0xC (lit≤ tt) (lit< tt), read_as_plus n small)
 decimal_reads_back (negsuc n) small = (valid (suc n) 0xD (lit≤ tt) (lit< tt), read_as_minus (suc n) small)
 
--- what MVC stores of a string that has no byte of the first operand
-seen_before : (s : Storage) (a1 a2 n k : ℕ) (bytes : List ℕ) → a2 < 2 ^ 24 → span s a2 n ≡ Some bytes → k < n → n ≤ distance a1 (along a2 k)
-    → moved s a1 a2 (take k (stored_by (moved s a1 a2) n)) k ≡ slice_index bytes k
-unfolding moved seen
-seen_before s a1 a2 n k bytes low e h far =
-    let stored : List ℕ = take k (stored_by (moved s a1 a2) n) in
-    let front : length stored ≡ k = length-take-le k (stored_by (moved s a1 a2) n) (omega (arith, stored_length (moved s a1 a2) n, h)) in
-    let past = le-ltb (distance a1 (along a2 k)) (length stored) (omega (arith, far, h, front)) in
-    rw past (rw (span_at s a2 n bytes k low e h) refl)
+-- MVC of a second operand that has no byte of the first: no byte of it is the first one's
+outside : (a1 a2 n : ℕ) → ((k : ℕ) → k < n → n ≤ distance a1 (along a2 k)) → a2 < 2 ^ 24 → (j : ℕ) → 0 < j → j < n → a1 ≢ along a2 j
+outside a1 a2 n apart low j some h same =
+    let far : n ≤ distance a1 a1 = rw (← same) at (apart j h) in
+    let none : distance a1 a1 ≡ 0 = omega arith in
+    absurd (omega (arith, far, none, h))
 
-copied : (s : Storage) (a1 a2 n : ℕ) (bytes : List ℕ) → a2 < 2 ^ 24 → span s a2 n ≡ Some bytes → ((k : ℕ) → k < n → n ≤ distance a1 (along a2 k))
-    → stored_by (moved s a1 a2) n ≡ bytes
-copied s a1 a2 n bytes low e apart =
-    let long = span_length s a2 n bytes e in
-    same_number_lists (stored_by (moved s a1 a2) n) bytes (stored_length (moved s a1 a2) n ∙ sym long)
-    (λ k h.
-    let within : k < n = omega (arith, h, stored_length (moved s a1 a2) n) in
-    (each_is_stored (moved s a1 a2) n k within).1 ∙ seen_before s a1 a2 n k bytes low e within (apart k within))
-
-pub apart_is_copied : (s : Storage) (a1 a2 n : ℕ) → a1 < 2 ^ 24 → a2 < 2 ^ 24 → n ≤ 2 ^ 24
-    → is_some (span s a1 n) ≡ true → is_some (span s a2 n) ≡ true → ((k : ℕ) → k < n → n ≤ distance a1 (along a2 k))
-    → span (written s a1 (stored_by (moved s a1 a2) n)) a1 n ≡ span s a2 n
-apart_is_copied s a1 a2 n low1 low2 fits first second apart = go (span s a2 n) refl second
+pub apart_is_copied : OutsideIsMoved → ApartIsCopied
+apart_is_copied stays s a1 a2 n low1 low2 fits first second apart = go (span s a2 n) refl second
   where
     go : (o : Option (List ℕ)) → span s a2 n ≡ o → is_some o ≡ true → span (written s a1 (stored_by (moved s a1 a2) n)) a1 n ≡ o
     go None e h = cc
@@ -108,4 +93,5 @@ apart_is_copied s a1 a2 n low1 low2 fits first second apart = go (span s a2 n) r
         let long = span_length s a2 n bytes e in
         let there : is_some (span s a1 (length bytes)) ≡ true = rw long first in
         let after : span (written s a1 bytes) a1 n ≡ Some bytes = rw long at (span_after_write s a1 bytes low1 (omega (arith, long)) there) in
-        rw (copied s a1 a2 n bytes low2 e apart) after
+        let copied : stored_by (moved s a1 a2) n ≡ bytes = stays s a1 a2 n bytes low1 low2 fits (outside a1 a2 n apart low2) e in
+        rw copied after

@@ -10,8 +10,8 @@ use Rattle.cx_exec.specs.Machine.{Machine}
 use Rattle.cx_exec.specs.Outcome.{Suppressed}
 use Rattle.cx_exec.specs.Rows.{Effect}
 use Rattle.cx_exec.specs.Step.{is_execute, performed, Runs, Steps}
-use Rattle.cx_exec.specs.Laws.Interruptions.{IsConversion}
-use Rattle.cx_exec.specs.Facts.Rows.{IsConvertedBy, effect}
+use Rattle.cx_exec_laws.specs.Laws.Interruptions.{IsConversion}
+use Rattle.cx_exec_laws.specs.Facts.Rows.{IsConvertedBy, effect}
 
 pub every_row_is_there : (i : Instruction) (updated : Updated) (m after : Machine) → IsWellFormed i → is_execute i.op ≡ false
     → Effect i updated m (Err interruption.Operation) after → ⊥

@@ -1,5 +1,0 @@
-use Rattle.cx_exec.proofs.StringLaws.{decimal_reads_back}
-use Rattle.cx_exec.proofs.laws.decimal_reads_back.Goals as goal
-
-pub returns : goal.returns
-returns c = decimal_reads_back

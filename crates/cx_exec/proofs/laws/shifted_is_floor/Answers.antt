@@ -1,5 +1,0 @@
-use Rattle.cx_exec.proofs.LawLemmas.{shifted_is_floor}
-use Rattle.cx_exec.proofs.laws.shifted_is_floor.Goals as goal
-
-pub returns : goal.returns
-returns c = shifted_is_floor

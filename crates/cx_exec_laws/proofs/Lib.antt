@@ -1,0 +1,4 @@
+pub mod DecideLemmas
+pub mod InterruptLemmas
+pub mod LawLemmas
+pub mod StringLaws
