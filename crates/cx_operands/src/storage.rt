@@ -4,7 +4,6 @@ ghost use Rattle.std.specs.Prelude.{◌≡◌, ◌≤◌, IfOk, map, option_map,
 ghost use Rattle.std.specs.Option.{ok_or};
 ghost use Rattle.std.specs.Result.{result_err};
 ghost use Rattle.cx_terms.specs.Faults.{lower};
-ghost use Rattle.cx_terms.specs.Items.{parenthesized_body};
 ghost use Rattle.cx_terms.specs.declared.faults.FaultKind.TheVariants as FaultKind;
 ghost use Rattle.cx_operands.specs.Judging.{judged};
 ghost use Rattle.cx_operands.specs.Addresses.{implied_address};
@@ -15,7 +14,7 @@ use crate::addresses::Address;
 use crate::context::{Context, number_of};
 use crate::judging::{Judged, both, lower_of};
 use cx_source::{Mark, cut, first_mark};
-use cx_terms::{FaultKind, Value, lower};
+use cx_terms::{FaultKind, Value, lower, parenthesized_body};
 use std::alloc::{AllocError, Global};
 use std::marker::Model;
 
@@ -36,22 +35,6 @@ impl<'a> Model for Operand<'a> {
     ghost Value = { OperandValue };
 
     ghost view = { λ s. operand s.place (map (λ text. text.now) s.subfields.items) };
-}
-
-/// What stands in one pair of parentheses, which is the whole text.
-fn parenthesized_body(text: &[u8]) -> Option<&[u8]>
-    ensures { option_map (λ body. body.now) result ≡ parenthesized_body text.now }
-{
-    if text.is_empty() || text[0] != b'(' {
-        return None;
-    }
-    let (_, behind) = text.split_at(1);
-    let (last, body) = behind.split_last()?;
-    if first_mark(behind, Mark::Parenthesis) == body.len() && *last == b')' {
-        Some(body)
-    } else {
-        None
-    }
 }
 
 /// An expression, and perhaps one list in parentheses behind it.

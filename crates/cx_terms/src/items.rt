@@ -84,8 +84,9 @@ fn quoted_body(value: &[u8]) -> Option<&[u8]>
     closed(behind)
 }
 
-/// What stands in one pair of parentheses.
-fn parenthesized_body(value: &[u8]) -> Option<&[u8]>
+/// What stands in one pair of parentheses, which is the whole text; None where the text is anything else (GC33-4010,
+/// "Expressions").
+pub fn parenthesized_body(value: &[u8]) -> Option<&[u8]>
     ensures { option_map (λ body. body.now) result ≡ parenthesized_body value.now }
 {
     if value.is_empty() || value[0] != b'(' {

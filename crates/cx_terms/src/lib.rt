@@ -20,7 +20,7 @@ mod worth;
 pub use bytes::ConstantBytes;
 pub use expressions::{Signed, value_of};
 pub use faults::{FaultKind, TermFault, lower};
-pub use items::Constant;
+pub use items::{Constant, parenthesized_body};
 pub use kinds::{ConstantKind, Style};
 pub use symbols::{SymbolTable, symbol_name};
 pub use terms::{Sign, Term, TermKind, terms_of};
