@@ -5,3 +5,6 @@ pub mod LoadedLemmas
 pub mod RaisedLemmas
 pub mod ArgumentLemmas
 pub mod StoreLemmas
+pub mod PlainLemmas
+pub mod WordLemmas
+pub mod CallLemmas

@@ -5,3 +5,5 @@ pub mod Standing
 pub mod InStorage
 pub mod Arguments
 pub mod Stores
+pub mod Calls
+pub mod Words

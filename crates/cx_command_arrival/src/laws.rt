@@ -1,10 +1,12 @@
 //! What holds of a translated source that was assembled.
 ghost use Rattle.cx_command_arrival.specs.Arguments.{OperandsAddress};
 ghost use Rattle.cx_command_arrival.specs.Block.{EibIsLaidOut};
+ghost use Rattle.cx_command_arrival.specs.Calls.{MarkIsResolved};
 ghost use Rattle.cx_command_arrival.specs.InStorage.{CodeIsUnraised, LinesAreLoaded};
 ghost use Rattle.cx_command_arrival.specs.Standing.{InstructionsStand};
 ghost use Rattle.cx_command_arrival.specs.Stores.{BranchIsResolved, StoresAreResolved};
 ghost use Rattle.cx_command_arrival.specs.Together.{MadeStandTogether};
+ghost use Rattle.cx_command_arrival.specs.Words.{ListLies, WordsLie};
 
 /// The assembler places each field of DFHEIBLK at the offset, and with the length, at which the region writes it.
 pub fn the_eib_is_laid_out()
@@ -60,3 +62,20 @@ pub fn stores_are_resolved()
 pub fn the_branch_is_resolved()
     ensures { BranchIsResolved }
 {}
+
+/// The statements made to call a command are resolved to OI of X'80' with the first byte of the list's last word, and the
+/// branch behind it.
+pub fn the_mark_is_resolved()
+    ensures { MarkIsResolved }
+{
+    the_branch_is_resolved();
+}
+
+/// Base and displacement of DFHEIPL give the list's address, and those of its word k the address 4k bytes behind it, where
+/// the base register that was taken holds its USING's base.
+pub fn words_lie_in_the_list()
+    ensures list { ListLies }
+    ensures words { WordsLie }
+{
+    operands_address_their_places();
+}
