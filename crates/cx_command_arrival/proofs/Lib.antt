@@ -8,3 +8,6 @@ pub mod StoreLemmas
 pub mod PlainLemmas
 pub mod WordLemmas
 pub mod CallLemmas
+pub mod HeldLemmas
+pub mod BehindLemmas
+pub mod LiteralLemmas

@@ -5,7 +5,7 @@ use Rattle.std.specs.Result.{result_err, result_ok}
 use Rattle.std.specs.List.{cons_option}
 use Rattle.std.specs.List.{list_all}
 use Rattle.std.proofs.Math.IntN.{+ℤ_idl, +ℤ_idr}
-use Rattle.std.proofs.Common.{◌≡◌, ◌<◌, ℕ, suc, ◌+◌, ◌*◌, ◌^◌, Bool, true, false, cond, ◌==◌, Option, Some, None, Ok, List, [], ◌∷◌, ◌++◌, length, map, refl, sym, ◌∙◌, ap, subst, arith}
+use Rattle.std.proofs.Common.{Result, ◌≡◌, ◌<◌, ℕ, suc, ◌+◌, ◌*◌, ◌^◌, Bool, true, false, cond, ◌==◌, Option, Some, None, Ok, List, [], ◌∷◌, ◌++◌, length, map, refl, sym, ◌∙◌, ap, subst, arith}
 use Rattle.std.proofs.lemmas.Bool.Decides.{nat_tests}
 use Rattle.cx_ebcdic.specs.Lookup.{each_some}
 use Rattle.cx_source.specs.Lines.{is_letter, is_name, is_name_character}
@@ -19,6 +19,7 @@ use Rattle.cx_terms.specs.Symbols.{absolute}
 use Rattle.cx_terms.specs.Terms.{parts_of, part_of, read_term, term_of, terms_of}
 use Rattle.cx_terms.specs.Weights.{relocation}
 use Rattle.cx_terms.specs.Worth.{greatest, look_up, self_defined, term_worth}
+use Rattle.cx_terms.specs.declared.faults.FaultKind.{FaultKind}
 use Rattle.cx_terms.specs.declared.faults.FaultKind.TheVariants.{BadOperand, UndefinedSymbol, ValueOutOfRange}
 use Rattle.cx_terms.specs.declared.terms.Sign.TheVariants.{Plus}
 use Rattle.cx_terms.specs.declared.terms.TermKind.TheVariants.{Decimal, Symbol}
@@ -205,23 +206,30 @@ indexed_again : (c : Context) (text : List ℕ) (address : Address) → IsAlone 
 unfolding IsAlone indexed_in
 indexed_again c text address alone e = ap (λ o. option_map_or (indexed c) o (Err BadOperand)) (alone true) ∙ ap (λ a. both (Ok 0) a) e
 
+-- of an operand without parentheses, by what it is worth
+pub lies_at : OperandsAddress → (c : Context) (text section : List ℕ) (offset : ℤ) (n : ℕ) (address : Address) (place : Result Value FaultKind)
+    → operand_in true c text ≡ Some (operand place []) → ((value : Value) → place ≡ Ok value → IsAt section (offset +ℤ pos n) value)
+    → indexed_in c text ≡ Ok (0, address) → LiesBehind c section offset n address
+lies_at addresses c text section offset n address place written worths e sections regs holds =
+    let a = addresses sections regs c text 0 address e in
+    let own : operand place [] ≡ a.operand = (let found : Some (operand place []) ≡ Some a.operand = sym written ∙ a.is in cc) in
+    let found : place ≡ Ok a.value = ap (λ o. o.place) own ∙ a.worth in
+    let by : IsAddressedBy sections regs c a.value [] 0 address = subst (λ l. IsAddressedBy sections regs c a.value l 0 address) (ap (λ o. o.subfields) (sym own)) a.by in
+    let at = worths a.value found in
+    let there : IsPlaceOf sections regs c.bases address.base (Some section) (offset +ℤ pos n) 0 (effective regs 0 address.base address.displacement) =
+    subst (λ v. IsPlaceOf sections regs c.bases address.base (Some section) v 0 (effective regs 0 address.base address.displacement)) at.number
+    (subst (λ s. IsPlaceOf sections regs c.bases address.base s a.value.number 0 (effective regs 0 address.base address.displacement)) at.section by.1) in
+    there holds ∙ ap (λ p. along p 0) (sections.behind section offset n) ∙ modulo (sections.place section offset) n
+  where
+    modulo : (p n : ℕ) → along (along p n) 0 ≡ along p n
+    modulo p n = omega arith
+
 lies : OperandsAddress → (c : Context) (text section : List ℕ) (offset : ℤ) (n : ℕ) (address : Address) → IsAlone c text
     → ((value : Value) → worth c text ≡ Ok value → IsAt section (offset +ℤ pos n) value) → judged (implied_address c.bases) (worth c text) ≡ Ok address
     → LiesBehind c section offset n address
 unfolding IsAlone
-lies addresses c text section offset n address alone worths e sections regs holds =
-    let a = addresses sections regs c text 0 address (indexed_again c text address alone e) in
-    let own : operand (worth c text) [] ≡ a.operand = (let found : Some (operand (worth c text) []) ≡ Some a.operand = sym (alone true) ∙ a.is in cc) in
-    let place : worth c text ≡ Ok a.value = ap (λ o. o.place) own ∙ a.worth in
-    let by : IsAddressedBy sections regs c a.value [] 0 address = subst (λ l. IsAddressedBy sections regs c a.value l 0 address) (ap (λ o. o.subfields) (sym own)) a.by in
-    let at = worths a.value place in
-    let found : IsPlaceOf sections regs c.bases address.base (Some section) (offset +ℤ pos n) 0 (effective regs 0 address.base address.displacement) =
-    subst (λ v. IsPlaceOf sections regs c.bases address.base (Some section) v 0 (effective regs 0 address.base address.displacement)) at.number
-    (subst (λ s. IsPlaceOf sections regs c.bases address.base s a.value.number 0 (effective regs 0 address.base address.displacement)) at.section by.1) in
-    found holds ∙ ap (λ p. along p 0) (sections.behind section offset n) ∙ modulo (sections.place section offset) n
-  where
-    modulo : (p n : ℕ) → along (along p n) 0 ≡ along p n
-    modulo p n = omega arith
+lies addresses c text section offset n address alone worths e =
+    lies_at addresses c text section offset n address (worth c text) (alone true) worths (indexed_again c text address alone e)
 
 both_lie : OperandsAddress → (c : Context) (text section : List ℕ) (offset : ℤ) (n : ℕ) → IsAlone c text
     → ((value : Value) → worth c text ≡ Ok value → IsAt section (offset +ℤ pos n) value) → LieBehind c section offset n text

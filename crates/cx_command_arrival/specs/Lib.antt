@@ -7,3 +7,4 @@ pub mod Arguments
 pub mod Stores
 pub mod Calls
 pub mod Words
+pub mod Literals

@@ -3,6 +3,7 @@ ghost use Rattle.cx_command_arrival.specs.Arguments.{OperandsAddress};
 ghost use Rattle.cx_command_arrival.specs.Block.{EibIsLaidOut};
 ghost use Rattle.cx_command_arrival.specs.Calls.{MarkIsResolved};
 ghost use Rattle.cx_command_arrival.specs.InStorage.{CodeIsUnraised, LinesAreLoaded};
+ghost use Rattle.cx_command_arrival.specs.Literals.{LiteralsStand};
 ghost use Rattle.cx_command_arrival.specs.Standing.{InstructionsStand};
 ghost use Rattle.cx_command_arrival.specs.Stores.{BranchIsResolved, StoresAreResolved};
 ghost use Rattle.cx_command_arrival.specs.Together.{MadeStandTogether};
@@ -78,4 +79,13 @@ pub fn words_lie_in_the_list()
     ensures words { WordsLie }
 {
     operands_address_their_places();
+}
+
+/// In an accepted source a literal that an instruction has as its last operand stands in the control section: base and
+/// displacement give its place, and there a resolved line has exactly its bytes, which loading doesn't raise.
+pub fn literals_stand()
+    ensures { LiteralsStand }
+{
+    operands_address_their_places();
+    cx_asm::laws::an_assembly_stands_apart();
 }
