@@ -11,3 +11,5 @@ pub mod CallLemmas
 pub mod HeldLemmas
 pub mod BehindLemmas
 pub mod LiteralLemmas
+pub mod HexLemmas
+pub mod HandedLemmas

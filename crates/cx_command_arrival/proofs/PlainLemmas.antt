@@ -74,7 +74,7 @@ plain_part sign scan part (c ∷ text) h =
     ∙ plain_part sign (passed scan c text) (part ++ (c ∷ [])) text h.1 ∙ ap (λ p. part_of sign p ∷ []) (append_assoc part (c ∷ []) text)
 
 -- ---- decimal digits
-glyph_plain : (upper : Bool) (d : ℕ) → d < 16 → 48 ≤ digit_glyph upper d
+pub glyph_plain : (upper : Bool) (d : ℕ) → d < 16 → 48 ≤ digit_glyph upper d
 glyph_plain true d h = grind (arith, nat_tests)
 glyph_plain false d h = grind (arith, nat_tests)
 

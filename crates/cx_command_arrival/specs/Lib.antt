@@ -8,3 +8,4 @@ pub mod Stores
 pub mod Calls
 pub mod Words
 pub mod Literals
+pub mod Handed

@@ -2,6 +2,7 @@
 ghost use Rattle.cx_command_arrival.specs.Arguments.{OperandsAddress};
 ghost use Rattle.cx_command_arrival.specs.Block.{EibIsLaidOut};
 ghost use Rattle.cx_command_arrival.specs.Calls.{MarkIsResolved};
+ghost use Rattle.cx_command_arrival.specs.Handed.{BlockStands, EntryStands, LiteralsAreLoaded};
 ghost use Rattle.cx_command_arrival.specs.InStorage.{CodeIsUnraised, LinesAreLoaded};
 ghost use Rattle.cx_command_arrival.specs.Literals.{LiteralsStand};
 ghost use Rattle.cx_command_arrival.specs.Standing.{InstructionsStand};
@@ -88,4 +89,16 @@ pub fn literals_stand()
 {
     operands_address_their_places();
     cx_asm::laws::an_assembly_stands_apart();
+}
+
+/// So do the block of an EXEC statement, where the operand that loads its address says, and the word 00000800 with the
+/// entry's address; and loaded they stand in storage.
+pub fn what_a_call_needs_stands()
+    ensures block { BlockStands }
+    ensures entry { EntryStands }
+    ensures loaded { LiteralsAreLoaded }
+{
+    literals_stand();
+    lines_are_loaded();
+    cx_translate::laws::accepted_bytes_are_legal();
 }

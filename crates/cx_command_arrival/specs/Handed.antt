@@ -1,0 +1,54 @@
+-- The literals that a command's call needs: the block, whose address is the first word of the list, and the entry's address
+-- (Application Programmer's Reference Manual, SC33-0077, the expansion of a command; the block and the entry are this
+-- project's own).
+use Rattle.std.specs.Prelude.{◌≡◌, ℕ, Ok, Some, None, List, [], ◌∷◌, ◌++◌, codes, length, reverse}
+use Rattle.cx_command.specs.declared.commands.Command.{Command}
+use Rattle.cx_image.specs.Assembled.{IsAssembled}
+use Rattle.cx_load.specs.Fault.{IsFit}
+use Rattle.cx_load.specs.Program.{IsLoaded}
+use Rattle.cx_load.specs.declared.program.Loaded.{Loaded}
+use Rattle.cx_source.specs.declared.source.Item.{Item}
+use Rattle.cx_source.specs.declared.source.Source.{Source}
+use Rattle.cx_storage.specs.Address.{along}
+use Rattle.cx_storage.specs.Storage.{Storage, span}
+use Rattle.cx_translate.specs.declared.words.Word.{Word}
+use Rattle.cx_translate.specs.Call.{block_bytes, block_literal}
+use Rattle.cx_translate.specs.Made.{made_item}
+use Rattle.cx_translate.specs.Refusals.{fault_in}
+use Rattle.cx_operands.specs.Bases.{Bases}
+use Rattle.cx_operands.specs.Context.{Context}
+use Rattle.cx_operands.specs.Storage.{indexed_in}
+use Rattle.cx_operands.specs.declared.addresses.Address.{Address}
+use Rattle.cx_second.specs.Whole.{whole_of}
+use Rattle.cx_asm.specs.Assembly.{AssemblyParts, assembly_of}
+use Rattle.cx_command_arrival.specs.Literals.{StandsInSection}
+use Rattle.cx_command_arrival.specs.Stores.{context_of, entry_in_15, load_of}
+
+-- a constant's line stands at an operand's place, where the literal is read behind these lines
+abbrev pub HasBlock : Source → AssemblyParts → Bases → ℕ → List Item → List ℕ → ℕ → Address → Type 0
+HasBlock source assembly bases number first bytes index address =
+    StandsInSection source assembly (context_of (whole_of source) bases number (reverse first) (load_of (block_literal bytes))) bytes index address
+
+-- The block of an accepted EXEC statement stands in the control section where the operand that loads its address says.
+abbrev pub BlockStands : Type 0
+BlockStands = (source : Source) (assembly : AssemblyParts) (bases : Bases) (number line : ℕ) (first behind : List Item)
+    (command : Command) (cics named words : List Word) (index : ℕ) (address : Address) → assembly_of source ≡ Ok assembly
+    → fault_in line command cics named words ≡ None
+    → source.items ≡ first ++ made_item number (load_of (block_literal (block_bytes command words))) ∷ behind
+    → indexed_in (context_of (whole_of source) bases number (reverse first) (load_of (block_literal (block_bytes command words)))) (block_literal (block_bytes command words))
+    ≡ Ok (index, address)
+    → HasBlock source assembly bases number first (block_bytes command words) index address
+
+-- So does the word with the entry's address, 00000800.
+abbrev pub EntryStands : Type 0
+EntryStands = (source : Source) (assembly : AssemblyParts) (bases : Bases) (number : ℕ) (first behind : List Item) (index : ℕ)
+    (address : Address) → assembly_of source ≡ Ok assembly → source.items ≡ first ++ made_item number entry_in_15 ∷ behind
+    → indexed_in (context_of (whole_of source) bases number (reverse first) entry_in_15) (codes "=V(DFHEI1)") ≡ Ok (index, address)
+    → StandsInSection source assembly (context_of (whole_of source) bases number (reverse first) entry_in_15) (0 ∷ 0 ∷ 8 ∷ 0 ∷ []) index address
+
+-- What stands so in the section stands in storage when the program is loaded.
+abbrev pub LiteralsAreLoaded : Type 0
+LiteralsAreLoaded = (source : Source) (assembly : AssemblyParts) (c : Context) (bytes : List ℕ) (index : ℕ) (address : Address)
+    (storage after : Storage) (loaded : Loaded) → IsAssembled assembly.section → IsFit assembly.section.image
+    → IsLoaded storage assembly.section.image loaded after → (stands : StandsInSection source assembly c bytes index address)
+    → span after (along loaded.at stands.offset) (length bytes) ≡ Some bytes
