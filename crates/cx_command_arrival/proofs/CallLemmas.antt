@@ -70,15 +70,13 @@ fields_so c text fields e =
     let same : (made.0).1 ≡ 128 = (let found : ◌≡◌ {A = Result ℕ FaultKind} (Ok 128) (Ok (made.0).1) = sym (byte_is c) ∙ parts.1 in cc) in
     record { address = (made.0).0; operand = parts.0; is = sym made.2 ∙ ap (λ k. Si k ((made.0).0).base ((made.0).0).displacement) same }
 
-marked : (c : Context) (text : List ℕ) (i : Instruction) → ArePlain text → resolved (operation.Machine op.Oi) c (codes "DFHEIPL+" ++ text ++ codes ",X'80'") ≡ Ok i
-    → HasByte op.Oi 128 c (codes "DFHEIPL+" ++ text) i
+marked : (c : Context) (whole text : List ℕ) (i : Instruction) → operands_of whole ≡ text ∷ codes "X'80'" ∷ [] → resolved (operation.Machine op.Oi) c whole ≡ Ok i → HasByte op.Oi 128 c text i
 unfolding resolved
-marked c text i plain e =
-    let whole = codes "DFHEIPL+" ++ text ++ codes ",X'80'" in
+marked c whole text i cut e =
     let made = made_ok (instruction op.Oi) (fields_in (form_of_op op.Oi) c (operands_of whole)) i e in
-    let fields : fields_in form.Immediate c ((codes "DFHEIPL+" ++ text) ∷ codes "X'80'" ∷ []) ≡ Ok made.0 =
-    sym (ap (λ k. fields_in k c ((codes "DFHEIPL+" ++ text) ∷ codes "X'80'" ∷ [])) oi_immediate) ∙ sym (ap (fields_in (form_of_op op.Oi) c) (word_cut text plain)) ∙ made.1 in
-    let si = fields_so c (codes "DFHEIPL+" ++ text) made.0 fields in
+    let fields : fields_in form.Immediate c (text ∷ codes "X'80'" ∷ []) ≡ Ok made.0 =
+    sym (ap (λ k. fields_in k c (text ∷ codes "X'80'" ∷ [])) oi_immediate) ∙ sym (ap (fields_in (form_of_op op.Oi) c) cut) ∙ made.1 in
+    let si = fields_so c text made.0 fields in
     record { address = si.address; operand = si.operand; is = sym made.2 ∙ ap (instruction op.Oi) si.is }
 
 -- ---- the statement
@@ -91,7 +89,7 @@ mark_so told bases line at k before i r =
     let same : s ≡ r.statement = (let found : Some s ≡ Some r.statement = r.begins in cc) in
     let one : Some (operation.Machine op.Oi) ≡ Some r.operation = sym oi_named ∙ ap (λ k. operation_named k.operation) same ∙ r.named in
     let made : operation.Machine op.Oi ≡ r.operation = cc in
-    marked c (decimal (4 * k)) i (decimal_plain (4 * k))
+    marked c s.operand (word_of_list k) i (word_cut (decimal (4 * k)) (decimal_plain (4 * k)))
     (ap (λ k. resolved k c s.operand) made ∙ ap (λ k. resolved r.operation (context_of told bases line before k) k.operand) same ∙ r.resolves)
 
 pub mark_resolved : BranchIsResolved → MarkIsResolved

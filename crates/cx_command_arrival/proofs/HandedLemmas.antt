@@ -1,5 +1,5 @@
 -- The block and the entry's address as literals.
-use Rattle.std.specs.Prelude.{bit_or, codes, flat_map, is_some, nat_le, nat_lt, ◌&&◌}
+use Rattle.std.specs.Prelude.{bit_or, codes, flat_map, is_some, nat_le, nat_lt, reverse, ◌&&◌}
 use Rattle.std.proofs.Common.{◌≡◌, ◌<◌, ℕ, Bool, true, false, cond, Option, Some, None, List, [], ◌∷◌, ◌++◌, length, refl, subst, ⊎_elim, arith}
 use Rattle.std.specs.List.{AllByRecursion, fold, list_all}
 use Rattle.std.proofs.lemmas.Bool.{cases_Bool, leb-true, ltb-true}
@@ -29,7 +29,7 @@ use Rattle.cx_terms.specs.Kinds.{kind_of}
 use Rattle.cx_terms.specs.declared.kinds.ConstantKind.TheVariants.{External}
 use Rattle.cx_places.specs.Known.{role_in}
 use Rattle.cx_translate.specs.declared.words.Word.{Word}
-use Rattle.cx_translate.specs.Call.{block_bytes, block_literal, hex_pair, listed_by, listed_of, text_in, two_bytes}
+use Rattle.cx_translate.specs.Call.{block_bytes, hex_pair, listed_by, listed_of, text_in, two_bytes}
 use Rattle.cx_translate.specs.Due.{condition_called}
 use Rattle.cx_translate.specs.Made.{made_item}
 use Rattle.cx_translate.specs.Refusals.{fault_in, first_byte, is_given, second_byte, with_option}
@@ -37,7 +37,7 @@ use Rattle.cx_operands.specs.Forms.{literal_in}
 use Rattle.cx_operands.specs.Values.{item_in}
 use Rattle.cx_second.specs.Whole.{Whole, whole_of}
 use Rattle.cx_asm.specs.Resolving.{line}
-use Rattle.cx_command_arrival.specs.Handed.{BlockStands, EntryStands, LiteralsAreLoaded}
+use Rattle.cx_command_arrival.specs.Handed.{BlockStands, EntryStands, LiteralsAreLoaded, block_of}
 use Rattle.cx_command_arrival.specs.InStorage.{IsUnraised, LinesAreLoaded, StandsAt}
 use Rattle.cx_command_arrival.specs.Literals.{HasBytes, HasInstruction, LiteralsStand}
 use Rattle.cx_command_arrival.specs.Standing.{is_instruction_role}
@@ -159,18 +159,19 @@ l_role : is_instruction_role (role_in entry_in_15) ≡ true
 unfolding operation_named op_named ops op_row_of
 l_role = refl
 
-made_stands : (source : Source) (first behind : List Item) (number : ℕ) (s : Stmt) → source.items ≡ first ++ made_item number s ∷ behind → is_instruction_role (role_in s) ≡ true
-    → HasInstruction source first number s
+made_stands : (source : Source) (before behind : List Item) (number : ℕ) (s : Stmt) → source.items ≡ reverse before ++ made_item number s ∷ behind → is_instruction_role (role_in s) ≡ true
+    → HasInstruction source before number s
 unfolding made_item
-made_stands source first behind number s is role =
+made_stands source before behind number s is role =
     record { item = made_item number s; behind = behind; is = is; numbered = refl; begins = refl; role = role }
 
 pub block_stands : LegalBytes → LiteralsStand → BlockStands
-block_stands legal stand source assembly bases number line first behind command cics named words index address e accepted is resolves =
+block_stands legal stand source assembly bases number line before behind command cics named words index address e accepted is resolves =
     let bytes = block_bytes command words in
+    let text = block_of command words in
     let small = block_small legal line command cics named words accepted in
-    stand source assembly bases first number (load_of (block_literal bytes)) (88 ∷ 39 ∷ (flat_map hex_pair bytes ++ 39 ∷ [])) bytes index address e
-    (made_stands source first behind number (load_of (block_literal bytes)) is (la_role (block_literal bytes)))
+    stand source assembly bases number before (load_of (text)) (88 ∷ 39 ∷ (flat_map hex_pair bytes ++ 39 ∷ [])) bytes index address e
+    (made_stands source before behind number (load_of (text)) is (la_role (text)))
     (block_is_last bytes small) (hex_has_bytes (whole_of source) bytes small (block_some command words)) (block_some command words) resolves
 
 -- ---- the entry
@@ -184,9 +185,9 @@ unfolding literal_in within_behind depth_behind is_length_attribute
 entry_is_last = refl
 
 pub entry_stands : LiteralsStand → EntryStands
-entry_stands stand source assembly bases number first behind index address e is resolves =
-    stand source assembly bases first number entry_in_15 (codes "V(DFHEI1)") (0 ∷ 0 ∷ 8 ∷ 0 ∷ []) index address e
-    (made_stands source first behind number entry_in_15 is l_role) entry_is_last (entry_has_bytes (whole_of source)) (omega arith) resolves
+entry_stands stand source assembly bases number before behind index address e is resolves =
+    stand source assembly bases number before entry_in_15 (codes "V(DFHEI1)") (0 ∷ 0 ∷ 8 ∷ 0 ∷ []) index address e
+    (made_stands source before behind number entry_in_15 is l_role) entry_is_last (entry_has_bytes (whole_of source)) (omega arith) resolves
 
 -- ---- in storage
 one_of : (P : Line → Type 0) (front : List Line) (mine : Line) (back : List Line) → AllByRecursion P (front ++ mine ∷ back) → P mine

@@ -7,7 +7,7 @@ use Rattle.std.specs.Map.{lookup}
 use Rattle.std.specs.Option.{ok_or}
 use Rattle.std.specs.Str.{bytes_eq}
 use Rattle.std.proofs.lemmas.Bool.Decides.{leb_tells}
-use Rattle.std.proofs.lemmas.List.{append_assoc, append-nil, reverse-append}
+use Rattle.std.proofs.lemmas.List.{append_assoc, append-nil, reverse-append, reverse-reverse}
 use Rattle.std.proofs.lemmas.Option.{slice_get_past}
 use Rattle.std.proofs.lemmas.Slice.Eq.{bytes_eq-Decides}
 use Rattle.cx_code.specs.declared.disassembly.Line.{Line}
@@ -376,14 +376,13 @@ literal_written c text = refl
 is_ok : (o : Option Value) (value other : Value) → o ≡ Some value → ok_or o BadOperand ≡ Ok other → value ≡ other
 is_ok o value other is e = (let found : ◌≡◌ {A = Result Value FaultKind} (Ok value) (Ok other) = sym (ap (λ k. ok_or k BadOperand) is) ∙ e in cc)
 
-stands_so : Knows → (source : Source) (assembly : AssemblyParts) (bases : Bases) (first : List Item) (number : ℕ) (s : Stmt) (text : List ℕ) (byte : ℕ) (bytes : List ℕ) (index : ℕ) (address : Address)
-    → assembly_of source ≡ Ok assembly → HasInstruction source first number s → literal_in s.operand ≡ Some (61 ∷ text) → HasBytes (whole_of source) text (byte ∷ bytes)
-    → indexed_in (context_of (whole_of source) bases number (reverse first) s) (61 ∷ text) ≡ Ok (index, address)
-    → StandsInSection source assembly (context_of (whole_of source) bases number (reverse first) s) (byte ∷ bytes) index address
+stands_so : Knows → (source : Source) (assembly : AssemblyParts) (bases : Bases) (number : ℕ) (before : List Item) (s : Stmt) (text : List ℕ) (byte : ℕ) (bytes : List ℕ) (index : ℕ) (address : Address)
+    → assembly_of source ≡ Ok assembly → HasInstruction source before number s → literal_in s.operand ≡ Some (61 ∷ text) → HasBytes (whole_of source) text (byte ∷ bytes)
+    → indexed_in (context_of (whole_of source) bases number before s) (61 ∷ text) ≡ Ok (index, address)
+    → StandsInSection source assembly (context_of (whole_of source) bases number before s) (byte ∷ bytes) index address
 unfolding section_of
-stands_so knows source assembly bases first number s text byte bytes index address e has last is resolves =
+stands_so knows source assembly bases number before s text byte bytes index address e has last is resolves =
     let told = whole_of source in
-    let before = reverse first in
     let known = known_behind before in
     let c = context_of told bases number before s in
     let ok = accepted source assembly e in
@@ -398,7 +397,8 @@ stands_so knows source assembly bases first number s text byte bytes index addre
     let inside = (begins 0 own.front mine own.back (length assembly.section.image.text) apart).1 in
     let small : f.literal.offset ≤ bound = (let size = knows.size source assembly e in let short = knows.short source assembly e in omega (arith, inside, size, short)) in
     let turned : reverse source.items ≡ reverse has.behind ++ (has.item ∷ before) =
-    ap (λ k. reverse k) has.is ∙ reverse-append first (has.item ∷ has.behind) ∙ reverse_step has.item has.behind before in
+    ap (λ k. reverse k) has.is ∙ reverse-append (reverse before) (has.item ∷ has.behind) ∙ ap (λ k. reverse (has.item ∷ has.behind) ++ k) (reverse-reverse before)
+    ∙ reverse_step has.item has.behind before in
     let sound : (known_behind (reverse has.behind ++ (has.item ∷ before))).fault ≡ None = subst (λ k. (known_behind k).fault ≡ None) turned ok.first in
     let fault = own_section number s before (reverse has.behind) has.item has.numbered has.begins sound in
     let within = instruction_within (role_in s) (name_in s) known.section known.control has.role fault in
@@ -425,6 +425,6 @@ stands_so knows source assembly bases first number s text byte bytes index addre
     }
 
 pub literals_stand : Knows → LiteralsStand
-literals_stand knows source assembly bases first number s text [] index address e has last is some resolves = absurd (omega arith)
-literals_stand knows source assembly bases first number s text (byte ∷ bytes) index address e has last is some resolves =
-    stands_so knows source assembly bases first number s text byte bytes index address e has last is resolves
+literals_stand knows source assembly bases number before s text [] index address e has last is some resolves = absurd (omega arith)
+literals_stand knows source assembly bases number before s text (byte ∷ bytes) index address e has last is some resolves =
+    stands_so knows source assembly bases number before s text byte bytes index address e has last is resolves

@@ -24,27 +24,26 @@ use Rattle.cx_asm.specs.Assembly.{AssemblyParts, assembly_of}
 use Rattle.cx_command_arrival.specs.Literals.{StandsInSection}
 use Rattle.cx_command_arrival.specs.Stores.{context_of, entry_in_15, load_of}
 
--- a constant's line stands at an operand's place, where the literal is read behind these lines
-abbrev pub HasBlock : Source → AssemblyParts → Bases → ℕ → List Item → List ℕ → ℕ → Address → Type 0
-HasBlock source assembly bases number first bytes index address =
-    StandsInSection source assembly (context_of (whole_of source) bases number (reverse first) (load_of (block_literal bytes))) bytes index address
+-- the operand that loads the block's address
+abbrev pub block_of : Command → List Word → List ℕ
+block_of command words = block_literal (block_bytes command words)
 
--- The block of an accepted EXEC statement stands in the control section where the operand that loads its address says.
+-- The block of an accepted EXEC statement stands in the control section where that operand says; `before` are the lines before
+-- it, the latest first.
 abbrev pub BlockStands : Type 0
-BlockStands = (source : Source) (assembly : AssemblyParts) (bases : Bases) (number line : ℕ) (first behind : List Item)
+BlockStands = (source : Source) (assembly : AssemblyParts) (bases : Bases) (number line : ℕ) (before behind : List Item)
     (command : Command) (cics named words : List Word) (index : ℕ) (address : Address) → assembly_of source ≡ Ok assembly
     → fault_in line command cics named words ≡ None
-    → source.items ≡ first ++ made_item number (load_of (block_literal (block_bytes command words))) ∷ behind
-    → indexed_in (context_of (whole_of source) bases number (reverse first) (load_of (block_literal (block_bytes command words)))) (block_literal (block_bytes command words))
-    ≡ Ok (index, address)
-    → HasBlock source assembly bases number first (block_bytes command words) index address
+    → source.items ≡ reverse before ++ made_item number (load_of (block_of command words)) ∷ behind
+    → indexed_in (context_of (whole_of source) bases number before (load_of (block_of command words))) (block_of command words) ≡ Ok (index, address)
+    → StandsInSection source assembly (context_of (whole_of source) bases number before (load_of (block_of command words))) (block_bytes command words) index address
 
 -- So does the word with the entry's address, 00000800.
 abbrev pub EntryStands : Type 0
-EntryStands = (source : Source) (assembly : AssemblyParts) (bases : Bases) (number : ℕ) (first behind : List Item) (index : ℕ)
-    (address : Address) → assembly_of source ≡ Ok assembly → source.items ≡ first ++ made_item number entry_in_15 ∷ behind
-    → indexed_in (context_of (whole_of source) bases number (reverse first) entry_in_15) (codes "=V(DFHEI1)") ≡ Ok (index, address)
-    → StandsInSection source assembly (context_of (whole_of source) bases number (reverse first) entry_in_15) (0 ∷ 0 ∷ 8 ∷ 0 ∷ []) index address
+EntryStands = (source : Source) (assembly : AssemblyParts) (bases : Bases) (number : ℕ) (before behind : List Item) (index : ℕ)
+    (address : Address) → assembly_of source ≡ Ok assembly → source.items ≡ reverse before ++ made_item number entry_in_15 ∷ behind
+    → indexed_in (context_of (whole_of source) bases number before entry_in_15) (codes "=V(DFHEI1)") ≡ Ok (index, address)
+    → StandsInSection source assembly (context_of (whole_of source) bases number before entry_in_15) (0 ∷ 0 ∷ 8 ∷ 0 ∷ []) index address
 
 -- What stands so in the section stands in storage when the program is loaded.
 abbrev pub LiteralsAreLoaded : Type 0

@@ -32,12 +32,12 @@ pub record HasBytes (told : Whole) (text bytes : List ℕ) : Type 0 where
   pub everywhere : (counter : Option Value) → item_made told false counter text ≡ Ok (made once false)
   pub all : copies constant.duplication once ≡ bytes
 
--- An instruction's statement of a source, behind its first lines.
-pub record HasInstruction (source : Source) (first : List Item) (line : ℕ) (s : Stmt) : Type 0 where
+-- An instruction's statement on a line of a source; `before` are the lines before it, the latest first.
+pub record HasInstruction (source : Source) (before : List Item) (number : ℕ) (s : Stmt) : Type 0 where
   pub item : Item
   pub behind : List Item
-  pub is : source.items ≡ first ++ item ∷ behind
-  pub numbered : item.line ≡ line
+  pub is : source.items ≡ reverse before ++ item ∷ behind
+  pub numbered : item.line ≡ number
   pub begins : item.stmt ≡ Some s
   pub role : is_instruction_role (role_in s) ≡ true
 
@@ -56,8 +56,8 @@ pub record StandsInSection (source : Source) (assembly : AssemblyParts) (c : Con
 
 -- So stands every literal that an instruction of an accepted source has as its last operand.
 abbrev pub LiteralsStand : Type 0
-LiteralsStand = (source : Source) (assembly : AssemblyParts) (bases : Bases) (first : List Item) (number : ℕ) (s : Stmt) (text bytes : List ℕ) (index : ℕ) (address : Address)
-    → assembly_of source ≡ Ok assembly → HasInstruction source first number s → literal_in s.operand ≡ Some (61 ∷ text)
-    → HasBytes (whole_of source) text bytes → 0 < length bytes
-    → indexed_in (context_of (whole_of source) bases number (reverse first) s) (61 ∷ text) ≡ Ok (index, address)
-    → StandsInSection source assembly (context_of (whole_of source) bases number (reverse first) s) bytes index address
+LiteralsStand = (source : Source) (assembly : AssemblyParts) (bases : Bases) (number : ℕ) (before : List Item) (s : Stmt)
+    (text bytes : List ℕ) (index : ℕ) (address : Address) → assembly_of source ≡ Ok assembly → HasInstruction source before number s
+    → literal_in s.operand ≡ Some (61 ∷ text) → HasBytes (whole_of source) text bytes → 0 < length bytes
+    → indexed_in (context_of (whole_of source) bases number before s) (61 ∷ text) ≡ Ok (index, address)
+    → StandsInSection source assembly (context_of (whole_of source) bases number before s) bytes index address
