@@ -26,14 +26,15 @@ use Rattle.cx_terms.specs.declared.terms.TermKind.TheVariants.{Decimal, Symbol}
 use Rattle.cx_terms.specs.declared.values.Value.{Value}
 use Rattle.cx_storage.specs.Address.{along}
 use Rattle.cx_exec.specs.Machine.{effective}
-use Rattle.cx_operands.specs.Addresses.{implied_address}
+use Rattle.cx_operands.specs.Addresses.{address as at_register, address_in, displacement_of, implied_address}
+use Rattle.cx_operands.specs.Bases.{Bases}
 use Rattle.cx_operands.specs.Context.{Context, worth}
 use Rattle.cx_operands.specs.Judging.{both, judged}
 use Rattle.cx_operands.specs.Storage.{indexed, indexed_by, indexed_in, operand, operand_in, plain, plain_in}
 use Rattle.cx_operands.specs.declared.addresses.Address.{Address}
 use Rattle.cx_command_arrival.specs.Arguments.{IsAddressedBy, IsPlaceOf, OperandsAddress}
 use Rattle.cx_command_arrival.specs.Stores.{word_of_list}
-use Rattle.cx_command_arrival.specs.Words.{LieBehind, LiesBehind, ListLies, WordsLie}
+use Rattle.cx_command_arrival.specs.Words.{HasSomeList, LieBehind, LiesBehind, ListIsPlaced, ListLies, WordsLie}
 use Rattle.cx_command_arrival.proofs.ArgumentLemmas.{both_ok}
 use Rattle.cx_command_arrival.proofs.PlainLemmas.{ArePlain, decimal_plain, decimal_read, neither, other, plain_part}
 
@@ -248,3 +249,63 @@ pub words_lie : OperandsAddress → WordsLie
 words_lie addresses c section offset k small has =
     both_lie addresses c (word_of_list k) section offset (4 * k) (word_alone c (decimal (4 * k)) (decimal_plain (4 * k)))
     (λ value e. word_worth c.find c.here section offset has.length (4 * k) value has.known (omega (arith, small)) e)
+
+-- ---- a list that has a base
+absolute_sum : (number : ℤ) (length : ℕ) (value : Value) → summed (record { sign = Plus; value = record { section = None; number = number; length = length } } ∷ []) ≡ Ok value → value.section ≡ None
+unfolding summed relocation
+absolute_sum number length value e =
+    go (sum_from (pos 0) (record { sign = Plus; value = record { section = None; number = number; length = length } } ∷ [])) e
+  where
+    go : (o : Option ℤ) → located o (Some None) length ≡ Ok value → value.section ≡ None
+    go None e = absurd (cc)
+    go (Some sum) e = (let same : record { section = None; number = sum; length = length } ≡ value = cc in ap (λ v. v.section) (sym same))
+
+symbol_sum : (find : List ℕ → Option Value) (here : Option Value) (v value : Value) → look_up find (codes "DFHEIPL") ≡ Some v → value_of find here (codes "DFHEIPL") ≡ Ok value
+    → summed (record { sign = Plus; value = v } ∷ []) ≡ Ok value
+unfolding value_of
+symbol_sum find here v value known e =
+    let terms : valued find here (Some (term_of Plus Symbol (codes "DFHEIPL") ∷ [])) ≡ Ok value = subst (λ k. valued find here k ≡ Ok value) one_term e in
+    let found = symbol_worth find here v known in rw found at terms
+
+unknown_symbol : (find : List ℕ → Option Value) (here : Option Value) (value : Value) → look_up find (codes "DFHEIPL") ≡ None → value_of find here (codes "DFHEIPL") ≡ Ok value → ⊥
+unfolding value_of term_worth
+unknown_symbol find here value none e =
+    let terms : valued find here (Some (term_of Plus Symbol (codes "DFHEIPL") ∷ [])) ≡ Ok value = subst (λ k. valued find here k ≡ Ok value) one_term e in
+    let bad = rw none at terms in absurd (cc)
+
+base_0 : (bases : Bases) (value : Value) (address : Address) → value.section ≡ None → implied_address bases value ≡ Ok address → address.base ≡ 0
+base_0 bases value address none e = go (displacement_of value.number) (subst (λ s. address_in bases s value.number ≡ Ok address) none e)
+  where
+    go : (o : Option ℕ) → ok_or (option_map (at_register 0) o) ValueOutOfRange ≡ Ok address → address.base ≡ 0
+    go None e = absurd (cc)
+    go (Some d) e = (let same : at_register 0 d ≡ address = cc in ap (λ k. k.base) (sym same))
+
+pub list_placed : ListIsPlaced
+list_placed c x address e based = go (look_up c.find (codes "DFHEIPL")) refl
+  where
+    implies : judged (implied_address c.bases) (worth c (codes "DFHEIPL")) ≡ Ok address
+    implies = (implied c (codes "DFHEIPL") x address (list_alone c) e).1
+
+    by_section : (v : Value) (o : Option (List ℕ)) → look_up c.find (codes "DFHEIPL") ≡ Some v → v.section ≡ o → HasSomeList c.find
+    by_section v (Some section) known is =
+        record {
+          section = section;
+          offset = v.number;
+          is = record { length = v.length; known = known ∙ ap (λ s. Some (record { section = s; number = v.number; length = v.length })) is };
+        }
+    by_section v None known is = absurd (based (by_worth (worth c (codes "DFHEIPL")) refl implies))
+      where
+        by_worth : (r : Result Value FaultKind) → worth c (codes "DFHEIPL") ≡ r → judged (implied_address c.bases) r ≡ Ok address → address.base ≡ 0
+        by_worth (Err fault) worths e = absurd (cc)
+        by_worth (Ok value) worths e =
+            let sum = symbol_sum c.find c.here v value known worths in
+            base_0 c.bases value address
+            (absolute_sum v.number v.length value (subst (λ s. summed (record { sign = Plus; value = record { section = s; number = v.number; length = v.length } } ∷ []) ≡ Ok value) is sum)) e
+
+    go : (o : Option Value) → look_up c.find (codes "DFHEIPL") ≡ o → HasSomeList c.find
+    go (Some v) known = by_section v v.section known refl
+    go None none = absurd (by_worth (worth c (codes "DFHEIPL")) refl implies)
+      where
+        by_worth : (r : Result Value FaultKind) → worth c (codes "DFHEIPL") ≡ r → judged (implied_address c.bases) r ≡ Ok address → ⊥
+        by_worth (Err fault) worths e = cc
+        by_worth (Ok value) worths e = unknown_symbol c.find c.here value none worths

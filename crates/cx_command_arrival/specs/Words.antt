@@ -1,19 +1,29 @@
 -- Where the words of a command's argument list lie (Application Programmer's Reference Manual, SC33-0077, the expansion of a
 -- command; GC33-4010, "Addressing"; the argument list is this project's own).
-use Rattle.std.specs.Prelude.{◌≡◌, ℕ, ℤ, ◌*◌, ◌<◌, false, Ok, Some, List, codes}
+use Rattle.std.specs.Prelude.{◌≡◌, ◌≢◌, ℕ, ℤ, ◌*◌, ◌<◌, false, Ok, Option, Some, List, codes}
 use Rattle.cx_storage.specs.Address.{along}
 use Rattle.cx_exec.specs.Machine.{effective}
 use Rattle.cx_terms.specs.Worth.{look_up}
+use Rattle.cx_terms.specs.declared.values.Value.{Value}
 use Rattle.cx_operands.specs.Context.{Context}
 use Rattle.cx_operands.specs.Storage.{indexed_in, plain_in}
 use Rattle.cx_operands.specs.declared.addresses.Address.{Address}
 use Rattle.cx_command_arrival.specs.Arguments.{HoldsBase, Sections}
 use Rattle.cx_command_arrival.specs.Stores.{word_of_list}
 
--- the list's symbol stands for a place in a section
-pub record HasList (c : Context) (section : List ℕ) (offset : ℤ) : Type 0 where
+-- In a table of symbols the list's symbol stands for a place in a section.
+pub record HasList (find : List ℕ → Option Value) (section : List ℕ) (offset : ℤ) : Type 0 where
   pub length : ℕ
-  pub known : look_up c.find (codes "DFHEIPL") ≡ Some (record { section = Some section; number = offset; length = length })
+  pub known : look_up find (codes "DFHEIPL") ≡ Some (record { section = Some section; number = offset; length = length })
+
+pub record HasSomeList (find : List ℕ → Option Value) : Type 0 where
+  pub section : List ℕ
+  pub offset : ℤ
+  pub is : HasList find section offset
+
+-- So it does where LA of the list has been resolved with a base register other than 0.
+abbrev pub ListIsPlaced : Type 0
+ListIsPlaced = (c : Context) (x : ℕ) (address : Address) → indexed_in c (codes "DFHEIPL") ≡ Ok (x, address) → address.base ≢ 0 → HasSomeList c.find
 
 -- Whatever the sections' places and the registers are, base and displacement give the address so many bytes behind that of
 -- an offset in a section, where the base register that was taken holds its USING's base.
@@ -28,8 +38,8 @@ pub record LieBehind (c : Context) (section : List ℕ) (offset : ℤ) (n : ℕ)
 
 -- The list itself lies at its symbol's place, and each of its words four bytes behind the one before it.
 abbrev pub ListLies : Type 0
-ListLies = (c : Context) (section : List ℕ) (offset : ℤ) → HasList c section offset → LieBehind c section offset 0 (codes "DFHEIPL")
+ListLies = (c : Context) (section : List ℕ) (offset : ℤ) → HasList c.find section offset → LieBehind c section offset 0 (codes "DFHEIPL")
 
 abbrev pub WordsLie : Type 0
-WordsLie = (c : Context) (section : List ℕ) (offset : ℤ) (k : ℕ) → k < 18 → HasList c section offset
+WordsLie = (c : Context) (section : List ℕ) (offset : ℤ) (k : ℕ) → k < 18 → HasList c.find section offset
     → LieBehind c section offset (4 * k) (word_of_list k)

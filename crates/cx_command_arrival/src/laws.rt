@@ -8,7 +8,7 @@ ghost use Rattle.cx_command_arrival.specs.Literals.{LiteralsStand};
 ghost use Rattle.cx_command_arrival.specs.Standing.{InstructionsStand};
 ghost use Rattle.cx_command_arrival.specs.Stores.{BranchIsResolved, StoresAreResolved};
 ghost use Rattle.cx_command_arrival.specs.Together.{MadeStandTogether};
-ghost use Rattle.cx_command_arrival.specs.Words.{ListLies, WordsLie};
+ghost use Rattle.cx_command_arrival.specs.Words.{ListIsPlaced, ListLies, WordsLie};
 
 /// The assembler places each field of DFHEIBLK at the offset, and with the length, at which the region writes it.
 pub fn the_eib_is_laid_out()
@@ -74,8 +74,10 @@ pub fn the_mark_is_resolved()
 }
 
 /// Base and displacement of DFHEIPL give the list's address, and those of its word k the address 4k bytes behind it, where
-/// the base register that was taken holds its USING's base.
+/// the base register that was taken holds its USING's base; and where a base other than 0 was taken for it, DFHEIPL is a place
+/// in a section.
 pub fn words_lie_in_the_list()
+    ensures placed { ListIsPlaced }
     ensures list { ListLies }
     ensures words { WordsLie }
 {
