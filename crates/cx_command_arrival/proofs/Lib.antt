@@ -13,3 +13,5 @@ pub mod BehindLemmas
 pub mod LiteralLemmas
 pub mod HexLemmas
 pub mod HandedLemmas
+pub mod CalledLemmas
+pub mod CodeLemmas

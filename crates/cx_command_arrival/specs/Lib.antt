@@ -9,3 +9,5 @@ pub mod Calls
 pub mod Words
 pub mod Literals
 pub mod Handed
+pub mod Called
+pub mod CodeInStorage

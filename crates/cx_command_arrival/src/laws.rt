@@ -1,7 +1,9 @@
 //! What holds of a translated source that was assembled.
 ghost use Rattle.cx_command_arrival.specs.Arguments.{OperandsAddress};
 ghost use Rattle.cx_command_arrival.specs.Block.{EibIsLaidOut};
+ghost use Rattle.cx_command_arrival.specs.Called.{CallsAreInstructions, CallsStand};
 ghost use Rattle.cx_command_arrival.specs.Calls.{MarkIsResolved};
+ghost use Rattle.cx_command_arrival.specs.CodeInStorage.{CodeIsLoaded};
 ghost use Rattle.cx_command_arrival.specs.Handed.{BlockStands, EntryStands, LiteralsAreLoaded};
 ghost use Rattle.cx_command_arrival.specs.InStorage.{CodeIsUnraised, LinesAreLoaded};
 ghost use Rattle.cx_command_arrival.specs.Literals.{LiteralsStand};
@@ -103,4 +105,26 @@ pub fn what_a_call_needs_stands()
     literals_stand();
     lines_are_loaded();
     cx_translate::laws::accepted_bytes_are_legal();
+}
+
+/// The statements made to call a command, its stores, the mark and the branch, are instructions, each of them.
+pub fn calls_are_instructions()
+    ensures { CallsAreInstructions }
+{}
+
+/// In an accepted translation they are resolved lines one right behind the other, and the EXEC statement's name stands for the
+/// place of the first of them.
+pub fn calls_stand()
+    ensures { CallsStand }
+{}
+
+/// Instructions that stand in the code of an accepted source are well formed, and stand in storage as they are spelled, one behind
+/// the other, when the program is loaded.
+pub fn code_is_loaded()
+    ensures { CodeIsLoaded }
+{
+    cx_code::laws::every_spelling();
+    cx_operands::laws::what_is_resolved_is_well_formed();
+    lines_are_loaded();
+    no_instruction_is_raised();
 }

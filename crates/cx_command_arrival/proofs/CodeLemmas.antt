@@ -1,0 +1,112 @@
+-- Instructions in storage, each as it is spelled.
+use Rattle.std.specs.Prelude.{Err, Result, ℤ, reverse, slice_set}
+use Rattle.std.proofs.Common.{◌≡◌, ℕ, ◌+◌, true, Option, Some, None, Ok, List, [], ◌∷◌, ◌++◌, length, refl, sym, ◌∙◌, subst, arith}
+use Rattle.std.specs.List.{AllByRecursion}
+use Rattle.std.proofs.lemmas.List.{append_assoc, length-set}
+use Rattle.cx_arrival.specs.Stands.{AreAt}
+use Rattle.cx_code.specs.declared.disassembly.Line.{Line}
+use Rattle.cx_code.specs.Spelling.{Instruction, IsWellFormed, spelling}
+use Rattle.cx_code.specs.Table.{length_of}
+use Rattle.cx_image.specs.Laws.Cover.{is_code}
+use Rattle.cx_source.specs.declared.source.Item.{Item}
+use Rattle.cx_source.specs.declared.source.Source.{Source}
+use Rattle.cx_storage.specs.Address.{along}
+use Rattle.cx_storage.specs.Storage.{Storage, span}
+use Rattle.cx_terms.specs.declared.faults.FaultKind.{FaultKind}
+use Rattle.cx_operations.specs.Operations.{base_row}
+use Rattle.cx_operations.specs.declared.operations.Operation.{Operation}
+use Rattle.cx_operations.specs.declared.operations.Operation.TheVariants as operation
+use Rattle.cx_operations.specs.declared.operations.Directive.TheVariants as directive
+use Rattle.cx_operands.specs.Bases.{Bases, Using, ended, held, none_in_use}
+use Rattle.cx_operands.specs.Context.{Context}
+use Rattle.cx_operands.specs.Directives.{bases_behind, bases_behind_drop, bases_behind_using, drop_in, using_in}
+use Rattle.cx_operands.specs.Forms.{resolved}
+use Rattle.cx_second.specs.SecondFaults.{bases_after, bases_by}
+use Rattle.cx_second.specs.Statements.{Stated, operation_of}
+use Rattle.cx_second.specs.Whole.{Whole, directive_context, whole_of}
+use Rattle.cx_command_arrival.specs.CodeInStorage.{CodeIsLoaded}
+use Rattle.cx_command_arrival.specs.InStorage.{CodeIsUnraised, IsUnraised, LinesAreLoaded, StandsAt}
+use Rattle.cx_command_arrival.specs.Standing.{AreResolved, bases_from, bases_in_use, code_lines, statements_from}
+
+-- ---- sixteen bases
+held_length : (section : List ℕ) (registers : List ℕ) (number : ℤ) (bases : Bases) → length (held section number registers bases) ≡ length bases
+held_length section [] number bases = refl
+held_length section (register ∷ registers) number bases = held_length section registers _ (slice_set bases register _) ∙ length-set bases register _
+
+ended_length : (registers : List ℕ) (bases : Bases) → length (ended registers bases) ≡ length bases
+ended_length [] bases = refl
+ended_length (register ∷ registers) bases = ended_length registers (slice_set bases register None) ∙ length-set bases register None
+
+using_sixteen : (given : Result Using FaultKind) (bases : Bases) → length bases ≡ 16 → length (bases_behind_using given bases) ≡ 16
+using_sixteen (Ok given) bases e = held_length given.section given.registers given.number bases ∙ e
+using_sixteen (Err fault) bases e = e
+
+drop_sixteen : (registers : Result (Option (List ℕ)) FaultKind) (bases : Bases) → length bases ≡ 16 → length (bases_behind_drop registers bases) ≡ 16
+drop_sixteen (Ok None) bases e = refl
+drop_sixteen (Ok (Some registers)) bases e = ended_length registers bases ∙ e
+drop_sixteen (Err fault) bases e = e
+
+behind_sixteen : (o : Operation) (c : Context) (operand : List ℕ) → length c.bases ≡ 16 → length (bases_behind o c operand) ≡ 16
+unfolding bases_behind
+behind_sixteen (operation.Directive directive.Using) c operand e = using_sixteen (using_in c operand) c.bases e
+behind_sixteen (operation.Directive directive.Drop) c operand e = drop_sixteen (drop_in c operand) c.bases e
+behind_sixteen o c operand e = e
+
+by_sixteen : (told : Whole) (bases : Bases) (s : Stated) (o : Option Operation) → length bases ≡ 16 → length (bases_by told bases s o) ≡ 16
+by_sixteen told bases s None e = e
+by_sixteen told bases s (Some o) e = behind_sixteen o (directive_context told bases s) s.stmt.operand e
+
+from_sixteen : (told : Whole) (bases : Bases) (ss : List Stated) → length bases ≡ 16 → length (bases_from told bases ss) ≡ 16
+unfolding bases_after
+from_sixteen told bases [] e = e
+from_sixteen told bases (s ∷ ss) e = from_sixteen told (bases_after told bases s) ss (by_sixteen told bases s (operation_of s) e)
+
+pub in_use_sixteen : (source : Source) (first : List Item) → length (bases_in_use source first) ≡ 16
+in_use_sixteen source first = from_sixteen (whole_of source) none_in_use (statements_from [] first) refl
+
+-- ---- well-formed instructions at their places
+abbrev pub Forms : Type 0
+Forms = (o : Operation) (c : Context) (operand : List ℕ) (made : Instruction) → length c.bases ≡ 16 → resolved o c operand ≡ Ok made
+    → (base_row o ≡ Some made.op) × IsWellFormed made
+
+abbrev pub Sizes : Type 0
+Sizes = (i : Instruction) → IsWellFormed i → length (spelling i) ≡ length_of i.op
+
+along_twice : (at m j : ℕ) → along (along at m) j ≡ along at (m + j)
+along_twice at m j = omega arith
+
+abbrev AreLoaded : Storage → ℕ → List ℕ → List Line → Type 0
+AreLoaded after at relocs lines = AllByRecursion (λ l. IsUnraised relocs l → StandsAt after at l) lines
+
+abbrev AreClear : List ℕ → List Line → Type 0
+AreClear relocs lines = AllByRecursion (λ l. is_code l ≡ true → IsUnraised relocs l) lines
+
+all_at : Forms → Sizes → (told : Whole) (bases : Bases) (sixteen : length bases ≡ 16) (before items : List Item) (code : List Instruction) (at place : ℕ) (back : List Line) (after : Storage) (relocs : List ℕ)
+    → AreResolved told bases before at items code → AreLoaded after place relocs (code_lines at code ++ back) → AreClear relocs (code_lines at code ++ back) → AreAt after (along place at) code
+unfolding AreResolved AreAt code_lines
+all_at forms sizes told bases sixteen before [] [] at place back after relocs r loaded clear = tt
+all_at forms sizes told bases sixteen before [] (i ∷ code) at place back after relocs r loaded clear = absurd r
+all_at forms sizes told bases sixteen before (item ∷ items) [] at place back after relocs r loaded clear = absurd r
+all_at forms sizes told bases sixteen before (item ∷ items) (i ∷ code) at place back after relocs r loaded clear =
+    let one = r.0 in
+    let formed : IsWellFormed i = (forms one.operation _ one.statement.operand i sixteen one.resolves).1 in
+    let stands : span after (along place at) (length (spelling i)) ≡ Some (spelling i) = loaded.0 (clear.0 refl) in
+    let rest = all_at forms sizes told bases sixteen (item ∷ before) items code (at + length_of i.op) place back after relocs r.1 loaded.1 clear.1 in (
+      formed,
+      subst (λ n. span after (along place at) n ≡ Some (spelling i)) (sizes i formed) stands,
+      subst (λ n. AreAt after n code) (sym (along_twice place at (length_of i.op))) rest,
+    )
+
+pub behind_front : (P : Line → Type 0) (front rest : List Line) → AllByRecursion P (front ++ rest) → AllByRecursion P rest
+behind_front P [] rest all = all
+behind_front P (l ∷ front) rest all = behind_front P front rest all.1
+
+pub code_loaded : Forms → Sizes → LinesAreLoaded → CodeIsUnraised → CodeIsLoaded
+code_loaded forms sizes lines clear source assembly first items storage after loaded accepts is fit done code =
+    let relocs = assembly.section.image.relocs in
+    let split = code.stand ∙ append_assoc code.front (code_lines code.at code.code) code.back in
+    let all : AreLoaded after loaded.at relocs assembly.section.resolved = lines storage after assembly.section loaded is fit done in
+    let none : AreClear relocs assembly.section.resolved = clear source assembly accepts is in
+    all_at forms sizes (whole_of source) (bases_in_use source first) (in_use_sixteen source first) (reverse first) items code.code code.at loaded.at code.back after relocs code.resolved
+    (behind_front (λ l. IsUnraised relocs l → StandsAt after loaded.at l) code.front (code_lines code.at code.code ++ code.back) (subst (AreLoaded after loaded.at relocs) split all))
+    (behind_front (λ l. is_code l ≡ true → IsUnraised relocs l) code.front (code_lines code.at code.code ++ code.back) (subst (AreClear relocs) split none))
