@@ -15,3 +15,4 @@ pub mod HexLemmas
 pub mod HandedLemmas
 pub mod CalledLemmas
 pub mod CodeLemmas
+pub mod MadeLemmas

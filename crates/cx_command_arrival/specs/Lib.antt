@@ -11,3 +11,4 @@ pub mod Literals
 pub mod Handed
 pub mod Called
 pub mod CodeInStorage
+pub mod Commands

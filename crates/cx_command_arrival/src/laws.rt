@@ -4,6 +4,7 @@ ghost use Rattle.cx_command_arrival.specs.Block.{EibIsLaidOut};
 ghost use Rattle.cx_command_arrival.specs.Called.{CallsAreInstructions, CallsStand};
 ghost use Rattle.cx_command_arrival.specs.Calls.{MarkIsResolved};
 ghost use Rattle.cx_command_arrival.specs.CodeInStorage.{CodeIsLoaded};
+ghost use Rattle.cx_command_arrival.specs.Commands.{CallsAreMade};
 ghost use Rattle.cx_command_arrival.specs.Handed.{BlockStands, EntryStands, LiteralsAreLoaded};
 ghost use Rattle.cx_command_arrival.specs.InStorage.{CodeIsUnraised, LinesAreLoaded};
 ghost use Rattle.cx_command_arrival.specs.Literals.{LiteralsStand};
@@ -127,4 +128,13 @@ pub fn code_is_loaded()
     cx_operands::laws::what_is_resolved_is_well_formed();
     lines_are_loaded();
     no_instruction_is_raised();
+}
+
+/// The statements made to call a command, resolved, are the instructions made of the statement with the command, the option bytes
+/// and the conditions that the translator has put into the block, and with the addresses that the operands are resolved to.
+pub fn calls_are_made()
+    ensures { CallsAreMade }
+{
+    stores_are_resolved();
+    the_mark_is_resolved();
 }
