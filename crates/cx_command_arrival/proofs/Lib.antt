@@ -16,3 +16,7 @@ pub mod HandedLemmas
 pub mod CalledLemmas
 pub mod CodeLemmas
 pub mod MadeLemmas
+pub mod PlaceLemmas
+pub mod LegalLemmas
+pub mod KeptLemmas
+pub mod ArrivingLemmas

@@ -12,3 +12,4 @@ pub mod Handed
 pub mod Called
 pub mod CodeInStorage
 pub mod Commands
+pub mod Arriving

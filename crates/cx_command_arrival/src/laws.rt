@@ -1,5 +1,6 @@
 //! What holds of a translated source that was assembled.
 ghost use Rattle.cx_command_arrival.specs.Arguments.{OperandsAddress};
+ghost use Rattle.cx_command_arrival.specs.Arriving.{CommandsArrive};
 ghost use Rattle.cx_command_arrival.specs.Block.{EibIsLaidOut};
 ghost use Rattle.cx_command_arrival.specs.Called.{CallsAreInstructions, CallsStand};
 ghost use Rattle.cx_command_arrival.specs.Calls.{MarkIsResolved};
@@ -137,4 +138,28 @@ pub fn calls_are_made()
 {
     stores_are_resolved();
     the_mark_is_resolved();
+}
+
+/// Each EXEC statement of an accepted translation arrives as its command: where the program is loaded, a machine whose next
+/// address is that of the statement's first instruction, whose storage still holds the instructions and the two literals as
+/// loaded, and whose base registers around the arguments hold their bases, comes to the entry with the argument list that is
+/// read as the command, the option bytes and the conditions that the translator has put into the block, and with the addresses
+/// that the arguments' own expressions had at the first instruction.
+pub fn commands_arrive()
+    ensures { CommandsArrive }
+{
+    cx_translate::laws::accepted_bytes_are_legal();
+    cx_translate::laws::accepted_conditions_are_legal();
+    cx_translate::laws::accepted_conditions_are_counted();
+    cx_translate::laws::accepted_lists_have_room();
+    cx_translate::laws::accepted_lists_are_read();
+    cx_storage::laws::span_is_bytes();
+    cx_arrival::laws::made_are_counted();
+    cx_arrival::laws::reaches_entry();
+    operands_address_their_places();
+    words_lie_in_the_list();
+    what_a_call_needs_stands();
+    code_is_loaded();
+    calls_stand();
+    calls_are_made();
 }
