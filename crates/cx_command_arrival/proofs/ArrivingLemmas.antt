@@ -44,7 +44,8 @@ use Rattle.cx_command_arrival.specs.Literals.{StandsInSection}
 use Rattle.cx_command_arrival.specs.Standing.{AreResolved, StandInCode, bases_in_use, code_lines}
 use Rattle.cx_command_arrival.specs.Stores.{context_of, entry_in_15, list_of_1, load_of, store_of}
 use Rattle.cx_command_arrival.specs.Words.{HasSomeList, ListIsPlaced, ListLies, WordsLie}
-use Rattle.cx_command_arrival.proofs.CalledLemmas.{call_begins, call_behind, first_of, first_offset, la_role, offset_is, tail_of}
+use Rattle.cx_command_arrival.proofs.CalledLemmas.{call_begins, call_behind, first_of, first_offset, la_role, tail_of}
+use Rattle.cx_command_arrival.proofs.StandingLemmas.{offset_is}
 use Rattle.cx_command_arrival.proofs.KeptLemmas.{code_kept, code_within, is_placed, span_kept, word_kept}
 use Rattle.cx_command_arrival.proofs.LegalLemmas.{Accepts, legal_so, same_bytes, same_words}
 use Rattle.cx_command_arrival.proofs.MadeLemmas.{list_begins, rest_of}

@@ -41,7 +41,7 @@ unfolding placed_of
 statements_are source =
     ap (filter_map stated_in) (ap (λ k. reverse (placed_behind k)) (sym (append-nil (reverse source.items))) ∙ placed_turned source.items [])
 
-none_first : (line : ℕ) (fault : Option FaultKind) (first : Option LineFault) → first_fault_behind line fault first ≡ None → (first ≡ None) × (fault ≡ None)
+pub none_first : (line : ℕ) (fault : Option FaultKind) (first : Option LineFault) → first_fault_behind line fault first ≡ None → (first ≡ None) × (fault ≡ None)
 none_first line None None e = (refl, refl)
 none_first line (Some fault) None e = absurd (cc)
 none_first line fault (Some first) e = absurd (some_stays (line == first.line) (lower (Some first.kind) fault) refl e)

@@ -146,7 +146,7 @@ goes_on line piece known o fits within small begun =
       size = rw (laid_field piece known o fits within begun, begun.section, own_section, capped_same piece.len small) refl;
     }
 
-none_known : (find : List ℕ → Option Value) (name : List ℕ) (value : Value) → duplicate find ((name, value) ∷ []) ≡ None → find name ≡ None
+pub none_known : (find : List ℕ → Option Value) (name : List ℕ) (value : Value) → duplicate find ((name, value) ∷ []) ≡ None → find name ≡ None
 none_known find name value e = go (find name) e
   where
     go : (o : Option Value) → cond (is_some o || false) (Some DuplicateSymbol) None ≡ None → o ≡ None

@@ -48,8 +48,9 @@ use Rattle.cx_command_arrival.specs.Standing.{AreResolved, IsResolved, StandInCo
 use Rattle.cx_command_arrival.specs.Stores.{load_of}
 use Rattle.cx_command_arrival.specs.Together.{IsMade}
 use Rattle.cx_command_arrival.proofs.BehindLemmas.{control_same, fault_kept, own_sound, section_sound}
-use Rattle.cx_command_arrival.proofs.StandingLemmas.{accepted, instructions_stand}
+use Rattle.cx_command_arrival.proofs.StandingLemmas.{accepted, instructions_stand, offset_is}
 use Rattle.cx_command_arrival.proofs.TogetherLemmas.{stand_together}
+use Rattle.cx_command_arrival.proofs.BlockLemmas.{none_known}
 
 -- ---- instructions
 abbrev AreInstructions : List Item → Type 0
@@ -128,13 +129,6 @@ ds_at line name before sound =
     below : (n : ℕ) → aligned 2 n ≤ bound → n ≤ bound
     below n le = omega (arith, le)
 
-none_known : (find : List ℕ → Option Value) (name : List ℕ) (value : Value) → duplicate find ((name, value) ∷ []) ≡ None → find name ≡ None
-none_known find name value e = go (find name) e
-  where
-    go : (o : Option Value) → cond (is_some o || false) (Some DuplicateSymbol) None ≡ None → o ≡ None
-    go None e = refl
-    go (Some v) e = absurd (cc)
-
 -- the name stands for it
 name_value : (line : ℕ) (name symbol : List ℕ) (before : List Item) → symbol_name name ≡ Some symbol → (after line (ds name) (known_behind before)).fault ≡ None
     → (after line (ds name) (known_behind before)).symbols symbol ≡ Some (place_value (known_behind before).section (aligned 2 (next_in (known_behind before))) 2)
@@ -146,11 +140,6 @@ name_value line name symbol before named sound =
     let unknown : known.symbols symbol ≡ None =
     none_known known.symbols symbol value (ap (duplicate known.symbols) (sym given) ∙ (sound_statement line (ds name) known sound).definitions) in
     rw (given, unknown, is_name-laws.refl symbol) refl
-
--- ---- the instruction behind it
-pub offset_is : (stmt : Stmt) (op : Op) (known : Known) → role_in stmt ≡ role.Instruction (length_of op) → (laid_in stmt known).offset ≡ aligned 2 (next_in known)
-unfolding laid
-offset_is stmt op known is = rw is refl
 
 stands_within : (line : ℕ) (stmt : Stmt) (op : Op) (known : Known) → role_in stmt ≡ role.Instruction (length_of op) → (after line stmt known).fault ≡ None
     → is_control known.section known.control ≡ true

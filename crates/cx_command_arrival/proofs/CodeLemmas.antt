@@ -27,6 +27,7 @@ use Rattle.cx_second.specs.Whole.{Whole, directive_context, whole_of}
 use Rattle.cx_command_arrival.specs.CodeInStorage.{CodeIsLoaded}
 use Rattle.cx_command_arrival.specs.InStorage.{CodeIsUnraised, IsUnraised, LinesAreLoaded, StandsAt}
 use Rattle.cx_command_arrival.specs.Standing.{AreResolved, bases_from, bases_in_use, code_lines, statements_from}
+use Rattle.cx_command_arrival.proofs.LoadedLemmas.{along_twice}
 
 -- ---- sixteen bases
 held_length : (section : List ℕ) (registers : List ℕ) (number : ℤ) (bases : Bases) → length (held section number registers bases) ≡ length bases
@@ -71,9 +72,6 @@ Forms = (o : Operation) (c : Context) (operand : List ℕ) (made : Instruction) 
 
 abbrev pub Sizes : Type 0
 Sizes = (i : Instruction) → IsWellFormed i → length (spelling i) ≡ length_of i.op
-
-along_twice : (at m j : ℕ) → along (along at m) j ≡ along at (m + j)
-along_twice at m j = omega arith
 
 abbrev AreLoaded : Storage → ℕ → List ℕ → List Line → Type 0
 AreLoaded after at relocs lines = AllByRecursion (λ l. IsUnraised relocs l → StandsAt after at l) lines

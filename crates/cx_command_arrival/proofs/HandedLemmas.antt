@@ -43,15 +43,11 @@ use Rattle.cx_command_arrival.specs.Literals.{HasBytes, HasInstruction, Literals
 use Rattle.cx_command_arrival.specs.Standing.{is_instruction_role}
 use Rattle.cx_command_arrival.specs.Stores.{entry_in_15, load_of}
 use Rattle.cx_command_arrival.proofs.HexLemmas.{AreBytes, block_is_last, hex_has_bytes}
+use Rattle.cx_command_arrival.proofs.WordLemmas.{split}
 
 abbrev LegalBytes : Type 0
 LegalBytes = (line : ℕ) (command : Command) (cics named words : List Word) → fault_in line command cics named words ≡ None
     → is_legal command (first_byte command words) (second_byte words) ≡ true
-
--- ---- the block has bytes alone
-split : (a b : Bool) → (a && b) ≡ true → (a ≡ true) × (b ≡ true)
-split true b e = (refl, e)
-split false b e = absurd (cc)
 
 abbrev is_small : Command → Bool
 is_small command = nat_lt (row_of command).function 65536 && list_all (λ option. nat_lt option.bit 256) (row_of command).options

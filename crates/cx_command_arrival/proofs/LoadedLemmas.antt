@@ -51,7 +51,7 @@ place_small : (storage : Storage) (size at : ℕ) → IsLeastPlace storage 65536
 unfolding IsLeastPlace CanPlace
 place_small storage size at least = (let ends = least.0.2 in omega (arith, ends))
 
-along_twice : (at m j : ℕ) → along (along at m) j ≡ along at (m + j)
+pub along_twice : (at m j : ℕ) → along (along at m) j ≡ along at (m + j)
 along_twice at m j = omega arith
 
 one_loaded : Known → (storage after : Storage) (parts : AssembledParts) (loaded : Loaded) (line : Line) → IsAssembled parts → IsFit parts.image → IsLoaded storage parts.image loaded after

@@ -35,6 +35,7 @@ use Rattle.cx_command_arrival.specs.Standing.{AreResolved}
 use Rattle.cx_command_arrival.specs.Stores.{AreStores, StoresAreResolved, context_of, entry_in_15, list_of_1, load_of, store_of, word_of_list}
 use Rattle.cx_command_arrival.proofs.ArgumentLemmas.{both_ok}
 use Rattle.cx_command_arrival.proofs.PlainLemmas.{ArePlain, decimal_plain, neither, other}
+use Rattle.cx_command_arrival.proofs.WordLemmas.{no_parenthesis}
 
 -- ---- lines in two parts
 record Splits (told : Whole) (bases : Bases) (before : List Item) (at : ℕ) (xs ys : List Item) (code : List Instruction) : Type 0 where
@@ -79,12 +80,6 @@ list_index c x address e = alone c (codes "DFHEIPL") (worth c (codes "DFHEIPL"))
 literal_index : (c : Context) (text : List ℕ) (x : ℕ) (address : Address) → is_literal text ≡ true → indexed_in c text ≡ Ok (x, address) → x ≡ 0
 unfolding operand_in
 literal_index c text x address is e = alone c text (ok_or c.literal BadOperand) x address (rw is refl) e
-
-no_parenthesis : (scan : Scan) (text : List ℕ) → ArePlain text → first_from Parenthesis scan text ≡ length text
-no_parenthesis scan [] h = refl
-no_parenthesis scan (c ∷ text) h =
-    let none : (lies_outside scan c text && is_mark Parenthesis scan.depth c) ≡ false = rw (other c 40 h.0 (omega arith), other c 41 h.0 (omega arith)) (neither (lies_outside scan c text)) in
-    rw (none, no_parenthesis (passed scan c text) text h.1) (omega arith)
 
 word_operand : (c : Context) (text : List ℕ) → ArePlain text → operand_in true c (codes "DFHEIPL+" ++ text) ≡ Some (operand (worth c (codes "DFHEIPL+" ++ text)) [])
 unfolding operand_in within_behind depth_behind

@@ -52,13 +52,7 @@ use Rattle.cx_asm.specs.Resolving.{line, standing_from, statement_standing}
 use Rattle.cx_asm.specs.Assembly.{AssemblyParts, assembly_of, made_of, second_fault_of, section_of, size_of, standing_of, unless_refused, unless_too_large, end_line}
 use Rattle.cx_asm.specs.declared.faults.AsmFault.{AsmFault}
 use Rattle.cx_command_arrival.specs.Standing.{AreResolved, InstructionsStand, bases_from, bases_in_use, code_lines, is_instruction, is_instruction_role, placed_from, statements_from}
-
--- ---- lists
-reverse_cons : {X : Type 0} (x : X) (xs : List X) → reverse (x ∷ xs) ≡ reverse xs ++ (x ∷ [])
-reverse_cons x xs = reverse-append (x ∷ []) xs
-
-reverse_step : {X : Type 0} (x : X) (xs before : List X) → reverse (x ∷ xs) ++ before ≡ reverse xs ++ (x ∷ before)
-reverse_step x xs before = ap (λ k. k ++ before) (reverse_cons x xs) ∙ append_assoc (reverse xs) (x ∷ []) before
+use Rattle.cx_command_arrival.proofs.BehindLemmas.{control_same, fault_kept, none_first, own_sound, reverse_step, section_sound, statements_are}
 
 -- ---- the statements of a source, in its order
 placed_joined : (xs ys before : List Item) → placed_from before (xs ++ ys) ≡ placed_from before xs ++ placed_from (reverse xs ++ before) ys
@@ -71,37 +65,10 @@ statements_joined : (xs ys before : List Item) → statements_from before (xs ++
 statements_joined xs ys before =
     ap (filter_map stated_in) (placed_joined xs ys before) ∙ filter_map-append stated_in (placed_from before xs) (placed_from (reverse xs ++ before) ys)
 
-placed_turned : (xs before : List Item) → reverse (placed_behind (reverse xs ++ before)) ≡ reverse (placed_behind before) ++ placed_from before xs
-placed_turned [] before = sym (append-nil (reverse (placed_behind before)))
-placed_turned (x ∷ xs) before =
-    let p = placed_item x (place_for x.stmt (known_behind before)) in
-    ap (λ k. reverse (placed_behind k)) (reverse_step x xs before) ∙ placed_turned xs (x ∷ before)
-    ∙ ap (λ k. k ++ placed_from (x ∷ before) xs) (reverse_cons p (placed_behind before))
-    ∙ append_assoc (reverse (placed_behind before)) (p ∷ []) (placed_from (x ∷ before) xs)
-
-statements_are : (source : Source) → statements_of source ≡ statements_from [] source.items
-unfolding placed_of
-statements_are source =
-    ap (filter_map stated_in) (ap (λ k. reverse (placed_behind k)) (sym (append-nil (reverse source.items))) ∙ placed_turned source.items [])
-
 -- ---- no fault of the second pass
 NoFault : Whole → Bases → ℕ → List Stated → Type 0
 NoFault told bases number [] = ⊤
 NoFault told bases number (s ∷ statements) = (second_fault told bases number s ≡ None) × NoFault told (bases_after told bases s) (suc number) statements
-
-none_first : (line : ℕ) (fault : Option FaultKind) (first : Option LineFault) → first_fault_behind line fault first ≡ None → (first ≡ None) × (fault ≡ None)
-none_first line None None e = (refl, refl)
-none_first line (Some fault) None e = absurd (cc)
-none_first line fault (Some first) e = absurd (some_stays (line == first.line) (lower (Some first.kind) fault) refl e)
-  where
-    some_stays : (test : Bool) (both : Option FaultKind) → lower (Some first.kind) fault ≡ both → cond test (option_map (line_fault first.line) both) (Some first) ≡ None → ⊥
-    some_stays true None is e = never fault is
-      where
-        never : (other : Option FaultKind) → lower (Some first.kind) other ≡ None → ⊥
-        never None e = cc
-        never (Some f) e = cc
-    some_stays true (Some f) is e = cc
-    some_stays false both is e = cc
 
 judged_kept : (told : Whole) (ss before : List Stated) → (judged_behind told (reverse ss ++ before)).fault ≡ None → ((judged_behind told before).fault ≡ None) × NoFault told (judged_behind told before).bases (length before) ss
 unfolding judged_after NoFault
@@ -242,21 +209,6 @@ begins_so item e = go item.stmt refl e
     go None begins e = absurd (cc)
     go (Some stmt) begins e = named_so stmt (operation_named stmt.operation) begins refl e
 
--- its fault in the first pass, part by part
-section_sound : (stmt : Stmt) (known : Known) → own_fault stmt known ≡ None → section_fault (role_in stmt) (name_in stmt) known.section known.control ≡ None
-section_sound stmt known e =
-    let operated = lower_none (operation_fault (role_in stmt)) (lowest (name_fault (role_in stmt) stmt.name ∷ section_fault (role_in stmt) (name_in stmt) known.section known.control
-    ∷ (laid_in stmt known).fault ∷ result_err (given_in stmt known) ∷ duplicate known.symbols (definitions_in stmt known) ∷ [])) e in
-    let titled = lower_none (name_fault (role_in stmt) stmt.name) (lowest (section_fault (role_in stmt) (name_in stmt) known.section known.control
-    ∷ (laid_in stmt known).fault ∷ result_err (given_in stmt known) ∷ duplicate known.symbols (definitions_in stmt known) ∷ [])) operated.1 in
-    (lower_none (section_fault (role_in stmt) (name_in stmt) known.section known.control)
-    (lowest ((laid_in stmt known).fault ∷ result_err (given_in stmt known) ∷ duplicate known.symbols (definitions_in stmt known) ∷ [])) titled.1).0
-
-own_sound : (line : ℕ) (stmt : Stmt) (known : Known) → (after line stmt known).fault ≡ None → own_fault stmt known ≡ None
-unfolding after
-own_sound line stmt known e =
-    (lower_none (own_fault stmt known) (literal_fault (role_in stmt) (length known.places) (parts_in stmt) known.pool) (none_first line (fault_in stmt known) known.fault e).1).0
-
 controls : (section control : Option (List ℕ)) (size : ℕ) (name : Option (List ℕ)) → section_fault (role.Instruction size) name section control ≡ None → is_control section control ≡ true
 controls section control size name e = go (is_control section control) e
   where
@@ -278,7 +230,7 @@ section_end known end (Some name) e is = section_ends known end name e
 aligned_even : (n : ℕ) → n % 2 ≡ 0 → aligned 2 n ≡ n
 aligned_even n e = (let same : (n + (2 - 1)) / 2 * 2 ≡ n = omega (arith, e) in same)
 
-offset_is : (stmt : Stmt) (op : Op) (known : Known) → role_in stmt ≡ role.Instruction (length_of op) → (laid_in stmt known).offset ≡ aligned 2 (next_in known)
+pub offset_is : (stmt : Stmt) (op : Op) (known : Known) → role_in stmt ≡ role.Instruction (length_of op) → (laid_in stmt known).offset ≡ aligned 2 (next_in known)
 unfolding laid
 offset_is stmt op known is = rw is refl
 
@@ -310,42 +262,6 @@ is_placed before line stmt op is sound =
       within = within;
       next = rw next (aligned_even (laid_in stmt known).end end_even ∙ (let ends = stands.2 in omega (arith, ends, offset)));
     }
-
--- ---- the lines behind leave the control section, and have no fault
-control_line : (line : ℕ) (stmt : Option Stmt) (known : Known) (name : List ℕ) → known.control ≡ Some name → (after_line line stmt known).control ≡ Some name
-unfolding after
-control_line line None known name e = e
-control_line line (Some stmt) known name e = ap (control_after (role_in stmt) (name_in stmt)) e ∙ stays (role_in stmt)
-  where
-    stays : (r : Role) → control_after r (name_in stmt) (Some name) ≡ Some name
-    stays role.Control = refl
-    stays (role.Instruction size) = refl
-    stays role.Pool = refl
-    stays role.Unknown = refl
-    stays role.Dummy = refl
-    stays role.Equate = refl
-    stays (role.Storage is_ds) = refl
-    stays role.Registers = refl
-    stays role.Member = refl
-    stays role.Nothing = refl
-
-control_stays : (more before : List Item) (name : List ℕ) → (known_behind before).control ≡ Some name → (known_behind (more ++ before)).control ≡ Some name
-control_stays [] before name e = e
-control_stays (item ∷ more) before name e = control_line item.line item.stmt (known_behind (more ++ before)) name (control_stays more before name e)
-
-control_same : (more before : List Item) (section : Option (List ℕ)) → is_control section (known_behind before).control ≡ true → is_control section (known_behind (more ++ before)).control ≡ true
-control_same more before None e = absurd (cc)
-control_same more before (Some name) e =
-    let same : (known_behind before).control ≡ Some name = sym (in_control (Some name) (known_behind before).control e) in
-    ap (is_control (Some name)) (control_stays more before name same ∙ sym same) ∙ e
-
-fault_line : (line : ℕ) (stmt : Option Stmt) (known : Known) → (after_line line stmt known).fault ≡ None → known.fault ≡ None
-fault_line line None known e = e
-fault_line line (Some s) known e = none_before line s known e
-
-fault_kept : (more before : List Item) → (known_behind (more ++ before)).fault ≡ None → (known_behind before).fault ≡ None
-fault_kept [] before e = e
-fault_kept (item ∷ more) before e = fault_kept more before (fault_line item.line item.stmt (known_behind (more ++ before)) e)
 
 -- ---- lines with nothing but instructions on them
 record IsCode (told : Whole) (all : List Stated) (bases : Bases) (before items : List Item) : Type 0 where

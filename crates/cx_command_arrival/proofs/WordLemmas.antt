@@ -46,7 +46,7 @@ no_letter : (c : ℕ) → is_digit 10 c ≡ true → is_letter c ≡ false
 unfolding digit is_letter
 no_letter c h = grind (arith, nat_tests)
 
-split : (a b : Bool) → (a && b) ≡ true → (a ≡ true) × (b ≡ true)
+pub split : (a b : Bool) → (a && b) ≡ true → (a ≡ true) × (b ≡ true)
 split true b e = (refl, e)
 split false b e = absurd (cc)
 
@@ -168,7 +168,7 @@ word_worth find here section number length n value known small e =
     go false e = absurd (cc)
 
 -- ---- texts without parentheses
-no_parenthesis : (scan : Scan) (text : List ℕ) → ArePlain text → first_from Parenthesis scan text ≡ length text
+pub no_parenthesis : (scan : Scan) (text : List ℕ) → ArePlain text → first_from Parenthesis scan text ≡ length text
 no_parenthesis scan [] h = refl
 no_parenthesis scan (c ∷ text) h =
     let none : (lies_outside scan c text && is_mark Parenthesis scan.depth c) ≡ false = rw (other c 40 h.0 (omega arith), other c 41 h.0 (omega arith)) (neither (lies_outside scan c text)) in
