@@ -9,7 +9,6 @@ use Rattle.cx_arrival.specs.Stands.{AreAt, HaveWords, IsAddressed, IsApart, IsCl
 use Rattle.cx_command.specs.declared.commands.Command.{Command}
 use Rattle.cx_exec.specs.Machine.{Machine}
 use Rattle.cx_exec.specs.Step.{entry}
-use Rattle.cx_image.specs.Assembled.{IsAssembled}
 use Rattle.cx_load.specs.Fault.{IsFit}
 use Rattle.cx_load.specs.Program.{IsLoaded}
 use Rattle.cx_load.specs.declared.program.Loaded.{Loaded}
@@ -50,6 +49,7 @@ use Rattle.cx_command_arrival.proofs.KeptLemmas.{code_kept, code_within, is_plac
 use Rattle.cx_command_arrival.proofs.LegalLemmas.{Accepts, legal_so, same_bytes, same_words}
 use Rattle.cx_command_arrival.proofs.MadeLemmas.{list_begins, rest_of}
 use Rattle.cx_command_arrival.proofs.PlaceLemmas.{have_words, lies_at}
+use Rattle.cx_command_arrival.specs.InStorage.{TextsAreMade}
 
 -- what the laws say
 pub record Laws : Type 0 where
@@ -62,6 +62,7 @@ pub record Laws : Type 0 where
   pub entry : EntryStands
   pub loaded : LiteralsAreLoaded
   pub code : CodeIsLoaded
+  pub texts : TextsAreMade
   pub spans : SpanIsBytes
   pub counted : MadeAreCounted
   pub reaches : ReachesEntry
@@ -69,7 +70,6 @@ pub record Laws : Type 0 where
 -- a statement of an accepted translation, whose made statements stand behind some lines
 pub record Case (translated : Source) (assembly : AssemblyParts) (line : ℕ) (first : List Item) (command : Command) (words : List Word) (s : Statement) : Type 0 where
   pub accepts : assembly_of translated ≡ Ok assembly
-  pub is : IsAssembled assembly.section
   pub rest : List Item
   pub items : translated.items ≡ first ++ lines line (call_statements command words) ++ rest
   pub cics : List Word
@@ -93,7 +93,7 @@ literal_at source assembly c bytes index at sections regs program stands loaded 
     again p n = omega arith
 
 literal_kept : Laws → (source : Source) (assembly : AssemblyParts) (c : Context) (bytes : List ℕ) (index : ℕ) (at : Address) (sections : Sections) (regs : List ℕ)
-    → (storage loaded : Storage) (program : Loaded) → (stands : StandsInSection source assembly c bytes index at) → IsAssembled assembly.section → IsFit assembly.section.image
+    → (storage loaded : Storage) (program : Loaded) → (stands : StandsInSection source assembly c bytes index at) → assembly_of source ≡ Ok assembly → IsFit assembly.section.image
     → IsLoaded storage assembly.section.image program loaded → AreLoaded sections (whole_of source).control program.at → HasBase sections regs c.bases (based at)
     → span loaded (reached regs (based at)) (length bytes) ≡ Some bytes
 literal_kept laws source assembly c bytes index at sections regs storage loaded program stands is fit done there has =
@@ -167,7 +167,7 @@ module _ (laws : Laws) (translated : Source) (assembly : AssemblyParts) (line : 
   offset_small : case.code.at ≤ 65536
   unfolding made_code
   offset_small =
-      code_within assembly.section case.code.front case.code.back case.code.at _ _ case.is (case.code.stand ∙ ap (λ k. case.code.front ++ code_lines case.code.at k ++ case.code.back) case.made)
+      code_within assembly.section case.code.front case.code.back case.code.at _ _ (laws.texts translated assembly case.accepts) (case.code.stand ∙ ap (λ k. case.code.front ++ code_lines case.code.at k ++ case.code.back) case.made)
 
   -- ---- a machine that is about to perform the instructions
   module _ (storage loaded : Storage) (program : Loaded) (sections : Sections) (m : Machine) (fit : IsFit assembly.section.image) (done : IsLoaded storage assembly.section.image program loaded)
@@ -178,7 +178,7 @@ module _ (laws : Laws) (translated : Source) (assembly : AssemblyParts) (line : 
     code_stands : AreAt m.storage m.next (made_code s)
     code_stands =
         let at = along program.at case.code.at in
-        let all = laws.code translated assembly first (lines line (call_statements command words)) storage loaded program case.accepts case.is fit done case.code in
+        let all = laws.code translated assembly first (lines line (call_statements command words)) storage loaded program case.accepts fit done case.code in
         let length_is : made_length s ≡ code_length (made_code s) = sym (laws.counted s).1 in
         let kept = subst (AreKept loaded m.storage at) length_is ready.instructions in
         subst (λ n. AreAt m.storage n (made_code s)) (sym ready.next)
@@ -188,8 +188,8 @@ module _ (laws : Laws) (translated : Source) (assembly : AssemblyParts) (line : 
     stands =
         let bytes = same_bytes (whole_of translated) (bases_in_use translated first) line (reverse first) command words s case.statement in
         let block = literal_kept laws translated assembly (context_of (whole_of translated) (bases_in_use translated first) line (reverse first) (load_of (block_of command words)))
-        (block_bytes command words) 0 (address s.block.base s.block.displacement) sections m.regs storage loaded program block_stands case.is fit done there ready.block_base in
-        let word = literal_kept laws translated assembly entry_context (0 ∷ 0 ∷ 8 ∷ 0 ∷ []) 0 (address s.entry.base s.entry.displacement) sections m.regs storage loaded program entry_stands case.is fit done there ready.entry_base in
+        (block_bytes command words) 0 (address s.block.base s.block.displacement) sections m.regs storage loaded program block_stands case.accepts fit done there ready.block_base in
+        let word = literal_kept laws translated assembly entry_context (0 ∷ 0 ∷ 8 ∷ 0 ∷ []) 0 (address s.entry.base s.entry.displacement) sections m.regs storage loaded program entry_stands case.accepts fit done there ready.entry_base in
         record {
           instructions = code_stands;
           block = span_kept laws.spans loaded m.storage (reached m.regs s.block) (length (statement_bytes s)) (statement_bytes s) (small s.block.base s.block.displacement) ready.block
@@ -297,7 +297,7 @@ are_addressed addresses sections regs told bases line before k (text ∷ list) (
 
 -- ---- all of it
 pub commands_arrive : Laws → CallsStand → CallsAreMade → CommandsArrive
-commands_arrive laws stand make source translated assembly item exec translates accepts is has =
+commands_arrive laws stand make source translated assembly item exec translates accepts has =
     let call = stand source translated assembly item exec translates accepts has in
     let made = call.made in
     let first = made.together.before ++ lines item.line (label exec.name) in
@@ -308,7 +308,6 @@ commands_arrive laws stand make source translated assembly item exec translates 
     let all = call_behind translated.items item exec made in
     let case : Case translated assembly item.line first made.command words code.statement = record {
       accepts = accepts;
-      is = is;
       rest = all.rest;
       items = all.is;
       cics = take 1 (words_of_operand exec.operand);

@@ -1,5 +1,5 @@
 -- The operations of made statements, and a name before an instruction.
-use Rattle.std.specs.Prelude.{codes, decimal, is_some, reverse, ◌||◌}
+use Rattle.std.specs.Prelude.{codes, decimal, reverse}
 use Rattle.std.proofs.Common.{◌≡◌, ◌≤◌, ℕ, ◌+◌, ◌-◌, ◌*◌, ◌==◌, Bool, true, false, cond, Option, Some, None, Ok, List, [], ◌∷◌, ◌++◌, drop, length, map, refl, sym, ◌∙◌, ap, subst, arith}
 use Rattle.std.specs.List.{AllByRecursion}
 use Rattle.std.proofs.lemmas.Bool.Decides.{nat_tests}
@@ -21,9 +21,8 @@ use Rattle.cx_terms.specs.Digits.{bound, digit}
 use Rattle.cx_terms.specs.Items.{constant, constant_in, length_of as length_of_constant, written_in}
 use Rattle.cx_terms.specs.Kinds.{kind_of}
 use Rattle.cx_terms.specs.Names.{symbol_name}
-use Rattle.cx_terms.specs.declared.faults.FaultKind.TheVariants.{BadOperand, DuplicateSymbol}
+use Rattle.cx_terms.specs.declared.faults.FaultKind.TheVariants.{BadOperand}
 use Rattle.cx_terms.specs.declared.kinds.ConstantKind.TheVariants.{Halfword}
-use Rattle.cx_terms.specs.declared.values.Value.{Value}
 use Rattle.cx_pools.specs.Pools.{capped, pool_extent}
 use Rattle.cx_operations.specs.Operations.{branch_named, branches, directive_named, directives, operation_named, register_branch_named, register_branches}
 use Rattle.cx_translate.specs.declared.words.Word.{Word}

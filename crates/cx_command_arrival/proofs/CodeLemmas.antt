@@ -1,6 +1,6 @@
 -- Instructions in storage, each as it is spelled.
 use Rattle.std.specs.Prelude.{Err, Result, ℤ, reverse, slice_set}
-use Rattle.std.proofs.Common.{◌≡◌, ℕ, ◌+◌, true, Option, Some, None, Ok, List, [], ◌∷◌, ◌++◌, length, refl, sym, ◌∙◌, subst, arith}
+use Rattle.std.proofs.Common.{◌≡◌, ℕ, ◌+◌, true, Option, Some, None, Ok, List, [], ◌∷◌, ◌++◌, length, refl, sym, ◌∙◌, subst}
 use Rattle.std.specs.List.{AllByRecursion}
 use Rattle.std.proofs.lemmas.List.{append_assoc, length-set}
 use Rattle.cx_arrival.specs.Stands.{AreAt}
@@ -25,7 +25,7 @@ use Rattle.cx_second.specs.SecondFaults.{bases_after, bases_by}
 use Rattle.cx_second.specs.Statements.{Stated, operation_of}
 use Rattle.cx_second.specs.Whole.{Whole, directive_context, whole_of}
 use Rattle.cx_command_arrival.specs.CodeInStorage.{CodeIsLoaded}
-use Rattle.cx_command_arrival.specs.InStorage.{CodeIsUnraised, IsUnraised, LinesAreLoaded, StandsAt}
+use Rattle.cx_command_arrival.specs.InStorage.{CodeIsUnraised, IsUnraised, LinesAreLoaded, StandsAt, TextsAreMade}
 use Rattle.cx_command_arrival.specs.Standing.{AreResolved, bases_from, bases_in_use, code_lines, statements_from}
 use Rattle.cx_command_arrival.proofs.LoadedLemmas.{along_twice}
 
@@ -99,12 +99,12 @@ pub behind_front : (P : Line → Type 0) (front rest : List Line) → AllByRecur
 behind_front P [] rest all = all
 behind_front P (l ∷ front) rest all = behind_front P front rest all.1
 
-pub code_loaded : Forms → Sizes → LinesAreLoaded → CodeIsUnraised → CodeIsLoaded
-code_loaded forms sizes lines clear source assembly first items storage after loaded accepts is fit done code =
+pub code_loaded : Forms → Sizes → TextsAreMade → LinesAreLoaded → CodeIsUnraised → CodeIsLoaded
+code_loaded forms sizes texts lines clear source assembly first items storage after loaded accepts fit done code =
     let relocs = assembly.section.image.relocs in
     let split = code.stand ∙ append_assoc code.front (code_lines code.at code.code) code.back in
-    let all : AreLoaded after loaded.at relocs assembly.section.resolved = lines storage after assembly.section loaded is fit done in
-    let none : AreClear relocs assembly.section.resolved = clear source assembly accepts is in
+    let all : AreLoaded after loaded.at relocs assembly.section.resolved = lines storage after assembly.section loaded (texts source assembly accepts) fit done in
+    let none : AreClear relocs assembly.section.resolved = clear source assembly accepts in
     all_at forms sizes (whole_of source) (bases_in_use source first) (in_use_sixteen source first) (reverse first) items code.code code.at loaded.at code.back after relocs code.resolved
     (behind_front (λ l. IsUnraised relocs l → StandsAt after loaded.at l) code.front (code_lines code.at code.code ++ code.back) (subst (AreLoaded after loaded.at relocs) split all))
     (behind_front (λ l. is_code l ≡ true → IsUnraised relocs l) code.front (code_lines code.at code.code ++ code.back) (subst (AreClear relocs) split none))

@@ -38,7 +38,7 @@ use Rattle.cx_operands.specs.Values.{item_in}
 use Rattle.cx_second.specs.Whole.{Whole, whole_of}
 use Rattle.cx_asm.specs.Resolving.{line}
 use Rattle.cx_command_arrival.specs.Handed.{BlockStands, EntryStands, LiteralsAreLoaded, block_of}
-use Rattle.cx_command_arrival.specs.InStorage.{IsUnraised, LinesAreLoaded, StandsAt}
+use Rattle.cx_command_arrival.specs.InStorage.{IsUnraised, LinesAreLoaded, StandsAt, TextsAreMade}
 use Rattle.cx_command_arrival.specs.Literals.{HasBytes, HasInstruction, LiteralsStand}
 use Rattle.cx_command_arrival.specs.Standing.{is_instruction_role}
 use Rattle.cx_command_arrival.specs.Stores.{entry_in_15, load_of}
@@ -190,7 +190,7 @@ one_of : (P : Line → Type 0) (front : List Line) (mine : Line) (back : List Li
 one_of P [] mine back all = all.0
 one_of P (l ∷ front) mine back all = one_of P front mine back all.1
 
-pub literals_loaded : LinesAreLoaded → LiteralsAreLoaded
-literals_loaded lines source assembly c bytes index address storage after loaded is fit done stands =
-    let all = subst (AllByRecursion (λ l. IsUnraised assembly.section.image.relocs l → StandsAt after loaded.at l)) stands.stands (lines storage after assembly.section loaded is fit done) in
+pub literals_loaded : TextsAreMade → LinesAreLoaded → LiteralsAreLoaded
+literals_loaded texts lines source assembly c bytes index address storage after loaded accepts fit done stands =
+    let all = subst (AllByRecursion (λ l. IsUnraised assembly.section.image.relocs l → StandsAt after loaded.at l)) stands.stands (lines storage after assembly.section loaded (texts source assembly accepts) fit done) in
     one_of (λ l. IsUnraised assembly.section.image.relocs l → StandsAt after loaded.at l) stands.front (line stands.offset (Data bytes)) stands.back all stands.unraised

@@ -9,7 +9,7 @@ use Rattle.cx_code.specs.declared.disassembly.Line.{Line}
 use Rattle.cx_code.specs.declared.disassembly.What.TheVariants.{Code}
 use Rattle.cx_code.specs.Spelling.{Instruction, spelling}
 use Rattle.cx_code.specs.Table.{length_of}
-use Rattle.cx_image.specs.Assembled.{AssembledParts, IsAssembled}
+use Rattle.cx_image.specs.Assembled.{AssembledParts}
 use Rattle.cx_image.specs.Resolved.{AreApart, end_of}
 use Rattle.cx_storage.specs.Address.{along}
 use Rattle.cx_storage.specs.Laws.Spans.{SpanIsBytes}
@@ -19,6 +19,7 @@ use Rattle.cx_storage.specs.Word.{word_at}
 use Rattle.cx_asm.specs.Resolving.{line}
 use Rattle.cx_command_arrival.specs.Arriving.{AreKept}
 use Rattle.cx_command_arrival.specs.Standing.{code_lines}
+use Rattle.cx_command_arrival.specs.InStorage.{HasText}
 
 -- ---- spans
 pub span_kept : SpanIsBytes → (s t : Storage) (a n : ℕ) (bytes : List ℕ) → a < 2 ^ 24 → AreKept s t a n → span s a n ≡ Some bytes → span t a n ≡ Some bytes
@@ -57,7 +58,7 @@ first_within : (from : ℕ) (front : List Line) (l : Line) (back : List Line) (s
 first_within from [] l back size apart = (let more = ends back (end_of l) size apart.1 in omega (arith, more))
 first_within from (f ∷ front) l back size apart = first_within (end_of f) front l back size apart.1
 
-pub code_within : (parts : AssembledParts) (front back : List Line) (at : ℕ) (i : Instruction) (code : List Instruction) → IsAssembled parts
+pub code_within : (parts : AssembledParts) (front back : List Line) (at : ℕ) (i : Instruction) (code : List Instruction) → HasText parts
     → parts.resolved ≡ front ++ code_lines at (i ∷ code) ++ back → at ≤ 65536
 unfolding code_lines
 code_within parts front back at i code is stand =

@@ -7,7 +7,7 @@ use Rattle.std.proofs.lemmas.List.{get_or-drop, get_or-take, length-replicate}
 use Rattle.cx_code.specs.declared.disassembly.Line.{Line}
 use Rattle.cx_code.specs.declared.disassembly.What.{What}
 use Rattle.cx_code.specs.declared.disassembly.What.TheVariants.{Code, Data, Space}
-use Rattle.cx_image.specs.Assembled.{AssembledParts, IsAssembled}
+use Rattle.cx_image.specs.Assembled.{AssembledParts}
 use Rattle.cx_image.specs.Laws.Cover.{IsTextOf, StandsIn}
 use Rattle.cx_image.specs.Resolved.{AreApart, bytes_of, end_of, size_of}
 use Rattle.cx_image.specs.Text.{text_of}
@@ -20,7 +20,7 @@ use Rattle.cx_storage.specs.Address.{along}
 use Rattle.cx_storage.specs.Laws.Spans.{SpanIsBytes}
 use Rattle.cx_storage.specs.Place.{CanPlace, IsLeastPlace}
 use Rattle.cx_storage.specs.Storage.{Storage, byte_at}
-use Rattle.cx_command_arrival.specs.InStorage.{IsUnraised, LinesAreLoaded, StandsAt}
+use Rattle.cx_command_arrival.specs.InStorage.{HasText, IsUnraised, LinesAreLoaded, StandsAt}
 
 -- what the laws of lower crates say
 pub record Known : Type 0 where
@@ -54,7 +54,7 @@ place_small storage size at least = (let ends = least.0.2 in omega (arith, ends)
 pub along_twice : (at m j : ℕ) → along (along at m) j ≡ along at (m + j)
 along_twice at m j = omega arith
 
-one_loaded : Known → (storage after : Storage) (parts : AssembledParts) (loaded : Loaded) (line : Line) → IsAssembled parts → IsFit parts.image → IsLoaded storage parts.image loaded after
+one_loaded : Known → (storage after : Storage) (parts : AssembledParts) (loaded : Loaded) (line : Line) → HasText parts → IsFit parts.image → IsLoaded storage parts.image loaded after
     → StandsIn parts.image.text line → end_of line ≤ length parts.image.text → IsUnraised parts.image.relocs line → StandsAt after loaded.at line
 one_loaded known storage after parts loaded line is fit done stands inside clear =
     let text = parts.image.text in
@@ -71,7 +71,7 @@ one_loaded known storage after parts loaded line is fit done stands inside clear
           ∙ ap Some (known.others loaded.at (line.at + j) parts.image.relocs text fit.inside none ∙ byte_in_text text line j stands less),
     )
 
-every : Known → (storage after : Storage) (parts : AssembledParts) (loaded : Loaded) (lines : List Line) (from : ℕ) → IsAssembled parts → IsFit parts.image → IsLoaded storage parts.image loaded after
+every : Known → (storage after : Storage) (parts : AssembledParts) (loaded : Loaded) (lines : List Line) (from : ℕ) → HasText parts → IsFit parts.image → IsLoaded storage parts.image loaded after
     → AllByRecursion (StandsIn parts.image.text) lines → AreApart from lines (length parts.image.text)
     → AllByRecursion (λ line. IsUnraised parts.image.relocs line → StandsAt after loaded.at line) lines
 every known storage after parts loaded [] from is fit done stand apart = tt

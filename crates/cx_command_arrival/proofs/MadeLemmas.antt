@@ -1,5 +1,5 @@
 -- The instructions of a call, operand by operand.
-use Rattle.std.specs.Prelude.{Result, codes, decimal, reverse, ◌&&◌}
+use Rattle.std.specs.Prelude.{Result, codes, decimal, reverse}
 use Rattle.std.specs.Option.{ok_or, option_map_or}
 use Rattle.std.proofs.Common.{◌≡◌, ℕ, ◌+◌, ◌*◌, true, false, ◌==◌, Some, Ok, Err, List, [], ◌∷◌, ◌++◌, drop, length, refl, sym, ◌∙◌, ap, subst, arith}
 use Rattle.std.proofs.lemmas.Bool.Decides.{nat_tests}
@@ -10,9 +10,7 @@ use Rattle.cx_code.specs.Table.{length_of}
 use Rattle.cx_code.specs.declared.table.Op.TheVariants as op
 use Rattle.cx_code.specs.declared.instruction.Fields.TheVariants.{Rr, Rx, Si}
 use Rattle.cx_command.specs.declared.commands.Command.{Command}
-use Rattle.cx_source.specs.Marks.{depth_behind, first_from, is_mark, lies_outside, passed, within_behind}
-use Rattle.cx_source.specs.declared.marks.Mark.TheVariants.{Parenthesis}
-use Rattle.cx_source.specs.declared.marks.Scan.{Scan}
+use Rattle.cx_source.specs.Marks.{depth_behind, within_behind}
 use Rattle.cx_source.specs.declared.source.Item.{Item}
 use Rattle.cx_terms.specs.declared.faults.FaultKind.{FaultKind}
 use Rattle.cx_terms.specs.declared.faults.FaultKind.TheVariants.{BadOperand}
@@ -34,7 +32,7 @@ use Rattle.cx_command_arrival.specs.Commands.{AreArguments, CallsAreMade, behind
 use Rattle.cx_command_arrival.specs.Standing.{AreResolved}
 use Rattle.cx_command_arrival.specs.Stores.{AreStores, StoresAreResolved, context_of, entry_in_15, list_of_1, load_of, store_of, word_of_list}
 use Rattle.cx_command_arrival.proofs.ArgumentLemmas.{both_ok}
-use Rattle.cx_command_arrival.proofs.PlainLemmas.{ArePlain, decimal_plain, neither, other}
+use Rattle.cx_command_arrival.proofs.PlainLemmas.{ArePlain, decimal_plain}
 use Rattle.cx_command_arrival.proofs.WordLemmas.{no_parenthesis}
 
 -- ---- lines in two parts

@@ -1,38 +1,16 @@
 -- Each word that loading raises is one of a constant's.
-use Rattle.std.proofs.Common.{◌≡◌, ◌⊎◌, inl, inr, ◌≤◌, ℕ, zero, suc, ◌+◌, ◌*◌, Bool, true, false, cond, ◌&&◌, ◌==◌, Option, Some, None, Ok, List, [], ◌∷◌, ◌++◌, length, refl, subst, arith}
-use Rattle.std.specs.Prelude.{Err, Result, ℤ}
+use Rattle.std.proofs.Common.{◌≡◌, ◌⊎◌, inl, inr, ◌≤◌, ℕ, ◌+◌, true, List, [], ◌∷◌, length, subst, arith}
 use Rattle.std.specs.List.{AllByRecursion}
 use Rattle.cx_code.specs.declared.disassembly.Line.{Line}
-use Rattle.cx_terms.specs.Bytes.{Made, address_made, body_made, integer_bytes, is_absolute_word, is_address, made, made_of, made_unless, placed, plain_made, values_bytes, values_fault}
-use Rattle.cx_terms.specs.Expressions.{value_of}
-use Rattle.cx_terms.specs.Items.{Constant, constant_in, value_length, values_in}
-use Rattle.cx_terms.specs.Kinds.{row_of}
-use Rattle.cx_terms.specs.declared.faults.FaultKind.{FaultKind}
-use Rattle.cx_terms.specs.declared.faults.FaultKind.TheVariants.{NotRelocatable, ValueOutOfRange}
-use Rattle.cx_terms.specs.Weights.{stands_in}
-use Rattle.cx_operands.specs.Judging.{judged}
-use Rattle.cx_terms.specs.declared.kinds.ConstantKind.{ConstantKind}
-use Rattle.cx_terms.specs.declared.values.Value.{Value}
-use Rattle.cx_pools.specs.Pools.{Placed}
-use Rattle.cx_operations.specs.declared.operations.Operation.{Operation}
-use Rattle.cx_places.specs.Known.{is_control, role_in}
-use Rattle.cx_places.specs.Given.{location_counter}
-use Rattle.cx_places.specs.declared.roles.Role.{Role}
-use Rattle.cx_places.specs.declared.roles.Role.TheVariants as role
-use Rattle.cx_operands.specs.Bases.{Bases, none_in_use}
-use Rattle.cx_operands.specs.Values.{item_in}
+use Rattle.cx_operands.specs.Bases.{none_in_use}
 use Rattle.cx_image.specs.Laws.Cover.{is_code}
-use Rattle.cx_image.specs.Relocated.{words_at}
 use Rattle.cx_image.specs.Resolved.{AreApart, end_of}
-use Rattle.cx_second.specs.SecondFaults.{bases_after}
-use Rattle.cx_second.specs.Statements.{Stated, operation_of, placed_items, statements_of}
-use Rattle.cx_second.specs.Whole.{Whole, item_made, pool_of, whole_of}
+use Rattle.cx_second.specs.Statements.{statements_of}
+use Rattle.cx_second.specs.Whole.{whole_of}
 use Rattle.cx_asm.specs.Assembly.{section_of, standing_of}
-use Rattle.cx_asm.specs.Resolving.{Standing, constant_standing, copies, counter_at, data_line, data_standing, instruction_standing, item_standing, items_standing, joined, last_pool, literal_standing, nothing, pool_standing, relocated, role_standing, space_standing, standing_from, statement_standing}
-use Rattle.cx_command_arrival.specs.InStorage.{CodeIsUnraised, IsUnraised}
+use Rattle.cx_command_arrival.specs.InStorage.{CodeIsUnraised, IsUnraised, TextsAreMade}
 use Rattle.cx_command_arrival.proofs.StandingLemmas.{accepted}
-use Rattle.cx_command_arrival.proofs.TogetherLemmas.{length_joined}
-use Rattle.cx_command_arrival.proofs.HeldLemmas.{HasWord, HaveWords, IsHeld, IsOfConstant, all_held}
+use Rattle.cx_command_arrival.proofs.HeldLemmas.{HasWord, HaveWords, all_held}
 
 -- ---- lines that stand apart from a constant's
 word_behind : (from : ℕ) (ls : List Line) (size r : ℕ) → AreApart from ls size → HasWord r ls → from ≤ r
@@ -74,10 +52,10 @@ all_clear : (relocs : List ℕ) (ls : List Line) (size : ℕ) → AreApart 0 ls 
 all_clear [] ls size apart h = clear_none ls
 all_clear (r ∷ relocs) ls size apart h = clear_more r relocs ls (one_clear 0 ls size r apart h.0) (all_clear relocs ls size apart h.1)
 
-pub no_code_raised : CodeIsUnraised
+pub no_code_raised : TextsAreMade → CodeIsUnraised
 unfolding section_of standing_of
-no_code_raised source assembly e is =
+no_code_raised texts source assembly e =
     let made = (accepted source assembly e).made in
     let held : HaveWords assembly.section.image.relocs assembly.section.resolved =
     subst (λ k. HaveWords k.section.image.relocs k.section.resolved) made (all_held (whole_of source) (statements_of source) none_in_use (statements_of source)) in
-    all_clear assembly.section.image.relocs assembly.section.resolved (length assembly.section.image.text) is.apart held
+    all_clear assembly.section.image.relocs assembly.section.resolved (length assembly.section.image.text) (texts source assembly e).apart held

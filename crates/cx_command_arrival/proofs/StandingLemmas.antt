@@ -1,6 +1,6 @@
 -- The statements of a source, the bases in use before each, and what each makes.
-use Rattle.std.specs.Prelude.{option_map, reverse, Result, Err, ⊤}
-use Rattle.std.proofs.Common.{◌≡◌, ◌≤◌, ℕ, suc, ◌+◌, ◌-◌, ◌*◌, ◌/◌, ◌%◌, Bool, true, false, cond, ◌==◌, nat_le, Option, Some, None, Ok, List, [], ◌∷◌, ◌++◌, length, refl, sym, ◌∙◌, ap, subst, arith}
+use Rattle.std.specs.Prelude.{reverse, Result, Err, ⊤}
+use Rattle.std.proofs.Common.{◌≡◌, ◌≤◌, ℕ, suc, ◌+◌, ◌-◌, ◌*◌, ◌/◌, ◌%◌, Bool, true, false, cond, nat_le, Option, Some, None, Ok, List, [], ◌∷◌, ◌++◌, length, refl, sym, ◌∙◌, ap, subst, arith}
 use Rattle.std.specs.List.{AllByRecursion, cons_option, filter_map}
 use Rattle.std.specs.Result.{result_err}
 use Rattle.std.proofs.lemmas.List.{append_assoc, append-nil, reverse-append}
@@ -17,9 +17,7 @@ use Rattle.cx_source.specs.declared.source.Item.{Item}
 use Rattle.cx_source.specs.declared.source.Source.{Source}
 use Rattle.cx_source.specs.declared.source.Stmt.{Stmt}
 use Rattle.cx_terms.specs.Digits.{bound}
-use Rattle.cx_terms.specs.Faults.{lower, lowest}
 use Rattle.cx_terms.specs.declared.faults.FaultKind.TheVariants.{BadOperand}
-use Rattle.cx_places.specs.Given.{duplicate}
 use Rattle.cx_terms.specs.declared.faults.FaultKind.{FaultKind}
 use Rattle.cx_operations.specs.Operations.{base_row, operation_named}
 use Rattle.cx_operations.specs.declared.operations.Operation.{Operation}
@@ -27,16 +25,14 @@ use Rattle.cx_operations.specs.declared.operations.Operation.TheVariants as oper
 use Rattle.cx_operations.specs.declared.operations.Directive.{Directive}
 use Rattle.cx_operations.specs.declared.operations.Directive.TheVariants as is
 use Rattle.cx_places.specs.Roles.{directive_role, role_of}
-use Rattle.cx_places.specs.Facts.Apart.{in_control, statement_stands, statement_within, section_ends}
-use Rattle.cx_places.specs.Facts.Faults.{none_before}
+use Rattle.cx_places.specs.Facts.Apart.{statement_stands, statement_within, section_ends}
 use Rattle.cx_places.specs.Facts.Laid.{capped_same, lower_none}
-use Rattle.cx_places.specs.Known.{Known, after, after_line, definitions_in, fault_in, first_fault_behind, given_in, is_control, literal_fault, name_fault, operation_fault, section_after, length_after, length_of_section, control_after, known_behind, laid_in, line_fault, next_in, own_fault, parts_in, place_in, role_in, section_fault, name_in}
+use Rattle.cx_places.specs.Known.{Known, after, after_line, is_control, section_after, length_after, length_of_section, known_behind, laid_in, next_in, parts_in, place_in, role_in, section_fault, name_in}
 use Rattle.cx_places.specs.Layout.{aligned, laid}
 use Rattle.cx_places.specs.Laws.Apart.{Stands, section_length}
 use Rattle.cx_places.specs.Placed.{known_of}
 use Rattle.cx_pools.specs.Pools.{capped}
 use Rattle.cx_places.specs.declared.place.LineFault.{LineFault}
-use Rattle.cx_places.specs.declared.roles.Role.{Role}
 use Rattle.cx_places.specs.declared.roles.Role.TheVariants as role
 use Rattle.cx_operands.specs.Bases.{Bases, none_in_use}
 use Rattle.cx_operands.specs.Directives.{bases_behind}
@@ -45,7 +41,7 @@ use Rattle.cx_operands.specs.Context.{Context}
 use Rattle.cx_operands.specs.Judging.{made_of as fields_made}
 use Rattle.cx_operands.specs.declared.forms.Form.{Form}
 use Rattle.cx_code.specs.declared.instruction.Fields.{Fields}
-use Rattle.cx_second.specs.Statements.{Stated, operation_of, place_for, placed_behind, placed_item, placed_of, stated, stated_in, stated_with, statements_of}
+use Rattle.cx_second.specs.Statements.{Stated, operation_of, place_for, placed_item, stated, stated_in, stated_with, statements_of}
 use Rattle.cx_second.specs.SecondFaults.{bases_after, bases_by, instruction_fault, judged_after, judged_behind, literals_fault, operand_fault, second_fault, using_fault}
 use Rattle.cx_second.specs.Whole.{Whole, directive_context, instruction_context, whole_of}
 use Rattle.cx_asm.specs.Resolving.{line, standing_from, statement_standing}
@@ -53,6 +49,9 @@ use Rattle.cx_asm.specs.Assembly.{AssemblyParts, assembly_of, made_of, second_fa
 use Rattle.cx_asm.specs.declared.faults.AsmFault.{AsmFault}
 use Rattle.cx_command_arrival.specs.Standing.{AreResolved, InstructionsStand, bases_from, bases_in_use, code_lines, is_instruction, is_instruction_role, placed_from, statements_from}
 use Rattle.cx_command_arrival.proofs.BehindLemmas.{control_same, fault_kept, none_first, own_sound, reverse_step, section_sound, statements_are}
+use Rattle.cx_image.specs.Resolved.{AreApart}
+use Rattle.cx_image.specs.Text.{text_of}
+use Rattle.cx_command_arrival.specs.InStorage.{TextsAreMade}
 
 -- ---- the statements of a source, in its order
 placed_joined : (xs ys before : List Item) → placed_from before (xs ++ ys) ≡ placed_from before xs ++ placed_from (reverse xs ++ before) ys
@@ -109,6 +108,15 @@ made_joined told all bases (x ∷ xs) ys =
     ∙ sym (append_assoc (statement_standing told all bases x).lines (made_from told all (bases_after told bases x) xs) (made_from told all (bases_from told (bases_after told bases x) xs) ys))
 
 -- ---- an accepted source
+abbrev pub Short : Type 0
+Short = (source : Source) (made : AssemblyParts) → assembly_of source ≡ Ok made → size_of source ≤ 65536
+
+abbrev pub Long : Type 0
+Long = (source : Source) (made : AssemblyParts) → assembly_of source ≡ Ok made → length made.section.image.text ≡ size_of source
+
+abbrev pub Apart : Type 0
+Apart = (source : Source) (made : AssemblyParts) → assembly_of source ≡ Ok made → AreApart 0 made.section.resolved (length made.section.image.text)
+
 pub record IsAccepted (source : Source) (assembly : AssemblyParts) : Type 0 where
   pub first : (known_of source).fault ≡ None
   pub second : second_fault_of source ≡ None
@@ -127,6 +135,19 @@ accepted source assembly e = go (known_of source).fault (second_fault_of source)
     go None None first second e = record { first = first; second = second; made = whole (nat_le (size_of source) 65536) e }
     go (Some fault) other first second e = absurd (cc)
     go None (Some fault) first second e = absurd (cc)
+
+-- its text is that of its resolved lines
+pub texts_are_made : Short → Long → Apart → TextsAreMade
+unfolding section_of
+texts_are_made short long apart source assembly e =
+    let size = long source assembly e in
+    let lines : assembly.section.resolved ≡ (section_of source).resolved = ap (λ k. k.section.resolved) (sym (accepted source assembly e).made) in
+    let text : assembly.section.image.text ≡ text_of (section_of source).resolved (size_of source) = ap (λ k. k.section.image.text) (sym (accepted source assembly e).made) in
+    record {
+      apart = apart source assembly e;
+      text = text ∙ rw (lines, size) refl;
+      short = (let least = short source assembly e in omega (arith, least, size));
+    }
 
 -- ---- operations that make instructions
 no_directive : (d : Directive) → is_instruction_role (directive_role d) ≡ false

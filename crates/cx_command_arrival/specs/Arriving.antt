@@ -8,7 +8,6 @@ use Rattle.cx_arrival.specs.Stands.{IsApart, IsMachine, list_length}
 use Rattle.cx_code.specs.Spelling.{Instruction}
 use Rattle.cx_command.specs.declared.commands.Command.{Command}
 use Rattle.cx_exec.specs.Machine.{Machine}
-use Rattle.cx_image.specs.Assembled.{IsAssembled}
 use Rattle.cx_load.specs.Fault.{IsFit}
 use Rattle.cx_load.specs.Program.{IsLoaded}
 use Rattle.cx_load.specs.declared.program.Loaded.{Loaded}
@@ -94,5 +93,5 @@ pub record CommandArrives (translated : Source) (assembly : AssemblyParts) (item
 
 abbrev pub CommandsArrive : Type 0
 CommandsArrive = (source translated : Source) (assembly : AssemblyParts) (item : Item) (exec : Stmt) → translation_of source ≡ Ok translated
-    → assembly_of translated ≡ Ok assembly → IsAssembled assembly.section → HasExec source item exec
+    → assembly_of translated ≡ Ok assembly → HasExec source item exec
     → CommandArrives translated assembly item exec

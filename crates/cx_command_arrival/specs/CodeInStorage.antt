@@ -1,7 +1,6 @@
 -- Where instructions that stand in the code stand in storage (this product's own).
 use Rattle.std.specs.Prelude.{◌≡◌, Ok, List}
 use Rattle.cx_arrival.specs.Stands.{AreAt}
-use Rattle.cx_image.specs.Assembled.{IsAssembled}
 use Rattle.cx_load.specs.Fault.{IsFit}
 use Rattle.cx_load.specs.Program.{IsLoaded}
 use Rattle.cx_load.specs.declared.program.Loaded.{Loaded}
@@ -16,6 +15,6 @@ use Rattle.cx_command_arrival.specs.Standing.{StandInCode}
 -- other from their place on, when the program is loaded.
 abbrev pub CodeIsLoaded : Type 0
 CodeIsLoaded = (source : Source) (assembly : AssemblyParts) (first items : List Item) (storage after : Storage) (loaded : Loaded)
-    → assembly_of source ≡ Ok assembly → IsAssembled assembly.section → IsFit assembly.section.image
+    → assembly_of source ≡ Ok assembly → IsFit assembly.section.image
     → IsLoaded storage assembly.section.image loaded after
     → (code : StandInCode source first items assembly.section.resolved) → AreAt after (along loaded.at code.at) code.code

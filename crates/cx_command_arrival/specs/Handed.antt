@@ -3,7 +3,6 @@
 -- project's own).
 use Rattle.std.specs.Prelude.{◌≡◌, ℕ, Ok, Some, None, List, [], ◌∷◌, ◌++◌, codes, length, reverse}
 use Rattle.cx_command.specs.declared.commands.Command.{Command}
-use Rattle.cx_image.specs.Assembled.{IsAssembled}
 use Rattle.cx_load.specs.Fault.{IsFit}
 use Rattle.cx_load.specs.Program.{IsLoaded}
 use Rattle.cx_load.specs.declared.program.Loaded.{Loaded}
@@ -48,6 +47,6 @@ EntryStands = (source : Source) (assembly : AssemblyParts) (bases : Bases) (numb
 -- What stands so in the section stands in storage when the program is loaded.
 abbrev pub LiteralsAreLoaded : Type 0
 LiteralsAreLoaded = (source : Source) (assembly : AssemblyParts) (c : Context) (bytes : List ℕ) (index : ℕ) (address : Address)
-    (storage after : Storage) (loaded : Loaded) → IsAssembled assembly.section → IsFit assembly.section.image
+    (storage after : Storage) (loaded : Loaded) → assembly_of source ≡ Ok assembly → IsFit assembly.section.image
     → IsLoaded storage assembly.section.image loaded after → (stands : StandsInSection source assembly c bytes index address)
     → span after (along loaded.at stands.offset) (length bytes) ≡ Some bytes

@@ -7,7 +7,7 @@ ghost use Rattle.cx_command_arrival.specs.Calls.{MarkIsResolved};
 ghost use Rattle.cx_command_arrival.specs.CodeInStorage.{CodeIsLoaded};
 ghost use Rattle.cx_command_arrival.specs.Commands.{CallsAreMade};
 ghost use Rattle.cx_command_arrival.specs.Handed.{BlockStands, EntryStands, LiteralsAreLoaded};
-ghost use Rattle.cx_command_arrival.specs.InStorage.{CodeIsUnraised, LinesAreLoaded};
+ghost use Rattle.cx_command_arrival.specs.InStorage.{CodeIsUnraised, LinesAreLoaded, TextsAreMade};
 ghost use Rattle.cx_command_arrival.specs.Literals.{LiteralsStand};
 ghost use Rattle.cx_command_arrival.specs.Standing.{InstructionsStand};
 ghost use Rattle.cx_command_arrival.specs.Stores.{BranchIsResolved, StoresAreResolved};
@@ -33,6 +33,13 @@ pub fn instructions_stand_one_behind_the_other()
     ensures { InstructionsStand }
 {}
 
+/// The resolved lines of an accepted source ascend and share no byte, and its text, of 65,536 bytes at most, is theirs.
+pub fn texts_are_made()
+    ensures { TextsAreMade }
+{
+    cx_asm::laws::an_assembly_stands_apart();
+}
+
 /// Each resolved line of a program, unless it has a word that loading raises, stands in storage at its place when the program
 /// is loaded: an instruction as it is spelled, a constant with its bytes.
 pub fn lines_are_loaded()
@@ -46,7 +53,9 @@ pub fn lines_are_loaded()
 /// No instruction of an accepted source has a word that loading raises.
 pub fn no_instruction_is_raised()
     ensures { CodeIsUnraised }
-{}
+{
+    texts_are_made();
+}
 
 /// The index, base and displacement that a storage operand is resolved to give, with any registers, the address that its own
 /// expression has: of a place in a section the section's address and the offset, where the base register that was taken holds
@@ -105,6 +114,7 @@ pub fn what_a_call_needs_stands()
     ensures loaded { LiteralsAreLoaded }
 {
     literals_stand();
+    texts_are_made();
     lines_are_loaded();
     cx_translate::laws::accepted_bytes_are_legal();
 }
@@ -127,6 +137,7 @@ pub fn code_is_loaded()
 {
     cx_code::laws::every_spelling();
     cx_operands::laws::what_is_resolved_is_well_formed();
+    texts_are_made();
     lines_are_loaded();
     no_instruction_is_raised();
 }
@@ -159,6 +170,7 @@ pub fn commands_arrive()
     operands_address_their_places();
     words_lie_in_the_list();
     what_a_call_needs_stands();
+    texts_are_made();
     code_is_loaded();
     calls_stand();
     calls_are_made();

@@ -23,6 +23,7 @@ returns c =
       entry = c.what_a_call_needs_stands.ensures.entry;
       loaded = c.what_a_call_needs_stands.ensures.loaded;
       code = c.code_is_loaded.ensures;
+      texts = c.texts_are_made.ensures;
       spans = c.span_is_bytes.ensures;
       counted = c.made_are_counted.ensures;
       reaches = c.reaches_entry.ensures;

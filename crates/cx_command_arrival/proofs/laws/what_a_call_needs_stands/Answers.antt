@@ -9,4 +9,4 @@ pub returns-clause-entry : goal.returns-clause-entry
 returns-clause-entry c = entry_stands c.literals_stand.ensures
 
 pub returns-clause-loaded : goal.returns-clause-loaded
-returns-clause-loaded c = literals_loaded c.lines_are_loaded.ensures
+returns-clause-loaded c = literals_loaded c.texts_are_made.ensures c.lines_are_loaded.ensures
