@@ -3,6 +3,8 @@
 ghost use Rattle.std.specs.Prelude.{◌≡◌, ℕ, List, Option, Ok, IfSome};
 ghost use Rattle.std.specs.Str.Lines.{lines};
 ghost use Rattle.cx_lines.specs.Lines.{lines_met};
+ghost use Rattle.cx_arrival.specs.Laws.Entry.{ReachesEntry};
+ghost use Rattle.cx_command_arrival.specs.Arriving.{CommandsArrive};
 ghost use Rattle.cx_script.specs.Outcome.{RanScript};
 ghost use Rattle.cx_edf.specs.State.{EdfState};
 ghost use Rattle.cx_actions.specs.Effects.{Performs};
@@ -74,3 +76,20 @@ pub fn a_transcript_is_one()
 pub fn a_script_runs_its_events()
     ensures { ScriptsRunTheirEvents }
 {}
+
+/// The instructions made of an EXEC statement lead to the entry, with the argument list that is read as the statement's
+/// command, and the addresses that its arguments had at the first instruction.
+pub fn reaches_entry()
+    ensures { ReachesEntry }
+{
+    cx_arrival::laws::reaches_entry();
+}
+
+/// Each EXEC statement of a source that is translated, assembled and loaded arrives as its command: these instructions are
+/// those made of it, each argument's address is that of its own expression, and a machine that is about to perform
+/// them reaches the entry.
+pub fn commands_arrive()
+    ensures { CommandsArrive }
+{
+    cx_command_arrival::laws::commands_arrive();
+}
