@@ -1,4 +1,5 @@
 pub mod FrameLemmas
+pub mod ReachLemmas
 pub mod DirectoryLemmas
 pub mod ShownLemmas
 pub mod ChangeLemmas

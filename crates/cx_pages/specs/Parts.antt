@@ -1,5 +1,6 @@
 -- The vocabulary of private functions.
 pub mod Runs
+pub mod Reach
 pub mod Frame
 pub mod Page
 pub mod Directory

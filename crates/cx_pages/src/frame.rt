@@ -3,17 +3,21 @@
 
 ghost use Rattle.std.specs.Prelude.{◌≡◌, ℕ, ◌+◌, ◌-◌, ◌*◌, ◌/◌, ◌%◌, ◌<◌, ◌≤◌, ◌==◌, ◌&&◌, ◌⊎◌, true, false, length, Some, None, is_some, nat_le, nat_lt, slice_get, slice_index, slice_range, if◌then◌else◌, MatchOption, IsSome, IfSome};
 ghost use Rattle.std.specs.Option.{option_map};
+ghost use Rattle.cx_pages.specs.Facts.Reach.{ReachesAre-prop};
 ghost use Rattle.cx_pages.specs.Facts.Runs.{RunsAre-prop};
+ghost use Rattle.cx_pages.specs.Parts.Reach.{IsFlat, Reaches, ReachesAre};
 ghost use Rattle.cx_pages.specs.Parts.Runs.{IsRuns, RunsAre};
 
 /// The bytes of a page that was made, for each granule how many of its first bytes are present, and the runs
-/// of free granules, where they were looked for since a granule changed.
+/// of free granules, where they were looked for since a granule changed. From then on the count of a full granule, 16,
+/// is greater by the number of full ones that follow it (at most 239).
 #[derive(Drop)]
 pub struct Frame {
     bytes: [u8; 4096],
     counts: [u8; 256],
     runs: Option<Runs>,
     ghost summed: { RunsAre runs counts } by { RunsAre-prop runs counts },
+    ghost reached: { ReachesAre runs counts } by { ReachesAre-prop runs counts },
 }
 
 /// The runs of granules of which no byte is present: how many granules the longest has, and how many stand
@@ -39,6 +43,35 @@ fn runs_of(counts: &[u8; 256]) -> Runs
         }
     }
     Runs { longest, tail: run }
+}
+
+/// Adds to the count of each full granule the number of full ones that follow it, up to 239.
+fn count_full(counts: &mut [u8; 256])
+    requires { IsFlat counts.old }
+    ensures reach { Reaches counts.new }
+    ensures same { (g d : ℕ) → d < 16 → nat_lt d (slice_index counts.new g) ≡ nat_lt d (slice_index counts.old g) }
+{
+    let mut behind: u8 = 0;
+    for k in 0..256 {
+        let g = 255 - k;
+        if counts[g] < 16 {
+            behind = 0;
+        } else {
+            counts[g] = 16 + behind;
+            behind = behind.min(238) + 1;
+        }
+    }
+}
+
+/// Leaves the count of each full granule at 16.
+fn flatten(counts: &mut [u8; 256])
+    ensures flat { IsFlat counts.new }
+    ensures size { length counts.new ≡ 256 }
+    ensures same { (g d : ℕ) → d < 16 → nat_lt d (slice_index counts.new g) ≡ nat_lt d (slice_index counts.old g) }
+{
+    for g in 0..256 {
+        counts[g] = counts[g].min(16);
+    }
 }
 
 /// Makes the 16 bytes from `from` on zero.
@@ -109,9 +142,12 @@ impl Frame {
         requires { g < 256 }
         ensures { (j : ℕ) → seen self.new j ≡ (if j / 16 == g then (if nat_lt (j % 16) count then Some 0 else None) else seen self.old j) }
     {
-        self.runs = None;
+        if self.runs.is_some() {
+            self.runs = None;
+            flatten(&mut self.counts);
+        }
         zero_granule(&mut self.bytes, g * 16);
-        self.counts[g] = count;
+        self.counts[g] = count.min(16);
     }
 
     /// Whether the bytes from `from` to before `to` are present.
@@ -126,10 +162,13 @@ impl Frame {
             return true;
         }
         let last = (to - 1) / 16;
-        for g in from / 16..last {
-            if self.counts[g] < 16 {
+        let mut g = from / 16;
+        'full: while g < last {
+            let count = self.counts[g] as usize;
+            if count < 16 {
                 return false;
             }
+            g += count - 15;
         }
         (to - 1) % 16 < self.counts[last] as usize
     }
@@ -174,6 +213,7 @@ impl Frame {
         ensures { (k : ℕ) → seen self.new k ≡ seen self.old k }
     {
         if self.runs.is_none() {
+            count_full(&mut self.counts);
             self.runs = Some(runs_of(&self.counts));
         }
     }

@@ -6,3 +6,6 @@ use Rattle.cx_pages.proofs.frame.Frame.new.Goals as goal
 pub returns : goal.returns
 unfolding seen
 returns c = λ k. rw (zero_index 256 (k / 16), le-ltb (k % 16) 0 (omega arith)) refl
+
+pub invariant_of-result : goal.invariant_of-result
+invariant_of-result c = record { summed = tt; reached = λ g. rw (zero_index 256 g) (omega arith) }

@@ -1,0 +1,115 @@
+-- The full granules that follow one.
+use Rattle.std.proofs.Common.{Option, Some, None, List, ◌≡◌, ◌≢◌, ℕ, ◌+◌, ◌-◌, ◌*◌, ◌/◌, ◌%◌, ◌<◌, ◌≤◌, ◌==◌, ◌&&◌, ◌∙◌, false, refl, arith, inl, inr, length, slice_index, slice_set, slice_get, nat_lt, nat_le, min, if◌then◌else◌, lt-ltb, le-ltb}
+use Rattle.std.proofs.lemmas.Bool.{cases_lt, cases_eq, eq-eqb, ne_eqb, le-leb, lt-leb}
+use Rattle.std.proofs.lemmas.List.{get_or-set_same, get_or-set_other}
+use Rattle.cx_pages.specs.declared.frame.Runs.{Runs}
+use Rattle.cx_pages.specs.Parts.Reach.{IsFlat, Reaches, ReachesAre}
+
+-- the last `done` granules are counted, and of them the first `behind` are full
+pub record CountedFrom (old new : List ℕ) (done behind : ℕ) : Type 0 where
+  pub bound : behind ≤ 239
+  pub front : (g : ℕ) → g + done < 256 → slice_index new g ≡ slice_index old g
+  pub reach : (g j : ℕ) → 256 ≤ g + done → 16 + j ≤ slice_index new g → 16 ≤ slice_index new (g + j)
+  pub full : (j : ℕ) → j < behind → 16 ≤ slice_index new (256 - done + j)
+  pub same : (g d : ℕ) → d < 16 → nat_lt d (slice_index new g) ≡ nat_lt d (slice_index old g)
+
+pub flat_reaches : (counts : List ℕ) → IsFlat counts → Reaches counts
+flat_reaches counts flat = λ g j told.
+    let none : j ≡ 0 = let most = flat g in omega (arith, told, most) in
+    let here : g + j ≡ g = omega (arith, none) in
+    rw here (omega (arith, told))
+
+pub known_reaches : (known : Option Runs) (counts : List ℕ) → ReachesAre known counts → Reaches counts
+known_reaches None counts flat = flat_reaches counts flat
+known_reaches (Some runs) counts reach = reach
+
+-- a granule that isn't full is counted
+pub counted_gap : (old new : List ℕ) (k behind : ℕ) → CountedFrom old new k behind → k < 256 → slice_index new (255 - k) < 16 → CountedFrom old new (k + 1) 0
+counted_gap old new k behind told within short = record {
+  bound = omega arith;
+  front = λ g low. told.front g (omega (arith, low));
+  reach = λ g j high more. elim (cases_lt (g + k) 256) [
+    | inr le ↦ told.reach g j le more
+    | inl last ↦ let here : g ≡ 255 - k = omega (arith, last, high) in absurd (let less = rw (← here) at short in omega (arith, less, more))
+  ];
+  full = λ j none. absurd (omega (arith, none));
+  same = told.same;
+}
+
+-- a full granule is counted with those that follow it
+pub counted_more : (old new : List ℕ) (k behind more : ℕ) → CountedFrom old new k behind → k < 256 → length new ≡ 256 → 16 ≤ slice_index new (255 - k)
+    → more ≤ behind + 1 → more ≤ 239 → CountedFrom old (slice_set new (255 - k) (16 + behind)) (k + 1) more
+counted_more old new k behind more told within whole full one bound =
+    let here : slice_index (slice_set new (255 - k) (16 + behind)) (255 - k) ≡ 16 + behind = get_or-set_same new (255 - k) (16 + behind) 0 (omega (arith, within, whole)) in
+    let there : (g : ℕ) → (g ≢ 255 - k) → slice_index (slice_set new (255 - k) (16 + behind)) g ≡ slice_index new g = λ g other. get_or-set_other new (255 - k) g (16 + behind) 0 other in
+    let behind-full : (j : ℕ) → j ≤ behind → 16 ≤ slice_index (slice_set new (255 - k) (16 + behind)) (255 - k + j) = λ j low. elim (cases_eq j 0) [
+      | inl none ↦ let same : 255 - k + j ≡ 255 - k = omega (arith, none) in rw (same, here) (omega arith)
+      | inr some ↦
+          let place : 255 - k + j ≡ 256 - k + (j - 1) = omega (arith, some, within) in
+          let follows = told.full (j - 1) (omega (arith, some, low)) in
+          rw (there (255 - k + j) (λ e. some (omega (arith, e))), place) follows
+    ] in
+    record {
+      bound = bound;
+      front = λ g low. there g (λ e. absurd (omega (arith, low, e, within))) ∙ told.front g (omega (arith, low));
+      reach = λ g j high reaches. elim (cases_eq g (255 - k)) [
+        | inl e ↦ rw e (behind-full j (let most = rw (e, here) at reaches in omega (arith, most)))
+        | inr ne ↦
+            let before = rw (there g ne) at reaches in
+            let rest = told.reach g j (omega (arith, high, ne)) before in
+            rw (there (g + j) (λ e. ne (omega (arith, e, high, within)))) rest
+      ];
+      full = λ j low. let place : 256 - (k + 1) + j ≡ 255 - k + j = omega (arith, within) in rw place (behind-full j (omega (arith, low, one)));
+      same = λ g d short. elim (cases_eq g (255 - k)) [
+        | inl e ↦
+            let before : slice_index new (255 - k) ≡ slice_index old (255 - k) = told.front (255 - k) (omega (arith, within)) in
+            let old-full = rw before at full in
+            rw (e, here, lt-ltb d (16 + behind) (omega (arith, short)), lt-ltb d (slice_index old (255 - k)) (omega (arith, short, old-full))) refl
+        | inr ne ↦ rw (there g ne) (told.same g d short)
+      ];
+    }
+
+-- the full granules that a count tells are past
+pub more_full : (known : Option Runs) (counts : List ℕ) (from g : ℕ) → ReachesAre known counts → 16 ≤ slice_index counts g → from ≤ g
+    → ((j : ℕ) → from ≤ j → j < g → 16 ≤ slice_index counts j)
+    → (from ≤ g + (slice_index counts g - 15)) × ((j : ℕ) → from ≤ j → j < g + (slice_index counts g - 15) → 16 ≤ slice_index counts j)
+more_full known counts from g told full low all = (
+  omega (arith, low),
+  λ j above below. elim (cases_lt j g) [
+    | inl before ↦ all j above before
+    | inr behind ↦
+        let place : g + (j - g) ≡ j = omega (arith, behind) in
+        let follows = known_reaches known counts told g (j - g) (omega (arith, below, behind, full)) in
+        rw place at follows
+  ],
+)
+
+-- a granule that was marked shows as many zeros as are counted, and the others what they showed
+pub marked : (bytes zeroed counts flat : List ℕ) (g count least : ℕ) → length flat ≡ 256 → g < 256 → least ≡ min count 16
+    → ((j : ℕ) → slice_get zeroed j ≡ (if nat_le (g * 16) j && nat_lt j (g * 16 + 16) then Some 0 else slice_get bytes j))
+    → ((h d : ℕ) → d < 16 → nat_lt d (slice_index flat h) ≡ nat_lt d (slice_index counts h)) → (j : ℕ)
+    → (if nat_lt (j % 16) (slice_index (slice_set flat g least) (j / 16)) then slice_get zeroed j else None)
+    ≡ (if j / 16 == g then (if nat_lt (j % 16) count then Some 0 else None) else (if nat_lt (j % 16) (slice_index counts (j / 16)) then slice_get bytes j else None))
+marked bytes zeroed counts flat g count least whole within is zero same j = elim (cases_eq (j / 16) g) [
+  | inl e ↦
+      let low : g * 16 ≤ j = omega (arith, e) in
+      let high : j < g * 16 + 16 = omega (arith, e) in
+      let short : j % 16 < 16 = omega arith in
+      let here : slice_index (slice_set flat g least) g ≡ least = get_or-set_same flat g least 0 (omega (arith, within, whole)) in
+      rw (zero j, le-leb (g * 16) j low, lt-ltb j (g * 16 + 16) high, eq-eqb (j / 16) g e, e, here, is, lt_least (j % 16) count short) refl
+  | inr ne ↦
+      let there : slice_index (slice_set flat g least) (j / 16) ≡ slice_index flat (j / 16) = get_or-set_other flat g (j / 16) least 0 ne in
+      rw (zero j, ne_eqb (j / 16) g ne, there, same (j / 16) (j % 16) (omega arith), outside g j ne) refl
+]
+  where
+    lt_least : (d c : ℕ) → d < 16 → nat_lt d (min c 16) ≡ nat_lt d c
+    lt_least d c short = elim (cases_lt d c) [
+      | inl lt ↦ rw (lt-ltb d c lt, lt-ltb d (min c 16) (omega (arith, lt, short))) refl
+      | inr le ↦ rw (le-ltb d c le, le-ltb d (min c 16) (omega (arith, le))) refl
+    ]
+
+    outside : (g j : ℕ) → (j / 16 ≢ g) → (nat_le (g * 16) j && nat_lt j (g * 16 + 16)) ≡ false
+    outside g j ne = elim (cases_lt j (g * 16)) [
+      | inl before ↦ rw (lt-leb (g * 16) j before) refl
+      | inr from ↦ rw (le-leb (g * 16) j from, le-ltb j (g * 16 + 16) (omega (arith, from, ne))) refl
+    ]

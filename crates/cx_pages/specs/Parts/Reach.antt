@@ -1,0 +1,16 @@
+-- How many full granules follow one, as its count tells.
+use Rattle.std.specs.Prelude.{◌+◌, ◌≤◌, ℕ, List, Option, Some, None, slice_index}
+use Rattle.cx_pages.specs.declared.frame.Runs.{Runs}
+
+-- whether no count is above that of a full granule
+abbrev pub IsFlat : List ℕ → Type 0
+IsFlat counts = (g : ℕ) → slice_index counts g ≤ 16
+
+-- whether each count tells no more granules that follow than are full
+abbrev pub Reaches : List ℕ → Type 0
+Reaches counts = (g j : ℕ) → 16 + j ≤ slice_index counts g → 16 ≤ slice_index counts (g + j)
+
+-- what the counts of a frame tell, where its runs are known and where they aren't
+abbrev pub ReachesAre : Option Runs → List ℕ → Type 0
+ReachesAre None counts = IsFlat counts
+ReachesAre (Some runs) counts = Reaches counts
