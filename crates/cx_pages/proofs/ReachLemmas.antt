@@ -2,7 +2,10 @@
 use Rattle.std.proofs.Common.{Option, Some, None, List, ◌≡◌, ◌≢◌, ℕ, ◌+◌, ◌-◌, ◌*◌, ◌/◌, ◌%◌, ◌<◌, ◌≤◌, ◌==◌, ◌&&◌, ◌∙◌, false, refl, arith, inl, inr, length, slice_index, slice_set, slice_get, nat_lt, nat_le, min, if◌then◌else◌, lt-ltb, le-ltb}
 use Rattle.std.proofs.lemmas.Bool.{cases_lt, cases_eq, eq-eqb, ne_eqb, le-leb, lt-leb}
 use Rattle.std.proofs.lemmas.List.{get_or-set_same, get_or-set_other}
+use Rattle.cx_pages.specs.declared.frame.Frame.{Frame}
 use Rattle.cx_pages.specs.declared.frame.Runs.{Runs}
+use Rattle.cx_pages.specs.Parts.Frame.{HasAll, seen}
+use Rattle.cx_pages.proofs.FrameLemmas.{has_all}
 use Rattle.cx_pages.specs.Parts.Reach.{IsFlat, Reaches, ReachesAre}
 
 -- the last `done` granules are counted, and of them the first `behind` are full
@@ -113,3 +116,13 @@ marked bytes zeroed counts flat g count least whole within is zero same j = elim
       | inl before ↦ rw (lt-leb (g * 16) j before) refl
       | inr from ↦ rw (le-leb (g * 16) j from, le-ltb j (g * 16 + 16) (omega (arith, from, ne))) refl
     ]
+
+-- bytes are present where the first granule tells that those up to the last one are full
+pub has_told : (frame : Frame) (from to : ℕ) → to ≤ length frame.bytes → from < to → 16 + ((to - 1) / 16 - from / 16) ≤ slice_index frame.counts (from / 16) → HasAll (seen frame) from to
+has_told frame from to within some told =
+    let full : (j : ℕ) → from / 16 ≤ j → j ≤ (to - 1) / 16 → 16 ≤ slice_index frame.counts j = λ j low high.
+    let place : from / 16 + (j - from / 16) ≡ j = omega (arith, low) in
+    let follows = known_reaches frame.runs frame.counts frame.reached (from / 16) (j - from / 16) (omega (arith, told, low, high)) in
+    rw place at follows
+    in
+    has_all frame from to within some (λ j low high. full j low (omega (arith, high))) (let last = full ((to - 1) / 16) (omega (arith, some)) (omega arith) in omega (arith, last))

@@ -150,17 +150,15 @@ impl Frame {
         self.counts[g] = count.min(16);
     }
 
-    /// Whether the bytes from `from` to before `to` are present.
-    #[tactic(auto, using(crate::proofs::FrameLemmas::has_all, crate::proofs::FrameLemmas::has_short, crate::proofs::FrameLemmas::has_last), unfolding(crate::specs::Parts::Frame::seen))]
-    #[inline(always)]
-    pub(crate) fn has(&self, from: usize, to: usize) -> bool
-        requires { to ≤ 4096 }
+    /// Whether the bytes from `from` to before `to` are present, granule by granule.
+    #[tactic(auto, using(crate::proofs::FrameLemmas::has_short, crate::proofs::FrameLemmas::has_last), unfolding(crate::specs::Parts::Frame::seen))]
+    #[inline(never)]
+    fn has_each(&self, from: usize, to: usize) -> bool
+        requires order { from < to }
+        requires within { to ≤ 4096 }
         ensures all { result ≡ true → HasAll (seen self.now) from to }
         ensures gap { HasAll (seen self.now) from to → result ≡ true }
     {
-        if to <= from {
-            return true;
-        }
         let last = (to - 1) / 16;
         let mut g = from / 16;
         'full: while g < last {
@@ -171,6 +169,25 @@ impl Frame {
             g += count - 15;
         }
         (to - 1) % 16 < self.counts[last] as usize
+    }
+
+    /// Whether the bytes from `from` to before `to` are present.
+    #[inline(always)]
+    pub(crate) fn has(&self, from: usize, to: usize) -> bool
+        requires { to ≤ 4096 }
+        ensures all { result ≡ true → HasAll (seen self.now) from to }
+        ensures gap { HasAll (seen self.now) from to → result ≡ true }
+    {
+        if to <= from {
+            return true;
+        }
+        let first = from / 16;
+        let last = (to - 1) / 16;
+        // Mostly the first granule tells that those up to the last one are full.
+        if 16 + (last - first) <= self.counts[first] as usize {
+            return true;
+        }
+        self.has_each(from, to)
     }
 
     /// The bytes from `from` to before `to`, where all of them are present.

@@ -1,5 +1,5 @@
 use Rattle.std.proofs.Common.{ℕ, ◌<◌, ◌≤◌, ◌-◌, ◌/◌, slice_index}
-use Rattle.cx_pages.proofs.frame.Frame.has.Given as goal
+use Rattle.cx_pages.proofs.frame.Frame.has_each.Given as goal
 
 -- the granules so far are full
 abbrev pub invariant-full : goal.invariant-full
