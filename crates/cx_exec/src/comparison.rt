@@ -1,6 +1,6 @@
 //! Comparison.
 
-ghost use Rattle.std.specs.Prelude.{◌≡◌, ℕ, ◌<◌, ◌≤◌, ◌^◌, length, pos, slice_index};
+ghost use Rattle.std.specs.Prelude.{◌≡◌, ℕ, ◌+◌, ◌<◌, ◌≤◌, ◌^◌, true, length, pos, slice_index};
 ghost use Rattle.cx_exec.specs.Numbers.{number_of};
 ghost use Rattle.cx_exec.specs.Machine.{machine};
 ghost use Rattle.cx_exec.specs.Numbers.{signed, order_code};
@@ -38,13 +38,29 @@ pub(crate) fn byte_order(first: u8, second: u8) -> u8
     order_code(i128::from(first), i128::from(second))
 }
 
-/// A number of first bytes in which two strings of one length are alike: eight times as many as there are equal
-/// numbers of eight bytes.
+/// Whether the 32 bytes from a place on are the same in two strings.
+#[inline(always)]
+fn are_alike(first: &[u8], second: &[u8], at: usize) -> bool
+    requires long { at + 32 ≤ length first.now }
+    requires size { length first.now ≡ length second.now }
+    ensures { result ≡ true → (j : ℕ) → at ≤ j → j < at + 32 → slice_index first.now j ≡ slice_index second.now j }
+{
+    let mut same = true;
+    for k in at..at + 32 {
+        same &= first[k] == second[k];
+    }
+    same
+}
+
+/// A number of first bytes in which two strings of one length are alike: those of equal numbers of eight bytes.
 fn alike_front(first: &[u8], second: &[u8]) -> usize
     requires { length first.now ≡ length second.now }
     ensures { (j : ℕ) → j < result → slice_index first.now j ≡ slice_index second.now j }
 {
     let mut at = 0;
+    'far: while first.len() - at >= 32 && are_alike(first, second, at) {
+        at += 32;
+    }
     'alike: while first.len() - at >= 8 && eight_at(first, at) == eight_at(second, at) {
         at += 8;
     }

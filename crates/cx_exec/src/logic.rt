@@ -6,7 +6,6 @@ ghost use Rattle.cx_exec.specs.Machine.{machine};
 ghost use Rattle.cx_exec.specs.Logic.{logical_code, test_code, StoresLogical};
 
 use crate::machine::{Cpu, Interruption, Updated};
-use crate::numbers::eight_at;
 use crate::operands::put_byte;
 use cx_storage::Store;
 
@@ -50,28 +49,16 @@ pub(crate) fn put_logical<S: Store>(
     put_byte(cpu, store, a, byte, cc, updated)
 }
 
-/// A number of first bytes that are zero: eight times as many as there are numbers of eight bytes that are.
-fn zero_front(bytes: &[u8]) -> usize
-    ensures { (j : ℕ) → j < result → slice_index bytes.now j ≡ 0 }
-{
-    let mut at = 0;
-    'zero: while bytes.len() - at >= 8 && eight_at(bytes, at) == 0 {
-        at += 8;
-    }
-    at
-}
-
 /// Whether the bytes, as a number, are zero.
 #[tactic(auto, using(crate::proofs::NumberLemmas::zero_is, crate::proofs::NumberLemmas::zero_is_not))]
 pub(crate) fn is_zero(bytes: &[u8]) -> bool
     ensures { result ≡ (number_of bytes.now == 0) }
 {
-    for k in zero_front(bytes)..bytes.len() {
-        if bytes[k] != 0 {
-            return false;
-        }
+    let mut highest = 0;
+    for k in 0..bytes.len() {
+        highest = highest.max(bytes[k]);
     }
-    true
+    highest == 0
 }
 
 /// The condition code of a logical result of several bytes.
