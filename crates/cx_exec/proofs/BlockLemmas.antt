@@ -110,10 +110,9 @@ copied m after n a1 a2 size old bytes updated outcome low1 low2 fits outside wid
     go (Some b) h x = x
 
 -- XC of operands of which the first isn't there
-pub not_joined : (m : Machine) (n a1 a2 size : ℕ) (updated : Updated) → size ≡ n → is_some (span m.storage a1 size) ≡ false → is_some (span m.storage a2 size) ≡ true
-    → XcEffect n a1 a2 updated m (Err interruption.Addressing) m
+pub not_joined : (m : Machine) (n a1 a2 size : ℕ) (updated : Updated) → size ≡ n → is_some (span m.storage a1 size) ≡ false → XcEffect n a1 a2 updated m (Err interruption.Addressing) m
 unfolding XcEffect Stores
-not_joined m n a1 a2 size updated width absent there =
+not_joined m n a1 a2 size updated width absent =
     let gone : is_some (span m.storage a1 (length (stored_by (xored m.storage a1 a2) n))) ≡ false = rw (stored_length (xored m.storage a1 a2) n, ← width) absent in
     go (span m.storage a2 n) (span m.storage a1 (length (stored_by (xored m.storage a1 a2) n))) gone
   where

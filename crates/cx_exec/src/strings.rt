@@ -1,7 +1,8 @@
 //! MVC and XC: two operands of one length, from left to right.
 
-ghost use Rattle.std.specs.Prelude.{◌≡◌, ◌≢◌, ℕ, ◌<◌, ◌≤◌, ◌^◌, take, true, length, slice_index, bit_xor};
+ghost use Rattle.std.specs.Prelude.{◌≡◌, ◌≢◌, ℕ, ◌<◌, ◌≤◌, ◌^◌, [], take, true, is_some, unwrap_or, length, slice_index, bit_xor};
 ghost use Rattle.cx_storage.specs.Address.{along};
+ghost use Rattle.cx_storage.specs.Storage.{span};
 ghost use Rattle.cx_exec.specs.Machine.{machine};
 ghost use Rattle.cx_exec.specs.Sequence.{stored_by};
 ghost use Rattle.cx_exec.specs.Strings.{moved, xored, MvcEffect, XcEffect};
@@ -91,6 +92,29 @@ fn join_bytes(first: &mut [u8], second: &[u8])
     }
 }
 
+/// Joins each byte with the one of storage from `a` on, by exclusive or. False, and no change, where one of those is absent.
+#[tactic(auto, using(cx_storage::specs::Facts::Spans::span_length))]
+#[inline(always)]
+fn join_stored<S: Store>(store: &S, a: u32, first: &mut [u8]) -> bool
+    requires address { a < 2 ^ 24 }
+    requires count { length first.old ≤ 256 }
+    ensures present { result ≡ is_some (span (S.storage store.now) a (length first.old)) }
+    ensures size { length first.new ≡ length first.old }
+    ensures each { result ≡ true → (k : ℕ) → k < length first.old → slice_index first.new k ≡ bit_xor (slice_index first.old k) (slice_index (unwrap_or (span (S.storage store.now) a (length first.old)) []) k) }
+{
+    if let Some(second) = store.slice(a, first.len()) {
+        join_bytes(first, second);
+        return true;
+    }
+    let mut copy = [0; 256];
+    let second = &mut copy[..first.len()];
+    if !store.read(a, second) {
+        return false;
+    }
+    join_bytes(first, second);
+    true
+}
+
 /// XC of operands of which the first doesn't begin inside the second behind its first byte.
 #[tactic(auto, using(crate::proofs::BlockLemmas::read_is_joined), unfolding(crate::specs::Strings::XcEffect))]
 fn join<S: Store>(
@@ -108,17 +132,14 @@ fn join<S: Store>(
     requires address { updated.address < 2 ^ 24 }
     ensures { XcEffect n a1 a2 updated (machine cpu.old (S.storage store.old)) result (machine cpu.new (S.storage store.new)) }
 {
-    let mut left = [0; 256];
-    let mut right = [0; 256];
-    let first = &mut left[..n as usize];
-    let second = &mut right[..n as usize];
-    if !store.read(a2, second) {
-        return Err(Interruption::Addressing);
-    }
+    let mut new = [0; 256];
+    let first = &mut new[..n as usize];
     if !store.read(a1, first) {
         return Err(Interruption::Addressing);
     }
-    join_bytes(first, second);
+    if !join_stored(store, a2, first) {
+        return Err(Interruption::Addressing);
+    }
     let cc = string_code(first);
     put_bytes(cpu, store, a1, first, cc, updated)
 }
