@@ -46,8 +46,8 @@ fn are_alike(first: &[u8], second: &[u8], at: usize) -> bool
     ensures { result ≡ true → (j : ℕ) → at ≤ j → j < at + 32 → slice_index first.now j ≡ slice_index second.now j }
 {
     let mut same = true;
-    for k in at..at + 32 {
-        same &= first[k] == second[k];
+    for k in 0..32 {
+        same &= first[at + k] == second[at + k];
     }
     same
 }
@@ -82,7 +82,7 @@ fn string_order(first: &[u8], second: &[u8]) -> u8
 }
 
 /// CLC. The operands, of `n` bytes, begin at `a1` and `a2`.
-#[tactic(auto, unfolding(crate::specs::Comparison::ComparesStrings))]
+#[tactic(auto, using(cx_storage::specs::Facts::Spans::span_length), unfolding(crate::specs::Comparison::ComparesStrings))]
 #[inline(never)]
 pub(crate) fn clc<S: Store>(
     cpu: &mut Cpu,
@@ -98,6 +98,12 @@ pub(crate) fn clc<S: Store>(
     requires address { updated.address < 2 ^ 24 }
     ensures { ComparesStrings n a1 a2 updated (machine cpu.old (S.storage store.now)) result (machine cpu.new (S.storage store.now)) }
 {
+    if let (Some(first), Some(second)) = (
+        store.slice(a1, n as usize),
+        store.slice(a2, n as usize),
+    ) {
+        return set_code(cpu, string_order(first, second), updated);
+    }
     let mut left = [0; 256];
     let mut right = [0; 256];
     let first = &mut left[..n as usize];
