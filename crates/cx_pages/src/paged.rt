@@ -61,7 +61,7 @@ impl Store for PagedStore {
         has_span_of(&self.areas, &self.pages, a, n)
     }
 
-    #[inline]
+    #[inline(always)]
     fn read(&self, a: u32, buffer: &mut [u8]) -> bool {
         read_of(&self.areas, &self.pages, a, buffer)
     }

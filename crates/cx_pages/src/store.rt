@@ -178,8 +178,27 @@ pub(crate) fn has_span_of(areas: &Vec<Area>, pages: &Vec<Page>, a: u32, n: usize
     true
 }
 
+/// Fills a buffer from a span, byte by byte.
+#[inline(never)]
+fn read_each(areas: &Vec<Area>, pages: &Vec<Page>, a: u32, buffer: &mut [u8]) -> bool
+    requires shown { IsShown areas.now.items pages.now.items }
+    requires address { a < 2 ^ 24 }
+    requires size { length buffer.old ≤ 65536 }
+    ensures present { result ≡ is_some (span (storage_of areas.now.items pages.now.items) a (length buffer.old)) }
+    ensures after { buffer.new ≡ unwrap_or (span (storage_of areas.now.items pages.now.items) a (length buffer.old)) buffer.old }
+{
+    if !has_span_of(areas, pages, a, buffer.len()) {
+        return false;
+    }
+    for k in 0..buffer.len() {
+        // Each of the bytes is there by now.
+        buffer[k] = byte_of(areas, pages, along(a, k as u32)).unwrap_or(0);
+    }
+    true
+}
+
 /// Fills a buffer from a span.
-#[inline]
+#[inline(always)]
 pub(crate) fn read_of(areas: &Vec<Area>, pages: &Vec<Page>, a: u32, buffer: &mut [u8]) -> bool
     requires shown { IsShown areas.now.items pages.now.items }
     requires address { a < 2 ^ 24 }
@@ -191,14 +210,7 @@ pub(crate) fn read_of(areas: &Vec<Area>, pages: &Vec<Page>, a: u32, buffer: &mut
         buffer.copy_from_slice(part);
         return true;
     }
-    if !has_span_of(areas, pages, a, buffer.len()) {
-        return false;
-    }
-    for k in 0..buffer.len() {
-        // Each of the bytes is there by now.
-        buffer[k] = byte_of(areas, pages, along(a, k as u32)).unwrap_or(0);
-    }
-    true
+    read_each(areas, pages, a, buffer)
 }
 
 /// Writes bytes one after the other, each of which is present.

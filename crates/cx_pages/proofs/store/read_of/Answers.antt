@@ -1,18 +1,7 @@
-use Rattle.std.proofs.Common.{◌≡◌, is_some, true, length, sym, refl, arith}
-use Rattle.cx_storage.specs.Storage.{span}
+use Rattle.std.proofs.Common.{length, sym}
 use Rattle.cx_storage.specs.Facts.Spans.{span_length}
 use Rattle.cx_pages.specs.Parts.Shown.{storage_of}
-use Rattle.cx_pages.proofs.SpanLemmas.{filled_span}
 use Rattle.cx_pages.proofs.store.read_of.Goals as goal
 
 pub copy_from_slice-requires : goal.copy_from_slice-requires
 copy_from_slice-requires c = sym (span_length (storage_of c.args.areas.now.items c.args.pages.now.items) c.args.a (length c.args.buffer.now) c.in-Some.part.now c.in-Some.ensures.bytes)
-
-pub returns-clause-after : goal.returns-clause-after
-returns-clause-after c =
-    let there : is_some (span (storage_of c.args.areas.now.items c.args.pages.now.items) c.args.a (length c.args.buffer.now)) ≡ true = cc in
-    let same : length c.loop-k.buffer ≡ length c.args.buffer.now = omega arith in
-    let there' = rw (← same) at there in
-    let whole = filled_span (storage_of c.args.areas.now.items c.args.pages.now.items) c.args.a c.loop-k.buffer c.requires.address there' (λ k h. c.loop-k.invariant k (omega arith)) in
-    let whole' = rw same at whole in
-    rw whole' refl

@@ -1,0 +1,14 @@
+use Rattle.std.proofs.Common.{◌≡◌, is_some, true, length, refl, arith}
+use Rattle.cx_storage.specs.Storage.{span}
+use Rattle.cx_pages.specs.Parts.Shown.{storage_of}
+use Rattle.cx_pages.proofs.SpanLemmas.{filled_span}
+use Rattle.cx_pages.proofs.store.read_each.Goals as goal
+
+pub returns-clause-after : goal.returns-clause-after
+returns-clause-after c =
+    let there : is_some (span (storage_of c.args.areas.now.items c.args.pages.now.items) c.args.a (length c.args.buffer.now)) ≡ true = cc in
+    let same : length c.loop-k.buffer ≡ length c.args.buffer.now = omega arith in
+    let there' = rw (← same) at there in
+    let whole = filled_span (storage_of c.args.areas.now.items c.args.pages.now.items) c.args.a c.loop-k.buffer c.requires.address there' (λ k h. c.loop-k.invariant k (omega arith)) in
+    let whole' = rw same at whole in
+    rw whole' refl
