@@ -209,7 +209,7 @@ fn si_effect<S: Store>(
 
 /// Rows of format SS with one length: both operands have `n` bytes (at most 256).
 #[tactic(auto, unfolding(crate::specs::Rows::SsEffect))]
-#[inline(never)]
+#[inline(always)]
 fn ss_effect<S: Store>(
     cpu: &mut Cpu,
     store: &mut S,
