@@ -1,4 +1,4 @@
--- The full granules that follow one.
+-- The granules that a count goes past.
 use Rattle.std.proofs.Common.{Option, Some, None, List, ◌≡◌, ◌≢◌, ℕ, ◌+◌, ◌-◌, ◌*◌, ◌/◌, ◌%◌, ◌<◌, ◌≤◌, ◌==◌, ◌&&◌, ◌∙◌, false, refl, arith, inl, inr, length, slice_index, slice_set, slice_get, nat_lt, nat_le, min, if◌then◌else◌, lt-ltb, le-ltb}
 use Rattle.std.proofs.lemmas.Bool.{cases_lt, cases_eq, eq-eqb, ne_eqb, le-leb, lt-leb}
 use Rattle.std.proofs.lemmas.List.{get_or-set_same, get_or-set_other}
@@ -8,12 +8,11 @@ use Rattle.cx_pages.specs.Parts.Frame.{HasAll, seen}
 use Rattle.cx_pages.proofs.FrameLemmas.{has_all}
 use Rattle.cx_pages.specs.Parts.Reach.{IsFlat, Reaches, ReachesAre}
 
--- the last `done` granules are counted, and of them the first `behind` are full
+-- the last `done` granules are counted, the first of them as `behind`
 pub record CountedFrom (old new : List ℕ) (done behind : ℕ) : Type 0 where
-  pub bound : behind ≤ 239
   pub front : (g : ℕ) → g + done < 256 → slice_index new g ≡ slice_index old g
-  pub reach : (g j : ℕ) → 256 ≤ g + done → 16 + j ≤ slice_index new g → 16 ≤ slice_index new (g + j)
-  pub full : (j : ℕ) → j < behind → 16 ≤ slice_index new (256 - done + j)
+  pub reach : (g j : ℕ) → 256 ≤ g + done → 16 * (j + 1) ≤ slice_index new g → 16 ≤ slice_index new (g + j)
+  pub full : (j : ℕ) → 16 * (j + 1) ≤ behind → 16 ≤ slice_index new (256 - done + j)
   pub same : (g d : ℕ) → d < 16 → nat_lt d (slice_index new g) ≡ nat_lt d (slice_index old g)
 
 pub flat_reaches : (counts : List ℕ) → IsFlat counts → Reaches counts
@@ -27,55 +26,54 @@ known_reaches None counts flat = flat_reaches counts flat
 known_reaches (Some runs) counts reach = reach
 
 -- a granule that isn't full is counted
-pub counted_gap : (old new : List ℕ) (k behind : ℕ) → CountedFrom old new k behind → k < 256 → slice_index new (255 - k) < 16 → CountedFrom old new (k + 1) 0
+pub counted_gap : (old new : List ℕ) (k behind : ℕ) → CountedFrom old new k behind → k < 256 → slice_index new (255 - k) < 16
+    → CountedFrom old new (k + 1) (slice_index new (255 - k))
 counted_gap old new k behind told within short = record {
-  bound = omega arith;
   front = λ g low. told.front g (omega (arith, low));
   reach = λ g j high more. elim (cases_lt (g + k) 256) [
     | inr le ↦ told.reach g j le more
     | inl last ↦ let here : g ≡ 255 - k = omega (arith, last, high) in absurd (let less = rw (← here) at short in omega (arith, less, more))
   ];
-  full = λ j none. absurd (omega (arith, none));
+  full = λ j many. absurd (omega (arith, many, short));
   same = told.same;
 }
 
--- a full granule is counted with those that follow it
+-- a full granule is counted with the bytes that follow it
 pub counted_more : (old new : List ℕ) (k behind more : ℕ) → CountedFrom old new k behind → k < 256 → length new ≡ 256 → 16 ≤ slice_index new (255 - k)
-    → more ≤ behind + 1 → more ≤ 239 → CountedFrom old (slice_set new (255 - k) (16 + behind)) (k + 1) more
-counted_more old new k behind more told within whole full one bound =
-    let here : slice_index (slice_set new (255 - k) (16 + behind)) (255 - k) ≡ 16 + behind = get_or-set_same new (255 - k) (16 + behind) 0 (omega (arith, within, whole)) in
-    let there : (g : ℕ) → (g ≢ 255 - k) → slice_index (slice_set new (255 - k) (16 + behind)) g ≡ slice_index new g = λ g other. get_or-set_other new (255 - k) g (16 + behind) 0 other in
-    let behind-full : (j : ℕ) → j ≤ behind → 16 ≤ slice_index (slice_set new (255 - k) (16 + behind)) (255 - k + j) = λ j low. elim (cases_eq j 0) [
+    → more ≤ behind → CountedFrom old (slice_set new (255 - k) (16 + more)) (k + 1) (16 + more)
+counted_more old new k behind more told within whole full least =
+    let here : slice_index (slice_set new (255 - k) (16 + more)) (255 - k) ≡ 16 + more = get_or-set_same new (255 - k) (16 + more) 0 (omega (arith, within, whole)) in
+    let there : (g : ℕ) → (g ≢ 255 - k) → slice_index (slice_set new (255 - k) (16 + more)) g ≡ slice_index new g = λ g other. get_or-set_other new (255 - k) g (16 + more) 0 other in
+    let row : (j : ℕ) → 16 * (j + 1) ≤ 16 + more → 16 ≤ slice_index (slice_set new (255 - k) (16 + more)) (255 - k + j) = λ j low. elim (cases_eq j 0) [
       | inl none ↦ let same : 255 - k + j ≡ 255 - k = omega (arith, none) in rw (same, here) (omega arith)
       | inr some ↦
           let place : 255 - k + j ≡ 256 - k + (j - 1) = omega (arith, some, within) in
-          let follows = told.full (j - 1) (omega (arith, some, low)) in
+          let follows = told.full (j - 1) (omega (arith, some, low, least)) in
           rw (there (255 - k + j) (λ e. some (omega (arith, e))), place) follows
     ] in
     record {
-      bound = bound;
       front = λ g low. there g (λ e. absurd (omega (arith, low, e, within))) ∙ told.front g (omega (arith, low));
       reach = λ g j high reaches. elim (cases_eq g (255 - k)) [
-        | inl e ↦ rw e (behind-full j (let most = rw (e, here) at reaches in omega (arith, most)))
+        | inl e ↦ rw e (row j (let most = rw (e, here) at reaches in omega (arith, most)))
         | inr ne ↦
             let before = rw (there g ne) at reaches in
             let rest = told.reach g j (omega (arith, high, ne)) before in
             rw (there (g + j) (λ e. ne (omega (arith, e, high, within)))) rest
       ];
-      full = λ j low. let place : 256 - (k + 1) + j ≡ 255 - k + j = omega (arith, within) in rw place (behind-full j (omega (arith, low, one)));
+      full = λ j low. let place : 256 - (k + 1) + j ≡ 255 - k + j = omega (arith, within) in rw place (row j low);
       same = λ g d short. elim (cases_eq g (255 - k)) [
         | inl e ↦
             let before : slice_index new (255 - k) ≡ slice_index old (255 - k) = told.front (255 - k) (omega (arith, within)) in
             let old-full = rw before at full in
-            rw (e, here, lt-ltb d (16 + behind) (omega (arith, short)), lt-ltb d (slice_index old (255 - k)) (omega (arith, short, old-full))) refl
+            rw (e, here, lt-ltb d (16 + more) (omega (arith, short)), lt-ltb d (slice_index old (255 - k)) (omega (arith, short, old-full))) refl
         | inr ne ↦ rw (there g ne) (told.same g d short)
       ];
     }
 
--- the full granules that a count tells are past
+-- the granules that a count goes past are full
 pub more_full : (known : Option Runs) (counts : List ℕ) (from g : ℕ) → ReachesAre known counts → 16 ≤ slice_index counts g → from ≤ g
     → ((j : ℕ) → from ≤ j → j < g → 16 ≤ slice_index counts j)
-    → (from ≤ g + (slice_index counts g - 15)) × ((j : ℕ) → from ≤ j → j < g + (slice_index counts g - 15) → 16 ≤ slice_index counts j)
+    → (from ≤ g + slice_index counts g / 16) × ((j : ℕ) → from ≤ j → j < g + slice_index counts g / 16 → 16 ≤ slice_index counts j)
 more_full known counts from g told full low all = (
   omega (arith, low),
   λ j above below. elim (cases_lt j g) [
@@ -117,12 +115,13 @@ marked bytes zeroed counts flat g count least whole within is zero same j = elim
       | inr from ↦ rw (le-leb (g * 16) j from, le-ltb j (g * 16 + 16) (omega (arith, from, ne))) refl
     ]
 
--- bytes are present where the first granule tells that those up to the last one are full
-pub has_told : (frame : Frame) (from to : ℕ) → to ≤ length frame.bytes → from < to → 16 + ((to - 1) / 16 - from / 16) ≤ slice_index frame.counts (from / 16) → HasAll (seen frame) from to
-has_told frame from to within some told =
-    let full : (j : ℕ) → from / 16 ≤ j → j ≤ (to - 1) / 16 → 16 ≤ slice_index frame.counts j = λ j low high.
+-- bytes are present where the row from the first granule on comes to the last one, and that counts the last byte
+pub has_told : (frame : Frame) (from to : ℕ) → to ≤ length frame.bytes → from < to → (to - 1) / 16 - from / 16 ≤ slice_index frame.counts (from / 16) / 16
+    → (to - 1) % 16 < slice_index frame.counts ((to - 1) / 16) → HasAll (seen frame) from to
+has_told frame from to within some told counted =
+    has_all frame from to within some
+    (λ j low high.
     let place : from / 16 + (j - from / 16) ≡ j = omega (arith, low) in
     let follows = known_reaches frame.runs frame.counts frame.reached (from / 16) (j - from / 16) (omega (arith, told, low, high)) in
-    rw place at follows
-    in
-    has_all frame from to within some (λ j low high. full j low (omega (arith, high))) (let last = full ((to - 1) / 16) (omega (arith, some)) (omega arith) in omega (arith, last))
+    rw place at follows)
+    counted

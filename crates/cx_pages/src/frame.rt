@@ -8,9 +8,9 @@ ghost use Rattle.cx_pages.specs.Facts.Runs.{RunsAre-prop};
 ghost use Rattle.cx_pages.specs.Parts.Reach.{IsFlat, Reaches, ReachesAre};
 ghost use Rattle.cx_pages.specs.Parts.Runs.{IsRuns, RunsAre};
 
-/// The bytes of a page that was made, for each granule how many of its first bytes are present, and the runs
-/// of free granules, where they were looked for since a granule changed. From then on the count of a full granule, 16,
-/// is greater by the number of full ones that follow it (at most 239).
+/// The bytes of a page that was made, for each granule how many bytes from its first one on are present in a row, and the
+/// runs of free granules, where they were looked for since a granule changed. Until then at most 16 bytes are
+/// counted, those of the granule itself; from then on also those of the next ones, at most 255 in all.
 #[derive(Drop)]
 pub struct Frame {
     bytes: [u8; 4096],
@@ -45,8 +45,8 @@ fn runs_of(counts: &[u8; 256]) -> Runs
     Runs { longest, tail: run }
 }
 
-/// Adds to the count of each full granule the number of full ones that follow it, up to 239.
-fn count_full(counts: &mut [u8; 256])
+/// Counts behind each full granule also the bytes of the next ones that are present in a row with it, at most 255 in all.
+fn count_on(counts: &mut [u8; 256])
     requires { IsFlat counts.old }
     ensures reach { Reaches counts.new }
     ensures same { (g d : ℕ) → d < 16 → nat_lt d (slice_index counts.new g) ≡ nat_lt d (slice_index counts.old g) }
@@ -55,15 +55,15 @@ fn count_full(counts: &mut [u8; 256])
     for k in 0..256 {
         let g = 255 - k;
         if counts[g] < 16 {
-            behind = 0;
+            behind = counts[g];
         } else {
-            counts[g] = 16 + behind;
-            behind = behind.min(238) + 1;
+            behind = 16 + behind.min(239);
+            counts[g] = behind;
         }
     }
 }
 
-/// Leaves the count of each full granule at 16.
+/// Counts the bytes of each granule alone.
 fn flatten(counts: &mut [u8; 256])
     ensures flat { IsFlat counts.new }
     ensures size { length counts.new ≡ 256 }
@@ -166,7 +166,7 @@ impl Frame {
             if count < 16 {
                 return false;
             }
-            g += count - 15;
+            g += count / 16;
         }
         (to - 1) % 16 < self.counts[last] as usize
     }
@@ -183,8 +183,10 @@ impl Frame {
         }
         let first = from / 16;
         let last = (to - 1) / 16;
-        // Mostly the first granule tells that those up to the last one are full.
-        if 16 + (last - first) <= self.counts[first] as usize {
+        // Mostly the row from the first granule on comes to the last one.
+        if last - first <= self.counts[first] as usize / 16
+            && (to - 1) % 16 < self.counts[last] as usize
+        {
             return true;
         }
         self.has_each(from, to)
@@ -230,7 +232,7 @@ impl Frame {
         ensures { (k : ℕ) → seen self.new k ≡ seen self.old k }
     {
         if self.runs.is_none() {
-            count_full(&mut self.counts);
+            count_on(&mut self.counts);
             self.runs = Some(runs_of(&self.counts));
         }
     }

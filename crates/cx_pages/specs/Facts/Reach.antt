@@ -1,4 +1,4 @@
--- What counts tell of full granules is a proposition.
+-- What counts tell of the granules that they go past is a proposition.
 use Rattle.std.specs.Prelude.{ℕ, List, Option, Some, None}
 use Rattle.std.specs.Coded.{Π_prop, le_prop}
 use Rattle.cx_pages.specs.declared.frame.Runs.{Runs}

@@ -1,5 +1,5 @@
 use Rattle.cx_pages.proofs.ReachLemmas.{CountedFrom}
-use Rattle.cx_pages.proofs.frame.count_full.Given as goal
+use Rattle.cx_pages.proofs.frame.count_on.Given as goal
 
 -- the granules from the last one counted on
 abbrev pub invariant-loop-k : goal.invariant-loop-k

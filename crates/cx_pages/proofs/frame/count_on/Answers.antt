@@ -1,7 +1,7 @@
-use Rattle.std.proofs.Common.{◌+◌, arith}
+use Rattle.std.proofs.Common.{arith}
 use Rattle.cx_pages.proofs.ReachLemmas.{counted_gap, counted_more}
-use Rattle.cx_pages.proofs.frame.count_full.Goals as goal
-use Rattle.cx_pages.proofs.frame.count_full.Goals.{then-counts-g-lt16, else-counts-g-lt16}
+use Rattle.cx_pages.proofs.frame.count_on.Goals as goal
+use Rattle.cx_pages.proofs.frame.count_on.Goals.{then-counts-g-lt16, else-counts-g-lt16}
 
 pub loop-k-preserved : goal.loop-k-preserved
 loop-k-preserved c = elim c.if-counts-g-lt16.branch [
@@ -10,5 +10,5 @@ loop-k-preserved c = elim c.if-counts-g-lt16.branch [
       let full = w.if-counts-g-lt16.false in
       let least = w.min-behind.ensures in
       rw (w.counts-is, w.behind-is)
-      (counted_more c.args.counts.now c.loop-k.counts c.loop-k.k c.loop-k.behind (w.min-behind.result + 1) c.loop-k.invariant c.loop-k-test.true (omega arith) (omega (arith, full)) (omega (arith, least)) (omega (arith, least)))
+      (counted_more c.args.counts.now c.loop-k.counts c.loop-k.k c.loop-k.behind w.min-behind.result c.loop-k.invariant c.loop-k-test.true (omega arith) (omega (arith, full)) (omega (arith, least)))
 ]
