@@ -8,11 +8,12 @@ use Rattle.cx_pages.specs.Parts.Frame.{HasAll, seen}
 use Rattle.cx_pages.proofs.FrameLemmas.{has_all}
 use Rattle.cx_pages.specs.Parts.Reach.{IsFlat, Reaches, ReachesAre}
 
--- the last `done` granules are counted, the first of them as `behind`
-pub record CountedFrom (old new : List ℕ) (done behind : ℕ) : Type 0 where
+-- the last `done` granules are counted, and from the first of them on so many bytes are present in a row
+pub record CountedFrom (old new : List ℕ) (done row : ℕ) : Type 0 where
+  pub bound : row ≤ 16 * done
   pub front : (g : ℕ) → g + done < 256 → slice_index new g ≡ slice_index old g
   pub reach : (g j : ℕ) → 256 ≤ g + done → 16 * (j + 1) ≤ slice_index new g → 16 ≤ slice_index new (g + j)
-  pub full : (j : ℕ) → 16 * (j + 1) ≤ behind → 16 ≤ slice_index new (256 - done + j)
+  pub full : (j : ℕ) → 16 * (j + 1) ≤ row → 16 ≤ slice_index new (256 - done + j)
   pub same : (g d : ℕ) → d < 16 → nat_lt d (slice_index new g) ≡ nat_lt d (slice_index old g)
 
 pub flat_reaches : (counts : List ℕ) → IsFlat counts → Reaches counts
@@ -26,9 +27,10 @@ known_reaches None counts flat = flat_reaches counts flat
 known_reaches (Some runs) counts reach = reach
 
 -- a granule that isn't full is counted
-pub counted_gap : (old new : List ℕ) (k behind : ℕ) → CountedFrom old new k behind → k < 256 → slice_index new (255 - k) < 16
+pub counted_gap : (old new : List ℕ) (k row : ℕ) → CountedFrom old new k row → k < 256 → slice_index new (255 - k) < 16
     → CountedFrom old new (k + 1) (slice_index new (255 - k))
-counted_gap old new k behind told within short = record {
+counted_gap old new k row told within short = record {
+  bound = omega (arith, short);
   front = λ g low. told.front g (omega (arith, low));
   reach = λ g j high more. elim (cases_lt (g + k) 256) [
     | inr le ↦ told.reach g j le more
@@ -38,34 +40,36 @@ counted_gap old new k behind told within short = record {
   same = told.same;
 }
 
--- a full granule is counted with the bytes that follow it
-pub counted_more : (old new : List ℕ) (k behind more : ℕ) → CountedFrom old new k behind → k < 256 → length new ≡ 256 → 16 ≤ slice_index new (255 - k)
-    → more ≤ behind → CountedFrom old (slice_set new (255 - k) (16 + more)) (k + 1) (16 + more)
-counted_more old new k behind more told within whole full least =
-    let here : slice_index (slice_set new (255 - k) (16 + more)) (255 - k) ≡ 16 + more = get_or-set_same new (255 - k) (16 + more) 0 (omega (arith, within, whole)) in
-    let there : (g : ℕ) → (g ≢ 255 - k) → slice_index (slice_set new (255 - k) (16 + more)) g ≡ slice_index new g = λ g other. get_or-set_other new (255 - k) g (16 + more) 0 other in
-    let row : (j : ℕ) → 16 * (j + 1) ≤ 16 + more → 16 ≤ slice_index (slice_set new (255 - k) (16 + more)) (255 - k + j) = λ j low. elim (cases_eq j 0) [
-      | inl none ↦ let same : 255 - k + j ≡ 255 - k = omega (arith, none) in rw (same, here) (omega arith)
+-- a full granule is counted with bytes of the row that follows it
+pub counted_more : (old new : List ℕ) (k row count : ℕ) → CountedFrom old new k row → k < 256 → length new ≡ 256 → 16 ≤ slice_index new (255 - k)
+    → 16 ≤ count → count ≤ row + 16 → CountedFrom old (slice_set new (255 - k) count) (k + 1) (row + 16)
+counted_more old new k row count told within whole full least most =
+    let here : slice_index (slice_set new (255 - k) count) (255 - k) ≡ count = get_or-set_same new (255 - k) count 0 (omega (arith, within, whole)) in
+    let there : (g : ℕ) → (g ≢ 255 - k) → slice_index (slice_set new (255 - k) count) g ≡ slice_index new g = λ g other. get_or-set_other new (255 - k) g count 0 other in
+    let follow : (j : ℕ) → 16 * (j + 1) ≤ row + 16 → 16 ≤ slice_index (slice_set new (255 - k) count) (255 - k + j) = λ j low. elim (cases_eq j 0) [
+      | inl none ↦ let same : 255 - k + j ≡ 255 - k = omega (arith, none) in rw (same, here) least
       | inr some ↦
           let place : 255 - k + j ≡ 256 - k + (j - 1) = omega (arith, some, within) in
-          let follows = told.full (j - 1) (omega (arith, some, low, least)) in
+          let follows = told.full (j - 1) (omega (arith, some, low)) in
           rw (there (255 - k + j) (λ e. some (omega (arith, e))), place) follows
     ] in
+    let bound = told.bound in
     record {
+      bound = omega (arith, bound);
       front = λ g low. there g (λ e. absurd (omega (arith, low, e, within))) ∙ told.front g (omega (arith, low));
       reach = λ g j high reaches. elim (cases_eq g (255 - k)) [
-        | inl e ↦ rw e (row j (let most = rw (e, here) at reaches in omega (arith, most)))
+        | inl e ↦ rw e (follow j (let past = rw (e, here) at reaches in omega (arith, past, most)))
         | inr ne ↦
             let before = rw (there g ne) at reaches in
             let rest = told.reach g j (omega (arith, high, ne)) before in
             rw (there (g + j) (λ e. ne (omega (arith, e, high, within)))) rest
       ];
-      full = λ j low. let place : 256 - (k + 1) + j ≡ 255 - k + j = omega (arith, within) in rw place (row j low);
+      full = λ j low. let place : 256 - (k + 1) + j ≡ 255 - k + j = omega (arith, within) in rw place (follow j low);
       same = λ g d short. elim (cases_eq g (255 - k)) [
         | inl e ↦
             let before : slice_index new (255 - k) ≡ slice_index old (255 - k) = told.front (255 - k) (omega (arith, within)) in
             let old-full = rw before at full in
-            rw (e, here, lt-ltb d (16 + more) (omega (arith, short)), lt-ltb d (slice_index old (255 - k)) (omega (arith, short, old-full))) refl
+            rw (e, here, lt-ltb d count (omega (arith, short, least)), lt-ltb d (slice_index old (255 - k)) (omega (arith, short, old-full))) refl
         | inr ne ↦ rw (there g ne) (told.same g d short)
       ];
     }

@@ -51,14 +51,14 @@ fn count_on(counts: &mut [u8; 256])
     ensures reach { Reaches counts.new }
     ensures same { (g d : ℕ) → d < 16 → nat_lt d (slice_index counts.new g) ≡ nat_lt d (slice_index counts.old g) }
 {
-    let mut behind: u8 = 0;
+    let mut row: u16 = 0;
     for k in 0..256 {
         let g = 255 - k;
         if counts[g] < 16 {
-            behind = counts[g];
+            row = counts[g] as u16;
         } else {
-            behind = 16 + behind.min(239);
-            counts[g] = behind;
+            row += 16;
+            counts[g] = row.min(255) as u8;
         }
     }
 }

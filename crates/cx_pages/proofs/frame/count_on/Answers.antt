@@ -5,10 +5,10 @@ use Rattle.cx_pages.proofs.frame.count_on.Goals.{then-counts-g-lt16, else-counts
 
 pub loop-k-preserved : goal.loop-k-preserved
 loop-k-preserved c = elim c.if-counts-g-lt16.branch [
-  | then-counts-g-lt16 w ↦ rw (w.counts-is, w.behind-is) (counted_gap c.args.counts.now c.loop-k.counts c.loop-k.k c.loop-k.behind c.loop-k.invariant c.loop-k-test.true w.if-counts-g-lt16.true)
+  | then-counts-g-lt16 w ↦ rw (w.counts-is, w.row-is) (counted_gap c.args.counts.now c.loop-k.counts c.loop-k.k c.loop-k.row c.loop-k.invariant c.loop-k-test.true w.if-counts-g-lt16.true)
   | else-counts-g-lt16 w ↦
       let full = w.if-counts-g-lt16.false in
-      let least = w.min-behind.ensures in
-      rw (w.counts-is, w.behind-is)
-      (counted_more c.args.counts.now c.loop-k.counts c.loop-k.k c.loop-k.behind w.min-behind.result c.loop-k.invariant c.loop-k-test.true (omega arith) (omega (arith, full)) (omega (arith, least)))
+      let least = w.min.ensures in
+      rw (w.counts-is, w.row-is)
+      (counted_more c.args.counts.now c.loop-k.counts c.loop-k.k c.loop-k.row w.min.result c.loop-k.invariant c.loop-k-test.true (omega arith) (omega (arith, full)) (omega (arith, least)) (omega (arith, least)))
 ]
