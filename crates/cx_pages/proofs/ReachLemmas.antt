@@ -1,11 +1,12 @@
 -- The granules that a count goes past.
-use Rattle.std.proofs.Common.{Option, Some, None, List, ◌≡◌, ◌≢◌, ℕ, ◌+◌, ◌-◌, ◌*◌, ◌/◌, ◌%◌, ◌<◌, ◌≤◌, ◌==◌, ◌&&◌, ◌∙◌, false, refl, arith, inl, inr, length, slice_index, slice_set, slice_get, nat_lt, nat_le, min, if◌then◌else◌, lt-ltb, le-ltb}
+use Rattle.std.proofs.Common.{Option, Some, None, List, ◌≡◌, ◌≢◌, ℕ, ◌+◌, ◌-◌, ◌*◌, ◌/◌, ◌%◌, ◌<◌, ◌≤◌, ◌==◌, ◌&&◌, ◌∙◌, false, refl, arith, inl, inr, length, slice_index, slice_set, slice_get, nat_lt, nat_le, max, min, if◌then◌else◌, lt-ltb, le-ltb}
 use Rattle.std.proofs.lemmas.Bool.{cases_lt, cases_eq, eq-eqb, ne_eqb, le-leb, lt-leb}
 use Rattle.std.proofs.lemmas.List.{get_or-set_same, get_or-set_other}
 use Rattle.cx_pages.specs.declared.frame.Frame.{Frame}
 use Rattle.cx_pages.specs.declared.frame.Runs.{Runs}
 use Rattle.cx_pages.specs.Parts.Frame.{HasAll, seen}
-use Rattle.cx_pages.proofs.FrameLemmas.{has_all}
+use Rattle.cx_pages.specs.Parts.Runs.{IsRunsTo}
+use Rattle.cx_pages.proofs.FrameLemmas.{has_all, runs_free, runs_taken}
 use Rattle.cx_pages.specs.Parts.Reach.{IsFlat, Reaches, ReachesAre}
 
 -- the last `done` granules are counted, and from the first of them on so many bytes are present in a row
@@ -73,6 +74,41 @@ counted_more old new k row count told within whole full least most =
         | inr ne ↦ rw (there g ne) (told.same g d short)
       ];
     }
+
+-- a granule without a byte is one in both
+zero_before : (old new : List ℕ) (k row : ℕ) → CountedFrom old new k row → (g : ℕ) → slice_index new g ≡ 0 → slice_index old g ≡ 0
+zero_before old new k row told g none = elim (cases_lt 0 (slice_index old g)) [
+  | inr zero ↦ omega (arith, zero)
+  | inl some ↦ let same = rw (none, lt-ltb 0 (slice_index old g) some) at (told.same g 0 (omega arith)) in cc
+]
+
+zero_behind : (old new : List ℕ) (k row : ℕ) → CountedFrom old new k row → (g : ℕ) → slice_index old g ≡ 0 → slice_index new g ≡ 0
+zero_behind old new k row told g none = elim (cases_lt 0 (slice_index new g)) [
+  | inr zero ↦ omega (arith, zero)
+  | inl some ↦ let same = rw (none, lt-ltb 0 (slice_index new g) some) at (told.same g 0 (omega arith)) in cc
+]
+
+-- so the runs go on as the counts say that are there meanwhile
+pub free_met : (old new : List ℕ) (k row longest run more : ℕ) → CountedFrom old new k row → IsRunsTo old k longest run → slice_index new k ≡ 0
+    → more ≡ max longest (run + 1) → IsRunsTo old (k + 1) more (run + 1)
+free_met old new k row longest run more told runs none is = runs_free old k longest run more runs (zero_before old new k row told k none) is
+
+pub taken_met : (old new : List ℕ) (k row longest run more : ℕ) → CountedFrom old new k row → IsRunsTo old k longest run → (slice_index new k ≢ 0)
+    → more ≡ max longest 0 → IsRunsTo old (k + 1) more 0
+taken_met old new k row longest run more told runs some is =
+    let same : more ≡ longest = omega (arith, is) in
+    rw same (runs_taken old k longest run runs (λ none. some (zero_behind old new k row told k none)))
+
+-- and are those of the counts in the end
+pub runs_stay : (old new : List ℕ) (k row m longest run : ℕ) → CountedFrom old new k row → IsRunsTo old m longest run → IsRunsTo new m longest run
+runs_stay old new k row m longest run told runs = record {
+  bound = λ c n within all. runs.bound c n within (λ j low high. zero_before old new k row told j (all j low high));
+  order = runs.order;
+  within = runs.within;
+  short = runs.short;
+  free = λ j low high. zero_behind old new k row told j (runs.free j low high);
+  most = λ c within all. runs.most c within (λ j low high. zero_before old new k row told j (all j low high));
+}
 
 -- the granules that a count goes past are full
 pub more_full : (known : Option Runs) (counts : List ℕ) (from g : ℕ) → ReachesAre known counts → 16 ≤ slice_index counts g → from ≤ g

@@ -28,31 +28,20 @@ pub struct Runs {
     pub tail: u16,
 }
 
-/// The runs of the granules that are counted as zero.
-fn runs_of(counts: &[u8; 256]) -> Runs
-    ensures { IsRuns counts.now result.longest result.tail }
-{
-    let mut longest: u16 = 0;
-    let mut run: u16 = 0;
-    for g in 0..256 {
-        if counts[g] == 0 {
-            run += 1;
-            longest = longest.max(run);
-        } else {
-            run = 0;
-        }
-    }
-    Runs { longest, tail: run }
-}
-
-/// Counts behind each full granule also the bytes of the next ones that are present in a row with it, at most 255 in all.
-fn count_on(counts: &mut [u8; 256])
+/// The runs of the granules that are counted as zero. Behind each full granule also the bytes of the next ones that are
+/// present in a row with it are counted from then on, at most 255 in all.
+fn summed(counts: &mut [u8; 256]) -> Runs
     requires { IsFlat counts.old }
+    ensures runs { IsRuns counts.new result.longest result.tail }
     ensures reach { Reaches counts.new }
     ensures same { (g d : ℕ) → d < 16 → nat_lt d (slice_index counts.new g) ≡ nat_lt d (slice_index counts.old g) }
 {
+    let mut longest: u16 = 0;
+    let mut run: u16 = 0;
     let mut row: u16 = 0;
     for k in 0..256 {
+        run = if counts[k] == 0 { run + 1 } else { 0 };
+        longest = longest.max(run);
         let g = 255 - k;
         if counts[g] < 16 {
             row = counts[g] as u16;
@@ -61,6 +50,7 @@ fn count_on(counts: &mut [u8; 256])
             counts[g] = row.min(255) as u8;
         }
     }
+    Runs { longest, tail: run }
 }
 
 /// Counts the bytes of each granule alone.
@@ -232,8 +222,7 @@ impl Frame {
         ensures { (k : ℕ) → seen self.new k ≡ seen self.old k }
     {
         if self.runs.is_none() {
-            count_on(&mut self.counts);
-            self.runs = Some(runs_of(&self.counts));
+            self.runs = Some(summed(&mut self.counts));
         }
     }
 
