@@ -52,7 +52,7 @@ fn are_alike(first: &[u8], second: &[u8], at: usize) -> bool
     same
 }
 
-/// A number of first bytes in which two strings of one length are alike: those of equal numbers of eight bytes.
+/// A number of first bytes in which two strings of one length are alike: those of equal pieces of 32 bytes, then of eight.
 fn alike_front(first: &[u8], second: &[u8]) -> usize
     requires { length first.now ≡ length second.now }
     ensures { (j : ℕ) → j < result → slice_index first.now j ≡ slice_index second.now j }
