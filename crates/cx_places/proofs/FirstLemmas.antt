@@ -4,7 +4,7 @@ use Rattle.std.specs.Prelude.{is_some}
 use Rattle.std.specs.List.{AllByRecursion}
 use Rattle.cx_source.specs.declared.source.Item.{Item}
 use Rattle.cx_source.specs.declared.source.Stmt.{Stmt}
-use Rattle.cx_terms.specs.Faults.{lower, number_of}
+use Rattle.cx_terms.specs.Faults.{number_of}
 use Rattle.cx_terms.specs.Laws.FaultLaws.{IsNotBelow}
 use Rattle.cx_terms.specs.declared.faults.FaultKind.{FaultKind}
 use Rattle.cx_terms.specs.declared.faults.FaultKind.TheVariants.{UnknownOperation, UndefinedSymbol, DuplicateSymbol, NoAddressability, BadOperand, ValueOutOfRange, NotRelocatable, TooLarge}
