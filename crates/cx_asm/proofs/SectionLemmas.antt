@@ -31,7 +31,8 @@ use Rattle.cx_second.specs.Whole.{Whole, pool_of, whole_known, whole_of}
 use Rattle.cx_asm.specs.Assembly.{size_of, standing_of}
 use Rattle.cx_asm.specs.Laws.Standing.{IsWithin}
 use Rattle.cx_asm.specs.Resolving.{Standing, last_pool, nothing, pool_standing, role_standing, standing_from, statement_standing}
-use Rattle.cx_asm.proofs.WithinLemmas.{Resolves, Spelled, after_sixteen, instruction_within, items_within, pool_within, within_joined, within_later, within_nothing}
+use Rattle.cx_asm.specs.Facts.Bases.{after_sixteen}
+use Rattle.cx_asm.proofs.WithinLemmas.{Resolves, Spelled, instruction_within, items_within, pool_within, within_joined, within_later, within_nothing}
 
 -- ---- without a control section
 first_none : (line : ℕ) (fault : Option FaultKind) (first : Option LineFault) → first ≡ None → first_fault_behind line fault first ≡ None → fault ≡ None

@@ -4,3 +4,4 @@ pub mod Listing
 pub mod Assembly
 -- Statements of laws.
 pub mod Laws
+pub mod Facts

@@ -24,43 +24,16 @@ use Rattle.cx_operands.specs.Forms.{resolved}
 use Rattle.cx_second.specs.SecondFaults.{bases_after, bases_by}
 use Rattle.cx_second.specs.Statements.{Stated, operation_of}
 use Rattle.cx_second.specs.Whole.{Whole, directive_context, whole_of}
+use Rattle.cx_asm.specs.Facts.Bases.{after_sixteen}
 use Rattle.cx_command_arrival.specs.CodeInStorage.{CodeIsLoaded}
 use Rattle.cx_command_arrival.specs.InStorage.{CodeIsUnraised, IsUnraised, LinesAreLoaded, StandsAt, TextsAreMade}
 use Rattle.cx_command_arrival.specs.Standing.{AreResolved, bases_from, bases_in_use, code_lines, statements_from}
 use Rattle.cx_command_arrival.proofs.LoadedLemmas.{along_twice}
 
 -- ---- sixteen bases
-held_length : (section : List ℕ) (registers : List ℕ) (number : ℤ) (bases : Bases) → length (held section number registers bases) ≡ length bases
-held_length section [] number bases = refl
-held_length section (register ∷ registers) number bases = held_length section registers _ (slice_set bases register _) ∙ length-set bases register _
-
-ended_length : (registers : List ℕ) (bases : Bases) → length (ended registers bases) ≡ length bases
-ended_length [] bases = refl
-ended_length (register ∷ registers) bases = ended_length registers (slice_set bases register None) ∙ length-set bases register None
-
-using_sixteen : (given : Result Using FaultKind) (bases : Bases) → length bases ≡ 16 → length (bases_behind_using given bases) ≡ 16
-using_sixteen (Ok given) bases e = held_length given.section given.registers given.number bases ∙ e
-using_sixteen (Err fault) bases e = e
-
-drop_sixteen : (registers : Result (Option (List ℕ)) FaultKind) (bases : Bases) → length bases ≡ 16 → length (bases_behind_drop registers bases) ≡ 16
-drop_sixteen (Ok None) bases e = refl
-drop_sixteen (Ok (Some registers)) bases e = ended_length registers bases ∙ e
-drop_sixteen (Err fault) bases e = e
-
-behind_sixteen : (o : Operation) (c : Context) (operand : List ℕ) → length c.bases ≡ 16 → length (bases_behind o c operand) ≡ 16
-unfolding bases_behind
-behind_sixteen (operation.Directive directive.Using) c operand e = using_sixteen (using_in c operand) c.bases e
-behind_sixteen (operation.Directive directive.Drop) c operand e = drop_sixteen (drop_in c operand) c.bases e
-behind_sixteen o c operand e = e
-
-by_sixteen : (told : Whole) (bases : Bases) (s : Stated) (o : Option Operation) → length bases ≡ 16 → length (bases_by told bases s o) ≡ 16
-by_sixteen told bases s None e = e
-by_sixteen told bases s (Some o) e = behind_sixteen o (directive_context told bases s) s.stmt.operand e
-
 from_sixteen : (told : Whole) (bases : Bases) (ss : List Stated) → length bases ≡ 16 → length (bases_from told bases ss) ≡ 16
-unfolding bases_after
 from_sixteen told bases [] e = e
-from_sixteen told bases (s ∷ ss) e = from_sixteen told (bases_after told bases s) ss (by_sixteen told bases s (operation_of s) e)
+from_sixteen told bases (s ∷ ss) e = from_sixteen told (bases_after told bases s) ss (after_sixteen told bases s e)
 
 pub in_use_sixteen : (source : Source) (first : List Item) → length (bases_in_use source first) ≡ 16
 in_use_sixteen source first = from_sixteen (whole_of source) none_in_use (statements_from [] first) refl

@@ -20,3 +20,4 @@ pub mod PlaceLemmas
 pub mod LegalLemmas
 pub mod KeptLemmas
 pub mod ArrivingLemmas
+pub mod OneLemmas

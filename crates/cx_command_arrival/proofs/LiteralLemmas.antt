@@ -1,5 +1,5 @@
 -- Literals: in a pool, in the statement or the end of the section that has the pool, and among the resolved lines.
-use Rattle.std.specs.Prelude.{Result, pos, reverse, slice_get, option_and_then, unwrap_or}
+use Rattle.std.specs.Prelude.{Result, codes, pos, reverse, slice_get, option_and_then, unwrap_or}
 use Rattle.std.proofs.Math.IntN.{+ℤ_idr}
 use Rattle.std.proofs.Common.{◌≡◌, ◌⊎◌, inl, inr, ◌≤◌, ◌<◌, ℕ, ◌+◌, ◌-◌, Bool, true, false, cond, Option, Some, None, Ok, List, [], ◌∷◌, ◌++◌, length, refl, sym, ◌∙◌, ap, subst, ⊎_elim, arith}
 use Rattle.std.specs.List.{cons_option}
@@ -282,7 +282,7 @@ record IsFound (told : Whole) (s : Stated) (text : List ℕ) (value : Value) : T
   section : s.place.section ≡ Some name
   is : place_value (Some name) literal.offset (length_once (constant_in false text)) ≡ value
 
-found : (told : Whole) (s : Stated) (text : List ℕ) (value : Value) → literal_in s.stmt.operand ≡ Some (61 ∷ text) → literal_of told s ≡ Some value → IsFound told s text value
+found : (told : Whole) (s : Stated) (text : List ℕ) (value : Value) → literal_in s.stmt.operand ≡ Some (codes "=" ++ text) → literal_of told s ≡ Some value → IsFound told s text value
 found told s text value last e =
     go (lookup (bytes_eq text) (pool_of told s)) refl (subst (λ o. option_and_then (literal_place told s) (option_and_then literal_text o) ≡ Some value) last e)
   where
@@ -359,7 +359,7 @@ record IsLiteral (c : Context) (text : List ℕ) (index : ℕ) (address : Addres
   is : c.literal ≡ Some value
   none : index ≡ 0
 
-is_literal_so : (c : Context) (text : List ℕ) (index : ℕ) (address : Address) → indexed_in c (61 ∷ text) ≡ Ok (index, address) → IsLiteral c text index address
+is_literal_so : (c : Context) (text : List ℕ) (index : ℕ) (address : Address) → indexed_in c (codes "=" ++ text) ≡ Ok (index, address) → IsLiteral c text index address
 unfolding indexed_in operand_in
 is_literal_so c text index address e = go c.literal refl e
   where
@@ -369,7 +369,7 @@ is_literal_so c text index address e = go c.literal refl e
         let parts = both_ok (Ok 0) (implied_address c.bases value) index address e in
         record { value = value; is = is; none = (let same = parts.0 in cc) }
 
-literal_written : (c : Context) (text : List ℕ) → operand_in true c (61 ∷ text) ≡ Some (operand (ok_or c.literal BadOperand) [])
+literal_written : (c : Context) (text : List ℕ) → operand_in true c (codes "=" ++ text) ≡ Some (operand (ok_or c.literal BadOperand) [])
 unfolding operand_in
 literal_written c text = refl
 
@@ -377,8 +377,8 @@ is_ok : (o : Option Value) (value other : Value) → o ≡ Some value → ok_or 
 is_ok o value other is e = (let found : ◌≡◌ {A = Result Value FaultKind} (Ok value) (Ok other) = sym (ap (λ k. ok_or k BadOperand) is) ∙ e in cc)
 
 stands_so : Knows → (source : Source) (assembly : AssemblyParts) (bases : Bases) (number : ℕ) (before : List Item) (s : Stmt) (text : List ℕ) (byte : ℕ) (bytes : List ℕ) (index : ℕ) (address : Address)
-    → assembly_of source ≡ Ok assembly → HasInstruction source before number s → literal_in s.operand ≡ Some (61 ∷ text) → HasBytes (whole_of source) text (byte ∷ bytes)
-    → indexed_in (context_of (whole_of source) bases number before s) (61 ∷ text) ≡ Ok (index, address)
+    → assembly_of source ≡ Ok assembly → HasInstruction source before number s → literal_in s.operand ≡ Some (codes "=" ++ text) → HasBytes (whole_of source) text (byte ∷ bytes)
+    → indexed_in (context_of (whole_of source) bases number before s) (codes "=" ++ text) ≡ Ok (index, address)
     → StandsInSection source assembly (context_of (whole_of source) bases number before s) (byte ∷ bytes) index address
 unfolding section_of
 stands_so knows source assembly bases number before s text byte bytes index address e has last is resolves =
@@ -410,14 +410,14 @@ stands_so knows source assembly bases number before s text byte bytes index addr
       section = f.name;
       control = sym (in_control known.section told.control there) ∙ f.section;
       offset = f.literal.offset;
-      lies = lies_at knows.addresses c (61 ∷ text) f.name (pos f.literal.offset) 0 address (ok_or c.literal BadOperand) (literal_written c text)
+      lies = lies_at knows.addresses c (codes "=" ++ text) f.name (pos f.literal.offset) 0 address (ok_or c.literal BadOperand) (literal_written c text)
           (λ value worth.
           let same : place_value (Some f.name) f.literal.offset (length_once (constant_in false text)) ≡ value = f.is ∙ is_ok c.literal literal.value value literal.is worth in
           record {
             section = ap (λ v. v.section) (sym same);
             number = ap (λ v. v.number) (sym same) ∙ ap pos (capped_same f.literal.offset small) ∙ sym (+ℤ_idr (pos f.literal.offset));
           })
-          (subst (λ k. indexed_in c (61 ∷ text) ≡ Ok (k, address)) literal.none resolves);
+          (subst (λ k. indexed_in c (codes "=" ++ text) ≡ Ok (k, address)) literal.none resolves);
       front = own.front;
       back = own.back;
       stands = resolved;

@@ -60,6 +60,11 @@ pub record IsStatement (told : Whole) (bases : Bases) (line : ℕ) (before : Lis
   pub list : ResolvesTo told bases line (behind_mark line before command words) list_of_1 (codes "DFHEIPL") 0 s.list.base s.list.displacement
   pub entry : ResolvesTo told bases line (behind_list line before command words) entry_in_15 (codes "=V(DFHEI1)") 0 s.entry.base s.entry.displacement
 
+-- There is one such statement.
+abbrev pub StatementsDecide : Type 0
+StatementsDecide = (told : Whole) (bases : Bases) (line : ℕ) (before : List Item) (command : Command) (words : List Word) (s t : Statement)
+    → IsStatement told bases line before command words s → IsStatement told bases line before command words t → s ≡ t
+
 -- Instructions that are made of such a statement.
 pub record AreMade (told : Whole) (bases : Bases) (line : ℕ) (before : List Item) (command : Command) (words : List Word) (code : List Instruction) : Type 0 where
   pub statement : Statement

@@ -1,6 +1,6 @@
 -- Where the literals of instructions stand in an assembly (OS/VS-DOS/VSE-VM/370 Assembler Language, GC33-4010, "Literals",
 -- "Literal Pool"; that they are resolved lines is this project's own).
-use Rattle.std.specs.Prelude.{◌≡◌, ℕ, pos, ◌<◌, true, false, Ok, Option, Some, List, ◌∷◌, ◌++◌, length, reverse}
+use Rattle.std.specs.Prelude.{◌≡◌, ℕ, pos, ◌<◌, true, false, Ok, Option, Some, List, ◌∷◌, ◌++◌, length, reverse, codes}
 use Rattle.cx_code.specs.declared.disassembly.Line.{Line}
 use Rattle.cx_code.specs.declared.disassembly.What.TheVariants.{Data}
 use Rattle.cx_source.specs.declared.source.Item.{Item}
@@ -58,6 +58,6 @@ pub record StandsInSection (source : Source) (assembly : AssemblyParts) (c : Con
 abbrev pub LiteralsStand : Type 0
 LiteralsStand = (source : Source) (assembly : AssemblyParts) (bases : Bases) (number : ℕ) (before : List Item) (s : Stmt)
     (text bytes : List ℕ) (index : ℕ) (address : Address) → assembly_of source ≡ Ok assembly → HasInstruction source before number s
-    → literal_in s.operand ≡ Some (61 ∷ text) → HasBytes (whole_of source) text bytes → 0 < length bytes
-    → indexed_in (context_of (whole_of source) bases number before s) (61 ∷ text) ≡ Ok (index, address)
+    → literal_in s.operand ≡ Some (codes "=" ++ text) → HasBytes (whole_of source) text bytes → 0 < length bytes
+    → indexed_in (context_of (whole_of source) bases number before s) (codes "=" ++ text) ≡ Ok (index, address)
     → StandsInSection source assembly (context_of (whole_of source) bases number before s) bytes index address

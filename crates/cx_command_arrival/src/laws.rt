@@ -5,7 +5,7 @@ ghost use Rattle.cx_command_arrival.specs.Block.{EibIsLaidOut};
 ghost use Rattle.cx_command_arrival.specs.Called.{CallsAreInstructions, CallsStand};
 ghost use Rattle.cx_command_arrival.specs.Calls.{MarkIsResolved};
 ghost use Rattle.cx_command_arrival.specs.CodeInStorage.{CodeIsLoaded};
-ghost use Rattle.cx_command_arrival.specs.Commands.{CallsAreMade};
+ghost use Rattle.cx_command_arrival.specs.Commands.{CallsAreMade, StatementsDecide};
 ghost use Rattle.cx_command_arrival.specs.Handed.{BlockStands, EntryStands, LiteralsAreLoaded};
 ghost use Rattle.cx_command_arrival.specs.InStorage.{CodeIsUnraised, LinesAreLoaded, TextsAreMade};
 ghost use Rattle.cx_command_arrival.specs.Literals.{LiteralsStand};
@@ -106,8 +106,8 @@ pub fn literals_stand()
     cx_asm::laws::an_assembly_stands_apart();
 }
 
-/// So do the block of an EXEC statement, where the operand that loads its address says, and the word 00000800 with the
-/// entry's address; and loaded they stand in storage.
+/// The block of an EXEC statement stands in the control section where the operand that loads its address says, and so does the
+/// word 00000800 with the entry's address; and what stands so stands in storage when the program is loaded.
 pub fn what_a_call_needs_stands()
     ensures block { BlockStands }
     ensures entry { EntryStands }
@@ -124,8 +124,8 @@ pub fn calls_are_instructions()
     ensures { CallsAreInstructions }
 {}
 
-/// In an accepted translation they are resolved lines one right behind the other, and the EXEC statement's name stands for the
-/// place of the first of them.
+/// In an accepted translation the statements made to call a command are resolved lines one right behind the other, and the EXEC
+/// statement's name stands for the place of the first of them.
 pub fn calls_stand()
     ensures { CallsStand }
 {}
@@ -151,11 +151,18 @@ pub fn calls_are_made()
     the_mark_is_resolved();
 }
 
-/// Each EXEC statement of an accepted translation arrives as its command: where the program is loaded, a machine whose next
-/// address is that of the statement's first instruction, whose storage still holds the instructions and the two literals as
-/// loaded, and whose base registers around the arguments hold their bases, comes to the entry with the argument list that is
-/// read as the command, the option bytes and the conditions that the translator has put into the block, and with the addresses
-/// that the arguments' own expressions had at the first instruction.
+/// There is one such statement: the lines before its made statements, its command and its words determine it.
+#[tactic(auto, using(crate::proofs::OneLemmas::statements_decide))]
+pub fn a_statement_is_one()
+    ensures { StatementsDecide }
+{}
+
+/// Each EXEC statement of an accepted translation arrives as its command, where the program is loaded and a machine is ready: its
+/// next address is that of the statement's first instruction; storage still holds the instructions, the block and the
+/// entry's word as loaded; DFHEIPL is in storage, apart from them; and the base registers around the arguments hold their
+/// USINGs' bases, none of them is 0, and the entry's isn't 1. It comes to the entry with the argument list that is read as the
+/// command, the option bytes and the conditions that the translator has put into the block, and with the addresses that
+/// the arguments' own expressions had at the first instruction.
 pub fn commands_arrive()
     ensures { CommandsArrive }
 {

@@ -1,7 +1,8 @@
 -- Bytes that are stored one after the other: one more, and each of them.
 use Rattle.std.proofs.Common.{◌≡◌, ℕ, zero, suc, ◌+◌, ◌<◌, List, [], ◌∷◌, ◌++◌, length, take, slice_index, slice_set, refl, sym, ◌∙◌, ap, inl, inr, add-one, arith}
+use Rattle.std.proofs.Math.Seq.{get_or-append_seam}
 use Rattle.std.proofs.lemmas.Bool.{cases_lt}
-use Rattle.std.proofs.lemmas.List.{length-append, take-append-le, take_at, take_more_set}
+use Rattle.std.proofs.lemmas.List.{length-append, take-append-le, take_at, take_more_set, get_or_append_left}
 use Rattle.cx_exec.specs.Sequence.{stored_by}
 
 pub stored_none : (rule : List ℕ → ℕ → ℕ) → stored_by rule 0 ≡ []
@@ -17,15 +18,6 @@ unfolding stored_by
 stored_length rule zero = refl
 stored_length rule (suc n) = omega (arith, length-append (stored_by rule n) (rule (stored_by rule n) n ∷ []), stored_length rule n)
 
-last_of : (front : List ℕ) (x : ℕ) → slice_index (front ++ x ∷ []) (length front) ≡ x
-last_of [] x = refl
-last_of (y ∷ front) x = last_of front x
-
-earlier : (front back : List ℕ) (k : ℕ) → k < length front → slice_index (front ++ back) k ≡ slice_index front k
-earlier [] back k h = absurd (omega arith)
-earlier (y ∷ front) back zero h = refl
-earlier (y ∷ front) back (suc k) h = earlier front back k (omega arith)
-
 each_stored : (rule : List ℕ → ℕ → ℕ) (n k : ℕ) → k < n → slice_index (stored_by rule n) k ≡ rule (take k (stored_by rule n)) k
 unfolding stored_by
 each_stored rule zero k h = absurd (omega arith)
@@ -35,11 +27,11 @@ each_stored rule (suc n) k h =
     let long : length front ≡ n = stored_length rule n in
     elim (cases_lt k n) [
       | inl lt ↦
-          earlier front back k (omega (arith, long, lt)) ∙ each_stored rule n k lt
+          get_or_append_left front back 0 k (omega (arith, long, lt)) ∙ each_stored rule n k lt
           ∙ ap (λ (x : List ℕ). rule x k) (sym (take-append-le k front back (omega (arith, long, lt))))
       | inr ge ↦
           let same : n ≡ k = omega (arith, h, ge) in
-          let here : slice_index (front ++ back) n ≡ rule front n = rw long at (last_of front (rule front n)) in
+          let here : slice_index (front ++ back) n ≡ rule front n = rw long at (get_or-append_seam front (rule front n) [] 0) in
           let whole : take n (front ++ back) ≡ front = take_at front back n long in
           rw (← same, here, whole) refl
     ]

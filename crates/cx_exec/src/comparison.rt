@@ -43,7 +43,8 @@ pub(crate) fn byte_order(first: u8, second: u8) -> u8
 fn are_alike(first: &[u8], second: &[u8], at: usize) -> bool
     requires long { at + 32 ≤ length first.now }
     requires size { length first.now ≡ length second.now }
-    ensures { result ≡ true → (j : ℕ) → at ≤ j → j < at + 32 → slice_index first.now j ≡ slice_index second.now j }
+    ensures alike { result ≡ true → (j : ℕ) → at ≤ j → j < at + 32 → slice_index first.now j ≡ slice_index second.now j }
+    ensures gap { ((j : ℕ) → at ≤ j → j < at + 32 → slice_index first.now j ≡ slice_index second.now j) → result ≡ true }
 {
     let mut same = true;
     for k in 0..32 {

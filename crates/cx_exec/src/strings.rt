@@ -1,6 +1,6 @@
 //! MVC and XC: two operands of one length, from left to right.
 
-ghost use Rattle.std.specs.Prelude.{◌≡◌, ◌≢◌, ℕ, ◌<◌, ◌≤◌, ◌^◌, [], take, true, is_some, unwrap_or, length, slice_index, bit_xor};
+ghost use Rattle.std.specs.Prelude.{◌≡◌, ◌≢◌, ℕ, ◌<◌, ◌≤◌, ◌^◌, [], take, true, false, is_some, unwrap_or, length, slice_index, bit_xor};
 ghost use Rattle.cx_storage.specs.Address.{along};
 ghost use Rattle.cx_storage.specs.Storage.{span};
 ghost use Rattle.cx_exec.specs.Machine.{machine};
@@ -100,6 +100,7 @@ fn join_stored<S: Store>(store: &S, a: u32, first: &mut [u8]) -> bool
     requires count { length first.old ≤ 256 }
     ensures present { result ≡ is_some (span (S.storage store.now) a (length first.old)) }
     ensures size { length first.new ≡ length first.old }
+    ensures err { result ≡ false → first.new ≡ first.old }
     ensures each { result ≡ true → (k : ℕ) → k < length first.old → slice_index first.new k ≡ bit_xor (slice_index first.old k) (slice_index (unwrap_or (span (S.storage store.now) a (length first.old)) []) k) }
 {
     if let Some(second) = store.slice(a, first.len()) {

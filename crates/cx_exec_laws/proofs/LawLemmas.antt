@@ -3,10 +3,11 @@ use Rattle.std.proofs.Common.{◌≡◌, ◌≢◌, ℕ, zero, suc, ◌+◌, ◌
 use Rattle.std.specs.Option.{option_and_then, option_map}
 use Rattle.std.specs.Int.{w32, w64, int_wrap, int_rem_euclid}
 use lib.Signed.{shr_z}
+use Rattle.std.proofs.Math.Seq.{get_or-append_seam}
 use Rattle.std.proofs.lemmas.Bool.{cases_Bool, cases_lt}
 use Rattle.std.proofs.lemmas.Int.{ints, of_z-to_z, to_z-of_z, int_wrap_fits, fits_signed_mul}
 use Rattle.std.proofs.lemmas.Nat.{pow_pos, le-div, div_below, div-add-mod', mod_below}
-use Rattle.std.proofs.lemmas.List.{get_or-set_same, get_or-set_other, length-set, length-append, length-drop, drop-append-le, take-append-le, drop_at}
+use Rattle.std.proofs.lemmas.List.{get_or-set_same, get_or-set_other, length-set, length-append, length-drop, drop-append-le, take-append-le, drop_at, get_or_append_left}
 use Rattle.std.proofs.lemmas.List.FromFn.{get_or-map-range_with_len}
 use Rattle.std.specs.List.{range_with_len}
 use Rattle.cx_storage.specs.Storage.{Storage}
@@ -135,15 +136,6 @@ stored_words regs first (suc n) k h =
           ∙ ap (λ (j : ℕ). big_bytes 4 (slice_index regs ((first + j) % 16))) same
     ]
 
-last_of : (front : List ℕ) (x : ℕ) → slice_index (front ++ x ∷ []) (length front) ≡ x
-last_of [] x = refl
-last_of (y ∷ front) x = last_of front x
-
-earlier : (front back : List ℕ) (k : ℕ) → k < length front → slice_index (front ++ back) k ≡ slice_index front k
-earlier [] back k h = absurd (omega arith)
-earlier (y ∷ front) back zero h = refl
-earlier (y ∷ front) back (suc k) h = earlier front back k (omega arith)
-
 words_each : (s : Storage) (a n : ℕ) (words : List ℕ) → words_at s a n ≡ Some words
     → (length words ≡ n) × ((k : ℕ) → k < n → word_at s (along a (4 * k)) ≡ Some (slice_index words k))
 unfolding words_at
@@ -163,10 +155,10 @@ words_each s a (suc n) words e = go (words_at s a n) (λ front f. words_each s a
         let long : length front ≡ n = before.0 in (
           sym (ap length shape) ∙ length-append front (word ∷ []) ∙ omega (arith, long),
           λ k l. rw (← shape) (elim (cases_lt k n) [
-            | inl lt ↦ before.1 k lt ∙ ap Some (sym (earlier front (word ∷ []) k (omega (arith, long, lt))))
+            | inl lt ↦ before.1 k lt ∙ ap Some (sym (get_or_append_left front (word ∷ []) 0 k (omega (arith, long, lt))))
             | inr ge ↦
                 let same : k ≡ n = omega (arith, l, ge) in
-                let here : slice_index (front ++ word ∷ []) n ≡ word = rw long at (last_of front word) in
+                let here : slice_index (front ++ word ∷ []) n ≡ word = rw long at (get_or-append_seam front word [] 0) in
                 rw same (f ∙ ap Some (sym here))
           ]),
         )

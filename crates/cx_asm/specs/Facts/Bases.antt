@@ -1,0 +1,45 @@
+-- There are sixteen bases behind every statement where there were sixteen before it.
+use Rattle.std.specs.Prelude.{Result, Ok, Err, ℤ, slice_set}
+use Rattle.std.proofs.Common.{◌≡◌, ℕ, Option, Some, None, List, [], ◌∷◌, length, refl, ◌∙◌}
+use Rattle.std.proofs.lemmas.List.{length-set}
+use Rattle.cx_terms.specs.declared.faults.FaultKind.{FaultKind}
+use Rattle.cx_operands.specs.Bases.{Bases, Using, ended, held}
+use Rattle.cx_operands.specs.Context.{Context}
+use Rattle.cx_operands.specs.Directives.{bases_behind, bases_behind_drop, bases_behind_using, drop_in, using_in}
+use Rattle.cx_operations.specs.declared.operations.Directive.TheVariants as directive
+use Rattle.cx_operations.specs.declared.operations.Operation.{Operation}
+use Rattle.cx_operations.specs.declared.operations.Operation.TheVariants as operation
+use Rattle.cx_second.specs.SecondFaults.{bases_after, bases_by}
+use Rattle.cx_second.specs.Statements.{Stated, operation_of}
+use Rattle.cx_second.specs.Whole.{Whole, directive_context}
+
+held_length : (section : List ℕ) (registers : List ℕ) (number : ℤ) (bases : Bases) → length (held section number registers bases) ≡ length bases
+held_length section [] number bases = refl
+held_length section (register ∷ registers) number bases = held_length section registers _ (slice_set bases register _) ∙ length-set bases register _
+
+ended_length : (registers : List ℕ) (bases : Bases) → length (ended registers bases) ≡ length bases
+ended_length [] bases = refl
+ended_length (register ∷ registers) bases = ended_length registers (slice_set bases register None) ∙ length-set bases register None
+
+using_sixteen : (given : Result Using FaultKind) (bases : Bases) → length bases ≡ 16 → length (bases_behind_using given bases) ≡ 16
+using_sixteen (Ok given) bases e = held_length given.section given.registers given.number bases ∙ e
+using_sixteen (Err fault) bases e = e
+
+drop_sixteen : (registers : Result (Option (List ℕ)) FaultKind) (bases : Bases) → length bases ≡ 16 → length (bases_behind_drop registers bases) ≡ 16
+drop_sixteen (Ok None) bases e = refl
+drop_sixteen (Ok (Some registers)) bases e = ended_length registers bases ∙ e
+drop_sixteen (Err fault) bases e = e
+
+behind_sixteen : (o : Operation) (c : Context) (operand : List ℕ) → length c.bases ≡ 16 → length (bases_behind o c operand) ≡ 16
+unfolding bases_behind
+behind_sixteen (operation.Directive directive.Using) c operand e = using_sixteen (using_in c operand) c.bases e
+behind_sixteen (operation.Directive directive.Drop) c operand e = drop_sixteen (drop_in c operand) c.bases e
+behind_sixteen o c operand e = e
+
+by_sixteen : (told : Whole) (bases : Bases) (s : Stated) (o : Option Operation) → length bases ≡ 16 → length (bases_by told bases s o) ≡ 16
+by_sixteen told bases s None e = e
+by_sixteen told bases s (Some o) e = behind_sixteen o (directive_context told bases s) s.stmt.operand e
+
+pub after_sixteen : (told : Whole) (bases : Bases) (s : Stated) → length bases ≡ 16 → length (bases_after told bases s) ≡ 16
+unfolding bases_after
+after_sixteen told bases s e = by_sixteen told bases s (operation_of s) e
