@@ -1,5 +1,5 @@
 -- MVC and XC of operands of which the first doesn't begin inside the second behind its first byte.
-use Rattle.std.proofs.Common.{◌≡◌, ◌≢◌, ℕ, ◌-◌, ◌^◌, ◌<◌, ◌≤◌, true, false, Some, List, is_some, None, Option, Err, rules, length, take, slice_index, bit_xor, refl, sym, ◌∙◌, inl, inr, arith, unwrap_or}
+use Rattle.std.proofs.Common.{◌≡◌, ◌≢◌, ℕ, ◌-◌, ◌^◌, ◌<◌, ◌≤◌, ◌&&◌, true, false, Some, List, is_some, None, Option, Err, rules, length, take, slice_index, bit_xor, refl, sym, ◌∙◌, inl, inr, arith, unwrap_or}
 use Rattle.std.proofs.lemmas.Bool.{cases_lt, le-ltb}
 use Rattle.std.proofs.lemmas.Grind.{same_number_lists}
 use Rattle.std.proofs.lemmas.List.{length-take-le}
@@ -73,23 +73,34 @@ read_is_moved s a1 a2 n old low1 low2 fits outside there = go (span s a2 n) refl
     go None e h = cc
     go (Some second) e h = sym (outside_is_moved s a1 a2 n second low1 low2 fits outside e)
 
--- and what buffers that were filled from both operands are when they are joined
-pub read_is_joined : (s : Storage) (a1 a2 n : ℕ) (old1 old2 new : List ℕ) → a1 < 2 ^ 24 → a2 < 2 ^ 24 → n ≤ 2 ^ 24 → Outside n a1 a2
-    → is_some (span s a1 n) ≡ true → is_some (span s a2 n) ≡ true → length new ≡ n
-    → ((k : ℕ) → k < n → slice_index new k ≡ bit_xor (slice_index (unwrap_or (span s a1 n) old1) k) (slice_index (unwrap_or (span s a2 n) old2) k))
+-- and what strings that both operands are come to when they are joined
+pub spans_are_joined : (s : Storage) (a1 a2 n : ℕ) (first second new : List ℕ) → a1 < 2 ^ 24 → a2 < 2 ^ 24 → n ≤ 2 ^ 24 → Outside n a1 a2
+    → span s a1 n ≡ Some first → span s a2 n ≡ Some second → length new ≡ n
+    → ((k : ℕ) → k < n → slice_index new k ≡ bit_xor (slice_index first k) (slice_index second k))
     → new ≡ stored_by (xored s a1 a2) n
-read_is_joined s a1 a2 n old1 old2 new low1 low2 fits outside there1 there2 long each = go (span s a1 n) (span s a2 n) refl refl there1 there2 each
+spans_are_joined s a1 a2 n first second new low1 low2 fits outside e f long each =
+    same_number_lists new (stored_by (xored s a1 a2) n) (long ∙ sym (stored_length (xored s a1 a2) n))
+    (λ k l.
+    let within : k < n = omega (arith, l, long) in
+    each k within ∙ sym (outside_is_joined s a1 a2 n k first second low1 low2 fits outside e f within))
+
+-- so do buffers that were filled from them
+pub read_is_joined : (s : Storage) (a1 a2 n size1 size2 : ℕ) (old1 old2 first second new : List ℕ)
+    → first ≡ unwrap_or (span s a1 size1) old1 → second ≡ unwrap_or (span s a2 size2) old2 → size1 ≡ n → size2 ≡ n
+    → is_some (span s a1 size1) ≡ true → is_some (span s a2 size2) ≡ true
+    → a1 < 2 ^ 24 → a2 < 2 ^ 24 → n ≤ 2 ^ 24 → Outside n a1 a2 → length first ≡ n → length new ≡ n
+    → ((k : ℕ) → k < length first → slice_index new k ≡ bit_xor (slice_index first k) (slice_index second k))
+    → new ≡ stored_by (xored s a1 a2) n
+read_is_joined s a1 a2 n size1 size2 old1 old2 first second new full1 full2 width1 width2 there1 there2 low1 low2 fits outside wide long each =
+    go (span s a1 n) (span s a2 n) refl refl (rw width1 at there1) (rw width2 at there2) (rw width1 at full1) (rw width2 at full2)
   where
     go : (o p : Option (List ℕ)) → span s a1 n ≡ o → span s a2 n ≡ p → is_some o ≡ true → is_some p ≡ true
-        → ((k : ℕ) → k < n → slice_index new k ≡ bit_xor (slice_index (unwrap_or o old1) k) (slice_index (unwrap_or p old2) k))
-        → new ≡ stored_by (xored s a1 a2) n
-    go None p e f h i each = cc
-    go (Some first) None e f h i each = cc
-    go (Some first) (Some second) e f h i each =
-        same_number_lists new (stored_by (xored s a1 a2) n) (long ∙ sym (stored_length (xored s a1 a2) n))
-        (λ k l.
-        let within : k < n = omega (arith, l, long) in
-        each k within ∙ sym (outside_is_joined s a1 a2 n k first second low1 low2 fits outside e f within))
+        → first ≡ unwrap_or o old1 → second ≡ unwrap_or p old2 → new ≡ stored_by (xored s a1 a2) n
+    go None p e f h i g1 g2 = cc
+    go (Some b) None e f h i g1 g2 = cc
+    go (Some b) (Some d) e f h i g1 g2 =
+        spans_are_joined s a1 a2 n b d new low1 low2 fits outside e f long
+        (λ k within. let bytes = each k (omega (arith, within, wide)) in rw (g1, g2) at bytes)
 
 -- MVC of such operands stores what a buffer was filled with from the second
 pub copied : (m after : Machine) (n a1 a2 size : ℕ) (old bytes : List ℕ) (updated : Updated) (outcome : Outcome)
@@ -109,14 +120,16 @@ copied m after n a1 a2 size old bytes updated outcome low1 low2 fits outside wid
     go None h x = cc
     go (Some b) h x = x
 
--- XC of operands of which the first isn't there
-pub not_joined : (m : Machine) (n a1 a2 size : ℕ) (updated : Updated) → size ≡ n → is_some (span m.storage a1 size) ≡ false → XcEffect n a1 a2 updated m (Err interruption.Addressing) m
+-- XC of operands of which one isn't there
+pub not_joined : (m : Machine) (n a1 a2 : ℕ) (updated : Updated) → (is_some (span m.storage a1 n) && is_some (span m.storage a2 n)) ≡ false
+    → XcEffect n a1 a2 updated m (Err interruption.Addressing) m
 unfolding XcEffect Stores
-not_joined m n a1 a2 size updated width absent =
-    let gone : is_some (span m.storage a1 (length (stored_by (xored m.storage a1 a2) n))) ≡ false = rw (stored_length (xored m.storage a1 a2) n, ← width) absent in
+not_joined m n a1 a2 updated absent =
+    let size : length (stored_by (xored m.storage a1 a2) n) ≡ n = stored_length (xored m.storage a1 a2) n in
+    let gone : (is_some (span m.storage a1 (length (stored_by (xored m.storage a1 a2) n))) && is_some (span m.storage a2 n)) ≡ false = rw size absent in
     go (span m.storage a2 n) (span m.storage a1 (length (stored_by (xored m.storage a1 a2) n))) gone
   where
-    go : (o p : Option (List ℕ)) → is_some p ≡ false
+    go : (o p : Option (List ℕ)) → (is_some p && is_some o) ≡ false
         → IfPresent o m (Err interruption.Addressing) m (λ (_ : List ℕ). IfPresent p m (Err interruption.Addressing) m (λ (_ : List ℕ). Completes (Err interruption.Addressing) m (record m {
           storage = written m.storage a1 (stored_by (xored m.storage a1 a2) n);
           cc = logical_code (number_of (stored_by (xored m.storage a1 a2) n));
@@ -126,31 +139,21 @@ not_joined m n a1 a2 size updated width absent =
     go (Some b) None e = search rules
     go (Some b) (Some f) e = cc
 
--- XC of such operands stores what buffers that were filled from both are when they are joined
-pub joined : (m after : Machine) (n a1 a2 size1 size2 cc : ℕ) (old1 old2 first second new : List ℕ) (updated : Updated) (outcome : Outcome)
-    → a1 < 2 ^ 24 → a2 < 2 ^ 24 → n ≤ 2 ^ 24 → Outside n a1 a2 → size1 ≡ n → size2 ≡ n
-    → is_some (span m.storage a1 size1) ≡ true → is_some (span m.storage a2 size2) ≡ true
-    → first ≡ unwrap_or (span m.storage a1 size1) old1 → second ≡ unwrap_or (span m.storage a2 size2) old2
-    → length first ≡ n → length new ≡ length first
-    → ((k : ℕ) → k < length first → slice_index new k ≡ bit_xor (slice_index first k) (slice_index second k))
+-- XC of such operands stores the bytes that they are joined to
+pub joined : (m after : Machine) (n a1 a2 cc : ℕ) (new : List ℕ) (updated : Updated) (outcome : Outcome)
+    → (is_some (span m.storage a1 n) && is_some (span m.storage a2 n)) ≡ true → new ≡ stored_by (xored m.storage a1 a2) n
     → cc ≡ logical_code (number_of new) → Stores a1 new cc updated m outcome after → XcEffect n a1 a2 updated m outcome after
 unfolding XcEffect
-joined m after n a1 a2 size1 size2 code old1 old2 first second new updated outcome low1 low2 fits outside width1 width2 there1 there2 full1 full2 wide long each coded stores =
-    let present1 : is_some (span m.storage a1 n) ≡ true = rw width1 at there1 in
-    let present2 : is_some (span m.storage a2 n) ≡ true = rw width2 at there2 in
-    let read1 : first ≡ unwrap_or (span m.storage a1 n) old1 = rw width1 at full1 in
-    let read2 : second ≡ unwrap_or (span m.storage a2 n) old2 = rw width2 at full2 in
-    let bytes : (k : ℕ) → k < n → slice_index new k ≡ bit_xor (slice_index (unwrap_or (span m.storage a1 n) old1) k) (slice_index (unwrap_or (span m.storage a2 n) old2) k)
-    = λ k h. rw (← read1, ← read2) (each k (omega (arith, wide, h))) in
-    let same : new ≡ stored_by (xored m.storage a1 a2) n = read_is_joined m.storage a1 a2 n old1 old2 new low1 low2 fits outside present1 present2 (long ∙ wide) bytes in
+joined m after n a1 a2 code new updated outcome there same coded stores =
     let result : Stores a1 new (logical_code (number_of new)) updated m outcome after = rw coded at stores in
     let joins : Stores a1 (stored_by (xored m.storage a1 a2) n) (logical_code (number_of (stored_by (xored m.storage a1 a2) n))) updated m outcome after = rw same at result in
-    go (span m.storage a2 n) present2 joins
+    go (span m.storage a1 n) (span m.storage a2 n) there joins
   where
-    go : (o : Option (List ℕ)) → is_some o ≡ true
+    go : (p o : Option (List ℕ)) → (is_some p && is_some o) ≡ true
         → Stores a1 (stored_by (xored m.storage a1 a2) n) (logical_code (number_of (stored_by (xored m.storage a1 a2) n))) updated m outcome after
         → IfPresent o m outcome after (λ (_ : List ℕ).
         let new = stored_by (xored m.storage a1 a2) n in
         Stores a1 new (logical_code (number_of new)) updated m outcome after)
-    go None h x = cc
-    go (Some b) h x = x
+    go None o h x = cc
+    go (Some f) None h x = cc
+    go (Some f) (Some b) h x = x

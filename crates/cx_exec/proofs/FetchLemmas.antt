@@ -10,9 +10,11 @@ use Rattle.cx_code.specs.declared.table.Op.{Op}
 use Rattle.cx_code.specs.declared.table.Format.{Format}
 use Rattle.cx_code.specs.declared.table.Format.TheVariants as form
 use Rattle.cx_code.specs.Table.{format_of, length_of, length_of_format, length_of_code}
-use Rattle.cx_code.specs.Spelling.{Instruction}
+use Rattle.cx_code.specs.Spelling.{Instruction, format_with, IsWellFormed}
 use Rattle.cx_code.specs.Reading.{reading}
 use Rattle.cx_exec.specs.Fetch.{code_bytes, code_at, read_as}
+use Rattle.cx_exec.specs.Machine.{Machine}
+use Rattle.cx_exec.specs.Step.{due, updated_by, performed_of, performed}
 
 -- the first byte of a span
 first_byte : (s : Storage) (a n : ℕ) (bytes : List ℕ) → span s a n ≡ Some bytes → 0 < n → byte_at s a ≡ Some (slice_index bytes 0)
@@ -41,25 +43,45 @@ span_front s a n m bytes low e h =
     span_from s a m (take m bytes) low (length-take-le m bytes (omega (arith, long, h)))
     (λ k l. span_at s a n bytes k low e (omega (arith, l, h)) ∙ ap Some (sym (get_or-take m bytes k 0 l)))
 
-length_small : (code : ℕ) → length_of_code code ≤ 8
-length_small code = elim (cases_eq (code / 64) 0) [
-  | inl e ↦ rw (eq-eqb (code / 64) 0 e) (omega arith)
-  | inr ne ↦ elim (cases_eq (code / 64) 3) [
-    | inl e ↦ rw (ne_eqb (code / 64) 0 ne, eq-eqb (code / 64) 3 e) (omega arith)
-    | inr other ↦ rw (ne_eqb (code / 64) 0 ne, ne_eqb (code / 64) 3 other) (omega arith)
-  ]
-]
-
--- an instruction stands in the eight bytes from its address on
-pub lent_is_code : (s : Storage) (a : ℕ) (bytes : List ℕ) → a < 2 ^ 24 → span s a 8 ≡ Some bytes
-    → code_bytes s a ≡ Some (take (length_of_code (slice_index bytes 0)) bytes)
-lent_is_code s a bytes low e =
-    let first = first_byte s a 8 bytes e (omega arith) in
-    rw first (span_front s a 8 (length_of_code (slice_index bytes 0)) bytes low e (length_small (slice_index bytes 0)))
-
 pub reads_as : (bytes : List ℕ) (i : Instruction) → reading bytes ≡ Some i → read_as bytes ≡ Ok i
 unfolding read_as
 reads_as bytes i e = rw e refl
+
+-- what was decoded, and its length
+pub decoded : (read : Option Instruction) (i : Instruction) (n : ℕ) → ◌≡◌ {A = Option (Instruction × ℕ)} (Some (i, n)) (option_map (λ j. (j, length_of j.op)) read)
+    → (read ≡ Some i) × (n ≡ length_of i.op)
+decoded None i n e = cc
+decoded (Some j) i n e =
+    let pair : ◌≡◌ {A = Instruction × ℕ} (i, n) (j, length_of j.op) = cc in
+    let same : i ≡ j = ap (λ p. p.0) pair in
+    (ap Some (sym same), ap (λ p. p.1) pair ∙ rw same refl)
+
+-- an instruction that eight bytes begin with is fetched and read where they stand
+pub found_is_read : (s : Storage) (a : ℕ) (bytes : List ℕ) (i : Instruction) → a < 2 ^ 24 → a % 2 ≡ 0 → span s a 8 ≡ Some bytes
+    → length_of_code (slice_index bytes 0) ≡ length_of i.op → length_of i.op ≤ 8 → reading (take (length_of i.op) bytes) ≡ Some i
+    → (code_at s a ≡ Ok (take (length_of i.op) bytes)) × (read_as (take (length_of i.op) bytes) ≡ Ok i)
+unfolding code_at
+found_is_read s a bytes i low even there long short reads =
+    let first = first_byte s a 8 bytes there (omega arith) in
+    let odd : (a % 2 == 1) ≡ false = ne_eqb (a % 2) 1 (λ e. omega (arith, e, even)) in
+    let whole : code_bytes s a ≡ Some (take (length_of i.op) bytes) = rw (first, long) (span_front s a 8 (length_of i.op) bytes low there short) in
+    (rw (odd, whole) refl, reads_as (take (length_of i.op) bytes) i reads)
+
+-- and performed, unless it is an EX
+pub lent_is_performed : (m : Machine) (bytes : List ℕ) (i : Instruction) → m.next < 2 ^ 24 → m.next % 2 ≡ 0 → span m.storage m.next 8 ≡ Some bytes
+    → length_of_code (slice_index bytes 0) ≡ length_of i.op → length_of i.op ≤ 8 → reading (take (length_of i.op) bytes) ≡ Some i
+    → length (take (length_of i.op) bytes) ≡ length_of i.op
+    → performed_of m i (updated_by m.next (length_of i.op)) ≡ Ok (due i (updated_by m.next (length_of i.op)))
+    → performed m ≡ Ok (due i (updated_by m.next (length_of i.op)))
+unfolding performed
+lent_is_performed m bytes i low even there long short reads size plain =
+    let found = found_is_read m.storage m.next bytes i low even there long short reads in
+    rw (found.0, found.1, size) plain
+
+-- the fields say how many bytes the row has
+pub length_with : (i : Instruction) → IsWellFormed i → length_of i.op ≡ length_of_format (format_with i.fields)
+unfolding IsWellFormed
+length_with i formed = ap length_of_format (sym formed.0)
 
 pub length_some : (bytes : List ℕ) (op : Op) → length bytes ≡ length_of op → 0 < length bytes
 length_some bytes op e = some (format_of op) e

@@ -82,6 +82,37 @@ fn string_order(first: &[u8], second: &[u8]) -> u8
     0
 }
 
+/// CLC, from copies of both operands.
+#[tactic(auto, unfolding(crate::specs::Comparison::ComparesStrings))]
+#[inline(never)]
+fn clc_copies<S: Store>(
+    cpu: &mut Cpu,
+    store: &S,
+    n: u32,
+    a1: u32,
+    a2: u32,
+    updated: Updated,
+) -> Result<(), Interruption>
+    requires first { a1 < 2 ^ 24 }
+    requires second { a2 < 2 ^ 24 }
+    requires count { n ≤ 256 }
+    requires address { updated.address < 2 ^ 24 }
+    ensures { ComparesStrings n a1 a2 updated (machine cpu.old (S.storage store.now)) result (machine cpu.new (S.storage store.now)) }
+{
+    let mut left = [0; 256];
+    let mut right = [0; 256];
+    let first = &mut left[..n as usize];
+    let second = &mut right[..n as usize];
+    if !store.read(a1, first) {
+        return Err(Interruption::Addressing);
+    }
+    if !store.read(a2, second) {
+        return Err(Interruption::Addressing);
+    }
+    let cc = string_order(first, second);
+    set_code(cpu, cc, updated)
+}
+
 /// CLC. The operands, of `n` bytes, begin at `a1` and `a2`.
 #[tactic(auto, using(cx_storage::specs::Facts::Spans::span_length), unfolding(crate::specs::Comparison::ComparesStrings))]
 #[inline(never)]
@@ -99,22 +130,11 @@ pub(crate) fn clc<S: Store>(
     requires address { updated.address < 2 ^ 24 }
     ensures { ComparesStrings n a1 a2 updated (machine cpu.old (S.storage store.now)) result (machine cpu.new (S.storage store.now)) }
 {
-    if let (Some(first), Some(second)) = (
-        store.slice(a1, n as usize),
-        store.slice(a2, n as usize),
-    ) {
-        return set_code(cpu, string_order(first, second), updated);
+    if let Some(first) = store.slice(a1, n as usize) {
+        if let Some(second) = store.slice(a2, n as usize) {
+            let cc = string_order(first, second);
+            return set_code(cpu, cc, updated);
+        }
     }
-    let mut left = [0; 256];
-    let mut right = [0; 256];
-    let first = &mut left[..n as usize];
-    let second = &mut right[..n as usize];
-    if !store.read(a1, first) {
-        return Err(Interruption::Addressing);
-    }
-    if !store.read(a2, second) {
-        return Err(Interruption::Addressing);
-    }
-    let cc = string_order(first, second);
-    set_code(cpu, cc, updated)
+    clc_copies(cpu, store, n, a1, a2, updated)
 }

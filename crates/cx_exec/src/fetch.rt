@@ -1,6 +1,6 @@
 //! Fetching an instruction.
 
-ghost use Rattle.std.specs.Prelude.{◌≡◌, ◌≤◌, ◌<◌, ◌^◌, length, Ok, Some, OnOk, IfOk, IfSome};
+ghost use Rattle.std.specs.Prelude.{◌≡◌, ◌≤◌, ◌<◌, ◌^◌, length};
 ghost use Rattle.cx_exec.specs.Fetch.{code_at, read_as};
 ghost use Rattle.cx_exec.specs.Step.{joined_second};
 
@@ -55,23 +55,6 @@ impl Code {
             self.bytes[1] |= low;
         }
     }
-}
-
-/// The bytes of the instruction at an address, where it is even and eight bytes from there on are lent in one piece.
-#[tactic(auto, using(crate::proofs::FetchLemmas::lent_is_code, cx_storage::specs::Facts::Spans::span_length), unfolding(crate::specs::Fetch::code_at))]
-#[inline(always)]
-pub(crate) fn lent_code<S: Store>(store: &S, at: u32) -> Option<Code>
-    requires { at < 2 ^ 24 }
-    ensures { IfSome result (λ code. code_at (S.storage store.now) at ≡ Ok code) }
-{
-    if at % 2 == 1 {
-        return None;
-    }
-    let part = store.slice(at, 8)?;
-    let mut bytes = [0; 8];
-    bytes.copy_from_slice(part);
-    let length = instruction_length(bytes[0]);
-    Some(Code { bytes, length })
 }
 
 /// The bytes of the instruction at an address.

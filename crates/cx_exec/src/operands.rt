@@ -166,7 +166,7 @@ pub(crate) fn put_byte<S: Store>(
 /// Stores bytes, at most 65,536, from an address on, and sets the condition code: all of them, or nothing and
 /// interruption 5.
 #[tactic(auto, using(crate::proofs::Storing::not_written), unfolding(crate::specs::Operands::Stores))]
-#[inline(never)]
+#[inline(always)]
 pub(crate) fn put_bytes<S: Store>(
     cpu: &mut Cpu,
     store: &mut S,

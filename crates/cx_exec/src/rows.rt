@@ -1,7 +1,8 @@
 //! The effect of each instruction.
 
-ghost use Rattle.std.specs.Prelude.{◌≡◌, ◌<◌, ◌≤◌, ◌^◌, MatchOption};
+ghost use Rattle.std.specs.Prelude.{◌≡◌, ◌<◌, ◌≤◌, ◌^◌, unwrap_or, IfSome};
 ghost use Rattle.cx_storage.specs.Storage.{Storage};
+ghost use Rattle.cx_code.specs.Table.{length_of};
 ghost use Rattle.cx_exec.specs.Machine.{machine};
 ghost use Rattle.cx_exec.specs.Machine.{given, effective};
 ghost use Rattle.cx_exec.specs.Step.{updated_by};
@@ -266,34 +267,58 @@ fn ss2_effect<S: Store>(
     }
 }
 
-/// The effect of every row but EX.
-#[tactic(auto, unfolding(crate::specs::Rows::Effect))]
+/// What the program-status word is updated to behind an instruction of `length` bytes at the next address, unless it is told.
+#[inline(always)]
+fn updated_at(cpu: &Cpu, told: Option<Updated>, length: u32) -> Updated
+    requires { length ≤ 6 }
+    ensures { result ≡ unwrap_or told (updated_by cpu.now.next length) }
+{
+    match told {
+        Some(updated) => updated,
+        None => Updated {
+            length_code: (length / 2) as u8,
+            address: along(cpu.next, length),
+        },
+    }
+}
+
+/// The effect of every row but EX. It goes on where that is told, else behind an instruction of its format at the next
+/// address: so that needn't wait for what was fetched.
+#[tactic(auto, using(crate::proofs::FetchLemmas::length_with), unfolding(crate::specs::Rows::Effect))]
+#[inline(always)]
 pub(crate) fn effect<S: Store>(
     cpu: &mut Cpu,
     store: &mut S,
     inst: &Inst,
-    updated: Updated,
+    told: Option<Updated>,
 ) -> Result<(), Interruption>
-    requires length { updated.length_code ≤ 3 }
-    requires address { updated.address < 2 ^ 24 }
-    ensures { Effect inst.now updated (machine cpu.old (S.storage store.old)) result (machine cpu.new (S.storage store.new)) }
+    requires length { IfSome told (λ updated. updated.length_code ≤ 3) }
+    requires address { IfSome told (λ updated. updated.address < 2 ^ 24) }
+    ensures { Effect inst.now (unwrap_or told (updated_by cpu.old.next (length_of inst.now.op))) (machine cpu.old (S.storage store.old)) result (machine cpu.new (S.storage store.new)) }
 {
     let op = inst.op();
     match inst.fields() {
-        Fields::Rr { r1, r2 } => rr_effect(cpu, op, r1, r2, updated),
+        Fields::Rr { r1, r2 } => {
+            let updated = updated_at(cpu, told, 2);
+            rr_effect(cpu, op, r1, r2, updated)
+        }
         Fields::Rx { r1, x2, b2, d2 } => {
+            let updated = updated_at(cpu, told, 4);
             let a = effective(&cpu.regs, x2, b2, d2);
             rx_effect(cpu, store, op, r1, a, updated)
         }
         Fields::Si { i2, b1, d1 } => {
+            let updated = updated_at(cpu, told, 4);
             let a = effective(&cpu.regs, 0, b1, d1);
             si_effect(cpu, store, op, i2, a, updated)
         }
         Fields::Rs { r1, r3, b2, d2 } => {
+            let updated = updated_at(cpu, told, 4);
             let a = effective(&cpu.regs, 0, b2, d2);
             rs_effect(cpu, store, op, r1, r3, a, updated)
         }
         Fields::Ss { l, b1, d1, b2, d2 } => {
+            let updated = updated_at(cpu, told, 6);
             let a1 = effective(&cpu.regs, 0, b1, d1);
             let a2 = effective(&cpu.regs, 0, b2, d2);
             ss_effect(cpu, store, op, u32::from(l) + 1, a1, a2, updated)
@@ -306,6 +331,7 @@ pub(crate) fn effect<S: Store>(
             b2,
             d2,
         } => {
+            let updated = updated_at(cpu, told, 6);
             let a1 = effective(&cpu.regs, 0, b1, d1);
             let a2 = effective(&cpu.regs, 0, b2, d2);
             ss2_effect(
@@ -319,60 +345,5 @@ pub(crate) fn effect<S: Store>(
                 updated,
             )
         }
-    }
-}
-
-/// What the program-status word is updated to behind the instruction at an address.
-#[inline(always)]
-fn updated_by(place: u32, length: u32) -> Updated
-    requires { length ≤ 6 }
-    ensures { result ≡ updated_by place length }
-{
-    Updated {
-        length_code: (length / 2) as u8,
-        address: along(place, length),
-    }
-}
-
-/// The effect of every row but EX, of an instruction of `length` bytes at the next address, and None, with no change, where
-/// its format has another length. The format says where it goes on: so the next address needn't wait for what was fetched.
-#[tactic(auto, unfolding(crate::specs::Rows::Effect))]
-#[inline(always)]
-pub(crate) fn effect_in_line<S: Store>(
-    cpu: &mut Cpu,
-    store: &mut S,
-    inst: &Inst,
-    length: usize,
-) -> Option<Result<(), Interruption>>
-    ensures { MatchOption result (machine cpu.new (S.storage store.new) ≡ machine cpu.old (S.storage store.old)) (λ outcome. Effect inst.now (updated_by cpu.old.next length) (machine cpu.old (S.storage store.old)) outcome (machine cpu.new (S.storage store.new))) }
-{
-    let op = inst.op();
-    match inst.fields() {
-        Fields::Rr { r1, r2 } if length == 2 => {
-            let updated = updated_by(cpu.next, 2);
-            Some(rr_effect(cpu, op, r1, r2, updated))
-        }
-        Fields::Rx { r1, x2, b2, d2 } if length == 4 => {
-            let updated = updated_by(cpu.next, 4);
-            let a = effective(&cpu.regs, x2, b2, d2);
-            Some(rx_effect(cpu, store, op, r1, a, updated))
-        }
-        Fields::Si { i2, b1, d1 } if length == 4 => {
-            let updated = updated_by(cpu.next, 4);
-            let a = effective(&cpu.regs, 0, b1, d1);
-            Some(si_effect(cpu, store, op, i2, a, updated))
-        }
-        Fields::Rs { r1, r3, b2, d2 } if length == 4 => {
-            let updated = updated_by(cpu.next, 4);
-            let a = effective(&cpu.regs, 0, b2, d2);
-            Some(rs_effect(cpu, store, op, r1, r3, a, updated))
-        }
-        Fields::Ss { l, b1, d1, b2, d2 } if length == 6 => {
-            let updated = updated_by(cpu.next, 6);
-            let a1 = effective(&cpu.regs, 0, b1, d1);
-            let a2 = effective(&cpu.regs, 0, b2, d2);
-            Some(ss_effect(cpu, store, op, u32::from(l) + 1, a1, a2, updated))
-        }
-        _ => None,
     }
 }

@@ -1,13 +1,14 @@
 //! One step.
 
 ghost use Rattle.std.specs.Prelude.{◌≡◌, ◌<◌, ◌≤◌, ◌^◌, Ok, IfOk, IfSome};
+ghost use Rattle.cx_code.specs.Table.{length_of};
 ghost use Rattle.cx_exec.specs.Machine.{machine};
 ghost use Rattle.cx_exec.specs.Step.{target_at, due, updated_by, performed, Runs, Steps};
 
-use crate::fetch::{code_at, lent_code};
+use crate::fetch::code_at;
 use crate::machine::{Cpu, ENTRY, Interruption, Step, Updated};
-use crate::rows::{effect, effect_in_line, effective};
-use cx_code::{Fields, Inst, Op};
+use crate::rows::{effect, effective};
+use cx_code::{Fields, Inst, Op, decode};
 use cx_storage::{Store, along};
 
 /// An instruction to be performed, and what comes after it.
@@ -65,28 +66,22 @@ fn performed<S: Store>(cpu: &Cpu, store: &S) -> Result<Due, Interruption>
     }
 }
 
-/// An instruction at hand, and how many bytes it has.
-#[derive(Drop)]
-pub struct AtHand {
-    pub inst: Inst,
-    pub length: usize,
-}
-
-/// The instruction that is performed at the next address, where it stands in eight bytes that are lent, and is no EX.
-#[tactic(auto, unfolding(crate::specs::Step::performed))]
+/// The instruction at the next address, where eight bytes from there on are lent in one piece, and it is no EX.
 #[inline(always)]
-fn at_hand<S: Store>(cpu: &Cpu, store: &S) -> Option<AtHand>
-    ensures value { IfSome result (λ found. performed (machine cpu.now (S.storage store.now)) ≡ Ok (due found.inst (updated_by cpu.now.next found.length))) }
-    ensures length { IfSome result (λ found. found.length ≤ 6) }
+fn at_hand<S: Store>(cpu: &Cpu, store: &S) -> Option<Inst>
+    ensures { IfSome result (λ inst. performed (machine cpu.now (S.storage store.now)) ≡ Ok (due inst (updated_by cpu.now.next (length_of inst.op)))) }
 {
-    let code = lent_code(store, cpu.next)?;
-    let length = code.len();
-    let Ok(inst) = code.read() else {
+    cx_code::laws::first_bits();
+    cx_code::laws::length_read();
+    cx_code::laws::read_before_rest();
+    cx_code::laws::read_by_first_byte();
+    if cpu.next % 2 == 1 {
         return None;
-    };
+    }
+    let (inst, _) = decode(store.slice(cpu.next, 8)?)?;
     match inst.fields() {
         Fields::Rx { .. } if inst.op() == Op::Ex => None,
-        _ => Some(AtHand { inst, length }),
+        _ => Some(inst),
     }
 }
 
@@ -97,7 +92,7 @@ fn run_apart<S: Store>(cpu: &mut Cpu, store: &mut S) -> Result<(), Interruption>
     ensures { Runs (machine cpu.old (S.storage store.old)) result (machine cpu.new (S.storage store.new)) }
 {
     let due = performed(cpu, store)?;
-    effect(cpu, store, &due.inst, due.updated)
+    effect(cpu, store, &due.inst, Some(due.updated))
 }
 
 /// Performs the instruction at the next address.
@@ -106,11 +101,8 @@ fn run_apart<S: Store>(cpu: &mut Cpu, store: &mut S) -> Result<(), Interruption>
 fn run<S: Store>(cpu: &mut Cpu, store: &mut S) -> Result<(), Interruption>
     ensures { Runs (machine cpu.old (S.storage store.old)) result (machine cpu.new (S.storage store.new)) }
 {
-    let Some(found) = at_hand(cpu, store) else {
-        return run_apart(cpu, store);
-    };
-    match effect_in_line(cpu, store, &found.inst, found.length) {
-        Some(outcome) => outcome,
+    match at_hand(cpu, store) {
+        Some(inst) => effect(cpu, store, &inst, None),
         None => run_apart(cpu, store),
     }
 }

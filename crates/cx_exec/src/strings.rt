@@ -1,6 +1,6 @@
 //! MVC and XC: two operands of one length, from left to right.
 
-ghost use Rattle.std.specs.Prelude.{◌≡◌, ◌≢◌, ℕ, ◌<◌, ◌≤◌, ◌^◌, [], take, true, false, is_some, unwrap_or, length, slice_index, bit_xor};
+ghost use Rattle.std.specs.Prelude.{◌≡◌, ◌≢◌, ℕ, ◌<◌, ◌≤◌, ◌^◌, ◌&&◌, take, true, is_some, length, slice_index, bit_xor};
 ghost use Rattle.cx_storage.specs.Address.{along};
 ghost use Rattle.cx_storage.specs.Storage.{span};
 ghost use Rattle.cx_exec.specs.Machine.{machine};
@@ -81,43 +81,60 @@ fn copy<S: Store>(
     put_bytes(cpu, store, a1, bytes, cc, updated)
 }
 
-/// Joins each byte with the one of a second string, by exclusive or.
-fn join_bytes(first: &mut [u8], second: &[u8])
-    requires { length first.old ≡ length second.now }
-    ensures size { length first.new ≡ length first.old }
-    ensures each { (k : ℕ) → k < length first.old → slice_index first.new k ≡ bit_xor (slice_index first.old k) (slice_index second.now k) }
+/// Puts the bytes of two strings, joined by exclusive or, into a buffer of their length.
+fn join_bytes(first: &[u8], second: &[u8], new: &mut [u8])
+    requires same { length first.now ≡ length second.now }
+    requires room { length new.old ≡ length first.now }
+    ensures size { length new.new ≡ length new.old }
+    ensures each { (k : ℕ) → k < length first.now → slice_index new.new k ≡ bit_xor (slice_index first.now k) (slice_index second.now k) }
 {
-    for k in 0..first.len() {
-        first[k] ^= second[k];
+    for k in 0..new.len() {
+        new[k] = first[k] ^ second[k];
     }
 }
 
-/// Joins each byte with the one of storage from `a` on, by exclusive or. False, and no change, where one of those is absent.
-#[tactic(auto, using(cx_storage::specs::Facts::Spans::span_length))]
-#[inline(always)]
-fn join_stored<S: Store>(store: &S, a: u32, first: &mut [u8]) -> bool
-    requires address { a < 2 ^ 24 }
-    requires count { length first.old ≤ 256 }
-    ensures present { result ≡ is_some (span (S.storage store.now) a (length first.old)) }
-    ensures size { length first.new ≡ length first.old }
-    ensures err { result ≡ false → first.new ≡ first.old }
-    ensures each { result ≡ true → (k : ℕ) → k < length first.old → slice_index first.new k ≡ bit_xor (slice_index first.old k) (slice_index (unwrap_or (span (S.storage store.now) a (length first.old)) []) k) }
+/// Puts the bytes that XC stores into a buffer, from copies of both operands. False where one of their bytes is absent.
+#[inline(never)]
+fn join_copies<S: Store>(store: &S, a1: u32, a2: u32, new: &mut [u8]) -> bool
+    requires first { a1 < 2 ^ 24 }
+    requires second { a2 < 2 ^ 24 }
+    requires count { length new.old ≤ 256 }
+    requires outside { (j : ℕ) → 0 < j → j < length new.old → a1 ≢ along a2 j }
+    ensures present { result ≡ is_some (span (S.storage store.now) a1 (length new.old)) && is_some (span (S.storage store.now) a2 (length new.old)) }
+    ensures bytes { result ≡ true → new.new ≡ stored_by (xored (S.storage store.now) a1 a2) (length new.old) }
 {
-    if let Some(second) = store.slice(a, first.len()) {
-        join_bytes(first, second);
-        return true;
-    }
-    let mut copy = [0; 256];
-    let second = &mut copy[..first.len()];
-    if !store.read(a, second) {
+    let mut left = [0; 256];
+    let mut right = [0; 256];
+    let first = &mut left[..new.len()];
+    let second = &mut right[..new.len()];
+    if !store.read(a1, first) || !store.read(a2, second) {
         return false;
     }
-    join_bytes(first, second);
+    join_bytes(first, second, new);
     true
 }
 
+/// Puts the bytes that XC stores into a buffer. False where a byte of its operands is absent.
+#[inline(always)]
+fn join_stored<S: Store>(store: &S, a1: u32, a2: u32, new: &mut [u8]) -> bool
+    requires first { a1 < 2 ^ 24 }
+    requires second { a2 < 2 ^ 24 }
+    requires count { length new.old ≤ 256 }
+    requires outside { (j : ℕ) → 0 < j → j < length new.old → a1 ≢ along a2 j }
+    ensures present { result ≡ is_some (span (S.storage store.now) a1 (length new.old)) && is_some (span (S.storage store.now) a2 (length new.old)) }
+    ensures bytes { result ≡ true → new.new ≡ stored_by (xored (S.storage store.now) a1 a2) (length new.old) }
+{
+    if let Some(first) = store.slice(a1, new.len()) {
+        if let Some(second) = store.slice(a2, new.len()) {
+            join_bytes(first, second, new);
+            return true;
+        }
+    }
+    join_copies(store, a1, a2, new)
+}
+
 /// XC of operands of which the first doesn't begin inside the second behind its first byte.
-#[tactic(auto, using(crate::proofs::BlockLemmas::read_is_joined), unfolding(crate::specs::Strings::XcEffect))]
+#[tactic(auto, unfolding(crate::specs::Strings::XcEffect))]
 fn join<S: Store>(
     cpu: &mut Cpu,
     store: &mut S,
@@ -134,15 +151,12 @@ fn join<S: Store>(
     ensures { XcEffect n a1 a2 updated (machine cpu.old (S.storage store.old)) result (machine cpu.new (S.storage store.new)) }
 {
     let mut new = [0; 256];
-    let first = &mut new[..n as usize];
-    if !store.read(a1, first) {
+    let bytes = &mut new[..n as usize];
+    if !join_stored(store, a1, a2, bytes) {
         return Err(Interruption::Addressing);
     }
-    if !join_stored(store, a2, first) {
-        return Err(Interruption::Addressing);
-    }
-    let cc = string_code(first);
-    put_bytes(cpu, store, a1, first, cc, updated)
+    let cc = string_code(bytes);
+    put_bytes(cpu, store, a1, bytes, cc, updated)
 }
 
 /// MVC. The operands, of `n` bytes, begin at `a1` and `a2`.

@@ -165,3 +165,15 @@ has_told frame from to within some told counted =
     let follows = known_reaches frame.runs frame.counts frame.reached (from / 16) (j - from / 16) (omega (arith, told, low, high)) in
     rw place at follows)
     counted
+
+-- few bytes are present where the row from the first granule on has the next one too
+pub has_near : (frame : Frame) (from to : ℕ) → to ≤ length frame.bytes → from < to → to - from ≤ 16 → 32 ≤ slice_index frame.counts (from / 16)
+    → HasAll (seen frame) from to
+has_near frame from to within some near counted =
+    let row : (j : ℕ) → from / 16 ≤ j → j ≤ (to - 1) / 16 → 16 ≤ slice_index frame.counts j
+    = λ j low high.
+    let place : from / 16 + (j - from / 16) ≡ j = omega (arith, low) in
+    let follows = known_reaches frame.runs frame.counts frame.reached (from / 16) (j - from / 16) (omega (arith, low, high, near, counted)) in
+    rw place at follows in
+    let last = row ((to - 1) / 16) (omega (arith, some)) (omega arith) in
+    has_all frame from to within some (λ j low high. row j low (omega (arith, high))) (omega (arith, last))

@@ -172,6 +172,10 @@ impl Frame {
             return true;
         }
         let first = from / 16;
+        // Few bytes are of this granule and the next one.
+        if to - from <= 16 && self.counts[first] >= 32 {
+            return true;
+        }
         let last = (to - 1) / 16;
         // Mostly the row from the first granule on comes to the last one.
         if last - first <= self.counts[first] as usize / 16

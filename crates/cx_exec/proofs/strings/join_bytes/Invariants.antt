@@ -1,9 +1,8 @@
-use Rattle.std.proofs.Common.{◌≡◌, ℕ, ◌<◌, ◌≤◌, bit_xor, length, slice_index}
+use Rattle.std.proofs.Common.{◌≡◌, ℕ, ◌<◌, bit_xor, length, slice_index}
 use Rattle.cx_exec.proofs.strings.join_bytes.Given as goal
 
--- the first bytes are joined, and the others as they were
+-- the first bytes are joined
 abbrev pub invariant-loop-k : goal.invariant-loop-k
 invariant-loop-k l =
-    (length l.first ≡ length l.initial.first)
-    × ((j : ℕ) → j < l.k → slice_index l.first j ≡ bit_xor (slice_index l.initial.first j) (slice_index l.second j))
-    × ((j : ℕ) → l.k ≤ j → slice_index l.first j ≡ slice_index l.initial.first j)
+    (length l.new ≡ length l.initial.new)
+    × ((j : ℕ) → j < l.k → slice_index l.new j ≡ bit_xor (slice_index l.first j) (slice_index l.second j))
