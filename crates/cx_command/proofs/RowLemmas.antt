@@ -1,10 +1,11 @@
 -- Each row of the table of commands is well formed, row by row by computation.
-use Rattle.std.proofs.Common.{◌≡◌, ◌≤◌, Bool, length, lit≤, true, IsTrue, refl}
+use Rattle.std.proofs.Common.{◌≡◌, ◌≤◌, Bool, length, nat_le, true, IsTrue, refl}
 use Rattle.std.specs.Prelude.{◌&&◌}
+use Rattle.std.proofs.lemmas.Bool.{leb-true}
 use Rattle.cx_command.specs.Commands.{Row, row_of}
+use Rattle.cx_command.specs.Facts.Commands.{each_command}
 use Rattle.cx_command.specs.Laws.Rows.{are_apart, has_own_bits, have_own_names, measured_have_length, rules_name_options}
 use Rattle.cx_command.specs.declared.commands.Command.{Command}
-use Rattle.cx_command.specs.declared.commands.Command.TheVariants as command
 
 abbrev is_sound : Row → Bool
 is_sound r =
@@ -12,26 +13,7 @@ is_sound r =
     && (have_own_names r.options && measured_have_length r.options r.rules)))
 
 sound : (c : Command) → is_sound (row_of c) ≡ true
-sound command.Address = refl
-sound command.HandleCondition = refl
-sound command.IgnoreCondition = refl
-sound command.PushHandle = refl
-sound command.PopHandle = refl
-sound command.Receive = refl
-sound command.WriteqTs = refl
-sound command.ReadqTs = refl
-sound command.DeleteqTs = refl
-sound command.Getmain = refl
-sound command.Freemain = refl
-sound command.Link = refl
-sound command.Xctl = refl
-sound command.Return = refl
-sound command.Abend = refl
-sound command.HandleAbend = refl
-sound command.Enq = refl
-sound command.Deq = refl
-sound command.Suspend = refl
-sound command.SendText = refl
+sound = each_command (λ c. is_sound (row_of c)) refl
 
 each : (a b c d e : Bool) → (a && (b && (c && (d && e)))) ≡ true → (a ≡ true) × (b ≡ true) × (c ≡ true) × (d ≡ true) × (e ≡ true)
 each true true true true true h = (refl, refl, refl, refl, refl)
@@ -61,23 +43,4 @@ lengths c = (parts c).4
 
 -- a command has at most as many options as a byte has bits
 pub few : (c : Command) → length (row_of c).options ≤ 8
-few command.Address = lit≤ tt
-few command.HandleCondition = lit≤ tt
-few command.IgnoreCondition = lit≤ tt
-few command.PushHandle = lit≤ tt
-few command.PopHandle = lit≤ tt
-few command.Receive = lit≤ tt
-few command.WriteqTs = lit≤ tt
-few command.ReadqTs = lit≤ tt
-few command.DeleteqTs = lit≤ tt
-few command.Getmain = lit≤ tt
-few command.Freemain = lit≤ tt
-few command.Link = lit≤ tt
-few command.Xctl = lit≤ tt
-few command.Return = lit≤ tt
-few command.Abend = lit≤ tt
-few command.HandleAbend = lit≤ tt
-few command.Enq = lit≤ tt
-few command.Deq = lit≤ tt
-few command.Suspend = lit≤ tt
-few command.SendText = lit≤ tt
+few c = leb-true _ _ (each_command (λ x. nat_le (length (row_of x).options) 8) refl c)

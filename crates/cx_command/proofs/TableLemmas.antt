@@ -8,6 +8,7 @@ use Rattle.cx_ebcdic.specs.Facts.Lookup.{find_passes}
 use Rattle.cx_command.specs.Commands.{all_commands, command_called, command_with, row_of}
 use Rattle.cx_command.specs.Conditions.{entry_of}
 use Rattle.cx_command.specs.Options.{option_name}
+use Rattle.cx_command.specs.Facts.Commands.{function_finds}
 use Rattle.cx_command.specs.declared.commands.Command.{Command}
 use Rattle.cx_command.specs.declared.commands.Command.TheVariants as command
 use Rattle.cx_command.specs.declared.commands.TheConstants as commands
@@ -17,28 +18,6 @@ use Rattle.cx_command.specs.declared.conditions.TheConstants as conditions
 use Rattle.cx_command.specs.declared.options.OptionName.{OptionName}
 use Rattle.cx_command.specs.declared.options.OptionName.TheVariants as option
 use Rattle.cx_command.specs.declared.options.TheConstants as options
-
-function_finds : (x : Command) → find (λ y. (row_of y).function == (row_of x).function) commands.Command.ALL ≡ Some x
-function_finds command.Address = refl
-function_finds command.HandleCondition = refl
-function_finds command.IgnoreCondition = refl
-function_finds command.PushHandle = refl
-function_finds command.PopHandle = refl
-function_finds command.Receive = refl
-function_finds command.WriteqTs = refl
-function_finds command.ReadqTs = refl
-function_finds command.DeleteqTs = refl
-function_finds command.Getmain = refl
-function_finds command.Freemain = refl
-function_finds command.Link = refl
-function_finds command.Xctl = refl
-function_finds command.Return = refl
-function_finds command.Abend = refl
-function_finds command.HandleAbend = refl
-function_finds command.Enq = refl
-function_finds command.Deq = refl
-function_finds command.Suspend = refl
-function_finds command.SendText = refl
 
 pub found_by_function : (n : ℕ) (x : Command) → (find (λ y. (row_of y).function == n) commands.Command.ALL ≡ Some x) ↔ ((row_of x).function ≡ n)
 found_by_function n x = (

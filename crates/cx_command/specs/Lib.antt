@@ -1,4 +1,4 @@
--- The definitions, in reading order, and then what the laws state.
+-- The definitions, in reading order, then what the laws state, and lemmas that other crates cite.
 pub mod Conditions
 pub mod Abends
 pub mod Options
@@ -12,3 +12,4 @@ pub mod Laws
 pub use Rattle.cx_ebcdic.specs.Names
 pub use Rattle.cx_ebcdic.specs.Characters
 pub use Rattle.cx_ebcdic.specs.Lookup
+pub mod Facts

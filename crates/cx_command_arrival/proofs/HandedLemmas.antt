@@ -8,12 +8,12 @@ use Rattle.cx_code.specs.declared.disassembly.Line.{Line}
 use Rattle.cx_code.specs.declared.disassembly.What.TheVariants.{Data}
 use Rattle.cx_code.specs.Table.{op_named, ops, row_of as op_row_of}
 use Rattle.cx_command.specs.declared.commands.Command.{Command}
-use Rattle.cx_command.specs.declared.commands.Command.TheVariants as command
 use Rattle.cx_command.specs.declared.conditions.Condition.{Condition}
 use Rattle.cx_command.specs.declared.conditions.Condition.TheVariants as condition
 use Rattle.cx_command.specs.declared.options.CommandOption.{CommandOption}
 use Rattle.cx_command.specs.declared.options.CommonOption.TheVariants.{Nohandle, Resp}
 use Rattle.cx_command.specs.Commands.{row_of}
+use Rattle.cx_command.specs.Facts.Commands.{each_command}
 use Rattle.cx_command.specs.Conditions.{entry_of}
 use Rattle.cx_command.specs.Legal.{is_legal, is_legal_second, is_legal_set, lists_conditions}
 use Rattle.cx_command.specs.Options.{common_of, option_name}
@@ -53,26 +53,7 @@ abbrev is_small : Command → Bool
 is_small command = nat_lt (row_of command).function 65536 && list_all (λ option. nat_lt option.bit 256) (row_of command).options
 
 all_small : (command : Command) → is_small command ≡ true
-all_small command.Address = refl
-all_small command.HandleCondition = refl
-all_small command.IgnoreCondition = refl
-all_small command.PushHandle = refl
-all_small command.PopHandle = refl
-all_small command.Receive = refl
-all_small command.WriteqTs = refl
-all_small command.ReadqTs = refl
-all_small command.DeleteqTs = refl
-all_small command.Getmain = refl
-all_small command.Freemain = refl
-all_small command.Link = refl
-all_small command.Xctl = refl
-all_small command.Return = refl
-all_small command.Abend = refl
-all_small command.HandleAbend = refl
-all_small command.Enq = refl
-all_small command.Deq = refl
-all_small command.Suspend = refl
-all_small command.SendText = refl
+all_small = each_command is_small refl
 
 with_options : (words : List Word) (options : List CommandOption) (byte : ℕ) → byte < 256 → list_all (λ option. nat_lt option.bit 256) options ≡ true → fold (with_option words) byte options < 256
 with_options words [] byte small all = small

@@ -114,29 +114,64 @@ fn since(rt: &HostRuntime, then: Instant, calls: u32) -> io::Result<u128> {
     Ok(then.elapsed(rt)?.as_nanos() / u128::from(calls.max(1)))
 }
 
-/// Times all calls over a store.
-fn time<S: Store>(rt: &HostRuntime, store: &mut S, name: &str, count: u32) -> io::Result<()> {
+/// The time of getting an area.
+fn get_time<S: Store>(rt: &HostRuntime, store: &mut S, count: u32) -> io::Result<u128> {
     let then = Instant::now(rt)?;
     fill(store, count)?;
-    let filled = since(rt, then, count)?;
+    since(rt, then, count)
+}
+
+/// The time of reading a byte, and how many are there.
+fn look_time<S: Store>(rt: &HostRuntime, store: &S, count: u32) -> io::Result<(u128, u32)> {
     let then = Instant::now(rt)?;
     let found = look(store, count);
-    let looked = since(rt, then, TURNS)?;
+    Ok((since(rt, then, TURNS)?, found))
+}
+
+/// The time of reading or writing four bytes.
+fn copy_time<S: Store>(rt: &HostRuntime, store: &mut S, count: u32) -> io::Result<u128> {
     let then = Instant::now(rt)?;
     copy(store, count);
-    let copied = since(rt, then, TURNS * 2)?;
+    since(rt, then, TURNS * 2)
+}
+
+/// The time of freeing an area and getting one.
+fn mix_time<S: Store>(rt: &HostRuntime, store: &mut S, count: u32) -> io::Result<u128> {
     let then = Instant::now(rt)?;
     mix(store, count)?;
-    let mixed = since(rt, then, TURNS)?;
+    since(rt, then, TURNS)
+}
+
+/// The time of looking for a place, and what was found.
+fn place_time<S: Store>(rt: &HostRuntime, store: &S) -> io::Result<(u128, u32)> {
     let then = Instant::now(rt)?;
     let places = place(store);
-    let placed = since(rt, then, TURNS / 10)?;
+    Ok((since(rt, then, TURNS / 10)?, places))
+}
+
+/// The time of freeing an area.
+fn free_time<S: Store>(rt: &HostRuntime, store: &mut S, count: u32) -> io::Result<u128> {
     let then = Instant::now(rt)?;
     free(store, count);
-    let freed = since(rt, then, TURNS / 10)?;
+    since(rt, then, TURNS / 10)
+}
+
+/// The time of freeing the areas of an owner.
+fn free_slots_time<S: Store>(rt: &HostRuntime, store: &mut S) -> io::Result<u128> {
     let then = Instant::now(rt)?;
     free_slots(store);
-    let slots = since(rt, then, 16)?;
+    since(rt, then, 16)
+}
+
+/// Times all calls over a store.
+fn time<S: Store>(rt: &HostRuntime, store: &mut S, name: &str, count: u32) -> io::Result<()> {
+    let filled = get_time(rt, store, count)?;
+    let (looked, found) = look_time(rt, store, count)?;
+    let copied = copy_time(rt, store, count)?;
+    let mixed = mix_time(rt, store, count)?;
+    let (placed, places) = place_time(rt, store)?;
+    let freed = free_time(rt, store, count)?;
+    let slots = free_slots_time(rt, store)?;
     println!(rt;
         "{name} {count}: get {filled}, byte {looked} ({found} found), read or write {copied}, free and get {mixed}, place {placed} ({places}), free {freed}, free_slot {slots}"
     )

@@ -8,10 +8,10 @@ use Rattle.std.proofs.lemmas.Bool.{eqb-true, ltb-false, leb-true}
 use Rattle.std.proofs.lemmas.List.Sums.{sum_by-cons}
 use Rattle.std.proofs.lemmas.Slice.Eq.{bytes_eq-Decides}
 use Rattle.cx_command.specs.declared.commands.Command.{Command}
-use Rattle.cx_command.specs.declared.commands.Command.TheVariants as command
 use Rattle.cx_command.specs.declared.conditions.Condition.{Condition}
 use Rattle.cx_command.specs.declared.options.CommandOption.{CommandOption}
 use Rattle.cx_command.specs.Commands.{row_of}
+use Rattle.cx_command.specs.Facts.Commands.{each_command}
 use Rattle.cx_command.specs.Conditions.{entry_of}
 use Rattle.cx_command.specs.Options.{common_of, option_name}
 use Rattle.cx_command.specs.Legal.{handled, lists_conditions}
@@ -42,52 +42,14 @@ clear command condition =
 
 pub all_clear : (c : Command) → list_all (clear c) handled ≡ true
 unfolding option_called common_due
-all_clear command.Address = refl
-all_clear command.HandleCondition = refl
-all_clear command.IgnoreCondition = refl
-all_clear command.PushHandle = refl
-all_clear command.PopHandle = refl
-all_clear command.Receive = refl
-all_clear command.WriteqTs = refl
-all_clear command.ReadqTs = refl
-all_clear command.DeleteqTs = refl
-all_clear command.Getmain = refl
-all_clear command.Freemain = refl
-all_clear command.Link = refl
-all_clear command.Xctl = refl
-all_clear command.Return = refl
-all_clear command.Abend = refl
-all_clear command.HandleAbend = refl
-all_clear command.Enq = refl
-all_clear command.Deq = refl
-all_clear command.Suspend = refl
-all_clear command.SendText = refl
+all_clear = each_command (λ c. list_all (clear c) handled) refl
 
 -- how many arguments a command's options have at most; one that lists conditions has none
 abbrev within : Command → Bool
 within c = cond (lists_conditions c) (nat_eq (length (row_of c).options) 0) (nat_le (length (row_of c).options) 8)
 
 all_within : (c : Command) → within c ≡ true
-all_within command.Address = refl
-all_within command.HandleCondition = refl
-all_within command.IgnoreCondition = refl
-all_within command.PushHandle = refl
-all_within command.PopHandle = refl
-all_within command.Receive = refl
-all_within command.WriteqTs = refl
-all_within command.ReadqTs = refl
-all_within command.DeleteqTs = refl
-all_within command.Getmain = refl
-all_within command.Freemain = refl
-all_within command.Link = refl
-all_within command.Xctl = refl
-all_within command.Return = refl
-all_within command.Abend = refl
-all_within command.HandleAbend = refl
-all_within command.Enq = refl
-all_within command.Deq = refl
-all_within command.Suspend = refl
-all_within command.SendText = refl
+all_within = each_command within refl
 
 gone : (a : Option CommandOption) (b : Option Due) (l some : Bool) (d : Due) → (is_none a && is_none b) ≡ true → l ≡ false
     → is_none (option_or (option_map (λ option. due_of_mark option.mark) a) (option_or b (cond (l && some) (Some d) None))) ≡ true

@@ -18,6 +18,7 @@ use Rattle.cx_command.specs.declared.options.Mark.{Mark}
 use Rattle.cx_command.specs.declared.options.Mark.TheVariants as mark
 use Rattle.cx_command.specs.Arguments.{arguments_in, is_argument, takes_argument}
 use Rattle.cx_command.specs.Commands.{row_of}
+use Rattle.cx_command.specs.Facts.Commands.{each_command}
 use Rattle.cx_command.specs.Options.{common_of, option_name}
 use Rattle.cx_command.specs.Legal.{has_bit}
 use Rattle.cx_translate.specs.declared.due.Due.{Due}
@@ -130,26 +131,7 @@ own c options o = fits (due_of c (option_name o.name)) o.mark && (list_all (alik
 
 all_own : (c : Command) → list_all (own c (row_of c).options) (row_of c).options ≡ true
 unfolding due_of option_called common_due condition_due has_bit
-all_own command.Address = refl
-all_own command.HandleCondition = refl
-all_own command.IgnoreCondition = refl
-all_own command.PushHandle = refl
-all_own command.PopHandle = refl
-all_own command.Receive = refl
-all_own command.WriteqTs = refl
-all_own command.ReadqTs = refl
-all_own command.DeleteqTs = refl
-all_own command.Getmain = refl
-all_own command.Freemain = refl
-all_own command.Link = refl
-all_own command.Xctl = refl
-all_own command.Return = refl
-all_own command.Abend = refl
-all_own command.HandleAbend = refl
-all_own command.Enq = refl
-all_own command.Deq = refl
-all_own command.Suspend = refl
-all_own command.SendText = refl
+all_own = each_command (λ c. list_all (own c (row_of c).options) (row_of c).options) refl
 
 -- ---- the arguments given
 
