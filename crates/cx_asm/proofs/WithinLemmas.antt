@@ -11,12 +11,7 @@ use Rattle.cx_code.specs.declared.table.Op.{Op}
 use Rattle.cx_image.specs.Facts.Apart.{apart_append}
 use Rattle.cx_image.specs.Relocated.{words_at}
 use Rattle.cx_image.specs.Resolved.{AreApart}
-use Rattle.std.specs.Prelude.{ℤ, slice_set}
-use Rattle.std.proofs.lemmas.List.{length-set}
-use Rattle.cx_operands.specs.Bases.{Bases, Using, ended, held}
-use Rattle.cx_operands.specs.Directives.{bases_behind, bases_behind_drop, bases_behind_using, drop_in, using_in}
-use Rattle.cx_operations.specs.declared.operations.Directive.TheVariants as directive
-use Rattle.cx_second.specs.SecondFaults.{bases_after, bases_by}
+use Rattle.cx_operands.specs.Bases.{Bases}
 use Rattle.cx_operands.specs.Context.{Context}
 use Rattle.cx_operands.specs.Forms.{resolved}
 use Rattle.cx_operations.specs.Operations.{base_row}
@@ -29,8 +24,8 @@ use Rattle.cx_places.specs.declared.roles.Role.{Role}
 use Rattle.cx_places.specs.declared.roles.Role.TheVariants.{Instruction}
 use Rattle.cx_pools.specs.Laws.Literals.{StandFrom}
 use Rattle.cx_pools.specs.Pools.{Placed, constant_size, literal_size}
-use Rattle.cx_second.specs.Statements.{Stated, operation_of}
-use Rattle.cx_second.specs.Whole.{Whole, directive_context, instruction_context, item_made}
+use Rattle.cx_second.specs.Statements.{Stated}
+use Rattle.cx_second.specs.Whole.{Whole, instruction_context, item_made}
 use Rattle.cx_terms.specs.Bytes.{Made}
 use Rattle.cx_terms.specs.Items.{Constant, constant_in, length_of, size_of}
 use Rattle.cx_terms.specs.declared.faults.FaultKind.{FaultKind}

@@ -1,8 +1,8 @@
 -- Instructions in storage, each as it is spelled.
-use Rattle.std.specs.Prelude.{Err, Result, ℤ, reverse, slice_set}
-use Rattle.std.proofs.Common.{◌≡◌, ℕ, ◌+◌, true, Option, Some, None, Ok, List, [], ◌∷◌, ◌++◌, length, refl, sym, ◌∙◌, subst}
+use Rattle.std.specs.Prelude.{reverse}
+use Rattle.std.proofs.Common.{◌≡◌, ℕ, ◌+◌, true, Some, Ok, List, [], ◌∷◌, ◌++◌, length, refl, sym, ◌∙◌, subst}
 use Rattle.std.specs.List.{AllByRecursion}
-use Rattle.std.proofs.lemmas.List.{append_assoc, length-set}
+use Rattle.std.proofs.lemmas.List.{append_assoc}
 use Rattle.cx_arrival.specs.Stands.{AreAt}
 use Rattle.cx_code.specs.declared.disassembly.Line.{Line}
 use Rattle.cx_code.specs.Spelling.{Instruction, IsWellFormed, spelling}
@@ -12,18 +12,14 @@ use Rattle.cx_source.specs.declared.source.Item.{Item}
 use Rattle.cx_source.specs.declared.source.Source.{Source}
 use Rattle.cx_storage.specs.Address.{along}
 use Rattle.cx_storage.specs.Storage.{Storage, span}
-use Rattle.cx_terms.specs.declared.faults.FaultKind.{FaultKind}
 use Rattle.cx_operations.specs.Operations.{base_row}
 use Rattle.cx_operations.specs.declared.operations.Operation.{Operation}
-use Rattle.cx_operations.specs.declared.operations.Operation.TheVariants as operation
-use Rattle.cx_operations.specs.declared.operations.Directive.TheVariants as directive
-use Rattle.cx_operands.specs.Bases.{Bases, Using, ended, held, none_in_use}
+use Rattle.cx_operands.specs.Bases.{Bases, none_in_use}
 use Rattle.cx_operands.specs.Context.{Context}
-use Rattle.cx_operands.specs.Directives.{bases_behind, bases_behind_drop, bases_behind_using, drop_in, using_in}
 use Rattle.cx_operands.specs.Forms.{resolved}
-use Rattle.cx_second.specs.SecondFaults.{bases_after, bases_by}
-use Rattle.cx_second.specs.Statements.{Stated, operation_of}
-use Rattle.cx_second.specs.Whole.{Whole, directive_context, whole_of}
+use Rattle.cx_second.specs.SecondFaults.{bases_after}
+use Rattle.cx_second.specs.Statements.{Stated}
+use Rattle.cx_second.specs.Whole.{Whole, whole_of}
 use Rattle.cx_asm.specs.Facts.Bases.{after_sixteen}
 use Rattle.cx_command_arrival.specs.CodeInStorage.{CodeIsLoaded}
 use Rattle.cx_command_arrival.specs.InStorage.{CodeIsUnraised, IsUnraised, LinesAreLoaded, StandsAt, TextsAreMade}

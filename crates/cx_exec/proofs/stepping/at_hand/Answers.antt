@@ -1,4 +1,4 @@
-use Rattle.std.proofs.Common.{rules, arith, ◌≡◌, length, take, slice_index, Some, Ok, ap, ◌∙◌, [], sym, append-nil}
+use Rattle.std.proofs.Common.{rules, arith, ◌≡◌, take, slice_index, Some, Ok, ap, ◌∙◌, [], sym, append-nil}
 use Rattle.cx_storage.specs.Facts.Spans.{span_length}
 use Rattle.cx_code.specs.Table.{length_of, length_of_code}
 use Rattle.cx_code.specs.Reading.{reading}
