@@ -26,7 +26,7 @@ fn words_of<R: Env + AllocGlobal>(rt: &R) -> Result<Vec<String>, Refusal> {
     words.collect(rt.alloc()).map_err(|_| Refusal::Memory)
 }
 
-/// The file that the words name, where they name one.
+/// The file that the words name, where they name one. A `--`, which clap leaves out, is one word too many.
 fn file_in<'a, S: AsStr>(alloc: Global, words: &'a [S]) -> Result<Option<&'a str>, Refusal> {
     let file = Arg::new(alloc, "FILE").action(ArgAction::Set);
     let command = match Command::new(alloc, "cicsedf").arg(file) {
@@ -34,7 +34,14 @@ fn file_in<'a, S: AsStr>(alloc: Global, words: &'a [S]) -> Result<Option<&'a str
         Err(_) => return Err(Refusal::Memory),
     };
     match command.try_get_matches_from(words) {
-        Ok(matches) => Ok(matches.get_str("FILE")),
+        Ok(matches) => {
+            let file = matches.get_str("FILE");
+            let most = if file.is_some() { 2 } else { 1 };
+            if words.len() > most {
+                return Err(Refusal::Usage);
+            }
+            Ok(file)
+        }
         Err(error) if error.kind() == ErrorKind::OutOfMemory => Err(Refusal::Memory),
         Err(_) => Err(Refusal::Usage),
     }

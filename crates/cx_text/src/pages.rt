@@ -74,7 +74,7 @@ impl Page {
 
     /// The lines that are not wholly blank, each with its number, without the blanks at its end, and with LF.
     ///
-    /// An error comes only where memory for them was refused; the text is then as far as it came.
+    /// An error comes only where memory for them was refused; of the text nothing is promised then.
     #[tactic(auto, unfolding(crate::specs::Pages::page_text))]
     pub fn push_text(&self, text: &mut Vec<u8>) -> Result<(), AllocError>
         ensures { OnOk result (text.new.items ≡ text.old.items ++ page_text self.now) }
