@@ -2,111 +2,60 @@
 
 refuse.c, which makes them fail, is compiled and preloaded into the program, so that each try takes the time of one run.
 """
-import functools
-import glob
+import atexit
 import multiprocessing
 import os
+import shlex
 import shutil
-import signal
-import subprocess
 import sys
 import tempfile
 from collections import Counter
 
-FOLDER = os.path.dirname(os.path.abspath(__file__))
-SECONDS = 20  # no run may take longer
+from running import Overdue, program, read, run, wanted
+
 MOST = 2_000  # of more calls not each is refused in turn, unless all are asked for
 FIRST = 500  # how many of them are, behind which a fixed choice is
 
-
 EVERYTHING = "--all" in sys.argv
-GIVEN = [os.path.abspath(word) for word in sys.argv[1:] if word != "--all"]
 
-
-def built(crate, name=None):
-    """A program of a crate, as `rt ci` leaves it."""
-    path = os.path.join(FOLDER, f"../crates/{crate}/out/{name or crate}")
-    if not os.access(path, os.X_OK):
-        sys.exit(f"no program stands at {path}")
-    return path
-
-
-def program(crate="cicsedf"):
-    """The program that was given, or else that of a crate."""
-    return GIVEN[0] if GIVEN else built(crate)
-
-
-os.chdir(FOLDER)
 MADE = tempfile.mkdtemp()
+atexit.register(shutil.rmtree, MADE)
 LIBRARY, COUNT = os.path.join(MADE, "refuse.so"), os.path.join(MADE, "count")
 
 
-def examples():
-    """The names of all examples."""
-    patterns = ("*.script", "cases/*.script", "sources/*.script")
-    return [path.removesuffix(".script") for pattern in patterns for path in sorted(glob.glob(pattern))]
-
-
-def compiled():
-    """Compiles refuse.c; false where there is no C compiler."""
-    compiler = shutil.which(os.environ.get("CC", "cc"))
-    return compiler is not None and subprocess.run([compiler, "-O2", "-shared", "-fPIC", "-o", LIBRARY, "refuse.c"], check=False).returncode == 0
-
-
-@functools.cache
-def files_of(_process):
-    """Two files in memory, for one of the processes that run the program."""
-    return os.memfd_create("out"), os.memfd_create("told")
-
-
-def files():
-    """The files that get what is written on standard output and on standard error."""
-    return files_of(os.getpid())
-
-
-def text(file):
-    """What was written to a file, which is emptied."""
-    size = os.lseek(file, 0, os.SEEK_END)
-    written = os.pread(file, size, 0)
-    os.lseek(file, 0, os.SEEK_SET)
-    os.ftruncate(file, 0)
-    return written.decode(errors="replace")
+def compile_library():
+    """Compiles refuse.c. Where that can't be done, nothing can be refused: the check fails."""
+    name = os.environ.get("CC") or "cc"
+    word, *options = shlex.split(name)
+    compiler = shutil.which(word)
+    if compiler is None:
+        sys.exit(f"FAILED: there is no C compiler {name} for refuse.c: install one, as gcc and libc6-dev")
+    ended = run([compiler, *options, "-O2", "-shared", "-fPIC", "-o", LIBRARY, "refuse.c"])
+    if ended.status != 0 or not os.path.exists(LIBRARY):
+        sys.exit(f"{ended.told.decode(errors='replace')}FAILED: {name} doesn't compile refuse.c: install gcc and libc6-dev, or another that does")
 
 
 class Sweep:
-    """Runs of a command of which one kind of call fails; refuse.c has the settings. `whole` is what is written without a failure,
-    and `given` the file that is its standard input, if it has one."""
+    """Runs of a command of which one kind of call fails; refuse.c has the settings. `wanted` is how it ends without a
+    failure, and `given` what is on its standard input."""
 
-    def __init__(self, name, command, whole, calls, short=0, piece=0, given=None):
-        self.name, self.command, self.whole, self.calls, self.given = name, command, whole, calls, given
+    def __init__(self, name, command, ending, calls, short=0, piece=0, given=b""):
+        self.name, self.command, self.wanted, self.calls, self.given = name, command, ending, calls, given
         settings = {"REFUSE_CALLS": calls, "REFUSE_SHORT": str(short), "REFUSE_PIECE": str(piece)}
         self.environment = {**os.environ, **settings, "LD_PRELOAD": LIBRARY}
         self.count = 0
 
     def run(self, nth, **more):
-        """The status, what was written on standard output and what on standard error, of a run whose call of that number fails."""
-        out, told = files()
-        streams = [(os.POSIX_SPAWN_DUP2, out, 1), (os.POSIX_SPAWN_DUP2, told, 2)]
-        if self.given:
-            streams.append((os.POSIX_SPAWN_OPEN, 0, self.given, os.O_RDONLY, 0))
-        environment = {**self.environment, "REFUSE_NTH": str(nth), **more}
-        child = os.posix_spawn(self.command[0], self.command, environment, file_actions=streams)
-        signal.signal(signal.SIGALRM, lambda *_: os.kill(child, signal.SIGKILL))
-        signal.alarm(SECONDS)
-        _, status = os.waitpid(child, 0)
-        signal.alarm(0)
-        return os.waitstatus_to_exitcode(status), text(out), text(told)
-
-    def is_same(self, ended):
-        """Whether a run was as without a refusal."""
-        return ended == (0, self.whole, "")
+        """How a run ends whose call of that number fails."""
+        return run(self.command, self.given, {**self.environment, "REFUSE_NTH": str(nth), **more})
 
     def is_front_of_lines(self, out):
         """Whether lines of the transcript were written, from its first on."""
-        return self.whole.startswith(out) and (out == "" or out.endswith("\n"))
+        return self.wanted.out.startswith(out) and (out == b"" or out.endswith(b"\n"))
 
     def numbers(self):
-        """The numbers of the calls to be refused: each; of very many the first, a fixed choice of those behind, and the last."""
+        """The numbers of the calls to be refused: each; of very many the first, a fixed choice of those behind, and the last.
+        """
         every = range(1, self.count + 1)
         if EVERYTHING or self.count <= MOST:
             return list(every)
@@ -116,33 +65,34 @@ class Sweep:
         """Counts the calls of a run in which none fails. False where there is none: then refuse.c doesn't reach the program."""
         self.run(0, REFUSE_COUNT=COUNT)
         if os.path.exists(COUNT):
-            with open(COUNT, encoding="ascii") as file:
-                self.count = int(file.read())
+            self.count = int(read(COUNT))
             os.remove(COUNT)
         if not self.count:
             print(f"{self.name}: no call is counted as {self.calls}: refuse.c does not reach {self.command[0]}")
         return self.count > 0
 
     def tried(self, judge):
-        """How many runs ended as which of the judge's words, each call refused in turn, on all processors; prints those that didn't end as they should."""
-        numbers = self.numbers()
+        """How many runs ended as which of the judge's words, each call refused in turn, on all processors; prints those that
+        didn't end as they should."""
+        numbers, words = self.numbers(), []
         with multiprocessing.Pool() as pool:
-            words_given = pool.map(Try(self, judge), numbers, chunksize=16)
-        wrong = [f"{self.name}, {self.calls} {n} of {self.count} FAILED: {word}" for n, word in zip(numbers, words_given) if not word.isalpha()]
+            for n, word in zip(numbers, pool.imap(Try(self, judge), numbers, chunksize=16)):
+                if isinstance(word, Overdue):
+                    sys.exit(f"{self.name}, {self.calls} {n} of {self.count}: {word}")
+                words.append(word)
+        wrong = [f"{self.name}, {self.calls} {n} of {self.count} FAILED: {word}" for n, word in zip(numbers, words) if not word.isalpha()]
         print(*wrong[:20], sep="\n", end="\n" if wrong else "")
-        return Counter(words_given), not wrong
+        return Counter(words), not wrong
 
 
 def of_example(name, calls, short=0, piece=0):
-    """The sweep of an example, whose transcript is what must be written."""
-    with open(f"{name}.transcript", encoding="utf-8") as file:
-        whole = file.read()
-    return Sweep(name, [program(), f"{name}.script"], whole, calls, short, piece)
+    """The sweep of an example."""
+    return Sweep(name, [program(), f"{name}.script"], wanted(name), calls, short, piece)
 
 
 def judge_same(sweep, _nth, ended):
     """The word for runs that must be as without a failure."""
-    return "same" if sweep.is_same(ended) else None
+    return "same" if ended == sweep.wanted else None
 
 
 class Try:
@@ -152,14 +102,15 @@ class Try:
         self.sweep, self.judge = sweep, judge
 
     def __call__(self, nth):
-        status, out, told = ended = self.sweep.run(nth)
-        lines = out.count("\n")
-        return self.judge(self.sweep, nth, ended) or f"status {status}, {lines} lines, {told.strip() or 'nothing told'}"
+        try:
+            ended = self.sweep.run(nth)
+        except Overdue as overdue:
+            return overdue
+        return self.judge(self.sweep, nth, ended) or str(ended)
 
 
 def end(failed, well):
     """Ends all sweeps."""
-    shutil.rmtree(MADE)
     if not failed:
         print(well)
     sys.exit(failed)
