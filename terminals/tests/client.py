@@ -1,0 +1,221 @@
+"""Terminals for the tests: one of their own, which keeps its screen as a 3270 does, and s3270 where it is installed."""
+import shutil
+import socket
+import subprocess
+
+SECONDS = 20  # no answer may take longer
+KEYS = {"ENTER": 0x7D, "CLEAR": 0x6D, "PA1": 0x6C, "PA2": 0x6E, "PA3": 0x6B, "SYSREQ": 0x01}
+KEYS |= {f"PF{at}": code for at, code in enumerate(bytes.fromhex("F1F2F3F4F5F6F7F8F97A7B7CC1C2C3C4C5C6C7C8C94A4B4C"), 1)}
+SHORT = {"CLEAR", "PA1", "PA2", "PA3"}
+SIZE = 1920
+
+
+def six_bits(value):
+    """The code of six bits: a letter or a digit where there is one, else the bits behind 01."""
+    is_graphic = 0x30 <= value <= 0x39 or 1 <= value & 15 <= 9 and value != 0x21
+    return value | (0xC0 if is_graphic else 0x40)
+
+
+ADDRESSES = {bytes([six_bits(at >> 6), six_bits(at & 63)]): at for at in range(SIZE)}
+CODES = {at: code for code, at in ADDRESSES.items()}
+
+
+class RawTerminal:
+    """A terminal over a socket: its characters are their codes, and null where none is."""
+
+    def __init__(self, port, kind="IBM-3279-2-E", buffer=None):
+        self.socket = socket.socket()
+        if buffer:
+            self.socket.setsockopt(socket.SOL_SOCKET, socket.SO_RCVBUF, buffer)
+        self.socket.settimeout(SECONDS)
+        self.socket.connect(("127.0.0.1", port))
+        self.kind, self.raw, self.told = kind, b"", b""
+        self.codes, self.attributes, self.modified, self.cursor = bytearray(SIZE), {}, set(), 0
+        self.is_locked, self.has_rung, self.writes = True, False, 0
+
+    def begin(self):
+        """Negotiates, up to the first screen."""
+        return self.wait()
+
+    def close(self):
+        self.socket.close()
+
+    # ---- what comes
+
+    def need(self, count):
+        """The next bytes that come."""
+        while len(self.raw) < count:
+            data = self.socket.recv(65536)
+            if not data:
+                raise EOFError(f"closed, behind {self.told!r}")
+            self.raw += data
+        taken, self.raw = self.raw[:count], self.raw[count:]
+        return taken
+
+    def answer(self, verb, option):
+        """Agrees to what a 3270 terminal agrees to."""
+        if verb in (0xFD, 0xFB):
+            self.socket.sendall(bytes([0xFF, 0xFB if verb == 0xFD else 0xFD, option]))
+
+    def next_record(self):
+        """The next record; commands of telnet in front of it are answered."""
+        record = b""
+        while True:
+            byte = self.need(1)
+            if byte != b"\xFF":
+                record += byte
+                self.told = record
+                continue
+            command = self.need(1)[0]
+            if command == 0xFF:
+                record += b"\xFF"
+            elif command == 0xEF:
+                return record
+            elif command == 0xFA:
+                assert self.need(4) == b"\x18\x01\xFF\xF0"
+                self.socket.sendall(b"\xFF\xFA\x18\x00" + self.kind.encode() + b"\xFF\xF0")
+            else:
+                self.answer(command, self.need(1)[0])
+
+    def take_screen(self):
+        """Takes a record, which must be an Erase/Write."""
+        record = self.next_record()
+        assert record[0] == 0xF5 and record[1] in (0xC3, 0xC7), record[:2].hex()
+        self.codes, self.attributes, self.modified, self.cursor = bytearray(SIZE), {}, set(), 0
+        self.is_locked, self.has_rung = False, record[1] == 0xC7
+        self.writes += 1
+        at, position = 2, 0
+        while at < len(record):
+            if record[at] == 0x11:
+                position, at = ADDRESSES[record[at + 1 : at + 3]], at + 3
+            elif record[at] == 0x13:
+                self.cursor, at = position, at + 1
+            elif record[at] == 0x1D:
+                self.attributes[position], self.codes[position] = record[at + 1], 0
+                position, at = (position + 1) % SIZE, at + 2
+            else:
+                self.codes[position], position, at = record[at], (position + 1) % SIZE, at + 1
+
+    def wait(self):
+        """Waits for the unlocked keyboard."""
+        while self.is_locked:
+            self.take_screen()
+        return self
+
+    def wait_painted(self):
+        """Waits for a screen that no key asked for."""
+        self.take_screen()
+        return self
+
+    def rows(self):
+        text = self.codes.replace(b"\0", b"\x40").decode("cp037")
+        return [text[at : at + 80].rstrip() for at in range(0, SIZE, 80)]
+
+    # ---- what is typed
+
+    def field(self, position):
+        """The attribute's position of the field that a position is in; None on an unformatted screen."""
+        if not self.attributes:
+            return None
+        before = [at for at in self.attributes if at <= position]
+        return max(before or self.attributes)
+
+    def move(self, row, column):
+        """Puts the cursor to a row and a column, from 1."""
+        self.cursor = (row - 1) * 80 + column - 1
+        return self
+
+    def type(self, text):
+        for code in text.encode("cp037"):
+            field = self.field(self.cursor)
+            is_protected = field is not None and self.attributes[field] & 0x20
+            assert self.cursor not in self.attributes and not is_protected, "a protected field"
+            self.codes[self.cursor] = code
+            self.modified.add(field)
+            self.cursor = (self.cursor + 1) % SIZE
+        return self
+
+    def data(self):
+        """What is sent behind the cursor's address."""
+        if not self.attributes:
+            return bytes(self.codes).replace(b"\0", b"")
+        out = b""
+        for field in sorted(self.modified):
+            end = next((at for at in range(field + 1, field + SIZE) if at % SIZE in self.attributes), field + SIZE)
+            codes = bytes(self.codes[at % SIZE] for at in range(field + 1, end))
+            out += b"\x11" + CODES[(field + 1) % SIZE] + codes.replace(b"\0", b"")
+        return out
+
+    def send(self, record):
+        self.socket.sendall(record.replace(b"\xFF", b"\xFF\xFF") + b"\xFF\xEF")
+        self.is_locked = True
+
+    def press(self, key="ENTER"):
+        """Presses a key, without waiting for the answer."""
+        if key == "SYSREQ":
+            self.send(bytes.fromhex("016C6102"))
+        else:
+            self.send(bytes([KEYS[key]]) + (b"" if key in SHORT else CODES[self.cursor] + self.data()))
+        return self
+
+    def enter(self, text="", key="ENTER"):
+        """Types a text, presses a key, and waits for the answer."""
+        return self.type(text).press(key).wait()
+
+
+class S3270:
+    """The same terminal as s3270 has it."""
+
+    def __init__(self, port, kind="IBM-3279-2-E"):
+        kind, _, lu = kind.partition("@")
+        model = [kind.removeprefix("IBM-").removesuffix("-E")] if kind != "IBM-DYNAMIC" else ["3279-5", "-oversize", "150x50"]
+        host = f"{lu}@127.0.0.1:{port}" if lu else f"127.0.0.1:{port}"
+        command = ["s3270", "-model", *model, host]
+        self.process = subprocess.Popen(command, stdin=subprocess.PIPE, stdout=subprocess.PIPE, text=True)
+
+    def begin(self):
+        return self.wait()
+
+    def close(self):
+        self.process.stdin.close()
+        self.process.stdout.close()
+        self.process.wait(SECONDS)
+
+    def do(self, action):
+        """What an action of s3270 writes."""
+        self.process.stdin.write(action + "\n")
+        self.process.stdin.flush()
+        lines = []
+        while (line := self.process.stdout.readline().rstrip("\n")) not in ("ok", "error", ""):
+            lines.append(line)
+        assert line == "ok", f"{action}: {lines}"
+        return [line.removeprefix("data: ") for line in lines if line.startswith("data: ")]
+
+    def wait(self):
+        self.do(f"Wait({SECONDS},Unlock)")
+        return self
+
+    def rows(self):
+        return [row.rstrip() for row in self.do("Ascii1(1,1,24,80)")]
+
+    def move(self, row, column):
+        self.do(f"MoveCursor1({row},{column})")
+        return self
+
+    def type(self, text):
+        if text:
+            quoted = text.replace("\\", "\\\\").replace('"', '\\"')
+            self.do(f'String("{quoted}")')
+        return self
+
+    def press(self, key="ENTER"):
+        action = f"{key[:2]}({key[2:]})" if key[:2] in ("PA", "PF") else key.capitalize() + "()"
+        self.do(action.replace("Sysreq", "SysReq"))
+        return self
+
+    def enter(self, text="", key="ENTER"):
+        return self.type(text).press(key).wait()
+
+
+def kinds_of_terminals():
+    return [RawTerminal, S3270] if shutil.which("s3270") else [RawTerminal]
