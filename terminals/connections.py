@@ -260,11 +260,14 @@ class Service:
             key.data(events)
 
     def farewell(self, text, seconds):
-        """Shows all clients a text, for some seconds or up to a key of each."""
+        """Shows all terminals a text, for some seconds or up to a key of each."""
         for key in list(self.selector.get_map().values()):
             self.selector.unregister(key.fileobj)
         for client in list(self.clients):
-            client.do(client.refuse, text)
+            if client.terminal:
+                client.do(client.refuse, text)
+            else:
+                self.drop(client)
         until = time.monotonic() + seconds
         while self.clients and (left := until - time.monotonic()) > 0:
             self.handle(left)

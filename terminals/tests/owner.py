@@ -24,13 +24,18 @@ def expect_asked(work, *asked):
 
 def with_screen():
     """An owner with a client, which has a terminal."""
-    owner = Owner(["T001"])
+    owner = Owner(["T001", "T002"])
     terminal, work = owner.connect(Screen()), owner.work()
     expect_asked(work, ("* T001 is taken", ""), ("SCREEN T001", BLANK))
     return owner, terminal, work
 
 
-ENTER, PF24 = b"\x7D\x40\x40", b"\x4C\x40\x40"
+ENTER, PF13, PF24 = b"\x7D\x40\x40", b"\xC1\x40\x40", b"\x4C\x40\x40"
+
+
+def entered(text):
+    """ENTER behind a text, on a page with a message."""
+    return ENTER + b"\x11\x40\xC1" + text.encode("cp037")
 
 
 @test
@@ -39,7 +44,7 @@ def a_stop_before_its_key():
     owner, terminal, work = with_screen()
     owner.press(terminal, PF24)
     expect_asked(work, ("EDF T001 ON", "EDF T001 Started"), ("DISPLAY T001", NONE), ("SCREEN T001", BLANK))
-    owner.press(terminal, ENTER + b"\x11\x40\xC1" + "TALK".encode("cp037"))
+    owner.press(terminal, entered("TALK"))
 
     def meanwhile():
         owner.press(terminal, ENTER)
@@ -58,3 +63,41 @@ def a_client_that_is_gone():
     owner.leave(terminal)
     owner.connect(Screen())
     expect_asked(work, ("* T001 is left", ""), ("* T001 is taken", ""), ("SCREEN T001", BLANK))
+
+
+@test
+def turns_between_keys():
+    """Keys without end, each pressed while the one before is answered, don't keep a task from its turns."""
+    owner, terminal, work = with_screen()
+    other = owner.connect(Screen())
+    expect_asked(work, ("* T002 is taken", ""), ("SCREEN T002", ["SCREEN T002"]))
+
+    def meanwhile():
+        owner.press(other, PF13)
+        return ["SCREEN T002"]
+
+    owner.press(terminal, entered("TALK"))
+    owner.press(other, PF13)
+    again = [("SCREEN T002", meanwhile), ("TURN T001", "TURN T001 Performed NORMAL")] * 3
+    expect_asked(work, ("KEY T001 ENTER TALK", "KEY T001 Attached"), *again, ("SCREEN T002", ["SCREEN T002"]),
+                 ("TURN T001", "TURN T001 Ended"), ("SCREEN T001", BLANK))
+
+
+@test
+def a_stop_that_nobody_saw():
+    """The task of a terminal whose client is gone is stopped; EDF is ended from another terminal, and the task goes on."""
+    owner, terminal, work = with_screen()
+    owner.press(terminal, PF24)
+    expect_asked(work, ("EDF T001 ON", "EDF T001 Started"), ("DISPLAY T001", NONE), ("SCREEN T001", BLANK))
+    owner.press(terminal, entered("TALK"))
+
+    def leaves():
+        owner.leave(terminal)
+        return "TURN T001 AtCommand"
+
+    expect_asked(work, ("KEY T001 ENTER TALK", "KEY T001 Attached"), ("TURN T001", leaves), ("* T001 is left", ""),
+                 ("TURN T001", "TURN T001 Held"))
+    other = owner.connect(Screen())
+    expect_asked(work, ("* T002 is taken", ""), ("SCREEN T002", ["SCREEN T002"]))
+    owner.press(other, entered("CEDF T001 OFF"))
+    expect_asked(work, ("EDF T001 OFF", "EDF T001 Closed"), ("SCREEN T002", ["SCREEN T002"]), ("TURN T001", "TURN T001 Waiting"))
