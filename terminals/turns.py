@@ -9,7 +9,7 @@ from enum import Enum
 from functools import partial
 
 from data_stream import BLANK, TEXT, Painting, Refused, free_rows, key_of
-from edf import Session
+from edf import Session, alterations
 from region import Answer, Request
 
 REST = None
@@ -27,6 +27,7 @@ LEAVES_STOP = {"ENTER", "PF3", "PF4", "PF12"}  # keys behind which a turn tells 
 TOLD = {"AlreadyHeldInput": "AN INPUT IS HELD ALREADY", "NoSuchTransaction": "NO SUCH TRANSACTION",
         "NoStorage": "NO STORAGE FOR A TASK"}
 EDF_TOLD = {"Started": "IS ON", "AlreadyOn": "IS ON ALREADY", "Closed": "IS OFF", "NotOn": "IS OFF ALREADY"}
+TAKEN = "ALTERED. THE PAGE SHOWS WHAT WAS TYPED UNTIL THE NEXT STOP"
 
 
 class State(Enum):
@@ -170,8 +171,7 @@ class Owner:
         text = text if self.is_mixed else text.upper()
         words = text.split()
         if terminal.edf.is_stopped:
-            yield from self.key(terminal, key, text)
-            yield from self.take_key(terminal, key)
+            yield from self.give_edf(terminal, key, text, alterations(texts) if key == "ENTER" else [])
         elif key == "ENTER" and words[:1] == ["CEDF"] and not terminal.has_task:
             yield from self.cedf(terminal, words[1:])
         else:
@@ -230,6 +230,14 @@ class Owner:
         else:
             yield from self.paint(terminal, "CEDF, A TERMINAL OR NONE, ON OR OFF", alarm=True)
 
+    def give_edf(self, terminal, key, text, altered):
+        """A key to a stopped task, or what was typed over its display."""
+        if altered:
+            yield from self.alter(terminal, altered)
+        else:
+            yield from self.key(terminal, key, text)
+            yield from self.take_key(terminal, key)
+
     def take_key(self, terminal, key):
         """EDF took a key."""
         terminal.edf.press(key, terminal.has_task)
@@ -241,6 +249,21 @@ class Owner:
             terminal.state = State.RUNNING
         else:
             yield from self.paint(terminal)
+
+    def alter(self, terminal, altered):
+        """Asks each alteration, up to one that is refused."""
+        told = TAKEN
+        for alteration in altered:
+            answer = yield Request(f"ALTER {terminal.name} {alteration.asked}")
+            if not answer.endswith(" Altered"):
+                told = answer.upper()
+                break
+            self.stir(terminal)
+            terminal.edf.take(alteration)
+            if alteration.asked == "NOP":
+                terminal.edf.is_stopped, terminal.state = False, State.RUNNING
+        if terminal.state is not State.RUNNING:
+            yield from self.paint(terminal, told)
 
     # ---- screens
 
@@ -255,7 +278,7 @@ class Owner:
                 message = STATES_TOLD.get(terminal.state, greeting)
             terminal.painting = Painting(rows, free_rows(rows), message or "")
         else:
-            terminal.painting = terminal.edf.painting(rows, message or "")
+            terminal.painting = terminal.edf.painting(rows, terminal.has_task, message or "")
         if terminal.client is not None:
             terminal.client.show(terminal.painting.orders(alarm))
 

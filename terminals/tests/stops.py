@@ -76,21 +76,90 @@ def edf_is_begun_and_ended():
         expect_page(first.enter("me"), {1: "ME", 24: " WAITING"})
 
 
+TAKEN = " ALTERED. THE PAGE SHOWS WHAT WAS TYPED UNTIL THE NEXT STOP"
+
+
+@test_with_each
+def what_is_typed_over_a_display(make):
+    with Session(TWO) as session:
+        terminal = session.terminal(make)
+        terminal.enter("cedf")
+        page = terminal.enter("two").rows()
+        expect("registers", page[15], "R04 00000000 00000000 00000000 00000000")
+        page[15], page[22] = "R04 00000000 0000ABCD 00000000 00000000", TAKEN
+        expect("screen", terminal.move(16, 18).enter("abcd").rows(), page)
+        # the page that was shown stays altered; then bytes of storage: 200071 to 200073, and 2000AF
+        terminal.enter("", "PF5")
+        terminal.move(3, 11).type("c1D2").move(3, 15).type("5b")
+        rows = terminal.move(6, 42).enter("01").rows()
+        storage = "200070  00C1D25B 00000000 00000000 00000000  .AK$............"
+        expect("storage", (rows[2], rows[23]), (storage, TAKEN))
+        expect("storage", rows[5], "2000A0  00000000 00000000 00000000 00000001  ................")
+        expect("registers", terminal.enter("", "PF5").rows()[15], page[15])
+        # the next stop shows what came of it, and the display before what it showed
+        rows = terminal.enter().rows()
+        expect("stop", (rows[1], rows[15]), ("STATUS COMMAND EXECUTION COMPLETE", page[15]))
+        expect("storage", terminal.enter("", "PF5").rows()[2], storage)
+        expect("older", terminal.enter("", "PF10").rows()[15], "R04 00000000 00000000 00000000 00000000")
+        asked = [line for line in session.lines() if line.startswith("ALTER")]
+        # what the program does to an altered register is shown at the stop behind it: the address of RETURN's block
+        terminal.enter()
+        terminal.enter("", "PF12")
+        terminal.enter()
+        terminal.enter("two")
+        terminal.enter()
+        expect("typed", terminal.move(15, 5).enter("ffffffff").rows()[14][:12], "R00 FFFFFFFF")
+        expect("made", terminal.enter().rows()[14][:12], "R00 0001002C")
+        asked_of = "REG 5 0000ABCD", "BYTE 200071 C1", "BYTE 200072 D2", "BYTE 200073 5B", "BYTE 2000AF 01"
+        expect("alterations", asked, [f"ALTER T001 {alteration}" for alteration in asked_of])
+
+
+@test_with_each
+def a_command_is_dropped(make):
+    with Session(TWO) as session:
+        terminal = session.terminal(make)
+        terminal.enter("cedf")
+        expect("command", terminal.enter("two").rows()[2], "COMMAND SUSPEND")
+        rows = terminal.move(3, 9).enter("halt").rows()
+        expect("refused", (rows[2], rows[22]), ("COMMAND SUSPEND", " NOTHING BUT NOOP MAY BE TYPED OVER A COMMAND"))
+        rows = terminal.move(15, 5).type("xyz").move(3, 9).enter("noop").rows()
+        expect("refused", (rows[14][:12], rows[22]), ("R00 00010028", " NOT EIGHT HEXADECIMAL DIGITS: XYZ10028"))
+        terminal.move(15, 23).type("00000007").move(3, 9).enter("noop")
+        expect("next", terminal.rows()[1:3], ["STATUS ABOUT TO EXECUTE COMMAND", "COMMAND RETURN"])
+        expect("registers", terminal.rows()[14][22:], "00000007 00010000")
+        terminal.enter("", "PF5")
+        rows = terminal.move(2, 9).enter("8g").rows()
+        expect("refused", (rows[1][:16], rows[23]), ("200060  8001002C", " NOT A BYTE IN HEXADECIMAL: 8G"))
+        asked = [line for line in session.lines() if line.startswith("ALTER")]
+        expect("alterations", asked, ["ALTER T001 REG 2 00000007", "ALTER T001 NOP"])
+
+
+@test
+def only_the_newest_display_is_typed_over():
+    with Session(TWO) as session:
+        terminal = session.terminal().enter("cedf").enter("two")
+        expect("fields", sum(attribute == 0xC8 for attribute in terminal.attributes.values()), 18)
+        expect_input(terminal.enter("", "PF6"), None)
+        terminal.enter("", "PF6").enter()
+        # after the command: it can't be dropped any more, and the display before takes no digits, but what EDF is told
+        rows = terminal.move(3, 9).enter("noop").rows()
+        expect("refused", rows[22], " ALTER T001 NOTDUE")
+        expect_input(terminal.enter("", "PF10"), [21 * 80])
+        expect_input(terminal.enter("", "PF5"), [23 * 80])
+        # digits that were deleted; what is typed is dropped by another key than ENTER
+        terminal.enter("", "PF5").enter("", "PF10").enter().enter("", "PF5")
+        first = 80 + 8
+        terminal.codes[first], terminal.modified = 0, {first - 1}
+        expect("refused", terminal.enter().rows()[23], " DIGITS MAY BE TYPED OVER, NOT DELETED")
+        expect("storage", terminal.move(3, 9).enter("FF", "PF5").rows()[1], "STATUS ABOUT TO EXECUTE COMMAND")
+        expect_input(terminal.enter("", "PF12"), [21 * 80])
+        expect("alterations", [line for line in session.lines() if line.startswith("ALTER")], ["ALTER T001 NOP"])
+
+
 def expect_input(terminal, wanted):
     """Where may be typed; None for an unformatted page."""
     found = [at + 1 for at, attribute in sorted(terminal.attributes.items()) if attribute == 0xC8]
     expect("fields", found if terminal.attributes else None, wanted)
-
-
-@test
-def where_words_for_edf_are_typed():
-    """On the main page in rows 22 and 23, on the storage page in row 24, on the user's page as on any."""
-    with Session(TWO) as session:
-        terminal = session.terminal().enter("cedf").enter("two")
-        expect_input(terminal, [21 * 80])
-        expect_input(terminal.enter("", "PF6"), None)
-        expect_input(terminal.enter("", "PF5"), [23 * 80])
-        terminal.enter("", "PF12")
 
 
 @test
@@ -105,5 +174,5 @@ def ten_displays_are_kept():
         storage = terminal.enter("", "PF5").rows()
         expect("the oldest", terminal.enter("", "PF10").rows(), storage)
         expect_input(terminal, [23 * 80])
-        expect_input(terminal.enter(), [21 * 80])
+        expect("fields", sum(attribute == 0xC8 for attribute in terminal.enter().attributes.values()), 18)
         terminal.enter("", "PF12")
