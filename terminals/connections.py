@@ -15,7 +15,7 @@ IS, SEND = 0, 1  # in a suboption
 AGREED = {(WILL, END_OF_RECORDS), (DO, END_OF_RECORDS), (WILL, BINARY), (DO, BINARY)}
 NEEDED = {TERMINAL_TYPE, END_OF_RECORDS, BINARY}
 REFUSAL = {WILL: DONT, DO: WONT}
-TYPES = re.compile(rb"(?:IBM-327[89]-[2-5](?:-E)?|IBM-DYNAMIC)(?:@[!-~]+)?", re.IGNORECASE)
+TYPES = re.compile(rb"(?:IBM-327[89]-[2-5](?:-E)?|IBM-DYNAMIC)(?:@(?P<lu>[!-~]+))?", re.IGNORECASE)
 PIECES = re.compile(
     rb"(?P<data>[^\xFF]+)|\xFF(?:(?P<same>\xFF)|(?P<end>\xEF)|(?P<verb>[\xFB-\xFE])(?P<option>.)|"
     rb"\xFA(?P<suboption>(?:[^\xFF]|\xFF[^\xF0])*)\xFF\xF0|[^\xFF\xEF\xFA-\xFE])", re.DOTALL)
@@ -35,8 +35,8 @@ class Client:
     def __init__(self, service, connection):
         self.service, self.socket = service, connection
         self.raw, self.record, self.unsent = bytearray(), bytearray(), bytearray([IAC, DO, TERMINAL_TYPE])
-        self.agreed, self.terminal = set(), None
-        self.is_asked = self.is_known = self.is_busy = self.is_closing = self.is_refused = False
+        self.agreed, self.lu, self.terminal = set(), None, None
+        self.is_asked = self.is_busy = self.is_closing = self.is_refused = False
         self.deadline = time.monotonic() + TO_NEGOTIATE
 
     def handle(self, events):
@@ -139,10 +139,11 @@ class Client:
             self.send(bytes([IAC, REFUSAL[verb], option]))
 
     def take_type(self, suboption):
-        if suboption[:2] != bytes([TERMINAL_TYPE, IS]) or self.is_known:
+        if suboption[:2] != bytes([TERMINAL_TYPE, IS]) or self.lu is not None:
             return
-        if TYPES.fullmatch(suboption[2:]):
-            self.is_known = True
+        found = TYPES.fullmatch(suboption[2:])
+        if found:
+            self.lu = (found["lu"] or b"").decode().upper()
             self.send(bytes([IAC, DO, END_OF_RECORDS, IAC, WILL, END_OF_RECORDS, IAC, DO, BINARY, IAC, WILL, BINARY]))
             self.begin()
         else:
@@ -150,13 +151,13 @@ class Client:
 
     def begin(self):
         """Takes a terminal when all is agreed on."""
-        if self.agreed != AGREED or not self.is_known or self.terminal:
+        if self.agreed != AGREED or self.lu is None or self.terminal:
             return
-        self.terminal = self.service.owner.connect(self)
+        self.terminal = self.service.owner.connect(self, self.lu)
         if self.terminal:
             self.is_busy, self.deadline = True, None
         else:
-            self.refuse("ALL TERMINALS ARE TAKEN")
+            self.refuse(f"TERMINAL {self.lu} IS TAKEN, OR THERE IS NONE OF THIS NAME" if self.lu else "ALL TERMINALS ARE TAKEN")
 
 
 class Service:

@@ -77,9 +77,9 @@ class Owner:
 
     # ---- what clients ask
 
-    def connect(self, client):
-        """Gives a client a free terminal, if there is one: those whose task another left come last."""
-        free = [terminal for terminal in self.terminals if terminal.client is None]
+    def connect(self, client, lu=""):
+        """Gives a client the terminal of a name, or a free one, if there is: those whose task another left come last."""
+        free = [terminal for terminal in self.terminals if terminal.client is None and lu in ("", terminal.name)]
         if not free:
             return None
         terminal = min(free, key=lambda it: it.has_task)

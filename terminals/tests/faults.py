@@ -79,9 +79,12 @@ def limits_of_a_connection():
             connection.sendall(b"\xFF\xFA\x18" + b"x" * 257)
             expect("the end", rest(connection), b"\xFF\xFD\x18")
         begun = time.monotonic()
-        idle = [connected(session) for _ in range(16)]
+        idle = [connected(session) for _ in range(15)]
         for connection in idle:
             exchange(connection, "", "FF FD 18")
+        unread = RawTerminal(session.port, "IBM-DYNAMIC@NONE")
+        expect_page(unread.begin(), {24: " TERMINAL NONE IS TAKEN, OR THERE IS NONE OF THIS NAME"})
+        idle.append(unread.socket)
         with connected(session) as connection:
             expect("the end", rest(connection), b"")
         for connection in idle:

@@ -2,8 +2,9 @@
 import concurrent.futures
 import time
 
+from tests.client import RawTerminal
 from tests.programs import LOOP, RESOURCE, RETURN, TALK
-from tests.session import Session, connected, expect, expect_page, expect_refusal, test
+from tests.session import Session, connected, expect, expect_page, expect_refusal, test, test_with_each
 from tests.stops import XEDF
 
 
@@ -36,15 +37,25 @@ def converse(terminal, number):
 
 @test
 def dropped_and_taken_back():
-    """A terminal whose client is gone keeps its task; it is given out last."""
+    """A terminal whose client is gone keeps its task; it is given out last, or by its name."""
     with Session("TERMINAL A1\nTERMINAL B2\n", TALK) as session:
         first = session.terminal()
         first.enter("talk").enter("of cabbages").type("and kings").press().close()
         second = session.terminal()
         expect_page(second, {24: " TERMINAL B2"})
-        third = session.terminal()
+        third = session.terminal(RawTerminal, "IBM-3278-2@a1")
         expect("screen", third.rows()[23], " WAITING")
+        expect_refusal(session, "IBM-3278-2@B2", " TERMINAL B2 IS TAKEN, OR THERE IS NONE OF THIS NAME")
         expect_page(third.enter("and queens"), {1: "AND QUEENS", 24: " WAITING"})
+
+
+@test_with_each
+def a_terminal_by_its_name(make):
+    with Session(TALK) as session:
+        expect_page(session.terminal(make, "IBM-3279-2-E@T007"), {24: " TERMINAL T007"})
+        expect_page(session.terminal(make), {24: " TERMINAL T001"})
+        large = session.terminal(make, "IBM-DYNAMIC@T003")
+        expect_page(large.enter("talk " + "y" * 1600).enter("on"), {1: "ON", 24: " WAITING"})
 
 
 @test
