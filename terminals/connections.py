@@ -4,6 +4,7 @@ import selectors
 import signal
 import socket
 import time
+from enum import Enum
 
 from data_stream import BLANK, Painting, free_rows
 from region import Fault
@@ -29,6 +30,15 @@ class Cut(Exception):
     """The connection is to be closed at once."""
 
 
+class Phase(Enum):
+    """How far a connection is."""
+
+    NEGOTIATING = "it has no terminal yet"
+    SERVED = "it has a terminal"
+    REFUSED = "it is shown why it has none, or no longer: any key closes"
+    CLOSING = "nothing of it is read any more"
+
+
 class Client:
     """A connection: it negotiates, then its records are its operator's keys, each taken when the one before is answered."""
 
@@ -36,7 +46,8 @@ class Client:
         self.service, self.socket = service, connection
         self.raw, self.record, self.unsent = bytearray(), bytearray(), bytearray([IAC, DO, TERMINAL_TYPE])
         self.agreed, self.lu, self.terminal = set(), None, None
-        self.is_asked = self.is_busy = self.is_closing = self.is_refused = False
+        self.phase = Phase.NEGOTIATING
+        self.is_asked = self.is_busy = False  # for its type; its last key isn't answered
         self.deadline = time.monotonic() + TO_NEGOTIATE
 
     def handle(self, events):
@@ -68,7 +79,7 @@ class Client:
                 del self.unsent[: self.socket.send(self.unsent)]
         except BlockingIOError:
             return
-        if self.is_closing:
+        if self.phase is Phase.CLOSING:
             self.socket.shutdown(socket.SHUT_WR)
 
     def show(self, orders):
@@ -79,12 +90,12 @@ class Client:
 
     def close_with(self, data):
         """Tells what isn't a 3270 terminal why it is none, and closes when that is sent."""
-        self.is_closing, self.deadline = True, time.monotonic() + TO_CLOSE
+        self.phase, self.deadline = Phase.CLOSING, time.monotonic() + TO_CLOSE
         self.send(data)
 
     def refuse(self, text):
         """Shows why there is no terminal. Any key closes, or that it has been read."""
-        self.is_refused, self.is_busy, self.deadline = True, False, time.monotonic() + TO_READ
+        self.phase, self.is_busy, self.deadline = Phase.REFUSED, False, time.monotonic() + TO_READ
         self.send(Painting(BLANK, free_rows(BLANK), text).orders() + bytes([IAC, END_OF_RECORD]))
 
     # ---- what comes in
@@ -93,13 +104,13 @@ class Client:
         data = self.socket.recv(4096)
         if not data:
             raise Cut
-        if not self.is_closing:
+        if self.phase is not Phase.CLOSING:
             self.raw += data
             self.parse()
 
     def parse(self):
         """Takes pieces up to the end of a record."""
-        while not self.is_busy and not self.is_closing and (piece := PIECES.match(self.raw)):
+        while not self.is_busy and self.phase is not Phase.CLOSING and (piece := PIECES.match(self.raw)):
             self.take(piece)
             del self.raw[: piece.end()]
         if not self.is_busy and len(self.raw) > LONGEST_SUBOPTION + 3:
@@ -114,14 +125,17 @@ class Client:
             self.take_option(piece["verb"][0], piece["option"][0])
         elif piece["suboption"]:
             self.take_type(piece["suboption"])
-        elif piece["end"] and self.is_refused:
-            raise Cut
         elif piece["end"]:
             record = bytes(self.record)
             self.record.clear()
-            if self.terminal and record:
-                self.is_busy = True
-                self.service.owner.press(self.terminal, record)
+            self.take_record(record)
+
+    def take_record(self, record):
+        if self.phase is Phase.REFUSED:
+            raise Cut
+        if self.phase is Phase.SERVED and record:
+            self.is_busy = True
+            self.service.owner.press(self.terminal, record)
 
     # ---- negotiation
 
@@ -151,11 +165,11 @@ class Client:
 
     def begin(self):
         """Takes a terminal when all is agreed on."""
-        if self.agreed != AGREED or self.lu is None or self.terminal:
+        if self.agreed != AGREED or self.lu is None or self.phase is not Phase.NEGOTIATING:
             return
         self.terminal = self.service.owner.connect(self, self.lu)
         if self.terminal:
-            self.is_busy, self.deadline = True, None
+            self.phase, self.is_busy, self.deadline = Phase.SERVED, True, None
         else:
             self.refuse(f"TERMINAL {self.lu} IS TAKEN, OR THERE IS NONE OF THIS NAME" if self.lu else "ALL TERMINALS ARE TAKEN")
 
@@ -265,7 +279,7 @@ class Service:
         for key in list(self.selector.get_map().values()):
             self.selector.unregister(key.fileobj)
         for client in list(self.clients):
-            if client.terminal:
+            if client.phase is Phase.SERVED:
                 client.do(client.refuse, text)
             else:
                 self.drop(client)

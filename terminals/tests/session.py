@@ -144,9 +144,10 @@ def rest(connection):
 
 
 def expect_refusal(session, kind, text):
-    """A terminal that isn't given is told why; any key closes."""
+    """A terminal that isn't given is told why, once; any key closes."""
     late = RawTerminal(session.port, kind)
     expect_page(late.begin(), {24: text})
+    late.socket.sendall(b"\xFF\xFB\x19")  # agreed to again
     begun = time.monotonic()
     expect("the end", rest(late.press("PF3").socket), b"")
     assert time.monotonic() - begun < 5, "a key doesn't close"
