@@ -268,19 +268,24 @@ class Owner:
     # ---- screens
 
     def paint(self, terminal, message=None, greeting="", alarm=False):
-        """Paints what a terminal shows. Without a message its state is told, or the greeting, where two rows are free."""
-        if terminal.client is None or terminal.is_owed:
+        """Paints what a terminal shows, unless a key comes meanwhile, which was pressed on the page before.
+
+        Without a message its state is told, or the greeting, where two rows are free.
+        """
+        client = terminal.client
+        if client is None or terminal.is_owed:
             return
         rows = yield from self.display(terminal)
         if rows is None:
             rows = yield from self.screen(terminal)
             if message is None and (len(free_rows(rows)) > 1 or terminal.state is State.PAUSED):
                 message = STATES_TOLD.get(terminal.state, greeting)
-            terminal.painting = Painting(rows, free_rows(rows), message or "")
+            painting = Painting(rows, free_rows(rows), message or "")
         else:
-            terminal.painting = terminal.edf.painting(rows, terminal.has_task, message or "")
-        if terminal.client is not None:
-            terminal.client.show(terminal.painting.orders(alarm))
+            painting = terminal.edf.painting(rows, terminal.has_task, message or "")
+        if terminal.client is client and not terminal.is_owed:
+            terminal.painting = painting
+            client.show(painting.orders(alarm))
 
     def screen(self, terminal):
         """The terminal's screen; a blank one behind CLEAR."""

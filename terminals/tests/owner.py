@@ -4,10 +4,13 @@ from turns import Owner
 
 
 class Screen:
-    """A client that has a screen alone."""
+    """A client that has a screen alone, which keeps how often it was painted."""
+
+    def __init__(self):
+        self.paintings = 0
 
     def show(self, orders):
-        pass
+        self.paintings += 1
 
 
 BLANK, NONE = ["SCREEN T001"], ["DISPLAY T001 NONE"]  # answers
@@ -63,6 +66,30 @@ def a_client_that_is_gone():
     owner.leave(terminal)
     owner.connect(Screen())
     expect_asked(work, ("* T001 is left", ""), ("* T001 is taken", ""), ("SCREEN T001", BLANK))
+
+
+@test
+def a_key_while_a_page_is_painted():
+    """A page that nobody asked for isn't shown where a key comes meanwhile: that was pressed on the page before."""
+    owner, terminal, work = with_screen()
+    owner.press(terminal, entered("TALK"))
+    expect_asked(work, ("KEY T001 ENTER TALK", "KEY T001 Attached"), ("TURN T001", "TURN T001 Waiting"), ("SCREEN T001", BLANK))
+    other = owner.connect(Screen())
+    expect_asked(work, ("* T002 is taken", ""), ("SCREEN T002", ["SCREEN T002"]))
+
+    def meanwhile():
+        expect("paintings", terminal.client.paintings, 2)
+        owner.press(terminal, entered("MORE"))
+        return ["SCREEN T001", "24|ANOTHER PAGE"]
+
+    def afterwards():
+        expect("paintings", terminal.client.paintings, 2)
+        return "KEY T001 Attached"
+
+    owner.press(other, entered("LETS"))
+    expect_asked(work, ("KEY T002 ENTER LETS", "KEY T002 Attached"), ("TURN T002", "TURN T002 Ended"),
+                 ("SCREEN T002", ["SCREEN T002"]), ("TURN T001", "TURN T001 Ended"), ("SCREEN T001", meanwhile),
+                 ("KEY T001 ENTER MORE", afterwards), ("TURN T001", "TURN T001 Ended"), ("SCREEN T001", BLANK))
 
 
 @test
