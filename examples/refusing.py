@@ -61,15 +61,23 @@ class Sweep:
             return list(every)
         return [n for n in every if n <= FIRST or n * 7919 % 101 < 4 or n == self.count]
 
-    def counted(self):
-        """Counts the calls of a run in which none fails. False where there is none: then refuse.c doesn't reach the program."""
-        self.run(0, REFUSE_COUNT=COUNT)
+    def run_whole(self):
+        """How a run ends in which no call fails; its calls are counted."""
+        ended = self.run(0, REFUSE_COUNT=COUNT)
         if os.path.exists(COUNT):
             self.count = int(read(COUNT))
             os.remove(COUNT)
-        if not self.count:
-            print(f"{self.name}: no call is counted as {self.calls}: refuse.c does not reach {self.command[0]}")
-        return self.count > 0
+        return ended
+
+    def is_whole(self):
+        """Whether the run in which no call fails ends as it should, and calls of it are counted: without any, refuse.c doesn't
+        reach the program."""
+        ended = self.run_whole()
+        if ended != self.wanted:
+            print(f"{self.name}: FAILED without a failure: {ended}")
+        elif not self.count:
+            print(f"{self.name}: FAILED, no call is counted as {self.calls}: refuse.c does not reach {self.command[0]}")
+        return ended == self.wanted and self.count > 0
 
     def tried(self, judge):
         """How many runs ended as which of the judge's words, each call refused in turn, on all processors; prints those that
