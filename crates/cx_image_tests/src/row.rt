@@ -3,6 +3,7 @@ use crate::sections::{Content, section};
 use cx_code::{Line, SpanKind, line_text};
 use cx_image::push_words;
 use std::alloc::{AllocError, Global};
+use std::process::Abort;
 use std::test::Fail;
 
 const LINES: [(u32, Content); 7] = [
@@ -78,20 +79,27 @@ fn the_image_has_what_was_given(rt: HostRuntime) {
     assert!(rt; image.entry == 6 && image.stg_len == 100);
 }
 
-/// No other answer takes the place of a refusal; `examples/refuse-tests` refuses each allocation in turn.
-#[test]
-fn a_refused_growth_is_no_other_answer(rt: HostRuntime) {
+/// The calls over these lines are answered as they should be. An error is want of memory.
+fn expect_answers<R: Abort + AllocGlobal>(rt: &R) -> Result<(), AllocError> {
     let alloc = rt.alloc();
-    let Ok(found) = section(alloc, &LINES, 32, &[24], 0, 80) else {
-        return;
-    };
-    let Some(made) = found else {
+    let Some(made) = section(alloc, &LINES, 32, &[24], 0, 80)? else {
         panic!(rt; "refused");
     };
     assert!(rt; made.image().text.as_slice() == TEXT);
     assert!(rt; made.spans().len() == 7);
-    let Ok(lines) = made.disassembly(alloc) else {
-        return;
-    };
+    let lines = made.disassembly(alloc)?;
     assert!(rt; lines.len() == 7);
+    Ok(())
+}
+
+/// No other answer takes the place of a refusal; `examples/refuse-tests` refuses each allocation in turn.
+#[test]
+fn a_refused_growth_is_no_other_answer(rt: HostRuntime) {
+    let _answer = expect_answers(&rt);
+}
+
+#[test]
+fn ample_memory_does_not_run_out(rt: HostRuntime) -> Result<(), Fail> {
+    expect_answers(&rt)?;
+    Ok(())
 }
