@@ -1,7 +1,8 @@
 //! A script that is read piece by piece.
 
-ghost use Rattle.std.specs.Prelude.{◌≡◌, ◌≤◌, ◌||◌, ◌&&◌, ◌==◌, IfOk, Some, is_err, true, false, length, max};
+ghost use Rattle.std.specs.Prelude.{◌≡◌, ◌≤◌, ◌||◌, ◌&&◌, ◌==◌, IfOk, Some, is_err, true, false, length};
 ghost use Rattle.std.specs.Io.KnownBytes.{ReadConsumes};
+ghost use Rattle.cx_devices.specs.Room.{moved};
 
 use cx_lines::{DeviceFault, ScriptIn};
 
@@ -20,6 +21,7 @@ impl<'a> PieceIn<'a> {
     pub fn new(bytes: &'a [u8], most: usize) -> PieceIn<'a>
         ensures left { ⟦<PieceIn<'a> as ScriptIn>⟧.left result ≡ Some bytes.entry.now }
         ensures failure { ⟦<PieceIn<'a> as ScriptIn>⟧.has_failed result ≡ false }
+        ensures pieces { (result.first ≡ most) × (result.most ≡ most) }
         ensures ends { result.fails ≡ false }
     {
         PieceIn {
@@ -35,14 +37,12 @@ impl<'a> PieceIn<'a> {
     pub fn failing(bytes: &'a [u8], most: usize) -> PieceIn<'a>
         ensures left { ⟦<PieceIn<'a> as ScriptIn>⟧.left result ≡ Some bytes.entry.now }
         ensures failure { ⟦<PieceIn<'a> as ScriptIn>⟧.has_failed result ≡ false }
+        ensures pieces { (result.first ≡ most) × (result.most ≡ most) }
         ensures fails { result.fails ≡ true }
     {
         PieceIn {
-            rest: bytes,
-            first: most,
-            most,
             fails: true,
-            failed: false,
+            ..PieceIn::new(bytes, most)
         }
     }
 
@@ -63,9 +63,10 @@ impl<'a> ScriptIn for PieceIn<'a> {
         ensures bound { IfOk result (λ n. n ≤ length buffer.new) }
         ensures bytes { ReadConsumes (Some self.old.rest.now) (Some self.new.rest.now) result buffer.new }
         ensures failure { self.new.failed ≡ (self.old.failed || is_err result) }
-        ensures piece { IfOk result (λ n. n ≤ max self.old.first 1) }
-        ensures next { IfOk result (λ _. self.new.first ≡ self.old.most) }
         ensures fault { is_err result ≡ (self.old.fails && length self.old.rest.now == 0) }
+        ensures piece { IfOk result (λ n. n ≡ moved self.old.first (length buffer.new) (length self.old.rest.now)) }
+        ensures next { IfOk result (λ _. self.new.first ≡ self.old.most) }
+        ensures kept { (self.new.most ≡ self.old.most) × (self.new.fails ≡ self.old.fails) }
     {
         if self.rest.is_empty() && self.fails {
             self.failed = true;

@@ -1,8 +1,9 @@
 //! A transcript that is written piece by piece.
 
-ghost use Rattle.std.specs.Prelude.{◌≡◌, ◌≤◌, ◌||◌, IfOk, OnErr, Some, [], true, false, length, max};
+ghost use Rattle.std.specs.Prelude.{◌≡◌, ◌≤◌, ◌-◌, ◌||◌, ◌&&◌, ◌==◌, IfOk, Some, [], is_err, true, false, length, nat_lt};
 ghost use Rattle.std.specs.Io.KnownBytes.{WriteAppends};
 ghost use Rattle.cx_lines.specs.Devices.{is_refused};
+ghost use Rattle.cx_devices.specs.Room.{moved};
 
 use cx_lines::{DeviceFault, MemoryOut, ScriptOut};
 
@@ -20,6 +21,8 @@ impl<'a> PieceOut<'a> {
     pub fn new(buffer: &'a mut [u8], most: usize) -> PieceOut<'a>
         ensures written { ⟦<PieceOut<'a> as ScriptOut>⟧.written result ≡ Some [] }
         ensures failure { ⟦<PieceOut<'a> as ScriptOut>⟧.has_failed result ≡ false }
+        ensures room { length result.text.buffer.now - result.text.len ≡ length buffer.entry.now }
+        ensures pieces { result.most ≡ most }
         ensures takes_none { result.fails ≡ false }
     {
         PieceOut {
@@ -33,12 +36,13 @@ impl<'a> PieceOut<'a> {
     pub fn failing(buffer: &'a mut [u8], most: usize) -> PieceOut<'a>
         ensures written { ⟦<PieceOut<'a> as ScriptOut>⟧.written result ≡ Some [] }
         ensures failure { ⟦<PieceOut<'a> as ScriptOut>⟧.has_failed result ≡ false }
+        ensures room { length result.text.buffer.now - result.text.len ≡ length buffer.entry.now }
+        ensures pieces { result.most ≡ most }
         ensures fails { result.fails ≡ true }
     {
         PieceOut {
-            text: MemoryOut::new(buffer),
-            most,
             fails: true,
+            ..PieceOut::new(buffer, most)
         }
     }
 
@@ -59,8 +63,13 @@ impl<'a> ScriptOut for PieceOut<'a> {
         ensures bound { IfOk result (λ n. n ≤ length bytes.now) }
         ensures bytes { WriteAppends (⟦<MemoryOut<'a> as ScriptOut>⟧.written self.old.text) (⟦<MemoryOut<'a> as ScriptOut>⟧.written self.new.text) result bytes.now }
         ensures failure { ⟦<MemoryOut<'a> as ScriptOut>⟧.has_failed self.new.text ≡ (⟦<MemoryOut<'a> as ScriptOut>⟧.has_failed self.old.text || is_refused result bytes.now) }
-        ensures piece { IfOk result (λ n. n ≤ max self.old.most 1) }
-        ensures fault { OnErr result (self.old.fails ≡ true) }
+        ensures fault { let room = length self.old.text.buffer.now - self.old.text.len in
+            is_err result ≡ (self.old.fails && (room == 0 && nat_lt 0 (length bytes.now))) }
+        ensures piece { let room = length self.old.text.buffer.now - self.old.text.len in
+            IfOk result (λ n. n ≡ moved self.old.most (length bytes.now) room) }
+        ensures room { let room = length self.old.text.buffer.now - self.old.text.len in
+            length self.new.text.buffer.now - self.new.text.len ≡ room - moved self.old.most (length bytes.now) room }
+        ensures kept { (self.new.most ≡ self.old.most) × (self.new.fails ≡ self.old.fails) }
     {
         let n = bytes.len().min(self.most.max(1));
         let taken = self.text.write(&bytes[..n])?;
