@@ -82,6 +82,11 @@ def examples():
     return names or sys.exit(f"no example stands in {FOLDER}")
 
 
+def lessons():
+    """The names of the examples that are lessons. They are long, and what they do the others do too: only `run` takes them."""
+    return [path.removesuffix(".script") for path in sorted(glob.glob("lessons/*/*.script"))]
+
+
 def wanted(name):
     """How the run of an example ends: NAME.transcript is written, NAME.stderr is told, and NAME.status is the status; where
     one of the latter two doesn't stand, nothing is told, and the status is 0."""
