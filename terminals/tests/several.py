@@ -38,11 +38,13 @@ def converse(terminal, number):
 @test
 def dropped_and_taken_back():
     """A terminal whose client is gone keeps its task; it is given out last, or by its name."""
-    with Session("TERMINAL A1\nTERMINAL B2\n", TALK) as session:
+    with Session("TERMINAL A1\nTERMINAL B2\nTERMINAL C3\n", TALK) as session:
         first = session.terminal()
         first.enter("talk").enter("of cabbages").type("and kings").press().close()
         second = session.terminal()
         expect_page(second, {24: " TERMINAL B2"})
+        session.terminal(RawTerminal, "IBM-3278-2@A1").close()
+        expect_page(session.terminal(), {24: " TERMINAL C3"})
         third = session.terminal(RawTerminal, "IBM-3278-2@a1")
         expect("screen", third.rows()[23], " WAITING")
         expect_refusal(session, "IBM-3278-2@B2", " TERMINAL B2 IS TAKEN, OR THERE IS NONE OF THIS NAME")

@@ -109,6 +109,7 @@ def what_is_typed_over_a_display(make):
         terminal.enter("two")
         terminal.enter()
         expect("typed", terminal.move(15, 5).enter("ffffffff").rows()[14][:12], "R00 FFFFFFFF")
+        expect("older", terminal.enter("", "PF10").rows()[14][:12], "R00 00010028")
         expect("made", terminal.enter().rows()[14][:12], "R00 0001002C")
         asked_of = "REG 5 0000ABCD", "BYTE 200071 C1", "BYTE 200072 D2", "BYTE 200073 5B", "BYTE 2000AF 01"
         expect("alterations", asked, [f"ALTER T001 {alteration}" for alteration in asked_of])
