@@ -1,1 +1,3 @@
 mod WordLemmas
+mod BackLemmas
+mod ConstantLemmas

@@ -1,4 +1,4 @@
-//! What follows for the loader from the definitions of assembling, on functions that do nothing.
+//! What follows from the definitions of assembling, on functions that do nothing.
 
 ghost use Rattle.std.specs.Prelude.{◌≡◌, ◌≢◌, IsTrue, Ok, length};
 ghost use Rattle.cx_source.specs.declared.source.Source.{Source};
@@ -6,6 +6,8 @@ ghost use Rattle.cx_load.specs.Fault.{IsLowestFault, all_apart, are_inside};
 ghost use Rattle.cx_load.specs.declared.fault.ImageFault.{ImageFault};
 ghost use Rattle.cx_load.specs.declared.fault.ImageFault.TheVariants.{BadLength, Overlap, RelocOutside};
 ghost use Rattle.cx_asm.specs.Assembly.{AssemblyParts, assembly_of, size_of};
+ghost use Rattle.cx_asm_laws.specs.Laws.Back.{ComesBack};
+ghost use Rattle.cx_asm_laws.specs.Laws.Constants.{AcceptedStand};
 
 /// The relocated words of an accepted source end inside its text and share no byte. So its image is refused for its length, its
 /// entry or its working storage alone; for its length only where its control section is empty, or it has none.
@@ -20,4 +22,22 @@ pub fn an_assembled_image_is_refused_for_little()
 {
     cx_asm::laws::an_assembly_stands_apart();
     cx_load::laws::words_in_order();
+}
+
+/// What was assembled comes back: the disassembly of an accepted source's text by its spans is what stands in its control
+/// section.
+pub fn what_was_assembled_comes_back()
+    ensures { ComesBack }
+{
+    cx_asm::laws::what_stands_stands_apart();
+    cx_image::laws::lines_come_back();
+    cx_operands::laws::what_is_resolved_is_well_formed();
+}
+
+/// In an accepted source each item of a DC or DS in the control section is a constant, a DC's with a value, and stands among the
+/// resolved lines at its offset: with the bytes of all its copies, a DS's as a space. So does each literal with a value.
+pub fn constants_stand_at_their_places()
+    ensures { AcceptedStand }
+{
+    cx_asm::laws::the_second_pass_tells_its_first_fault();
 }

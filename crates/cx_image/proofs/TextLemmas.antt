@@ -8,14 +8,14 @@ use Rattle.cx_code.specs.declared.image.Span.{Span}
 use Rattle.cx_code.specs.declared.disassembly.Line.{Line}
 use Rattle.cx_code.specs.declared.disassembly.What.{What}
 use Rattle.cx_code.specs.declared.disassembly.What.TheVariants.{Code, Data, Space}
-use Rattle.cx_code.specs.Spelling.{Instruction, spelling, Spells}
+use Rattle.cx_code.specs.Spelling.{Instruction, IsWellFormed, spelling, Spells}
 use Rattle.cx_code.specs.Reading.{canonical}
 use Rattle.cx_code.specs.Lines.{lines, line_of, what_in}
 use Rattle.cx_image.specs.Resolved.{zeros, bytes_of, size_of, end_of, end_behind, AreApart}
 use Rattle.cx_image.specs.Text.{text_from, text_of}
 use Rattle.cx_image.specs.Spans.{kind_of, span_of, spans_of}
 use Rattle.cx_image.specs.Assembled.{AssembledParts, IsAssembled, parts}
-use Rattle.cx_image.specs.Laws.Cover.{covers, StandsIn, IsTextOf}
+use Rattle.cx_image.specs.Laws.Cover.{AreWellFormed, IsSound, covers, StandsIn, IsTextOf}
 use Rattle.cx_image.specs.Facts.Apart.{apart_with, end_with}
 use Rattle.cx_image.specs.Parts.Making.{IsSpelled, AreSpelled, GoesOn, IsEndOf}
 
@@ -88,6 +88,16 @@ lines_read text (l ∷ ls) spelled law stand =
     let first = line_read text l spelled.0 law stand.0 in
     let rest = lines_read text ls spelled.1 law stand.1 in
     cc
+
+-- well-formed instructions are spelled by their spellings
+all_spelled : ((i : Instruction) → IsWellFormed i → Spells i (spelling i)) → (ls : List Line) → AreWellFormed ls → AreSpelled ls
+all_spelled law [] sound = tt
+all_spelled law (l ∷ ls) sound = (one l.what sound.0, all_spelled law ls sound.1)
+  where
+    one : (what : What) → IsSound what → IsSpelled what
+    one (Code i) sound = law i sound
+    one (Data bytes) sound = sound
+    one (Space n) sound = sound
 
 -- each line's bytes stand at its place
 stands : (pre : List ℕ) (from : ℕ) (l : Line) (rest : List ℕ) → length pre ≡ from → from ≤ l.at
@@ -172,6 +182,11 @@ is_text ls size apart = record {
   stand = all_stand [] 0 ls size refl apart;
   gaps = λ k none. gap 0 ls size k k apart (omega arith) none;
 }
+
+pub come_back : ((i : Instruction) → IsWellFormed i → Spells i (spelling i)) → ((found : List ℕ) (j : Instruction) → (canonical found ≡ Some j) ↔ Spells j found)
+    → (ls : List Line) (size : ℕ) → AreApart 0 ls size → AreWellFormed ls → lines (text_of ls size) (spans_of ls) ≡ ls
+come_back spells law ls size apart sound =
+    lines_read (text_of ls size) ls (all_spelled spells ls sound) (λ found j is. (law found j).1 is) (is_text ls size apart).stand
 
 -- the parts that are made
 pub is_assembled : (ls : List Line) (size : ℕ) (text : List ℕ) (spans : List Span) (entry : ℕ) (relocs : List ℕ) (stg_len : ℕ)

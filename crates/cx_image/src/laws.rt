@@ -5,9 +5,10 @@ ghost use Rattle.std.specs.List.{list_any};
 ghost use Rattle.cx_code.specs.declared.disassembly.Line.{Line};
 ghost use Rattle.cx_code.specs.Lines.{lines};
 ghost use Rattle.cx_image.specs.Assembled.{AssembledParts, IsAssembled};
-ghost use Rattle.cx_image.specs.Laws.Cover.{IsTextOf, as_data, is_code};
+ghost use Rattle.cx_image.specs.Laws.Cover.{AreWellFormed, IsTextOf, as_data, is_code};
 ghost use Rattle.cx_image.specs.Relocated.{words_at};
 ghost use Rattle.cx_image.specs.Resolved.{AreApart, end_of};
+ghost use Rattle.cx_image.specs.Spans.{spans_of};
 ghost use Rattle.cx_image.specs.Text.{text_of};
 
 /// Lines that stand apart in a section ascend: each ends at or before the place of every later one, and in the section.
@@ -31,6 +32,16 @@ pub fn words_stand_one_behind_the_other()
     ensures count { (at n : ℕ) → length (words_at at n) ≡ n }
     ensures places { (at n k : ℕ) → k < n → slice_index (words_at at n) k ≡ at + 4 * k }
 {}
+
+/// Lines that stand apart, and whose instructions are well formed, come back: the disassembly of their text by their spans is
+/// these lines.
+pub fn lines_come_back()
+    ensures { (resolved : List Line) (size : ℕ) → AreApart 0 resolved size → AreWellFormed resolved
+        → lines (text_of resolved size) (spans_of resolved) ≡ resolved }
+{
+    cx_code::laws::canonical_is();
+    cx_code::laws::every_spelling();
+}
 
 /// Sections of one text and the same spans have the same resolved lines.
 #[tactic(auto, using(crate::proofs::LawLemmas::one_section))]

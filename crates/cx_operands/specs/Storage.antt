@@ -3,7 +3,7 @@ use Rattle.std.specs.Prelude.{ℕ, ◌-◌, Bool, true, ◌==◌, nat_le, if◌t
 use Rattle.std.specs.Option.{ok_or, option_map_or}
 use Rattle.std.specs.Result.{result_err}
 use Rattle.cx_source.specs.Marks.{first_mark, parts}
-use Rattle.cx_source.specs.declared.marks.Mark.TheVariants.{Comma, Parenthesis}
+use Rattle.cx_source.specs.declared.marks.Mark.TheVariants.{TopComma, Parenthesis}
 use Rattle.cx_terms.specs.Faults.{lower, lowest}
 use Rattle.cx_terms.specs.Items.{parenthesized_body}
 use Rattle.cx_terms.specs.declared.values.Value.{Value}
@@ -31,7 +31,7 @@ expression_and_list text =
 
 abbrev pub subfields_of : Option (List ℕ) → List (List ℕ)
 subfields_of None = []
-subfields_of (Some body) = parts Comma body
+subfields_of (Some body) = parts TopComma body
 
 abbrev pub written_operand : Context → List ℕ × Option (List ℕ) → Operand
 written_operand c written = operand (worth c written.0) (subfields_of written.1)

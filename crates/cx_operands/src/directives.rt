@@ -1,11 +1,13 @@
 //! The operands of USING, DROP, END and COPY.
 
-ghost use Rattle.std.specs.Prelude.{◌≡◌, ◌≤◌, ◌^◌, ◌++◌, [], None, IfOk, IsOk, OnOk, OnErr, false, length, map, option_map, unsigned_abs};
+ghost use Rattle.std.specs.Prelude.{◌≡◌, ◌≤◌, ◌^◌, ◌++◌, [], Err, None, IfOk, IsOk, OnOk, OnErr, false, length, map, option_map, unsigned_abs};
 ghost use Rattle.std.specs.List.{cons_option};
 ghost use Rattle.std.specs.Result.{result_err, result_ok};
 ghost use Rattle.cx_terms.specs.Expressions.{Answers};
 ghost use Rattle.cx_terms.specs.Symbols.{find_in};
 ghost use Rattle.cx_terms.specs.Weights.{stands_in};
+ghost use Rattle.cx_terms.specs.declared.faults.FaultKind.TheVariants as FaultKind;
+ghost use Rattle.cx_terms.specs.declared.faults.TermFault.TheVariants.{Refused};
 ghost use Rattle.cx_operands.specs.Judging.{both, judged, made_of};
 ghost use Rattle.cx_operands.specs.Context.{context, register_in, told, worth};
 ghost use Rattle.cx_operands.specs.Directives.{bases_behind, bases_behind_drop, bases_behind_using, bases_fault, changes_bases, copy_fault, drop_in, entry_in, entry_of, place_in, registers_in, using_by, using_in, using_of};
@@ -138,16 +140,19 @@ pub fn copy_fault(operand: &[u8]) -> Option<FaultKind>
 ///
 /// Fewer operands are BadOperand alone. Else the lowest fault of all operands is answered: NotRelocatable for an absolute
 /// base, BadOperand for a relocatable register, ValueOutOfRange for one outside 0 to 15, and the faults of their
-/// expressions. Memory comes only where a growth was refused.
-#[tactic(auto, unfolding(crate::specs::Directives::using_in))]
+/// expressions. Memory comes only where a growth was refused; an empty operand takes none.
+#[tactic(auto, using(crate::proofs::LiteralLemmas::no_using), unfolding(crate::specs::Directives::using_in))]
 pub fn read_using(alloc: Global, c: &Context<'_>, operand: &[u8]) -> Result<Using, TermFault>
-    ensures { Answers (using_in (told c.now) operand.now) result }
+    ensures using { Answers (using_in (told c.now) operand.now) result }
+    ensures empty { length operand.now ≡ 0 → result ≡ Err (Refused FaultKind.BadOperand) }
 {
+    if operand.is_empty() {
+        return Err(TermFault::Refused(FaultKind::BadOperand));
+    }
     let operands = cut(alloc, operand, Mark::TopComma)?;
-    match using_of(alloc, c, operands.as_slice()) {
-        Ok(Ok(given)) => Ok(given),
-        Ok(Err(fault)) => Err(TermFault::Refused(fault)),
-        Err(_) => Err(TermFault::Memory),
+    match using_of(alloc, c, operands.as_slice())? {
+        Ok(given) => Ok(given),
+        Err(fault) => Err(TermFault::Refused(fault)),
     }
 }
 
@@ -164,10 +169,9 @@ pub fn read_drop(alloc: Global, c: &Context<'_>, operand: &[u8]) -> Result<Dropp
         return Ok(Dropped::new(None));
     }
     let operands = cut(alloc, operand, Mark::TopComma)?;
-    match registers_in(alloc, c, operands.as_slice()) {
-        Ok(Ok(registers)) => Ok(Dropped::new(Some(registers))),
-        Ok(Err(fault)) => Err(TermFault::Refused(fault)),
-        Err(_) => Err(TermFault::Memory),
+    match registers_in(alloc, c, operands.as_slice())? {
+        Ok(registers) => Ok(Dropped::new(Some(registers))),
+        Err(fault) => Err(TermFault::Refused(fault)),
     }
 }
 
@@ -217,13 +221,12 @@ pub fn read_entry(
     if operand.is_empty() {
         return Ok(0);
     }
-    match c.worth(alloc, operand) {
-        Ok(Ok(value)) => match entry_of(control, value) {
+    match c.worth(alloc, operand)? {
+        Ok(value) => match entry_of(control, value) {
             Ok(entry) => Ok(entry),
             Err(fault) => Err(TermFault::Refused(fault)),
         },
-        Ok(Err(fault)) => Err(TermFault::Refused(fault)),
-        Err(_) => Err(TermFault::Memory),
+        Err(fault) => Err(TermFault::Refused(fault)),
     }
 }
 

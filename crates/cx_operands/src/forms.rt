@@ -1,6 +1,6 @@
 //! The operands of instructions, by format.
 
-ghost use Rattle.std.specs.Prelude.{◌≡◌, ◌≤◌, Err, IfOk, None, map, false, option_map};
+ghost use Rattle.std.specs.Prelude.{◌≡◌, ◌≤◌, Err, IfOk, IsOk, None, length, map, false, option_map};
 ghost use Rattle.cx_terms.specs.Expressions.{Answers};
 ghost use Rattle.cx_code.specs.Spelling.{instruction, IsWellFormed};
 ghost use Rattle.cx_terms.specs.declared.faults.FaultKind.TheVariants as FaultKind;
@@ -273,11 +273,15 @@ impl Form {
 }
 
 /// The literal that a statement has: its last operand, if that begins with an equals sign. (An instruction takes a literal
-/// nowhere else.) Memory comes only where a growth was refused.
-#[tactic(auto, using(crate::proofs::LiteralLemmas::last_text), unfolding(crate::specs::Forms::literal_in))]
+/// nowhere else.) Memory comes only where a growth was refused; an empty operand takes none.
+#[tactic(auto, using(crate::proofs::LiteralLemmas::last_text, crate::proofs::LiteralLemmas::none_in_nothing), unfolding(crate::specs::Forms::literal_in))]
 pub fn literal_in(alloc: Global, operand: &[u8]) -> Result<Option<&[u8]>, AllocError>
-    ensures { IfOk result (λ found. option_map (λ text. text.now) found ≡ literal_in operand.now) }
+    ensures literal { IfOk result (λ found. option_map (λ text. text.now) found ≡ literal_in operand.now) }
+    ensures empty { length operand.now ≡ 0 → IsOk result }
 {
+    if operand.is_empty() {
+        return Ok(None);
+    }
     let operands = cut(alloc, operand, Mark::TopComma)?;
     Ok(literal_of(operands.as_slice().last().copied()))
 }
@@ -337,9 +341,8 @@ pub fn resolve(
     let Some(form) = Form::of(operation) else {
         return Err(TermFault::Refused(FaultKind::UnknownOperation));
     };
-    match fields_of(alloc, c, form, operand) {
-        Ok(Ok(fields)) => Ok(instruction(op, fields)),
-        Ok(Err(fault)) => Err(TermFault::Refused(fault)),
-        Err(_) => Err(TermFault::Memory),
+    match fields_of(alloc, c, form, operand)? {
+        Ok(fields) => Ok(instruction(op, fields)),
+        Err(fault) => Err(TermFault::Refused(fault)),
     }
 }

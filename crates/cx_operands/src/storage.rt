@@ -55,7 +55,7 @@ fn subfields_of(alloc: Global, list: Option<&[u8]>) -> Result<Vec<&[u8]>, AllocE
     ensures { IfOk result (λ found. map (λ text. text.now) found.items ≡ subfields_of (option_map (λ body. body.now) list.entry)) }
 {
     match list {
-        Some(body) => cut(alloc, body, Mark::Comma),
+        Some(body) => cut(alloc, body, Mark::TopComma),
         None => Ok(Vec::new(alloc)),
     }
 }

@@ -1,21 +1,65 @@
-//! A refused growth is answered as one: no other answer takes its place. `examples/refuse-tests` refuses each allocation in turn.
-use crate::world::{assembled, end_use, is_refused, put_in_use, table};
+//! Calls that take memory: with ample memory each is answered as it should be; a refused growth is answered as one, and no other
+//! answer takes its place. `examples/refuse-tests` refuses each allocation in turn.
+use crate::world::{assembled, end_use, put_in_use, table};
 use cx_operands::Bases;
 use cx_terms::{FaultKind, SymbolTable, TermFault};
-use std::alloc::Global;
+use std::alloc::{AllocError, Global};
+use std::test::Fail;
 
-/// Whether a statement makes these bytes, or memory runs out.
-fn is_made(
+/// Whether a statement makes these bytes, or has this fault. An error is want of memory.
+fn is_assembled(
     alloc: Global,
     symbols: &SymbolTable,
     bases: &Bases,
-    operand: &[u8],
-    bytes: &[u8],
-) -> bool {
-    match assembled(alloc, symbols, bases, b"MVC", operand) {
-        Ok(made) => made.as_slice() == bytes,
-        Err(found) => found == TermFault::Memory,
+    (operation, operand): (&[u8], &[u8]),
+    wanted: Result<&[u8], FaultKind>,
+) -> Result<bool, AllocError> {
+    match assembled(alloc, symbols, bases, operation, operand) {
+        Ok(made) => Ok(match wanted {
+            Ok(bytes) => made.as_slice() == bytes,
+            Err(_) => false,
+        }),
+        Err(TermFault::Refused(found)) => Ok(match wanted {
+            Ok(_) => false,
+            Err(fault) => found == fault,
+        }),
+        Err(TermFault::Memory) => Err(AllocError),
     }
+}
+
+/// Whether a statement is assembled whose operands have their addresses by P,5,6, and the first its length by X. An error is want
+/// of memory.
+fn is_addressed(alloc: Global, symbols: &SymbolTable, bases: &Bases) -> Result<bool, AllocError> {
+    let bytes = b"\xD2\x03\x50\x08\x60\x00";
+    is_assembled(alloc, symbols, bases, (b"MVC", b"X,FAR"), Ok(bytes))
+}
+
+/// Whether statements are answered as they should be where P,5,6 is in use, each by itself.
+fn answers(alloc: Global, symbols: &SymbolTable, bases: &Bases) -> [Result<bool, AllocError>; 4] {
+    [
+        is_assembled(
+            alloc,
+            symbols,
+            bases,
+            (b"MVC", b"X(4),FAR"),
+            Ok(b"\xD2\x03\x50\x08\x60\x00"),
+        ),
+        is_addressed(alloc, symbols, bases),
+        is_assembled(
+            alloc,
+            symbols,
+            bases,
+            (b"MVC", b"X(17,NONE),FAR"),
+            Err(FaultKind::UndefinedSymbol),
+        ),
+        is_assembled(
+            alloc,
+            symbols,
+            bases,
+            (b"EXEC", b""),
+            Err(FaultKind::UnknownOperation),
+        ),
+    ]
 }
 
 #[test]
@@ -33,28 +77,27 @@ fn a_refused_growth_is_no_other_answer(rt: HostRuntime) {
         assert!(rt; found == TermFault::Memory);
         return;
     }
-    let bytes = b"\xD2\x03\x50\x08\x60\x00";
-    assert!(rt; is_made(alloc, &symbols, &bases, b"X(4),FAR", bytes));
-    assert!(rt; is_made(alloc, &symbols, &bases, b"X,FAR", bytes));
-    let none = assembled(alloc, &symbols, &bases, b"MVC", b"X(17,NONE),FAR");
-    let refused = match none {
-        Ok(_) => false,
-        Err(found) => {
-            found == TermFault::Memory || found == TermFault::Refused(FaultKind::UndefinedSymbol)
-        }
-    };
-    assert!(rt; refused);
+    for answer in answers(alloc, &symbols, &bases) {
+        assert!(rt; answer.unwrap_or(true));
+    }
     match end_use(alloc, &symbols, &mut bases, b"5,6") {
         Ok(fault) => assert!(rt; fault.is_none()),
         Err(found) => {
             assert!(rt; found == TermFault::Memory);
-            assert!(rt; is_made(alloc, &symbols, &bases, b"X,FAR", bytes));
+            assert!(rt; is_addressed(alloc, &symbols, &bases).unwrap_or(true));
         }
     }
-    assert!(rt;
-        is_refused(
-            assembled(alloc, &symbols, &bases, b"EXEC", b""),
-            FaultKind::UnknownOperation
-        )
-    );
+}
+
+#[test]
+fn ample_memory_does_not_run_out(rt: HostRuntime) -> Result<(), Fail> {
+    let alloc = rt.alloc();
+    let symbols = table(alloc)?;
+    let mut bases = Bases::new();
+    put_in_use(alloc, &symbols, &mut bases, b"P,5,6")?;
+    for answer in answers(alloc, &symbols, &bases) {
+        assert!(rt; answer?);
+    }
+    assert!(rt; end_use(alloc, &symbols, &mut bases, b"5,6")?.is_none());
+    Ok(())
 }

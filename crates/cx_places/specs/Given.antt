@@ -96,6 +96,11 @@ definitions Registers name control find operand value = row_symbols register_row
 definitions Member name control find operand value = if bytes_eq operand (codes "DFHAID") then row_symbols aid_rows else []
 definitions role name control find operand value = named role name control find value
 
+-- A value at fault is given, too: where only the name counts, any stands for it.
+abbrev pub any_value : Result (Option Value) FaultKind → Option Value
+any_value (Ok value) = value
+any_value (Err fault) = Some (absolute (pos 0))
+
 -- A symbol keeps the value that it was given first; to define it again is a fault.
 abbrev pub is_any_known : (List ℕ → Option Value) → Symbols → Bool
 is_any_known find symbols = list_any (λ symbol. is_some (find symbol.0)) symbols

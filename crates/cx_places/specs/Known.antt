@@ -18,7 +18,7 @@ use Rattle.cx_terms.specs.declared.values.Value.{Value}
 use Rattle.cx_pools.specs.Pools.{Pooled, Placed, capped, lowest_part, placed, pool_extent, with_parts}
 use Rattle.cx_places.specs.Roles.{role_of}
 use Rattle.cx_places.specs.Layout.{beyond, laid}
-use Rattle.cx_places.specs.Given.{definitions, duplicate, value_given, value_in}
+use Rattle.cx_places.specs.Given.{any_value, definitions, duplicate, value_given, value_in}
 use Rattle.cx_places.specs.declared.layout.Laid.{Laid}
 use Rattle.cx_places.specs.declared.place.Place.{Place}
 use Rattle.cx_places.specs.declared.place.LineFault.{LineFault}
@@ -123,12 +123,17 @@ abbrev pub literal_fault : Role → ℕ → List (List ℕ) → Pooled → Optio
 literal_fault (Instruction size) user parts pool = lower (lowest_part parts) (extent_fault (pool_extent (with_parts user pool parts)))
 literal_fault _ user parts pool = None
 
+-- It defines a name again, whatever its value.
+abbrev pub duplicate_in : Stmt → Known → Option FaultKind
+duplicate_in stmt known =
+    duplicate known.symbols (definitions (role_in stmt) (name_in stmt) known.control known.symbols stmt.operand (any_value (given_in stmt known)))
+
 -- all but the literals
 abbrev pub own_fault : Stmt → Known → Option FaultKind
 own_fault stmt known =
     lowest (operation_fault (role_in stmt) ∷ name_fault (role_in stmt) stmt.name
     ∷ section_fault (role_in stmt) (name_in stmt) known.section known.control ∷ (laid_in stmt known).fault ∷ result_err (given_in stmt known)
-    ∷ duplicate known.symbols (definitions_in stmt known) ∷ [])
+    ∷ duplicate_in stmt known ∷ [])
 
 -- the lowest fault of the statement
 abbrev pub fault_in : Stmt → Known → Option FaultKind

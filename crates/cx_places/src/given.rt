@@ -171,17 +171,15 @@ pub(crate) fn is_any_defined(symbols: &SymbolTable, rows: &[(&str, u8)]) -> bool
 }
 
 /// Gives a symbol its value, unless it has one.
-#[tactic(auto, using(crate::proofs::SymbolLemmas::kept, crate::proofs::SymbolLemmas::defined))]
+#[tactic(auto, using(crate::proofs::SymbolLemmas::kept_refused, crate::proofs::SymbolLemmas::defined_new, crate::proofs::SymbolLemmas::unknown_memory))]
 pub(crate) fn define(symbols: &mut SymbolTable, name: Name8, value: Value) -> Result<(), AllocError>
     ensures defined { OnOk result ((other : List ℕ) → find_in symbols.new other ≡ option_or (find_in symbols.old other) (find_in ((name, value) ∷ []) other)) }
     ensures known { IsTrue (is_some (find_in symbols.old name)) → IsOk result }
 {
-    if symbols.get(name).is_some() {
-        return Ok(());
-    }
     match symbols.define(name, value) {
         Ok(()) => Ok(()),
-        Err(_) => Err(AllocError),
+        Err(TermFault::Refused(_)) => Ok(()),
+        Err(TermFault::Memory) => Err(AllocError),
     }
 }
 

@@ -1,11 +1,10 @@
 //! What is told of a statement before anything changes.
 
-ghost use Rattle.std.specs.Prelude.{◌≡◌, ◌≤◌, ◌+◌, map, IfOk, IfSome, OnOk, List, ℕ};
+ghost use Rattle.std.specs.Prelude.{◌≡◌, ◌≤◌, ◌+◌, map, IfOk, IfSome, OnOk, List, is_some, ℕ};
 ghost use Rattle.std.specs.Option.{option_or};
-ghost use Rattle.std.specs.Result.{result_err};
 ghost use Rattle.cx_terms.specs.Digits.{bound};
 ghost use Rattle.cx_terms.specs.Symbols.{find_in};
-ghost use Rattle.cx_places.specs.Given.{definitions, duplicate, value_given, value_in};
+ghost use Rattle.cx_places.specs.Given.{any_value, definitions, duplicate, value_given, value_in};
 
 use crate::faults::Heading;
 use crate::given::{AIDS, REGISTERS, define, define_rows, is_any_defined, resumes, value_given};
@@ -25,16 +24,15 @@ pub(crate) struct Judged {
     pub(crate) fault: Option<FaultKind>,
 }
 
-/// The value that a statement gives to its name, and what is wrong with it.
+/// The value that a statement gives to its name, if it gives one, or what is wrong with it.
 pub(crate) fn value_or_fault(
     alloc: Global,
     heading: &Heading,
     symbols: &SymbolTable,
     operand: &[u8],
     laid: &Laid,
-) -> Result<(Option<Value>, Option<FaultKind>), AllocError>
-    ensures value { IfOk result (λ found. found.0 ≡ value_in (value_given heading.now.role heading.now.name (find_in symbols.now) heading.now.section operand.now laid.now)) }
-    ensures fault { IfOk result (λ found. found.1 ≡ result_err (value_given heading.now.role heading.now.name (find_in symbols.now) heading.now.section operand.now laid.now)) }
+) -> Result<Result<Option<Value>, FaultKind>, AllocError>
+    ensures { IfOk result (λ given. given ≡ value_given heading.now.role heading.now.name (find_in symbols.now) heading.now.section operand.now laid.now) }
 {
     match value_given(
         alloc,
@@ -45,28 +43,48 @@ pub(crate) fn value_or_fault(
         operand,
         laid,
     ) {
-        Ok(value) => Ok((value, None)),
-        Err(TermFault::Refused(fault)) => Ok((None, Some(fault))),
+        Ok(value) => Ok(Ok(value)),
+        Err(TermFault::Refused(fault)) => Ok(Err(fault)),
         Err(TermFault::Memory) => Err(AllocError),
     }
 }
 
-/// Whether what a statement defines is defined.
+/// The value that is given, where it has no fault.
+pub(crate) fn value_in(given: &Result<Option<Value>, FaultKind>) -> Option<Value>
+    ensures { result ≡ value_in given.now }
+{
+    match given {
+        Ok(value) => *value,
+        Err(_) => None,
+    }
+}
+
+/// Whether a value is given, be it at fault.
+fn gives_value(given: &Result<Option<Value>, FaultKind>) -> bool
+    ensures { result ≡ is_some (any_value given.now) }
+{
+    match given {
+        Ok(value) => value.is_some(),
+        Err(_) => true,
+    }
+}
+
+/// Whether what a statement defines is defined, whatever its value.
 pub(crate) fn duplicate(
     heading: &Heading,
     symbols: &SymbolTable,
     operand: &[u8],
-    value: &Option<Value>,
+    given: &Result<Option<Value>, FaultKind>,
 ) -> Option<FaultKind>
     ensures { result ≡ duplicate (find_in symbols.now)
-        (definitions heading.now.role heading.now.name heading.now.control (find_in symbols.now) operand.now value.now) }
+        (definitions heading.now.role heading.now.name heading.now.control (find_in symbols.now) operand.now (any_value given.now)) }
 {
     let is_known = match heading.role {
         Role::Registers => is_any_defined(symbols, &REGISTERS),
         Role::Member => operand == b"DFHAID".as_slice() && is_any_defined(symbols, &AIDS),
         _ => match heading.name {
             Some(name) => {
-                value.is_some()
+                gives_value(given)
                     && symbols.get(name).is_some()
                     && !resumes(heading.role, name, heading.control, symbols)
             }

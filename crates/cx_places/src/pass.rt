@@ -7,7 +7,7 @@ ghost use Rattle.cx_places.specs.Parts.Judging.{heading_in, judged_in};
 ghost use Rattle.cx_places.specs.Parts.Passing.{known_to, length_in};
 
 use crate::faults::{Heading, extent_fault, first_fault_behind, lowest_fault};
-use crate::judged::{Judged, define_all, duplicate, value_or_fault};
+use crate::judged::{Judged, define_all, duplicate, value_in, value_or_fault};
 use crate::layout::Laid;
 use crate::place::{LineFault, Place};
 use crate::roles::Role;
@@ -164,9 +164,10 @@ impl<'a> Pass<'a> {
         let operand = stmt.operand.as_slice();
         let next = capped(length_of_section(heading.section, &self.lengths));
         let laid = Laid::of(alloc, heading.role, parts, self.pool.extent(), next)?;
-        let (value, wrong) = value_or_fault(alloc, heading, &self.symbols, operand, &laid)?;
-        let known = duplicate(heading, &self.symbols, operand, &value);
-        let inner = lower(laid.fault, lower(wrong, known));
+        let given = value_or_fault(alloc, heading, &self.symbols, operand, &laid)?;
+        let known = duplicate(heading, &self.symbols, operand, &given);
+        let value = value_in(&given);
+        let inner = lower(laid.fault, lower(given.err(), known));
         let fault = lowest_fault(heading, stmt.name.as_slice(), inner);
         Ok(Judged { laid, value, fault })
     }

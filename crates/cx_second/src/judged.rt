@@ -1,8 +1,11 @@
 //! The second pass over statements: the bases in use, and the first fault.
 
-ghost use Rattle.std.specs.Prelude.{◌≡◌, IfOk, OnOk, reverse};
+ghost use Rattle.std.specs.Prelude.{◌≡◌, IfOk, IsOk, OnOk, false, reverse};
+ghost use Rattle.std.specs.Option.{option_map_or};
+ghost use Rattle.cx_operands.specs.Directives.{changes_bases};
 ghost use Rattle.cx_second.specs.Parts.Telling.{told_by};
 ghost use Rattle.cx_second.specs.SecondFaults.{bases_after, judged_after, bases_by, judged_behind, using_fault};
+ghost use Rattle.cx_second.specs.Statements.{operation_of};
 
 use crate::faults::operand_fault;
 use crate::statements::Statement;
@@ -40,6 +43,7 @@ fn pass_using(
 ) -> Result<Option<FaultKind>, AllocError>
     ensures bases { OnOk result (bases.new ≡ bases_by (told_by places.now) bases.old statement.now operation) }
     ensures fault { IfOk result (λ fault. fault ≡ using_fault (told_by places.now) bases.old statement.now operation) }
+    ensures others { option_map_or changes_bases operation false ≡ false → IsOk result }
 {
     let Some(operation) = operation else {
         return Ok(None);
@@ -56,7 +60,7 @@ fn pass_using(
 
 /// Goes past a statement: a USING or a DROP without a fault changes the bases in use, and nothing else does.
 ///
-/// An error comes only where a growth was refused.
+/// An error comes only where a growth was refused; USING and DROP alone take memory.
 #[tactic(auto, unfolding(crate::specs::SecondFaults::bases_after))]
 pub fn pass_bases(
     alloc: Global,
@@ -64,7 +68,8 @@ pub fn pass_bases(
     bases: &mut Bases,
     statement: &Statement<'_>,
 ) -> Result<(), AllocError>
-    ensures { OnOk result (bases.new ≡ bases_after (told_by places.now) bases.old statement.now) }
+    ensures bases { OnOk result (bases.new ≡ bases_after (told_by places.now) bases.old statement.now) }
+    ensures others { option_map_or changes_bases (operation_of statement.now) false ≡ false → IsOk result }
 {
     pass_using(alloc, places, bases, statement, statement.operation())?;
     Ok(())

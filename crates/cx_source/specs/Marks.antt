@@ -3,7 +3,7 @@ use Rattle.std.specs.Prelude.{ℕ, ◌+◌, ◌-◌, Bool, false, ◌&&◌, ◌|
 use Rattle.cx_source.specs.Lines.{begins_with_letter, is_name_character}
 use Rattle.cx_source.specs.declared.marks.Scan.{Scan}
 use Rattle.cx_source.specs.declared.marks.Mark.{Mark}
-use Rattle.cx_source.specs.declared.marks.Mark.TheVariants.{Comma, TopComma, Blank, Parenthesis}
+use Rattle.cx_source.specs.declared.marks.Mark.TheVariants.{TopComma, Blank, Parenthesis, Closing}
 
 -- L' before a letter, where L begins a term: no name's character stands before it. `before` and `last` are the two characters before the apostrophe.
 unfoldable pub is_length_attribute : ℕ → ℕ → List ℕ → Bool
@@ -42,12 +42,12 @@ outside_from scan (c ∷ behind) = lies_outside scan c behind ∷ outside_from (
 abbrev pub outside : List ℕ → List Bool
 outside text = outside_from at_start text
 
--- where a text is cut: at commas, at commas in no parentheses, at blanks, at parentheses
+-- where a text is cut: at commas in no parentheses, at blanks, at parentheses, at a closing parenthesis that none in the text opens
 abbrev pub is_mark : Mark → ℕ → ℕ → Bool
-is_mark Comma depth c = c == 44
 is_mark TopComma depth c = c == 44 && depth == 0
 is_mark Blank depth c = c == 32
 is_mark Parenthesis depth c = c == 40 || c == 41
+is_mark Closing depth c = c == 41 && depth == 0
 
 -- the place of the first mark outside apostrophes, or the length
 abbrev pub first_from : Mark → Scan → List ℕ → ℕ

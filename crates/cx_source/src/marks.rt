@@ -25,14 +25,14 @@ pub struct Scan {
 /// Where an operand may be cut. Only characters outside apostrophes count.
 #[derive(Clone, Copy, Debug, PartialEq, Eq)]
 pub enum Mark {
-    /// At each comma.
-    Comma,
     /// At each comma that stands in no parentheses.
     TopComma,
     /// At each blank.
     Blank,
     /// At each parenthesis.
     Parenthesis,
+    /// At each closing parenthesis that none in the text opens: parentheses close in pairs.
+    Closing,
 }
 
 impl Mark {
@@ -41,10 +41,10 @@ impl Mark {
         ensures { result ≡ is_mark self depth c }
     {
         match self {
-            Mark::Comma => c == b',',
             Mark::TopComma => c == b',' && depth == 0,
             Mark::Blank => c == BLANK,
             Mark::Parenthesis => c == b'(' || c == b')',
+            Mark::Closing => c == b')' && depth == 0,
         }
     }
 }

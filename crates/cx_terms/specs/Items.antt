@@ -3,7 +3,7 @@ use Rattle.std.specs.Prelude.{ℕ, ◌+◌, ◌-◌, ◌*◌, ◌/◌, Bool, tru
 use Rattle.std.specs.List.{list_all}
 use Rattle.std.specs.Option.{option_map_or}
 use Rattle.cx_source.specs.Marks.{first_mark}
-use Rattle.cx_source.specs.declared.marks.Mark.TheVariants.{Parenthesis}
+use Rattle.cx_source.specs.declared.marks.Mark.TheVariants.{Closing}
 use Rattle.cx_terms.specs.Digits.{is_digit, number_in}
 use Rattle.cx_terms.specs.Texts.{closed, is_doubled, is_paired, characters}
 use Rattle.cx_terms.specs.Worth.{greatest}
@@ -53,12 +53,11 @@ behind_digits text = drop (digit_count text) text
 abbrev pub quoted_body : List ℕ → Option (List ℕ)
 quoted_body value = if slice_index value 0 == 39 then closed (drop 1 value) else None
 
--- what stands in one pair of parentheses: the first parenthesis outside apostrophes behind it is the last character, and closes it
+-- what stands in one pair of parentheses: the one that closes the first character is the last
 abbrev pub parenthesized_body : List ℕ → Option (List ℕ)
 parenthesized_body value =
     let behind = drop 1 value in
-    if slice_index value 0 == 40 && (first_mark Parenthesis behind + 1 == length behind && slice_index behind (length behind - 1) == 41)
-    then Some (take (length behind - 1) behind) else None
+    if slice_index value 0 == 40 && first_mark Closing behind + 1 == length behind then Some (take (first_mark Closing behind) behind) else None
 
 abbrev pub body_in : Style → List ℕ → Option (List ℕ)
 body_in Text value = quoted_body value

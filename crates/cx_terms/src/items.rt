@@ -85,7 +85,7 @@ fn quoted_body(value: &[u8]) -> Option<&[u8]>
 }
 
 /// What stands in one pair of parentheses, which is the whole text; None where the text is anything else (GC33-4010,
-/// "Expressions").
+/// "Expressions"). Parentheses close in pairs.
 pub fn parenthesized_body(value: &[u8]) -> Option<&[u8]>
     ensures { option_map (λ body. body.now) result ≡ parenthesized_body value.now }
 {
@@ -93,12 +93,8 @@ pub fn parenthesized_body(value: &[u8]) -> Option<&[u8]>
         return None;
     }
     let (_, behind) = value.split_at(1);
-    let (last, body) = behind.split_last()?;
-    if first_mark(behind, Mark::Parenthesis) == body.len() && *last == b')' {
-        Some(body)
-    } else {
-        None
-    }
+    let (body, closing) = behind.split_at(first_mark(behind, Mark::Closing));
+    if closing.len() == 1 { Some(body) } else { None }
 }
 
 /// What a value consists of, without what stands round it.

@@ -1,33 +1,59 @@
-//! A refused growth is answered as one: no other answer takes its place. `examples/refuse-tests` refuses each allocation in turn.
+//! Calls that take memory: with ample memory each is answered as it should be; a refused growth is answered as one, and no other
+//! answer takes its place. `examples/refuse-tests` refuses each allocation in turn.
 use crate::symbols::{name, table};
 use cx_terms::{Constant, FaultKind, SymbolTable, TermFault, Value, value_of};
-use std::alloc::Global;
+use std::alloc::{AllocError, Global};
+use std::test::Fail;
 
-/// Whether a sum of two sections is refused as it should be, or for want of memory.
-fn is_refused(alloc: Global, symbols: &SymbolTable, text: &[u8], fault: FaultKind) -> bool {
+/// Whether an expression is worth a number, or has a fault. An error is want of memory.
+fn is_worth(
+    alloc: Global,
+    symbols: &SymbolTable,
+    text: &[u8],
+    worth: Result<i128, FaultKind>,
+) -> Result<bool, AllocError> {
     match value_of(alloc, text, symbols, None) {
-        Ok(_) => false,
-        Err(found) => found == TermFault::Refused(fault) || found == TermFault::Memory,
+        Ok(value) => Ok(match worth {
+            Ok(number) => value == Value::absolute(number),
+            Err(_) => false,
+        }),
+        Err(TermFault::Refused(fault)) => Ok(worth == Err(fault)),
+        Err(TermFault::Memory) => Err(AllocError),
     }
 }
 
-/// Whether an expression is worth a number, or memory runs out.
-fn is_number(alloc: Global, symbols: &SymbolTable, text: &[u8], number: i128) -> bool {
-    match value_of(alloc, text, symbols, None) {
-        Ok(value) => value == Value::absolute(number),
-        Err(found) => found == TermFault::Memory,
-    }
-}
-
-/// Whether a constant has these bytes, or memory runs out.
-fn is_made(alloc: Global, symbols: &SymbolTable, text: &[u8], bytes: &[u8]) -> bool {
+/// Whether a constant has these bytes. An error is want of memory.
+fn is_made(
+    alloc: Global,
+    symbols: &SymbolTable,
+    text: &[u8],
+    bytes: &[u8],
+) -> Result<bool, AllocError> {
     let Ok(item) = Constant::read(text, false) else {
-        return false;
+        return Ok(false);
     };
     match item.bytes(alloc, symbols, None, name(b"P")) {
-        Ok(copy) => copy.as_slice() == bytes,
-        Err(found) => found == TermFault::Memory,
+        Ok(copy) => Ok(copy.as_slice() == bytes),
+        Err(TermFault::Refused(_)) => Ok(false),
+        Err(TermFault::Memory) => Err(AllocError),
     }
+}
+
+/// Whether expressions and constants over the tests' symbols are answered as they should be, each by itself.
+fn answers(alloc: Global, symbols: &SymbolTable) -> [Result<bool, AllocError>; 6] {
+    [
+        is_worth(alloc, symbols, b"1+2-B'1'", Ok(2)),
+        is_worth(alloc, symbols, b"X-Z", Err(FaultKind::NotRelocatable)),
+        is_worth(alloc, symbols, b"X-NONE", Err(FaultKind::UndefinedSymbol)),
+        is_made(alloc, symbols, b"CL3'A'", b"\xC1\x40\x40"),
+        is_made(
+            alloc,
+            symbols,
+            b"F'1,-1'",
+            b"\x00\x00\x00\x01\xFF\xFF\xFF\xFF",
+        ),
+        is_made(alloc, symbols, b"A(X-Y)", b"\x00\x00\x00\x08"),
+    ]
 }
 
 #[test]
@@ -40,20 +66,23 @@ fn a_refused_growth_is_no_other_answer(rt: HostRuntime) {
             return;
         }
     };
-    assert!(rt; is_number(alloc, &symbols, b"1+2-B'1'", 2));
-    assert!(rt; is_refused(alloc, &symbols, b"X-Z", FaultKind::NotRelocatable));
-    assert!(rt; is_refused(alloc, &symbols, b"X-NONE", FaultKind::UndefinedSymbol));
-    assert!(rt; is_made(alloc, &symbols, b"CL3'A'", b"\xC1\x40\x40"));
-    assert!(rt;
-        is_made(
-            alloc,
-            &symbols,
-            b"F'1,-1'",
-            b"\x00\x00\x00\x01\xFF\xFF\xFF\xFF"
-        )
-    );
-    assert!(rt; is_made(alloc, &symbols, b"A(X-Y)", b"\x00\x00\x00\x08"));
+    for answer in answers(alloc, &symbols) {
+        assert!(rt; answer.unwrap_or(true));
+    }
     let new = name(b"NEW").expect(&rt, "a name");
     let defined = symbols.define(new, Value::absolute(7));
     assert_eq!(rt; symbols.get(new).is_some(), defined.is_ok());
+}
+
+#[test]
+fn ample_memory_does_not_run_out(rt: HostRuntime) -> Result<(), Fail> {
+    let alloc = rt.alloc();
+    let mut symbols = table(alloc)?;
+    for answer in answers(alloc, &symbols) {
+        assert!(rt; answer?);
+    }
+    let new = name(b"NEW").expect(&rt, "a name");
+    symbols.define(new, Value::absolute(7))?;
+    assert_eq!(rt; symbols.get(new), Some(Value::absolute(7)));
+    Ok(())
 }

@@ -1,9 +1,10 @@
 -- What is known of a text: which line stands where, and where no line stands.
-use Rattle.std.specs.Prelude.{◌≡◌, ℕ, Bool, true, false, ◌&&◌, nat_le, nat_lt, List, length, take, drop, slice_index}
+use Rattle.std.specs.Prelude.{◌≡◌, ℕ, Bool, true, false, ◌&&◌, nat_le, nat_lt, List, length, take, drop, slice_index, ⊤}
 use Rattle.std.specs.List.{list_any, AllByRecursion}
 use Rattle.cx_code.specs.declared.disassembly.Line.{Line}
 use Rattle.cx_code.specs.declared.disassembly.What.{What}
 use Rattle.cx_code.specs.declared.disassembly.What.TheVariants.{Code}
+use Rattle.cx_code.specs.Spelling.{IsWellFormed}
 use Rattle.cx_code.specs.declared.image.Span.{Span}
 use Rattle.cx_code.specs.declared.image.SpanKind.TheVariants as kinds
 use Rattle.cx_image.specs.Resolved.{bytes_of, size_of, end_of}
@@ -21,6 +22,14 @@ pub record IsTextOf (resolved : List Line) (size : ℕ) (text : List ℕ) : Type
   pub long : length text ≡ size
   pub stand : AllByRecursion (StandsIn text) resolved
   pub gaps : (k : ℕ) → list_any (covers k) resolved ≡ false → slice_index text k ≡ 0
+
+-- each line that is an instruction is a well-formed one
+abbrev pub IsSound : What → Type 0
+IsSound (Code i) = IsWellFormed i
+IsSound _ = ⊤
+
+abbrev pub AreWellFormed : List Line → Type 0
+AreWellFormed resolved = AllByRecursion (λ line. IsSound line.what) resolved
 
 -- a span called data
 abbrev pub as_data : Span → Span

@@ -1,13 +1,14 @@
 -- What holds of statements without a fault.
-use Rattle.std.specs.Prelude.{option_map}
+use Rattle.std.specs.Prelude.{Result, option_map}
 use Rattle.std.specs.Result.{result_err}
-use Rattle.std.proofs.Common.{◌≡◌, ℕ, ◌==◌, Bool, true, false, cond, Option, Some, None, refl}
+use Rattle.std.proofs.Common.{◌≡◌, ℕ, ◌==◌, Bool, true, false, cond, Option, Some, None, Ok, Err, refl, sym, ◌∙◌, ap}
 use Rattle.cx_source.specs.declared.source.Stmt.{Stmt}
 use Rattle.cx_terms.specs.Faults.{lower}
 use Rattle.cx_terms.specs.declared.faults.FaultKind.{FaultKind}
+use Rattle.cx_terms.specs.declared.values.Value.{Value}
 use Rattle.cx_places.specs.Facts.Laid.{lower_none}
-use Rattle.cx_places.specs.Given.{duplicate}
-use Rattle.cx_places.specs.Known.{Known, after, definitions_in, fault_in, first_fault_behind, given_in, laid_in, literal_fault, name_fault, name_in, operation_fault, own_fault, parts_in, role_in, section_fault, line_fault}
+use Rattle.cx_places.specs.Given.{any_value, definitions, duplicate, value_in}
+use Rattle.cx_places.specs.Known.{Known, after, definitions_in, duplicate_in, fault_in, first_fault_behind, given_in, laid_in, literal_fault, name_fault, name_in, operation_fault, own_fault, parts_in, role_in, section_fault, line_fault}
 use Rattle.cx_places.specs.declared.place.LineFault.{LineFault}
 
 lower_some : (one : FaultKind) (other : Option FaultKind) (line : ℕ) → option_map (line_fault line) (lower (Some one) other) ≡ None → ⊥
@@ -41,22 +42,31 @@ pub record IsSound (stmt : Stmt) (known : Known) : Type 0 where
   pub laid : (laid_in stmt known).fault ≡ None
   pub definitions : duplicate known.symbols (definitions_in stmt known) ≡ None
 
+sound_value : (given : Result (Option Value) FaultKind) → result_err given ≡ None → any_value given ≡ value_in given
+sound_value (Ok value) e = refl
+sound_value (Err fault) e = cc
+
 sound_own : (stmt : Stmt) (known : Known) → own_fault stmt known ≡ None → IsSound stmt known
 sound_own stmt known e =
-    let inner = lower_none (duplicate known.symbols (definitions_in stmt known)) None in
-    let valued = lower_none (result_err (given_in stmt known)) (lower (duplicate known.symbols (definitions_in stmt known)) None) in
-    let laid = lower_none (laid_in stmt known).fault (lower (result_err (given_in stmt known)) (lower (duplicate known.symbols (definitions_in stmt known)) None)) in
+    let inner = lower_none (duplicate_in stmt known) None in
+    let valued = lower_none (result_err (given_in stmt known)) (lower (duplicate_in stmt known) None) in
+    let laid = lower_none (laid_in stmt known).fault (lower (result_err (given_in stmt known)) (lower (duplicate_in stmt known) None)) in
     let placed = lower_none (section_fault (role_in stmt) (name_in stmt) known.section known.control)
-    (lower (laid_in stmt known).fault (lower (result_err (given_in stmt known)) (lower (duplicate known.symbols (definitions_in stmt known)) None))) in
+    (lower (laid_in stmt known).fault (lower (result_err (given_in stmt known)) (lower (duplicate_in stmt known) None))) in
     let titled = lower_none (name_fault (role_in stmt) stmt.name)
     (lower (section_fault (role_in stmt) (name_in stmt) known.section known.control)
-    (lower (laid_in stmt known).fault (lower (result_err (given_in stmt known)) (lower (duplicate known.symbols (definitions_in stmt known)) None)))) in
+    (lower (laid_in stmt known).fault (lower (result_err (given_in stmt known)) (lower (duplicate_in stmt known) None)))) in
     let operated = lower_none (operation_fault (role_in stmt))
     (lower (name_fault (role_in stmt) stmt.name)
     (lower (section_fault (role_in stmt) (name_in stmt) known.section known.control)
-    (lower (laid_in stmt known).fault (lower (result_err (given_in stmt known)) (lower (duplicate known.symbols (definitions_in stmt known)) None))))) in
+    (lower (laid_in stmt known).fault (lower (result_err (given_in stmt known)) (lower (duplicate_in stmt known) None))))) in
     let h = (laid (placed (titled (operated e).1).1).1) in
-    record { laid = h.0; definitions = (inner (valued h.1).1).0 }
+    record {
+      laid = h.0;
+      definitions =
+          ap (λ v. duplicate known.symbols (definitions (role_in stmt) (name_in stmt) known.control known.symbols stmt.operand v)) (sym (sound_value (given_in stmt known) (valued h.1).0))
+          ∙ (inner (valued h.1).1).0;
+    }
 
 -- a statement behind which none has a fault has none
 pub sound_statement : (line : ℕ) (stmt : Stmt) (known : Known) → (after line stmt known).fault ≡ None → IsSound stmt known

@@ -1,4 +1,5 @@
-use Rattle.cx_asm.proofs.AnswerLemmas.{accepted, section_stands}
+use Rattle.cx_asm.specs.Facts.Accepted.{accepted}
+use Rattle.cx_asm.proofs.AnswerLemmas.{section_stands}
 use Rattle.cx_asm.proofs.laws.an_assembly_stands_apart.Goals as goal
 
 pub returns-clause-size : goal.returns-clause-size

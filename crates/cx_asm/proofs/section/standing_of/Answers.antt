@@ -8,7 +8,7 @@ pub loop-statement-preserved : goal.loop-statement-preserved
 loop-statement-preserved c =
     let within : c.loop-statement.statement-index < length c.args.statements.now = omega arith in
     let next = standing_next (told_by c.args.places.now) c.args.statements.now c.loop-statement.bases c.args.statements.now c.statement-item.result c.loop-statement.statement-index within in
-    rw (c.in_ok-pass_bases.ensures) (one_more c.loop-statement.standing _ _ _ _ _ c.in_ok-push_statement.ensures (rw (sym c.statement-item.is) at next) c.loop-statement.invariant)
+    rw (c.in_ok-pass_bases.ensures.bases) (one_more c.loop-statement.standing _ _ _ _ _ c.in_ok-push_statement.ensures (rw (sym c.statement-item.is) at next) c.loop-statement.invariant)
 
 pub push_statement-requires : goal.push_statement-requires
 push_statement-requires c =

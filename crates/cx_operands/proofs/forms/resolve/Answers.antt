@@ -6,5 +6,5 @@ use Rattle.cx_operands.proofs.forms.resolve.Goals as goal
 
 pub instruction-requires : goal.instruction-requires
 instruction-requires c =
-    resolved_well c.args.operation c.in-Some.op c.in-Some-of.form (told c.args.c.now) (operands_of c.args.operand.now) c.in-Ok-Ok.fields
-    (sym c.in-Some.ensures) (sym c.in-Some-of.ensures) c.bases-bases.ensures.sixteen (sym c.in-Ok-Ok.ensures ∙ c.in-Ok-Ok.field-0-is)
+    resolved_well c.args.operation c.in-Some.op c.in-Some-of.form (told c.args.c.now) (operands_of c.args.operand.now) c.in-Ok.fields
+    (sym c.in-Some.ensures) (sym c.in-Some-of.ensures) c.bases-bases.ensures.sixteen (sym c.in_ok-fields.ensures ∙ c.in-Ok.is)

@@ -1,0 +1,3 @@
+-- Statements of laws.
+pub mod Back
+pub mod Constants

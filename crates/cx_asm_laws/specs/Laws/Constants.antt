@@ -1,0 +1,69 @@
+-- Where the items of DS and DC, and literals, stand in an assembly (GC33-4010, "DC -- Define Constant", "DS -- Define Storage",
+-- "Literal Pool"; that they are resolved lines is this project's own).
+use Rattle.std.specs.Prelude.{◌≡◌, ℕ, Bool, true, false, Option, Ok, List, Contains, ⊤}
+use Rattle.std.specs.List.{AllByRecursion}
+use Rattle.cx_code.specs.declared.disassembly.Line.{Line}
+use Rattle.cx_source.specs.declared.source.Source.{Source}
+use Rattle.cx_terms.specs.Bytes.{Made}
+use Rattle.cx_terms.specs.Items.{Constant, constant_in, size_of}
+use Rattle.cx_terms.specs.declared.values.Value.{Value}
+use Rattle.cx_pools.specs.Pools.{Placed}
+use Rattle.cx_pools.specs.declared.closed.Literal.{Literal}
+use Rattle.cx_places.specs.Given.{location_counter}
+use Rattle.cx_places.specs.Known.{is_control, role_in}
+use Rattle.cx_places.specs.declared.roles.Role.{Role}
+use Rattle.cx_places.specs.declared.roles.Role.TheVariants.{Storage, Pool}
+use Rattle.cx_second.specs.Statements.{Stated, placed_items, statements_of}
+use Rattle.cx_second.specs.Whole.{Whole, item_made, pool_of, whole_of}
+use Rattle.cx_asm.specs.Assembly.{AssemblyParts, assembly_of}
+use Rattle.cx_asm.specs.Resolving.{copies, counter_at, data_line, last_pool, space_line}
+
+abbrev pub AreAmong : List Line → List Line → Type 0
+AreAmong resolved some = AllByRecursion (Contains resolved) some
+
+-- A DS's item is a constant; its bytes, if it has any, are a space at its offset.
+pub record IsSpace (resolved : List Line) (item : List ℕ × ℕ) : Type 0 where
+  pub constant : Constant
+  pub written : constant_in true item.0 ≡ Ok constant
+  pub stands : AreAmong resolved (space_line item.1 (size_of constant))
+
+-- A DC's item is a constant with a value; the bytes of all its copies, if there are any, are a line at its offset.
+pub record IsData (told : Whole) (resolved : List Line) (counter : Option Value) (item : List ℕ × ℕ) : Type 0 where
+  pub constant : Constant
+  pub written : constant_in false item.0 ≡ Ok constant
+  pub once : Made
+  pub value : item_made told false counter item.0 ≡ Ok once
+  pub stands : AreAmong resolved (data_line item.1 (copies constant.duplication once.bytes))
+
+abbrev pub ItemStands : Whole → List Line → Bool → Stated → List ℕ × ℕ → Type 0
+ItemStands told resolved true s item = IsSpace resolved item
+ItemStands told resolved false s item = IsData told resolved (location_counter s.place.section item.1 1) item
+
+-- Of a literal with a value the bytes of all its copies, if there are any, are a line at its offset in the pool.
+abbrev pub LiteralStands : Whole → List Stated → List Line → List ℕ × Literal → Type 0
+LiteralStands told statements resolved literal =
+    (constant : Constant) (once : Made) → constant_in false literal.0 ≡ Ok constant
+    → item_made told false (counter_at statements literal.1.user) literal.0 ≡ Ok once
+    → AreAmong resolved (data_line literal.1.offset (copies constant.duplication once.bytes))
+
+abbrev pub PoolStands : Whole → List Stated → List Line → Placed → Type 0
+PoolStands told statements resolved pool = AllByRecursion (LiteralStands told statements resolved) pool
+
+-- So stand the items of a DS or DC, and the literals that LTORG places.
+abbrev pub RoleStands : Whole → List Stated → List Line → Stated → Role → Type 0
+RoleStands told statements resolved s (Storage is_ds) = AllByRecursion (ItemStands told resolved is_ds s) (placed_items s)
+RoleStands told statements resolved s Pool = PoolStands told statements resolved (pool_of told s)
+RoleStands told statements resolved s role = ⊤
+
+-- in the control section
+abbrev pub StatementStands : Whole → List Stated → List Line → Stated → Type 0
+StatementStands told statements resolved s =
+    is_control s.place.section told.control ≡ true → RoleStands told statements resolved s (role_in s.stmt)
+
+-- In an accepted source this holds of every statement, and of the literals that no LTORG places.
+pub record ConstantsStand (source : Source) (resolved : List Line) : Type 0 where
+  pub statements : AllByRecursion (StatementStands (whole_of source) (statements_of source) resolved) (statements_of source)
+  pub last : PoolStands (whole_of source) (statements_of source) resolved (last_pool (whole_of source))
+
+abbrev pub AcceptedStand : Type 0
+AcceptedStand = (source : Source) (made : AssemblyParts) → assembly_of source ≡ Ok made → ConstantsStand source made.section.resolved
