@@ -1,7 +1,8 @@
 -- What the program does, and its status (own).
-use Rattle.std.specs.Prelude.{ℕ, Bool, List, Option, Result, Ok, Err}
+use Rattle.std.specs.Prelude.{◌≡◌, ℕ, Bool, List, Option, Result, Ok, Err}
 use Rattle.cx_script.specs.Effects.{Performs, fresh_state}
 use Rattle.cx_script.specs.Outcome.{RanScript}
+use Rattle.cx_blocks.specs.Faults.{is_read}
 use Rattle.cx_blocks.specs.Status.{status_of}
 use Rattle.cx_blocks.specs.declared.faults.RunFault.{RunFault}
 use Rattle.cx_blocks.specs.declared.faults.Summary.{Summary}
@@ -15,8 +16,9 @@ program_status (Ok answer) = status_of answer
 program_status (Err Usage) = 2
 program_status (Err Memory) = status_of (Err fault.Memory)
 
--- a run of the script that a reader has
+-- a run of the script that a reader has, of which a read failed exactly at Read
 pub record RanFrom (left : Option (List ℕ)) (answer : Result Summary RunFault) (written written_after : Option (List ℕ)) : Type 0 where
   pub left_after : Option (List ℕ)
   pub failed : Bool
+  pub read : failed ≡ is_read answer
   pub ran : RanScript Performs fresh_state left left_after failed answer written written_after

@@ -55,7 +55,7 @@ fn run<R: Files + Input + Print + AllocGlobal>(
     let mut output = Std::new(io::writer(rt));
     match file {
         Some(path) => run_opened(rt.alloc(), fs::open(rt, path), &mut output),
-        None => run_reader(rt.alloc(), rt.reader(), &mut output),
+        None => run_reader(rt.alloc(), &mut Std::new(rt.reader()), &mut output),
     }
 }
 

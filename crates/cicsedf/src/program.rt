@@ -1,11 +1,13 @@
 //! What the program decides: what it runs, and its status.
 
 ghost use Rattle.std.specs.Prelude.{◌≡◌, false, IfOk, OnErr, Err};
-ghost use Rattle.cx_blocks.specs.Faults.{is_write};
+ghost use Rattle.cx_script.specs.Effects.{Performs, fresh_state};
+ghost use Rattle.cx_blocks.specs.Faults.{is_read, is_write};
 ghost use Rattle.cx_blocks.specs.declared.faults.RunFault.TheVariants.{Read as ReadFault};
+ghost use Rattle.cx_script.specs.Outcome.{RanScript};
 ghost use Rattle.cicsedf.specs.Program.{RanFrom, program_status};
 
-use cx_script::{RunFault, ScriptOut, Std, Summary, run_script, status};
+use cx_script::{RunFault, ScriptIn, ScriptOut, Std, Summary, run_script, status};
 use std::alloc::Global;
 use std::io::Read;
 
@@ -21,17 +23,20 @@ pub enum Refusal {
     Memory,
 }
 
-/// Runs the script that a reader has.
-pub fn run_reader<F: Read + Drop, W: ScriptOut>(
+/// Runs the script that a reader has. A read has failed exactly where the answer is Read.
+pub fn run_reader<F: Read, W: ScriptOut>(
     alloc: Global,
-    input: F,
+    input: &mut Std<F>,
     output: &mut W,
 ) -> Result<Summary, RunFault>
-    requires { W.has_failed output.old ≡ false }
-    ensures ran { RanFrom (F.remaining input) result (W.written output.old) (W.written output.new) }
+    requires input { ⟦<Std<F> as ScriptIn>⟧.has_failed input.old ≡ false }
+    requires output { W.has_failed output.old ≡ false }
+    ensures ran { RanScript Performs fresh_state (⟦<Std<F> as ScriptIn>⟧.left input.old) (⟦<Std<F> as ScriptIn>⟧.left input.new)
+        (⟦<Std<F> as ScriptIn>⟧.has_failed input.new) result (W.written output.old) (W.written output.new) }
+    ensures read { ⟦<Std<F> as ScriptIn>⟧.has_failed input.new ≡ is_read result }
     ensures write { W.has_failed output.new ≡ is_write result }
 {
-    run_script(alloc, &mut Std::new(input), output)
+    run_script(alloc, input, output)
 }
 
 /// Runs the script of a file, by what opening it answered. A file that can't be opened is one that can't be read, and
@@ -47,7 +52,7 @@ pub fn run_opened<F: Read + Drop, E: Drop, W: ScriptOut>(
     ensures unwritten { OnErr opened (W.written output.new ≡ W.written output.old) }
 {
     match opened {
-        Ok(file) => run_reader(alloc, file, output),
+        Ok(file) => run_reader(alloc, &mut Std::new(file), output),
         Err(_) => Err(RunFault::Read),
     }
 }

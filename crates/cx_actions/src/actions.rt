@@ -1,6 +1,6 @@
 //! What a line of a script asks.
 
-ghost use Rattle.std.specs.Prelude.{◌≡◌, IfOk, IfSome};
+ghost use Rattle.std.specs.Prelude.{◌≡◌, IfOk, IfSome, OnErr, is_some, true};
 ghost use Rattle.std.specs.List.{find};
 ghost use Rattle.std.specs.Option.{option_copied, option_map};
 ghost use Rattle.cx_ebcdic.specs.Aids.{key_of};
@@ -237,6 +237,7 @@ fn key_words(text: &[u8]) -> Option<(Name4, Aid, Option<&[u8]>)>
 #[tactic(auto, unfolding(crate::specs::Actions::asked))]
 fn key_line(alloc: Global, text: &[u8]) -> Result<Option<Line>, AllocError>
     ensures value { IfOk result (λ line. line ≡ asked Verb.Key text.now) }
+    ensures memory { OnErr result (is_some (asked Verb.Key text.now) ≡ true) }
     ensures allowed { IfOk result (λ line. IfSome line IsAllowedLine) }
 {
     let Some((name, aid, behind)) = key_words(text) else {
@@ -308,6 +309,7 @@ fn alter_line(text: &[u8]) -> Option<Line>
 #[tactic(auto, unfolding(crate::specs::Actions::asked))]
 fn asked(alloc: Global, verb: Verb, text: &[u8]) -> Result<Option<Line>, AllocError>
     ensures value { IfOk result (λ line. line ≡ asked verb text.now) }
+    ensures memory { OnErr result (is_some (asked verb text.now) ≡ true) }
     ensures allowed { IfOk result (λ line. IfSome line IsAllowedLine) }
 {
     match verb {
@@ -332,10 +334,11 @@ fn is_idle(text: &[u8]) -> bool
     text.is_empty() || text[0] == b'*'
 }
 
-/// What a line asks where it is not in a block; None where it is a bad line.
+/// What a line asks where it is not in a block; None, and never Memory, where it is a bad line.
 #[tactic(auto, unfolding(crate::specs::Actions::line_of))]
 pub fn line_of(alloc: Global, text: &[u8]) -> Result<Option<Line>, AllocError>
     ensures value { IfOk result (λ line. line ≡ line_of text.now) }
+    ensures memory { OnErr result (is_some (line_of text.now) ≡ true) }
     ensures allowed { IfOk result (λ line. IfSome line IsAllowedLine) }
 {
     if is_idle(text) {

@@ -1,6 +1,6 @@
 //! The words of a line, and what they spell.
 
-ghost use Rattle.std.specs.Prelude.{◌≡◌, ◌≤◌, ◌<◌, ◌+◌, ◌^◌, IfOk, IfSome, Some, None, true, length, drop, position};
+ghost use Rattle.std.specs.Prelude.{◌≡◌, ◌≤◌, ◌<◌, ◌+◌, ◌^◌, IfOk, IfSome, OnErr, Some, None, is_some, true, length, drop, position};
 ghost use Rattle.std.specs.Option.{option_map};
 ghost use Rattle.std.specs.List.{filter_map, list_all};
 ghost use Rattle.std.specs.Char.{is_ascii_digit};
@@ -110,6 +110,7 @@ fn codes_of(alloc: Global, text: &[u8]) -> Result<Vec<u8>, AllocError>
 #[tactic(auto, unfolding(crate::specs::Words::codes_of_key), using(crate::proofs::WordLemmas::few_codes))]
 pub fn codes_of_key(alloc: Global, text: &[u8]) -> Result<Option<Bytes>, AllocError>
     ensures codes { IfOk result (λ codes. codes ≡ codes_of_key text.now) }
+    ensures memory { OnErr result (is_some (codes_of_key text.now) ≡ true) }
     ensures bound { IfOk result (λ codes. IfSome codes (λ bytes. length bytes ≤ 1920)) }
 {
     if text.len() > MOST_IN_KEY || !have_codes(text) {

@@ -1,10 +1,11 @@
 //! Lines and blocks: what each line of a script leads to.
 
-ghost use Rattle.std.specs.Prelude.{◌≡◌, ◌≤◌, ◌/◌, ◌++◌, ◌∷◌, [], None, Err, IfOk, IfSome, OnOk, MatchOption, true, false, length};
+ghost use Rattle.std.specs.Prelude.{◌≡◌, ◌≤◌, ◌/◌, ◌++◌, ◌∷◌, [], None, Err, IfOk, IfSome, OnErr, OnOk, MatchOption, is_some, true, false, length};
 ghost use Rattle.cx_actions.specs.Allowed.{IsAllowed};
 ghost use Rattle.cx_actions.specs.Words.{hex_bytes};
 ghost use Rattle.cx_blocks.specs.Blocks.{ended, first_line, image_action, kept, kept_lines, located, step_at, step_in, step_of, step_within, with_line};
 ghost use Rattle.cx_blocks.specs.Faults.{is_memory, is_read, is_write};
+ghost use Rattle.cx_blocks.specs.declared.faults.RunFault.TheVariants.{BadLine};
 
 use crate::faults::RunFault;
 use cx_actions::{Action, Line, Wanted, line_of};
@@ -184,7 +185,8 @@ impl Block {
     /// The block with one more line, where it may have that line.
     fn with_line(self, alloc: Global, line: &[u8]) -> Result<Option<Block>, AllocError>
         requires { length line.now ≤ 4096 }
-        ensures { IfOk result (λ block. block ≡ with_line self line.now) }
+        ensures value { IfOk result (λ block. block ≡ with_line self line.now) }
+        ensures memory { OnErr result (is_some (with_line self line.now) ≡ true) }
     {
         match self {
             Block::Image(mut block) => {
@@ -252,7 +254,8 @@ fn keep(text: &mut Vec<u8>)
 /// Adds the bytes that a line of hexadecimal digits spells, as far as they are kept; false where it isn't one.
 fn append_line(text: &mut Vec<u8>, line: &[u8]) -> Result<bool, AllocError>
     requires { length line.now ≤ 4096 }
-    ensures { IfOk result (λ spelled. MatchOption (hex_bytes line.now) (spelled ≡ false) (λ bytes. (spelled ≡ true) × (text.new.items ≡ kept (text.old.items ++ bytes)))) }
+    ensures value { IfOk result (λ spelled. MatchOption (hex_bytes line.now) (spelled ≡ false) (λ bytes. (spelled ≡ true) × (text.new.items ≡ kept (text.old.items ++ bytes)))) }
+    ensures memory { OnErr result (is_some (hex_bytes line.now) ≡ true) }
 {
     let mut buffer = [0; MOST_IN_LINE];
     let out = &mut buffer[..line.len() / 2];
@@ -275,9 +278,11 @@ fn append_text(alloc: Global, lines: &mut Vec<Text>, line: &[u8]) -> Result<(), 
 }
 
 /// What a line inside a block leads to.
+#[tactic(auto, using(crate::proofs::BlockLemmas::end_is_good))]
 fn step_within(alloc: Global, number: usize, block: Block, line: &[u8]) -> Result<Step, RunFault>
     requires { length line.now ≤ 4096 }
     ensures value { is_memory result ≡ false → result ≡ step_within number block line.now }
+    ensures bad { step_within number block line.now ≡ Err (BadLine number) → result ≡ Err (BadLine number) }
     ensures allowed { IfOk result (λ step. IfSome step.action IsAllowed) }
     ensures unwritten { is_write result ≡ false }
     ensures unread { is_read result ≡ false }
@@ -297,6 +302,7 @@ fn step_within(alloc: Global, number: usize, block: Block, line: &[u8]) -> Resul
 /// What a line outside a block leads to, by its text.
 fn step_outside(alloc: Global, number: usize, line: &[u8]) -> Result<Step, RunFault>
     ensures value { is_memory result ≡ false → result ≡ step_in number None line.now }
+    ensures bad { step_in number None line.now ≡ Err (BadLine number) → result ≡ Err (BadLine number) }
     ensures allowed { IfOk result (λ step. IfSome step.action IsAllowed) }
     ensures unwritten { is_write result ≡ false }
     ensures unread { is_read result ≡ false }
@@ -309,7 +315,7 @@ fn step_outside(alloc: Global, number: usize, line: &[u8]) -> Result<Step, RunFa
 
 /// What the line with this number leads to, the first of it in this block.
 ///
-/// An error is the line's own fault, BadLine with its number where it is a bad line, or Memory where a growth was refused.
+/// An error is the line's own fault, or Memory where a growth was refused. A bad line is BadLine with its number, never Memory.
 #[tactic(auto, unfolding(crate::specs::Blocks::step_at))]
 pub fn step_at(
     alloc: Global,
@@ -318,6 +324,7 @@ pub fn step_at(
     line: &[u8],
 ) -> Result<Step, RunFault>
     ensures value { is_memory result ≡ false → result ≡ step_at number block line.now }
+    ensures bad { step_at number block line.now ≡ Err (BadLine number) → result ≡ Err (BadLine number) }
     ensures allowed { IfOk result (λ step. IfSome step.action IsAllowed) }
     ensures unwritten { is_write result ≡ false }
     ensures unread { is_read result ≡ false }
