@@ -9,3 +9,4 @@ pub mod ListLemmas
 pub mod ArrivalLemmas
 pub mod TimeLemmas
 pub mod MadeLemmas
+pub mod LoadLemmas

@@ -1,2 +1,3 @@
 -- What the module `laws` promises.
 pub mod Entry
+pub mod Pointers

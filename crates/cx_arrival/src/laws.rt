@@ -1,5 +1,6 @@
 //! The instructions made of an EXEC statement bring the machine to the entry with the command's argument list.
 ghost use Rattle.cx_arrival.specs.Laws.Entry.{ArrivalsDecide, ArrivesInTime, MadeAreCounted, ReachesEntry};
+ghost use Rattle.cx_arrival.specs.Laws.Pointers.{LoadsGiveWords};
 
 /// The instructions made of an EXEC statement, where they stand in storage at the next address, lead to the entry, with
 /// the argument list that is read as the statement's command with the addresses that its arguments had at the first
@@ -31,3 +32,12 @@ pub fn arrivals_decide()
 pub fn made_are_counted()
     ensures { MadeAreCounted }
 {}
+
+/// L that stands at the next address, as it does behind a call for each pointer, gives its register the word that its operand
+/// addresses. All else is as before.
+pub fn loads_give_words()
+    ensures { LoadsGiveWords }
+{
+    cx_code::laws::every_spelling();
+    cx_exec::laws::spelled_is_fetched();
+}

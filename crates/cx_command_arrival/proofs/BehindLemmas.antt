@@ -8,12 +8,11 @@ use Rattle.cx_source.specs.declared.source.Item.{Item}
 use Rattle.cx_source.specs.declared.source.Source.{Source}
 use Rattle.cx_source.specs.declared.source.Stmt.{Stmt}
 use Rattle.cx_terms.specs.Faults.{lower, lowest}
-use Rattle.cx_places.specs.Given.{duplicate}
 use Rattle.cx_terms.specs.declared.faults.FaultKind.{FaultKind}
 use Rattle.cx_places.specs.Facts.Apart.{in_control}
 use Rattle.cx_places.specs.Facts.Faults.{none_before}
 use Rattle.cx_places.specs.Facts.Laid.{lower_none}
-use Rattle.cx_places.specs.Known.{Known, after, after_line, definitions_in, fault_in, first_fault_behind, given_in, is_control, literal_fault, name_fault, operation_fault, control_after, known_behind, laid_in, line_fault, own_fault, parts_in, role_in, section_fault, name_in}
+use Rattle.cx_places.specs.Known.{Known, after, after_line, duplicate_in, fault_in, first_fault_behind, given_in, is_control, literal_fault, name_fault, operation_fault, control_after, known_behind, laid_in, line_fault, own_fault, parts_in, role_in, section_fault, name_in}
 use Rattle.cx_places.specs.declared.place.LineFault.{LineFault}
 use Rattle.cx_places.specs.declared.roles.Role.{Role}
 use Rattle.cx_places.specs.declared.roles.Role.TheVariants as role
@@ -59,11 +58,11 @@ none_first line fault (Some first) e = absurd (some_stays (line == first.line) (
 pub section_sound : (stmt : Stmt) (known : Known) → own_fault stmt known ≡ None → section_fault (role_in stmt) (name_in stmt) known.section known.control ≡ None
 section_sound stmt known e =
     let operated = lower_none (operation_fault (role_in stmt)) (lowest (name_fault (role_in stmt) stmt.name ∷ section_fault (role_in stmt) (name_in stmt) known.section known.control
-    ∷ (laid_in stmt known).fault ∷ result_err (given_in stmt known) ∷ duplicate known.symbols (definitions_in stmt known) ∷ [])) e in
+    ∷ (laid_in stmt known).fault ∷ result_err (given_in stmt known) ∷ duplicate_in stmt known ∷ [])) e in
     let titled = lower_none (name_fault (role_in stmt) stmt.name) (lowest (section_fault (role_in stmt) (name_in stmt) known.section known.control
-    ∷ (laid_in stmt known).fault ∷ result_err (given_in stmt known) ∷ duplicate known.symbols (definitions_in stmt known) ∷ [])) operated.1 in
+    ∷ (laid_in stmt known).fault ∷ result_err (given_in stmt known) ∷ duplicate_in stmt known ∷ [])) operated.1 in
     (lower_none (section_fault (role_in stmt) (name_in stmt) known.section known.control)
-    (lowest ((laid_in stmt known).fault ∷ result_err (given_in stmt known) ∷ duplicate known.symbols (definitions_in stmt known) ∷ [])) titled.1).0
+    (lowest ((laid_in stmt known).fault ∷ result_err (given_in stmt known) ∷ duplicate_in stmt known ∷ [])) titled.1).0
 
 pub own_sound : (line : ℕ) (stmt : Stmt) (known : Known) → (after line stmt known).fault ≡ None → own_fault stmt known ≡ None
 unfolding after

@@ -52,7 +52,7 @@ use Rattle.cx_command_arrival.proofs.TogetherLemmas.{stand_together}
 use Rattle.cx_command_arrival.proofs.BlockLemmas.{none_known}
 
 -- ---- instructions
-abbrev AreInstructions : List Item → Type 0
+abbrev pub AreInstructions : List Item → Type 0
 AreInstructions items = AllByRecursion (λ item. is_instruction item.stmt ≡ true) items
 
 is_la : (line : ℕ) (name operand : List ℕ) → is_instruction (made_item line (stmt name (codes "LA") operand)).stmt ≡ true
@@ -67,7 +67,7 @@ is_oi : (line : ℕ) (name operand : List ℕ) → is_instruction (made_item lin
 unfolding made_item operation_named op_named ops row_of
 is_oi line name operand = refl
 
-is_l : (line : ℕ) (name operand : List ℕ) → is_instruction (made_item line (stmt name (codes "L") operand)).stmt ≡ true
+pub is_l : (line : ℕ) (name operand : List ℕ) → is_instruction (made_item line (stmt name (codes "L") operand)).stmt ≡ true
 unfolding made_item operation_named op_named ops row_of
 is_l line name operand = refl
 
@@ -283,7 +283,7 @@ named_so source (c ∷ cs) line before behind command words lines_of is sound co
     subst (λ n. Placed (reverse source.items) symbol n) at (subst (λ k. Placed k symbol (laid_in s (known_behind (one ∷ reverse before))).offset) (sym all) placed)
 
 -- ---- all of it
-made_split : (line : ℕ) (name : List ℕ) (command : Command) (words : List Word)
+pub made_split : (line : ℕ) (name : List ℕ) (command : Command) (words : List Word)
     → lines line (made_in name command words) ≡ lines line (label name) ++ lines line (call_statements command words) ++ lines line (map load (pointers_of (row_of_command command).options words))
 unfolding made_in
 made_split line name command words =

@@ -21,3 +21,4 @@ pub mod LegalLemmas
 pub mod KeptLemmas
 pub mod ArrivingLemmas
 pub mod OneLemmas
+pub mod PointerLemmas

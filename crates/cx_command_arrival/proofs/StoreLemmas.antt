@@ -140,7 +140,7 @@ st_indexed : form_of_op op.St ≡ form.Indexed
 unfolding row_of is_shift
 st_indexed = refl
 
-resolved_so : (told : Whole) (bases : Bases) (line at : ℕ) (before : List Item) (s : Stmt) (o : Op) (i : Instruction) → operation_named s.operation ≡ Some (operation.Machine o)
+pub resolved_so : (told : Whole) (bases : Bases) (line at : ℕ) (before : List Item) (s : Stmt) (o : Op) (i : Instruction) → operation_named s.operation ≡ Some (operation.Machine o)
     → IsResolved told bases before at (made_item line s) i → resolved (operation.Machine o) (context_of told bases line before s) s.operand ≡ Ok i
 unfolding made_item
 resolved_so told bases line at before s o i named r =
@@ -163,7 +163,7 @@ stores_resolved told bases line at k before (argument ∷ list) (i ∷ j ∷ cod
 )
 
 -- ---- the branch
-l_named : operation_named (codes "L") ≡ Some (operation.Machine op.L)
+pub l_named : operation_named (codes "L") ≡ Some (operation.Machine op.L)
 unfolding operation_named op_named ops row_of
 l_named = refl
 
@@ -171,7 +171,7 @@ balr_named : operation_named (codes "BALR") ≡ Some (operation.Machine op.Balr)
 unfolding operation_named op_named ops row_of
 balr_named = refl
 
-l_indexed : form_of_op op.L ≡ form.Indexed
+pub l_indexed : form_of_op op.L ≡ form.Indexed
 unfolding row_of is_shift
 l_indexed = refl
 

@@ -13,3 +13,4 @@ pub mod Called
 pub mod CodeInStorage
 pub mod Commands
 pub mod Arriving
+pub mod Pointers

@@ -9,6 +9,7 @@ ghost use Rattle.cx_command_arrival.specs.Commands.{CallsAreMade, StatementsDeci
 ghost use Rattle.cx_command_arrival.specs.Handed.{BlockStands, EntryStands, LiteralsAreLoaded};
 ghost use Rattle.cx_command_arrival.specs.InStorage.{CodeIsUnraised, LinesAreLoaded, TextsAreMade};
 ghost use Rattle.cx_command_arrival.specs.Literals.{LiteralsStand};
+ghost use Rattle.cx_command_arrival.specs.Pointers.{LoadsAreResolved, PointersAreHanded, PointersAreLoaded};
 ghost use Rattle.cx_command_arrival.specs.Standing.{InstructionsStand};
 ghost use Rattle.cx_command_arrival.specs.Stores.{BranchIsResolved, StoresAreResolved};
 ghost use Rattle.cx_command_arrival.specs.Together.{MadeStandTogether};
@@ -180,5 +181,15 @@ pub fn commands_arrive()
     texts_are_made();
     code_is_loaded();
     calls_stand();
+    calls_are_made();
+}
+
+/// In an accepted translation the loads of a command's pointers stand right behind its call, where the branch to the entry leaves
+/// register 14: for each pointer L of the register that its operand names, from the field that the call hands over for it.
+pub fn pointers_are_loaded()
+    ensures loads { PointersAreLoaded }
+    ensures resolved { LoadsAreResolved }
+    ensures handed { PointersAreHanded }
+{
     calls_are_made();
 }

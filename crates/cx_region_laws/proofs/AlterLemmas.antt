@@ -1,12 +1,13 @@
 -- What alterations leave and keep.
-use Rattle.std.proofs.Common.{◌≡◌, ℕ, false, Option, Some, None, List, refl, sym, ◌∙◌, subst}
-use Rattle.std.specs.Prelude.{◌==◌, MatchOption}
+use Rattle.std.proofs.Common.{◌≡◌, ℕ, Bool, true, false, Option, Some, None, List, refl, sym, ◌∙◌, ap, subst}
+use Rattle.std.specs.Prelude.{◌==◌, MatchOption, if◌then◌else◌, slice_set}
 use Rattle.std.specs.Option.{option_map_or}
 use Rattle.std.proofs.lemmas.Bool.{eq-eqb, true≢false}
 use Rattle.std.proofs.lemmas.Map.{keys-set_value}
 use Rattle.cx_storage.specs.Facts.Writes.{areas_after_set, byte_after_set_elsewhere}
 use Rattle.cx_storage.specs.Storage.{Storage, byte_at, is_of_other_slot, with_areas_kept, with_byte}
 use Rattle.cx_service.specs.Resources.{without_owner}
+use Rattle.cx_program.specs.Levels.{with_current}
 use Rattle.cx_state.specs.State.{Reach, TaskState}
 use Rattle.cx_task.specs.Abends.{AbendsAt}
 use Rattle.cx_region.specs.declared.changes.Change.{Change}
@@ -17,8 +18,8 @@ use Rattle.cx_region.specs.State.{RegionState, TerminalState}
 use Rattle.cx_region.specs.Names.{is_name4}
 use Rattle.cx_region.specs.Tables.{terminal_of}
 use Rattle.cx_region.specs.Turn.{reach_of}
-use Rattle.cx_region.specs.Alter.{Alters, alter_refusal, altered, altered_at, altered_region, ends_task}
-use Rattle.cx_region_laws.specs.Laws.Alterations.{AbendsKeepOthers, AbendsLookAtNoExit, AlterKeeps, AlterKeepsOthers, AlterKeepsStorage, AlterationsKeepStorage, AlterationsKeepToTheirTask}
+use Rattle.cx_region.specs.Alter.{Alters, alter_refusal, altered, altered_at, altered_region, ends_task, with_register}
+use Rattle.cx_region_laws.specs.Laws.Alterations.{AbendsKeepOthers, AbendsLookAtNoExit, AlterKeeps, AlterKeepsLevels, AlterKeepsOthers, AlterKeepsStorage, AlterationsKeepLevels, AlterationsKeepStorage, AlterationsKeepToTheirTask, KeepsWhereDue}
 use Rattle.cx_region_laws.proofs.KeepsLemmas.{other_stays}
 use Rattle.cx_region.specs.Facts.SoundAlter.{kept_twice, released_twice}
 
@@ -117,3 +118,25 @@ abends_keep_others old name reply new h =
 pub abends_look_at_no_exit : AbendsLookAtNoExit
 unfolding altered AbendsAt
 abends_look_at_no_exit before = record { exit = None; takes = refl; ends = (refl, refl) }
+
+-- ---- levels
+same_levels : (before after : TaskState) → after ≡ before → AlterKeepsLevels before after
+same_levels before after same = rw same (record { callers = refl; kept = λ kept. kept })
+
+-- a value in a register, which the current level keeps too where a command is due
+register_kept : (task : TaskState) (r v : ℕ) → AlterKeepsLevels task (with_register task r v)
+register_kept task r v = record { callers = callers task.due; kept = λ kept due. by_due kept due }
+  where
+    callers : (b : Bool) → (if b then with_current task.levels (record task.levels.current { regs = slice_set task.levels.current.regs r v }) else task.levels).callers ≡ task.levels.callers
+    callers true = refl
+    callers false = refl
+
+    by_due : KeepsWhereDue task → task.due ≡ true → ((with_register task r v).levels.current.regs ≡ slice_set task.regs r v) × ((with_register task r v).levels.current.cc ≡ task.cc)
+    by_due kept due = rw due (ap (λ (regs : List ℕ). slice_set regs r v) (kept due).0, (kept due).1)
+
+pub alterations_keep_levels : AlterationsKeepLevels
+unfolding altered
+alterations_keep_levels (Register r v) before = register_kept before.task r v
+alterations_keep_levels (Byte a v) before = same_levels before.task before.task refl
+alterations_keep_levels Nop before = record { callers = refl; kept = λ kept due. cc }
+alterations_keep_levels Abend before = same_levels before.task before.task refl

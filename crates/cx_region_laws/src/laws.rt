@@ -1,5 +1,5 @@
 //! What holds of every event, and of every run of events.
-ghost use Rattle.cx_region_laws.specs.Laws.Alterations.{AbendsKeepOthers, AbendsLookAtNoExit, AbendsOfTasksAreDone, AlterationsDecide, AlterationsKeepStorage, AlterationsKeepToTheirTask, RefusedAlterationsLeaveTheRegion};
+ghost use Rattle.cx_region_laws.specs.Laws.Alterations.{AbendsKeepOthers, AbendsLookAtNoExit, AbendsOfTasksAreDone, AlterationsDecide, AlterationsKeepLevels, AlterationsKeepStorage, AlterationsKeepToTheirTask, RefusedAlterationsLeaveTheRegion};
 ghost use Rattle.cx_region_laws.specs.Laws.Regions.{ProgramsDecide, TransactionsDecide, TerminalsDecide, TurnsDecide, EachIsAnswered, EventsDecide, KeysDecide, KeysKeepToTheirTerminal, RefusedProgramsLeaveTheRegion, RefusedTerminalsLeaveTheRegion, RefusedTransactionsLeaveTheRegion, RunsDecide, RunsJoin, RunsPart, StillKeysLeaveTheRegion, StillTurnsLeaveTheRegion, TurnsKeepOthers, TurnsKeepToTheirTask};
 ghost use Rattle.cx_region_laws.specs.Laws.Memory.{RefusedEventsAreNone, StoppedRunsGoOn};
 ghost use Rattle.cx_region_laws.specs.Laws.Sound.{SoundIsKept};
@@ -45,12 +45,14 @@ pub fn a_turn_keeps_to_its_task()
 
 /// An alteration changes no terminal but its own, and no definition or queue, neither the clock nor the counter of tasks.
 /// Where the task goes on it changes no area and no resource, and one byte at most. Where it ends the task it leaves the
-/// areas of all others, with their bytes, and their resources.
-#[tactic(auto, using(crate::proofs::AlterLemmas::alterations_keep, crate::proofs::AlterLemmas::alterations_keep_storage, crate::proofs::AlterLemmas::abends_keep_others))]
+/// areas of all others, with their bytes, and their resources. It leaves the task's levels above the current one, and where a
+/// command is due the current level still keeps the registers and the code that its program has.
+#[tactic(auto, using(crate::proofs::AlterLemmas::alterations_keep, crate::proofs::AlterLemmas::alterations_keep_storage, crate::proofs::AlterLemmas::abends_keep_others, crate::proofs::AlterLemmas::alterations_keep_levels))]
 pub fn an_alteration_keeps_to_its_task()
     ensures task { AlterationsKeepToTheirTask }
     ensures storage { AlterationsKeepStorage }
     ensures others { AbendsKeepOthers }
+    ensures levels { AlterationsKeepLevels }
 {}
 
 /// An alteration that is refused leaves the region as it was.

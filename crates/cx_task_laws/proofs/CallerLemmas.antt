@@ -1,5 +1,5 @@
 -- What half-turns leave of the levels above the current one.
-use Rattle.std.proofs.Common.{◌≡◌, ℕ, zero, suc, Bool, true, false, Option, Some, None, List, [], ◌∷◌, drop, refl, sym, ◌∙◌, ap, subst, inl, inr}
+use Rattle.std.proofs.Common.{◌≡◌, ℕ, zero, suc, Bool, true, false, Option, Some, None, List, [], ◌∷◌, drop, length, ◌≤◌, refl, sym, ◌∙◌, ap, subst, arith, inl, inr}
 use Rattle.std.specs.Prelude.{Result, Ok, Err, MatchBool, MatchResult, if◌then◌else◌}
 use Rattle.cx_command.specs.Abends.{abend_code}
 use Rattle.cx_command.specs.declared.abends.Abend.TheVariants as abend
@@ -34,27 +34,37 @@ use Rattle.cx_task.specs.Ways.{Goes, choice_for, entered, is_normal, is_wait, re
 use Rattle.cx_task_laws.specs.Laws.Levels.{HalfTurnsLeaveCallers, IsBack, LeavesCallers}
 use Rattle.cx_task_laws.proofs.CommandLemmas.{finished_task}
 use Rattle.cx_task_laws.proofs.GrownLemmas.{SameTask, grown_task, task_at, task_on}
+use Rattle.cx_task_laws.proofs.LevelLemmas.{IsWell, is_request, judged_well, settles_levels}
+use Rattle.std.proofs.lemmas.Bool.{true≢false}
 
 -- ---- abends
-unwound_callers : (n : ℕ) (callers : List Level) (current : Level) (s : Storage) → (unwound n callers current s).levels.callers ≡ drop n callers
+unwound_levels : (n : ℕ) (callers : List Level) (current : Level) (s : Storage) → n ≤ length callers
+    → drop n (current ∷ callers) ≡ (unwound n callers current s).levels.current ∷ (unwound n callers current s).levels.callers
 unfolding unwound
-unwound_callers zero callers current s = refl
-unwound_callers (suc n) [] current s = refl
-unwound_callers (suc n) (caller ∷ callers) current s = unwound_callers n callers caller (without_stg current s)
+unwound_levels zero callers current s few = refl
+unwound_levels (suc n) [] current s few = absurd (omega (arith, few))
+unwound_levels (suc n) (caller ∷ callers) current s few = unwound_levels n callers caller (without_stg current s) (omega (arith, few))
 
-abends_leave : (code : List ℕ) (cancel : Bool) (before mid after : Reach) (reply : TurnReply) → mid.task.levels.callers ≡ before.task.levels.callers → Abends code cancel mid reply after
+abends_leave : (code : List ℕ) (cancel : Bool) (before mid after : Reach) (reply : TurnReply) → mid.task.levels ≡ before.task.levels → Abends code cancel mid reply after
     → LeavesCallers reply before.task after.task
 unfolding AbendsAt LeavesCallers exit_task
 abends_leave code cancel before mid after reply same it = go it.exit it.ends
   where
     go : (o : Option ℕ) → AbendsAt o code mid reply after → LeavesCallers reply before.task after.task
-    go None over = rw (over.0, over.1) same
+    go None over = rw (over.0, over.1) (ap (λ (l : Levels). l.callers) same)
     go (Some index) over =
         let n = below mid.task.levels index in
-        rw (over.0, over.1) (record { count = n; left = unwound_callers n mid.task.levels.callers mid.task.levels.current mid.shared.storage ∙ ap (drop n) same })
+        let left = unwound n mid.task.levels.callers mid.task.levels.current mid.shared.storage in
+        let whole = unwound_levels n mid.task.levels.callers mid.task.levels.current mid.shared.storage (omega arith) in
+        rw (over.0, over.1) (record {
+          count = n;
+          level = left.levels.current;
+          left = ap (λ (l : Levels). drop n (l.current ∷ l.callers)) (sym same) ∙ whole;
+          current = refl;
+        })
 
 -- ---- all that a command does
-settles_task : (call : Call) (condition : Condition) (outputs : List Output) (change : Change) (start after : Reach) → Settles call condition outputs change start after → SameTask start after
+pub settles_task : (call : Call) (condition : Condition) (outputs : List Output) (change : Change) (start after : Reach) → Settles call condition outputs change start after → SameTask start after
 unfolding given reported
 settles_task call condition outputs change start after it =
     let told = given call outputs change it.made in
@@ -73,10 +83,11 @@ enters_levels level call condition outputs start after it =
 -- what the way needs of the state in which all is done
 unfoldable IsKept : Way → Reach → Reach → Type 0
 IsKept (way.Enters level) start settled = settled.task.levels ≡ start.task.levels
+IsKept (way.Abends code cancel) start settled = settled.task.levels ≡ start.task.levels
 IsKept _ start settled = settled.task.levels.callers ≡ start.task.levels.callers
 
 kept_by_change : (change : Change) (call : Call) (condition : Condition) (outputs : List Output) (start after : Reach) → Settles call condition outputs change start after → IsKept (way_by change) start after
-unfolding IsKept
+unfolding IsKept is_request
 kept_by_change Nothing call condition outputs start after it = (settles_task call condition outputs Nothing start after it).callers
 kept_by_change (Makes made) call condition outputs start after it = (settles_task call condition outputs (Makes made) start after it).callers
 kept_by_change (Ends ended) call condition outputs start after it = (settles_task call condition outputs (Ends ended) start after it).callers
@@ -85,26 +96,30 @@ kept_by_change (Enters level) call condition outputs start after it = enters_lev
 kept_by_change (Replaces copying level) call condition outputs start after it = (settles_task call condition outputs (Replaces copying level) start after it).callers
 kept_by_change LevelEnds call condition outputs start after it = (settles_task call condition outputs LevelEnds start after it).callers
 kept_by_change (TaskEnds next) call condition outputs start after it = (settles_task call condition outputs (TaskEnds next) start after it).callers
-kept_by_change (AbendsWith code cancel) call condition outputs start after it = (settles_task call condition outputs (AbendsWith code cancel) start after it).callers
+kept_by_change (AbendsWith code cancel) call condition outputs start after it = settles_levels call condition outputs (AbendsWith code cancel) start after refl it
 
-kept_by_choice : (chosen : Choice) (start after : Reach) → after.task.levels.callers ≡ start.task.levels.callers → IsKept (way_chosen chosen) start after
+kept_by_choice : (chosen : Choice) (start after : Reach) → after.task.levels ≡ start.task.levels → IsKept (way_chosen chosen) start after
 unfolding IsKept
-kept_by_choice (choice.Label label) start after same = same
-kept_by_choice choice.GoOn start after same = same
-kept_by_choice choice.Wait start after same = same
+kept_by_choice (choice.Label label) start after same = ap (λ (l : Levels). l.callers) same
+kept_by_choice choice.GoOn start after same = ap (λ (l : Levels). l.callers) same
+kept_by_choice choice.Wait start after same = ap (λ (l : Levels). l.callers) same
 kept_by_choice (choice.Abend code) start after same = same
 
-kept_on_way : (call : Call) (condition : Condition) (outputs : List Output) (change : Change) (start after : Reach) → Settles call condition outputs change start after
+kept_on_way : (call : Call) (condition : Condition) (outputs : List Output) (change : Change) (start after : Reach) → IsWell (Meets condition outputs change) → Settles call condition outputs change start after
     → IsKept (way_at call condition change start) start after
 unfolding way_of
-kept_on_way call condition outputs change start after it = either (is_normal condition)
+kept_on_way call condition outputs change start after well it = either (is_normal condition) refl
   where
     chosen : Choice
     chosen = choice_for call start.task.levels.current.handles.active.entries condition
 
-    either : (normal : Bool) → IsKept (if normal then way_by change else way_chosen chosen) start after
-    either true = kept_by_change change call condition outputs start after it
-    either false = kept_by_choice chosen start after (settles_task call condition outputs change start after it).callers
+    unasked : (b : Bool) → is_request change ≡ b → is_normal condition ≡ false → is_request change ≡ false
+    unasked true asks abnormal = absurd (true≢false (sym (well asks) ∙ abnormal))
+    unasked false asks abnormal = asks
+
+    either : (normal : Bool) → is_normal condition ≡ normal → IsKept (if normal then way_by change else way_chosen chosen) start after
+    either true e = kept_by_change change call condition outputs start after it
+    either false e = kept_by_choice chosen start after (settles_levels call condition outputs change start after (unasked (is_request change) refl e) it)
 
 -- ---- the way
 back : (start settled : Reach) (caller : Level) (callers : List Level) → settled.task.levels.callers ≡ caller ∷ callers → IsBack caller callers (returned_to settled.task.levels.callers settled).task
@@ -119,9 +134,9 @@ goes_leave (way.TakesLabel label) condition start settled after reply kept goes 
 goes_leave way.Waits condition start settled after reply kept goes = rw (goes.0, goes.1) kept
 goes_leave (way.Abends code cancel) condition start settled after reply kept goes = abends_leave code cancel start settled after reply kept goes
 goes_leave (way.Enters level) condition start settled after reply kept goes =
-    rw (goes.0, goes.1) (record { handles = refl; callers = inl (ap (λ (l : Levels). l.current ∷ l.callers) kept) })
+    rw (goes.0, goes.1) (record { handles = refl; callers = inl (ap (λ (l : Levels). l.current ∷ l.callers) kept); regs = refl; cc = refl; due = refl })
 goes_leave (way.Replaces level) condition start settled after reply kept goes =
-    rw (goes.0, goes.1) (record { handles = refl; callers = inr kept })
+    rw (goes.0, goes.1) (record { handles = refl; callers = inr kept; regs = refl; cc = refl; due = refl })
 goes_leave way.LevelEnds condition start settled after reply kept goes =
     rw (goes.0, goes.1) (λ caller callers e. back start settled caller callers (kept ∙ e))
 goes_leave way.TaskEnds condition start settled after reply kept goes = rw (goes.0, goes.1) kept
@@ -131,16 +146,16 @@ waits_leave : (before after : Reach) (reply : TurnReply) → LeavesAll before re
 unfolding LeavesCallers
 waits_leave before after reply it = rw (it.waiting, it.same) refl
 
-answers_leave : (verdict : Verdict) (call : Call) (before after : Reach) (reply : TurnReply) → Answers verdict call before reply after → LeavesCallers reply before.task after.task
+answers_leave : (verdict : Verdict) (call : Call) (before after : Reach) (reply : TurnReply) → IsWell verdict → Answers verdict call before reply after → LeavesCallers reply before.task after.task
 unfolding Answers MeetsWith
-answers_leave (Refuses code) call before after reply it = abends_leave (abend_code code) false before before after reply refl it
-answers_leave Waits call before after reply it = waits_leave before after reply it
-answers_leave (Meets condition outputs change) call before after reply it = by_room (has_room call outputs change before) it
+answers_leave (Refuses code) call before after reply well it = abends_leave (abend_code code) false before before after reply refl it
+answers_leave Waits call before after reply well it = waits_leave before after reply it
+answers_leave (Meets condition outputs change) call before after reply well it = by_room (has_room call outputs change before) it
   where
     by_wait : (b : Bool) → MatchBool b (LeavesAll before reply after) (Does call condition outputs change before reply after) → LeavesCallers reply before.task after.task
     by_wait true leaves = waits_leave before after reply leaves
     by_wait false does =
-        goes_leave (way_at call condition change before) condition before does.settled after reply (kept_on_way call condition outputs change before does.settled does.settles) does.goes
+        goes_leave (way_at call condition change before) condition before does.settled after reply (kept_on_way call condition outputs change before does.settled well does.settles) does.goes
 
     by_room : (b : Bool) → MatchBool b (MatchBool (is_wait (way_at call condition change before)) (LeavesAll before reply after) (Does call condition outputs change before reply after))
         (Abends (abend_code abend.Xarg) false before reply after) → LeavesCallers reply before.task after.task
@@ -152,7 +167,7 @@ unfolding Commanded Called
 commanded_leaves before after reply commanded = by_call (call_of before.shared.storage (list_of before.task)) commanded
   where
     by_inputs : (call : Call) (b : Bool) → MatchBool b (Performs call before reply after) (Abends (abend_code abend.Xarg) false before reply after) → LeavesCallers reply before.task after.task
-    by_inputs call true it = answers_leave it.verdict call before after reply it.answers
+    by_inputs call true it = answers_leave it.verdict call before after reply (judged_well call before it.verdict it.judged) it.answers
     by_inputs call false abends = abends_leave (abend_code abend.Xarg) false before before after reply refl abends
 
     by_call : (r : Result Call CallFault) → MatchResult r (λ call. Called call before reply after) (λ fault. Abends (fault_code fault) false before reply after) → LeavesCallers reply before.task after.task
@@ -164,11 +179,11 @@ runs_leave : (before after : Reach) (reply : TurnReply) → RunsOn before reply 
 unfolding Halted LeavesCallers
 runs_leave before after reply it = by_halt it.how it.ends
   where
-    same : it.between.task.levels.callers ≡ before.task.levels.callers
-    same = ap (λ (r : Reach). r.task.levels.callers) it.rest
+    same : it.between.task.levels ≡ before.task.levels
+    same = ap (λ (r : Reach). r.task.levels) it.rest
 
     by_halt : (how : Halt) → Halted how it.between reply after → LeavesCallers reply before.task after.task
-    by_halt halt.AtEntry over = rw (over.0, over.1) same
+    by_halt halt.AtEntry over = rw (over.0, over.1) (ap (λ (l : Levels). l.callers) same)
     by_halt (halt.Interrupt cause place) abends = abends_leave (abend_code abend.Asra) false before it.between after reply same abends
     by_halt halt.Limit abends = abends_leave (abend_code abend.Aica) false before it.between after reply same abends
 

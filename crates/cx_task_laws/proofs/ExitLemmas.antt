@@ -1,5 +1,6 @@
 -- Which exit takes an abend, and what it leaves.
 use Rattle.std.proofs.Common.{◌≡◌, ℕ, zero, suc, ◌+◌, ◌<◌, ◌≤◌, Bool, true, false, is_some, Option, Some, None, List, [], ◌∷◌, ◌++◌, length, reverse, refl, sym, ◌∙◌, ap, subst, arith, inl, inr, slice_get}
+use Rattle.std.specs.Prelude.{◌&&◌, unwrap_or}
 use Rattle.std.specs.Option.{option_map_or}
 use Rattle.std.proofs.lemmas.Bool.{cases_Bool, cases_eq, cases_lt, eq-eqb, ne_eqb}
 use Rattle.std.proofs.lemmas.List.{append_assoc, length-append, length-reverse}
@@ -15,8 +16,8 @@ use Rattle.cx_program.specs.Levels.{IsNearestExit, all_levels, has_exit, has_exi
 use Rattle.cx_call.specs.Eib.{with_calen, with_field}
 use Rattle.cx_state.specs.declared.replies.TurnReply.TheVariants as turn
 use Rattle.cx_state.specs.Facts.Areas.{area_written}
-use Rattle.cx_task.specs.Abends.{AbendsAt, IsExit, Unwound, below, exit_storage, exit_taken, exit_task, unwound, with_exit_off, without_stg}
-use Rattle.cx_task_laws.specs.Laws.Exits.{AreFreed, CancelTakesNoExit, ExitsAreNearest, ExitsTakeAbends, TakesExit}
+use Rattle.cx_task.specs.Abends.{AbendsAt, IsExit, Unwound, below, exit_label, exit_storage, exit_taken, exit_task, unwound, with_exit_off, without_stg}
+use Rattle.cx_task_laws.specs.Laws.Exits.{AreFreed, CancelTakesNoExit, ExitsAreNearest, ExitsTakeAbends, TakesExit, is_no_stg_of}
 
 -- ---- areas freed
 freed_none : (s : Storage) (x : ℕ) → area_at (with_areas_kept (starts_elsewhere x) s) x ≡ None
@@ -46,25 +47,58 @@ none_unwound zero callers current s x none = none
 none_unwound (suc n) [] current s x none = none
 none_unwound (suc n) (caller ∷ callers) current s x none = none_unwound n callers caller (without_stg current s) x (none_kept s (starts_elsewhere (address_in current.stg)) x none)
 
+no_stg_append : (xs : List Level) (last : Level) (area : Area) → is_no_stg_of (xs ++ last ∷ []) area ≡ (is_no_stg_of xs area && starts_elsewhere (address_in last.stg) area)
+no_stg_append [] last area = elim (cases_Bool (starts_elsewhere (address_in last.stg) area)) [
+  | inl t ↦ rw t refl
+  | inr f ↦ rw f refl
+]
+no_stg_append (x ∷ xs) last area = elim (cases_Bool (starts_elsewhere (address_in x.stg) area)) [
+  | inl t ↦ rw t (no_stg_append xs last area)
+  | inr f ↦ rw f refl
+]
+
+kept_twice : (s : Storage) (xs : List Level) (last : Level) → with_areas_kept (is_no_stg_of xs) (without_stg last s) ≡ with_areas_kept (is_no_stg_of (xs ++ last ∷ [])) s
+unfolding with_areas_kept
+kept_twice [] xs last = refl
+kept_twice (h ∷ hs) xs last =
+    let both = no_stg_append xs last h.area in
+    let rest = kept_twice hs xs last in
+    elim (cases_Bool (starts_elsewhere (address_in last.stg) h.area)) [
+      | inl t ↦ elim (cases_Bool (is_no_stg_of xs h.area)) [
+        | inl y ↦ rw (both, t, y) (ap (λ (l : Storage). h ∷ l) rest)
+        | inr n ↦ rw (both, t, n) rest
+      ]
+      | inr f ↦ elim (cases_Bool (is_no_stg_of xs h.area)) [
+        | inl y ↦ rw (both, f, y) rest
+        | inr n ↦ rw (both, f, n) rest
+      ]
+    ]
+
+all_kept : (s : Storage) → s ≡ with_areas_kept (is_no_stg_of []) s
+unfolding with_areas_kept
+all_kept [] = refl
+all_kept (h ∷ hs) = ap (λ (l : Storage). h ∷ l) (all_kept hs)
+
 -- ---- levels that end
 all_append : (s : Storage) (xs : List Level) (last : Level) → AreFreed s xs → area_at s (address_in last.stg) ≡ None → AreFreed s (xs ++ last ∷ [])
 all_append s [] last all none = (none, tt)
 all_append s (x ∷ xs) last all none = (all.0, all_append s xs last all.1 none)
 
-record Split (n : ℕ) (callers : List Level) (current : Level) (left : Unwound) : Type 0 where
+record Split (n : ℕ) (callers : List Level) (current : Level) (before : Storage) (left : Unwound) : Type 0 where
   ended : List Level
   split : reverse callers ++ current ∷ [] ≡ reverse left.levels.callers ++ left.levels.current ∷ ended
   size : length left.levels.callers + n ≡ length callers
   freed : AreFreed left.storage ended
+  storage : left.storage ≡ with_areas_kept (is_no_stg_of ended) before
 
 below_split : (callers above : List Level) (caller current level : Level) (ended : List Level) → reverse callers ++ caller ∷ [] ≡ reverse above ++ level ∷ ended
     → reverse (caller ∷ callers) ++ current ∷ [] ≡ reverse above ++ level ∷ (ended ++ current ∷ [])
 below_split callers above caller current level ended e =
     ap (λ (l : List Level). l ++ current ∷ []) (reverse_onto callers caller [] ∙ e) ∙ append_assoc (reverse above) (level ∷ ended) (current ∷ [])
 
-unwound_split : (n : ℕ) (callers : List Level) (current : Level) (s : Storage) → n ≤ length callers → Split n callers current (unwound n callers current s)
+unwound_split : (n : ℕ) (callers : List Level) (current : Level) (s : Storage) → n ≤ length callers → Split n callers current s (unwound n callers current s)
 unfolding unwound
-unwound_split zero callers current s few = record { ended = []; split = refl; size = omega arith; freed = tt }
+unwound_split zero callers current s few = record { ended = []; split = refl; size = omega arith; freed = tt; storage = all_kept s }
 unwound_split (suc n) [] current s few = absurd (omega (arith, few))
 unwound_split (suc n) (caller ∷ callers) current s few =
     let rest = unwound_split n callers caller (without_stg current s) (omega (arith, few)) in
@@ -75,6 +109,7 @@ unwound_split (suc n) (caller ∷ callers) current s few =
       split = below_split callers left.levels.callers caller current left.levels.current rest.ended rest.split;
       size = omega (arith, size);
       freed = all_append left.storage rest.ended current rest.freed (none_unwound n callers caller (without_stg current s) (address_in current.stg) (freed_none s (address_in current.stg)));
+      storage = rest.storage ∙ kept_twice s rest.ended current;
     }
 
 -- ---- the exit's place
@@ -102,6 +137,22 @@ exit_off : (exit : Exit) → is_some (label_on (turned_off exit)) ≡ false
 exit_off NoExit = refl
 exit_off (Off label) = refl
 exit_off (On label) = refl
+
+-- a level whose exit is on has the exit's label
+exit_labelled : (level : Level) → has_exit level ≡ true → label_on level.handles.active.exit ≡ Some (exit_label level)
+exit_labelled level on = go (label_on level.handles.active.exit) on
+  where
+    go : (o : Option ℕ) → is_some o ≡ true → o ≡ Some (unwrap_or o 0)
+    go None e = cc
+    go (Some label) e = refl
+
+-- the level at the place behind some levels
+at_place : (above : List Level) (level : Level) (ended : List Level) → slice_get (reverse above ++ level ∷ ended) (length above) ≡ Some level
+at_place above level ended = subst (λ (n : ℕ). slice_get (reverse above ++ level ∷ ended) n ≡ Some level) (length-reverse above) (here (reverse above))
+  where
+    here : (xs : List Level) → slice_get (xs ++ level ∷ ended) (length xs) ≡ Some level
+    here [] = refl
+    here (x ∷ xs) = here xs
 
 later_above : (callers : List Level) (current : Level) → has_exit current ≡ false → (i : ℕ) → IsNearestExit (reverse callers ++ current ∷ []) (Some i) → i < length callers
 unfolding IsNearestExit
@@ -145,6 +196,9 @@ exits_are_nearest code cancel before after it = go cancel it.exit it.takes it.en
         let size = split.size in
         let place : length left.levels.callers ≡ index = omega (arith, size, inside, long) in
         let off = exit_off left.levels.current.handles.active.exit in
+        let at : slice_get (all_levels before.task.levels) index ≡ Some left.levels.current =
+        ap (λ (l : List Level). slice_get l index) split.split ∙ subst (λ (k : ℕ). slice_get (reverse left.levels.callers ++ left.levels.current ∷ split.ended) k ≡ Some left.levels.current) place (at_place left.levels.callers left.levels.current split.ended) in
+        let on : has_exit left.levels.current ≡ true = sym (ap (λ (o : Option Level). option_map_or has_exit o false) at) ∙ nearest.0 in
         rw is (record {
           callers = left.levels.callers;
           level = left.levels.current;
@@ -154,6 +208,14 @@ exits_are_nearest code cancel before after it = go cancel it.exit it.takes it.en
           levels = refl;
           off = off;
           freed = freed_calen left.storage before.task.eib (Some left.levels.current.calen) split.ended split.freed;
+          label = exit_label left.levels.current;
+          labelled = exit_labelled left.levels.current on;
+          next = refl;
+          regs = refl;
+          cc = refl;
+          due = refl;
+          storage = ap (λ (s : Storage). with_calen s before.task.eib (Some left.levels.current.calen)) split.storage;
+          others = refl;
           later = later_above left.levels.callers (with_exit_off left.levels.current) off;
         })
 

@@ -5,8 +5,11 @@ mod WrittenLemmas
 mod EndedLemmas
 mod CommandLemmas
 mod ExitLemmas
+mod RowLemmas
+mod LevelLemmas
 mod CallerLemmas
 mod RunLemmas
-mod RowLemmas
 mod MemoryLemmas
 mod ReturnLemmas
+mod DueLemmas
+mod TakenLemmas

@@ -38,7 +38,7 @@ takes : Verdict → Bool
 takes v = passes change_grows v
 
 apart : IsApart change_grows
-apart = record { none = refl; ends = λ e. refl; handles = λ r. refl; shows = λ piece erase. refl }
+apart = record { none = refl; ends = λ e. refl; shows = λ piece erase. refl }
 
 first_of : (a b : Bool) → a && b ≡ true → a ≡ true
 first_of true b e = refl
@@ -104,8 +104,8 @@ judged_takes call r v judged e = go call.command judged
     go command.Address is = never change_grows v _ is refl e
     go command.HandleCondition is = never change_grows v _ is refl e
     go command.IgnoreCondition is = never change_grows v _ is refl e
-    go command.PushHandle is = never change_grows v _ is (push_none change_grows apart r.task.levels.current.handles.kept) e
-    go command.PopHandle is = never change_grows v _ is (pop_none change_grows apart r.task.levels.current.handles.kept) e
+    go command.PushHandle is = never change_grows v _ is (push_none change_grows apart (λ r. refl) r.task.levels.current.handles.kept) e
+    go command.PopHandle is = never change_grows v _ is (pop_none change_grows apart (λ r. refl) r.task.levels.current.handles.kept) e
     go command.Receive is = never change_grows v _ is (receive_none change_grows apart r.station.input _) e
     go command.WriteqTs is = refl
     go command.ReadqTs row = readq_takes call r v row e

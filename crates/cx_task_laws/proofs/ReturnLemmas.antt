@@ -1,52 +1,41 @@
 -- A half-turn is answered Returned only where there is a caller.
 use Rattle.std.proofs.Common.{◌≡◌, ℕ, ◌<◌, Bool, true, false, List, [], ◌∷◌, length, Option, Some, None, refl, sym, ◌∙◌, ap, arith, inl, inr}
-use Rattle.std.specs.Prelude.{◌&&◌, not, nat_lt, Result, Ok, Err, MatchBool, MatchOption, MatchResult, if◌then◌else◌}
-use Rattle.std.specs.Option.{option_map_or}
+use Rattle.std.specs.Prelude.{◌&&◌, not, Result, Ok, Err, MatchBool, MatchResult, if◌then◌else◌}
 use Rattle.std.proofs.lemmas.Bool.{cases_Bool, true≢false}
 use Rattle.cx_command.specs.Abends.{abend_code}
 use Rattle.cx_command.specs.declared.abends.Abend.TheVariants as abend
 use Rattle.cx_command.specs.declared.commands.Command.{Command}
 use Rattle.cx_command.specs.declared.commands.Command.TheVariants as command
 use Rattle.cx_command.specs.declared.conditions.Condition.{Condition}
-use Rattle.cx_command.specs.declared.conditions.Condition.TheVariants.{Lengerr, Pgmiderr, Qiderr}
 use Rattle.cx_command.specs.declared.options.OptionName.TheVariants as option
 use Rattle.cx_exec.specs.declared.machine.Halt.{Halt}
 use Rattle.cx_exec.specs.declared.machine.Halt.TheVariants as halt
 use Rattle.cx_program.specs.declared.choice.Choice.{Choice}
 use Rattle.cx_program.specs.declared.choice.Choice.TheVariants as choice
 use Rattle.cx_program.specs.declared.level.Level.{Level}
-use Rattle.cx_service.specs.declared.faults.ServiceFault.{ServiceFault}
-use Rattle.cx_service.specs.declared.resources.ResourceName.{ResourceName}
-use Rattle.cx_service.specs.Queues.{read_fault, rewrite_fault, write_fault}
-use Rattle.cx_service.specs.Resources.{enq_fault}
 use Rattle.cx_call.specs.declared.call.CallFault.{CallFault}
-use Rattle.cx_call.specs.declared.inputs.Piece.{Piece}
 use Rattle.cx_call.specs.Call.{Call, call_of}
-use Rattle.cx_call.specs.Inputs.{are_inputs_there, bytes_of, is_length_negative, measured, piece_of}
+use Rattle.cx_call.specs.Inputs.{are_inputs_there, is_length_negative}
 use Rattle.cx_state.specs.State.{Reach}
 use Rattle.cx_state.specs.declared.replies.TurnReply.TheVariants as turn
 use Rattle.cx_state.specs.declared.verdict.Change.{Change}
 use Rattle.cx_state.specs.declared.verdict.Change.TheVariants.{Nothing, Makes, Ends, Gets, Enters, Replaces, LevelEnds, TaskEnds, AbendsWith}
-use Rattle.cx_state.specs.declared.verdict.Copying.{Copying}
+use Rattle.cx_state.specs.declared.verdict.Made.TheVariants.{Handles}
+use Rattle.cx_state.specs.declared.verdict.Request.{Request}
 use Rattle.cx_state.specs.declared.verdict.Verdict.{Verdict}
 use Rattle.cx_state.specs.declared.verdict.Verdict.TheVariants.{Meets, Refuses, Waits}
-use Rattle.cx_rows.specs.declared.common.Called.{Called}
-use Rattle.cx_rows.specs.Common.{commarea_of, does, has, named_program, only}
-use Rattle.cx_rows.specs.Services.{unless}
+use Rattle.cx_rows.specs.Common.{does, has}
 use Rattle.cx_rows.specs.Abend.{abend_row}
 use Rattle.cx_rows.specs.Address.{address_row}
-use Rattle.cx_rows.specs.Enq.{enq_row, enqueues, is_wrong_length, resource_named}
-use Rattle.cx_rows.specs.Getmain.{GetmainRow, asked_len, filling, gets, is_area_length}
+use Rattle.cx_rows.specs.Enq.{enqueues}
+use Rattle.cx_rows.specs.Getmain.{gets}
 use Rattle.cx_rows.specs.HandleAbend.{handle_abend_row}
 use Rattle.cx_rows.specs.Handling.{handle_row, ignore_row}
 use Rattle.cx_rows.specs.Judged.{Judged, JudgedBy}
-use Rattle.cx_rows.specs.Link.{LinkRow, Links, enters}
-use Rattle.cx_rows.specs.ReadqTs.{ReadqRow, Reads, ReadsItem, ReadsQueue, item_asked, reading_of, reads_into, reads_to}
+use Rattle.cx_rows.specs.Link.{enters}
 use Rattle.cx_rows.specs.Return.{highest_return, return_row}
 use Rattle.cx_rows.specs.Suspend.{suspend_row}
-use Rattle.cx_rows.specs.WriteqTs.{item_named, writeq_row, written_to}
-use Rattle.cx_rows.specs.Xctl.{Transfers, XctlRow, XctlTo, copying_to, replaces}
-use Rattle.cx_rows.specs.Facts.FitsParts.{by_option, by_test}
+use Rattle.cx_rows.specs.Xctl.{replaces}
 use Rattle.cx_task.specs.declared.way.Way.{Way}
 use Rattle.cx_task.specs.declared.way.Way.TheVariants as way
 use Rattle.cx_task.specs.Abends.{Abends, AbendsAt}
@@ -55,7 +44,7 @@ use Rattle.cx_task.specs.Performing.{Called as IsCalled, Commanded, Performs, fa
 use Rattle.cx_task.specs.Turn.{HalfTurn, Halted, RunsOn}
 use Rattle.cx_task.specs.Ways.{Goes, choice_for, is_normal, is_wait, way_by, way_chosen, way_of}
 use Rattle.cx_task_laws.specs.Laws.Levels.{ReturnsHaveCallers}
-use Rattle.cx_task_laws.proofs.RowLemmas.{IsApart, deleteq_none, deq_none, freemain_none, never, passes, pop_none, push_none, receive_none, send_text_none, unless_none}
+use Rattle.cx_task_laws.proofs.RowLemmas.{IsApart, IsOfNoOther, deleteq_none, deq_none, enq_none, freemain_none, getmain_none, link_none, never, passes, pop_none, push_none, readq_none, receive_none, send_text_none, writeq_none, xctl_none}
 
 -- whether a change ends a level
 ends_level : Change → Bool
@@ -64,97 +53,23 @@ ends_level _ = false
 
 apart : IsApart ends_level
 unfolding ends_level
-apart = record { none = refl; ends = λ e. refl; handles = λ r. refl; shows = λ piece erase. refl }
+apart = record { none = refl; ends = λ e. refl; shows = λ piece erase. refl }
 
--- ---- rows that end no level
-getmain_none : (call : Call) (r : Reach) (v : Verdict) → GetmainRow r.shared.storage call v → passes ends_level v ≡ true → {P : Type 0} → P
-unfolding GetmainRow passes ends_level
-getmain_none call r v row e = by_test (is_area_length (asked_len r.shared.storage call)) row (λ _ at. got at.place at.is) (λ _ is. never ends_level v (only Lengerr) is refl e)
-  where
-    got : {P : Type 0} (place : Option ℕ) → v ≡ gets (asked_len r.shared.storage call) (filling r.shared.storage call) place → P
-    got None is = never ends_level v _ is refl e
-    got (Some place) is = never ends_level v _ is refl e
+others : IsOfNoOther ends_level
+unfolding ends_level
+others =
+    record {
+      last = λ name piece. refl;
+      at = λ name n piece. refl;
+      enqueues = λ name. refl;
+      gets = λ got. refl;
+      enters = λ level. refl;
+      replaces = λ copying level. refl;
+    }
 
-readq_none : (call : Call) (r : Reach) (v : Verdict) → ReadqRow r.shared.storage r.shared.queues call v → passes ends_level v ≡ true → {P : Type 0} → P
-unfolding ReadqRow ReadsQueue Reads passes ends_level
-readq_none call r v row e =
-    by_test (has call option.Into && is_length_negative r.shared.storage call) row
-    (λ _ is. never ends_level v (only Lengerr) is refl e)
-    (λ _ named. by_option (bytes_of r.shared.storage call option.Queue 8) named
-    (λ is. never ends_level v (only Qiderr) is refl e)
-    (λ name _ reads. by_fault name (item_asked r.shared.storage r.shared.queues call name) (read_fault r.shared.queues name (item_asked r.shared.storage r.shared.queues call name)) reads))
-  where
-    placed : {P : Type 0} (name : List ℕ) (n : ℕ) (place : Option ℕ) → v ≡ reads_to (reading_of r.shared.queues name n) place → P
-    placed name n None is = never ends_level v _ is refl e
-    placed name n (Some place) is = never ends_level v _ is refl e
-
-    by_fault : {P : Type 0} (name : List ℕ) (n : ℕ) (o : Option ServiceFault) → ReadsItem r.shared.storage r.shared.queues call name n o v → P
-    by_fault name n None reads =
-        by_test (has call option.Set) reads
-        (λ _ at. placed name n at.place at.is)
-        (λ _ is. never ends_level v (reads_into (measured r.shared.storage call) (reading_of r.shared.queues name n)) is refl e)
-    by_fault name n (Some fault) is = never ends_level v (unless (Some fault) (only Qiderr)) is (unless_none ends_level apart (Some fault) (only Qiderr) refl) e
-
-link_none : (call : Call) (r : Reach) (v : Verdict) → LinkRow r.shared.storage r.shared.programs r.task.levels call v → passes ends_level v ≡ true → {P : Type 0} → P
-unfolding LinkRow Links passes ends_level
-link_none call r v row e =
-    by_test (is_length_negative r.shared.storage call) row
-    (λ _ is. never ends_level v (only Lengerr) is refl e)
-    (λ _ named. by_option (named_program r.shared.storage call r.shared.programs) named
-    (λ is. never ends_level v (only Pgmiderr) is refl e)
-    (λ called _ links. by_test (nat_lt (length r.task.levels.callers) 15) links
-    (λ _ at. placed called at.place at.is)
-    (λ _ is. never ends_level v (Refuses abend.Xlvl) is refl e)))
-  where
-    placed : {P : Type 0} (called : Called) (place : Option ℕ) → v ≡ enters called (commarea_of r.shared.storage call) place → P
-    placed called None is = never ends_level v _ is refl e
-    placed called (Some stg) is = never ends_level v _ is refl e
-
-xctl_none : (call : Call) (r : Reach) (v : Verdict) → XctlRow r.shared.storage r.station.slot r.shared.programs call v → passes ends_level v ≡ true → {P : Type 0} → P
-unfolding XctlRow XctlTo passes ends_level
-xctl_none call r v row e =
-    by_test (is_length_negative r.shared.storage call) row
-    (λ _ is. never ends_level v (only Lengerr) is refl e)
-    (λ _ named. by_option (named_program r.shared.storage call r.shared.programs) named
-    (λ is. never ends_level v (only Pgmiderr) is refl e)
-    (λ called _ goes. by_option (commarea_of r.shared.storage call) goes
-    (λ at. placed called None at.place at.is)
-    (λ piece _ copies. copied called piece copies.place copies.goes)))
-  where
-    placed : {P : Type 0} (called : Called) (copying : Option Copying) (place : Option ℕ) → v ≡ replaces called copying place → P
-    placed called copying None is = never ends_level v _ is refl e
-    placed called copying (Some stg) is = never ends_level v _ is refl e
-
-    copied : {P : Type 0} (called : Called) (piece : Piece) (place : Option ℕ)
-        → MatchOption place (v ≡ Refuses abend.Xstg) (λ to. Transfers r.shared.storage r.station.slot called (Some (copying_to piece to)) v) → P
-    copied called piece None is = never ends_level v (Refuses abend.Xstg) is refl e
-    copied called piece (Some to) at = placed called (Some (copying_to piece to)) at.place at.is
-
-writeq_none : (call : Call) (r : Reach) → passes ends_level (writeq_row r.shared.storage r.shared.queues call) ≡ false
-unfolding writeq_row passes ends_level
-writeq_none call r = go (bytes_of r.shared.storage call option.Queue 8)
-  where
-    written : (name : List ℕ) (o : Option Piece) → passes ends_level (written_to r.shared.storage r.shared.queues call name o) ≡ false
-    written name None = refl
-    written name (Some piece) = elim (cases_Bool (has call option.Rewrite)) [
-      | inl t ↦ rw t (unless_none ends_level apart (rewrite_fault r.shared.queues name (item_named r.shared.storage call) piece.len) _ refl)
-      | inr f ↦ rw f (unless_none ends_level apart (write_fault r.shared.queues name piece.len) _ refl)
-    ]
-
-    go : (o : Option (List ℕ)) → passes ends_level (option_map_or (λ name. written_to r.shared.storage r.shared.queues call name (piece_of r.shared.storage call option.From)) o (only Qiderr)) ≡ false
-    go None = refl
-    go (Some name) = written name (piece_of r.shared.storage call option.From)
-
-enq_none : (call : Call) (r : Reach) → passes ends_level (enq_row r.shared.storage r.shared.resources r.station.slot call) ≡ false
-unfolding enq_row passes ends_level
-enq_none call r = elim (cases_Bool (is_wrong_length r.shared.storage call)) [
-  | inl t ↦ rw t refl
-  | inr f ↦ rw f (go (resource_named r.shared.storage call))
-]
-  where
-    go : (o : Option ResourceName) → passes ends_level (option_map_or (enqueues r.shared.resources r.station.slot) o (only Lengerr)) ≡ false
-    go None = refl
-    go (Some name) = unless_none ends_level apart (enq_fault r.shared.resources r.station.slot name) _ refl
+no_handles : (r : Request) → ends_level (Makes (Handles r)) ≡ false
+unfolding ends_level
+no_handles r = refl
 
 -- ---- RETURN
 return_has : (call : Call) (r : Reach) (v : Verdict) → v ≡ return_row r.shared.storage r.task.levels.callers call → passes ends_level v ≡ true → 0 < length r.task.levels.callers
@@ -182,20 +97,20 @@ judged_has call r v judged e = go call.command judged
     go command.Address is = never ends_level v _ is refl e
     go command.HandleCondition is = never ends_level v _ is refl e
     go command.IgnoreCondition is = never ends_level v _ is refl e
-    go command.PushHandle is = never ends_level v _ is (push_none ends_level apart r.task.levels.current.handles.kept) e
-    go command.PopHandle is = never ends_level v _ is (pop_none ends_level apart r.task.levels.current.handles.kept) e
+    go command.PushHandle is = never ends_level v _ is (push_none ends_level apart no_handles r.task.levels.current.handles.kept) e
+    go command.PopHandle is = never ends_level v _ is (pop_none ends_level apart no_handles r.task.levels.current.handles.kept) e
     go command.Receive is = never ends_level v _ is (receive_none ends_level apart r.station.input _) e
-    go command.WriteqTs is = never ends_level v _ is (writeq_none call r) e
-    go command.ReadqTs row = readq_none call r v row e
+    go command.WriteqTs is = never ends_level v _ is (writeq_none ends_level apart others call r) e
+    go command.ReadqTs row = readq_none ends_level apart others call r v row e
     go command.DeleteqTs is = never ends_level v _ is (deleteq_none ends_level apart r.shared.storage r.shared.queues call) e
-    go command.Getmain row = getmain_none call r v row e
+    go command.Getmain row = getmain_none ends_level apart others call r v row e
     go command.Freemain is = never ends_level v _ is (freemain_none ends_level apart r.shared.storage r.station.slot call) e
-    go command.Link row = link_none call r v row e
-    go command.Xctl row = xctl_none call r v row e
+    go command.Link row = link_none ends_level apart others call r v row e
+    go command.Xctl row = xctl_none ends_level apart others call r v row e
     go command.Return is = return_has call r v is e
     go command.Abend is = never ends_level v _ is refl e
     go command.HandleAbend is = never ends_level v _ is refl e
-    go command.Enq is = never ends_level v _ is (enq_none call r) e
+    go command.Enq is = never ends_level v _ is (enq_none ends_level apart others call r) e
     go command.Deq is = never ends_level v _ is (deq_none ends_level apart r.shared.storage call) e
     go command.Suspend is = never ends_level v _ is refl e
     go command.SendText is = never ends_level v _ is (send_text_none ends_level apart r.shared.storage call) e

@@ -1,7 +1,6 @@
 -- A LINK and the RETURN from it; PUSH and POP; registers at a command.
-use Rattle.std.proofs.Common.{◌≡◌, ℕ, zero, suc, ◌-◌, ◌≤◌, Bool, true, false, Option, Some, None, List, [], ◌∷◌, length, drop, refl, sym, ◌∙◌, ap, subst, arith, inl, inr}
+use Rattle.std.proofs.Common.{◌≡◌, ℕ, zero, suc, ◌-◌, ◌≤◌, Bool, true, false, Option, Some, None, List, [], ◌∷◌, ◌++◌, length, drop, refl, sym, ◌∙◌, ap, subst, arith, inl, inr}
 use Rattle.std.specs.Prelude.{MatchBool, unwrap_or}
-use Rattle.std.specs.List.{AllByRecursion}
 use Rattle.std.proofs.lemmas.List.{length-drop}
 use Rattle.cx_command.specs.Abends.{abend_code}
 use Rattle.cx_command.specs.declared.abends.Abend.TheVariants as abend
@@ -22,7 +21,7 @@ use Rattle.cx_task.specs.Abends.{Abends, AbendsAt}
 use Rattle.cx_task.specs.Changes.{entry_asked, handled, with_ignored, with_labels}
 use Rattle.cx_task.specs.Performing.{Commanded}
 use Rattle.cx_task.specs.Turn.{HalfTurn, Halted, RunsOn}
-use Rattle.cx_task_laws.specs.Laws.Levels.{CommandsAreKept, HasBegun, IsBack, IsBetween, Keeps, LeavesCallers, Links, LinksAreReturned, PopsRestore, RunsBelow, Turned, handled_all}
+use Rattle.cx_task_laws.specs.Laws.Levels.{CommandsAreKept, HasBegun, IsBack, IsBalanced, Keeps, LeavesCallers, Links, LinksAreReturned, PopsRestore, RunsBelow, Turned, handled_all}
 use Rattle.cx_task_laws.proofs.CallerLemmas.{half_turns_leave_callers}
 
 -- ---- the last levels of a list
@@ -43,6 +42,16 @@ last_of_drop n (suc count) (level ∷ levels) few =
 
 last_whole : (n : ℕ) (levels : List Level) → length levels ≡ n → last_of n levels ≡ levels
 last_whole n levels e = let none : length levels - n ≡ 0 = omega (arith, e) in ap (λ (k : ℕ). drop k levels) none
+
+-- what stands behind a level that comes behind so many
+behind_drop : (count : ℕ) (xs ys : List Level) (level : Level) → drop count xs ≡ level ∷ ys → ys ≡ drop (suc count) xs
+behind_drop zero [] ys level e = cc
+behind_drop zero (x ∷ xs) ys level e = cc
+behind_drop (suc count) [] ys level e = cc
+behind_drop (suc count) (x ∷ xs) ys level e = behind_drop count xs ys level e
+
+behind_dropped : (count : ℕ) (current level : Level) (callers left : List Level) → drop count (current ∷ callers) ≡ level ∷ left → left ≡ drop count callers
+behind_dropped count current level callers left e = behind_drop count (current ∷ callers) left level e
 
 -- ---- half-turns below a depth
 returned_keeps : (depth : ℕ) (befores afters : List Level) (after : TaskState) → after.levels.callers ≡ afters
@@ -69,26 +78,27 @@ step_keeps turn.Returned depth before after law deep still = returned_keeps dept
 step_keeps turn.Waiting depth before after law deep still = ap (last_of (suc depth)) law
 step_keeps (turn.TookLabel condition) depth before after law deep still = ap (last_of (suc depth)) law
 step_keeps (turn.TookExit code) depth before after law deep still =
-    let few : suc depth ≤ length (drop law.count before.levels.callers) = subst (λ (l : List Level). suc depth ≤ length l) law.left still in
-    ap (last_of (suc depth)) law.left ∙ last_of_drop depth law.count before.levels.callers few
+    let left = behind_dropped law.count before.levels.current law.level before.levels.callers after.levels.callers law.left in
+    let few : suc depth ≤ length (drop law.count before.levels.callers) = subst (λ (l : List Level). suc depth ≤ length l) left still in
+    ap (last_of (suc depth)) left ∙ last_of_drop depth law.count before.levels.callers few
 step_keeps (turn.Abended code) depth before after law deep still = ap (last_of (suc depth)) law
 step_keeps turn.Ended depth before after law deep still = ap (last_of (suc depth)) law
 
 runs_keep : (depth : ℕ) (turns : List Turned) (from to : TaskState) → RunsBelow (suc depth) from turns to → suc depth ≤ length from.levels.callers
     → last_of (suc depth) to.levels.callers ≡ last_of (suc depth) from.levels.callers
 unfolding RunsBelow
-runs_keep depth [] from to run deep = ap (λ (task : TaskState). last_of (suc depth) task.levels.callers) run
+runs_keep depth [] from to run deep = ap (last_of (suc depth)) run
 runs_keep depth (turned ∷ rest) from to run deep =
-    let here : suc depth ≤ length turned.before.task.levels.callers = subst (λ (task : TaskState). suc depth ≤ length task.levels.callers) (sym run.0) deep in
+    let here : suc depth ≤ length turned.before.task.levels.callers = subst (λ (levels : List Level). suc depth ≤ length levels) (sym run.0) deep in
     runs_keep depth rest turned.after.task to run.3 run.2
     ∙ step_keeps turned.reply depth turned.before.task turned.after.task (half_turns_leave_callers turned.before turned.after turned.reply run.1) here run.2
-    ∙ ap (λ (task : TaskState). last_of (suc depth) task.levels.callers) run.0
+    ∙ ap (last_of (suc depth)) run.0
 
 -- ---- a LINK and its RETURN
 link_callers : (linking entered : Reach) → Links linking entered → entered.task.levels.callers ≡ linking.task.levels.current ∷ linking.task.levels.callers
 unfolding LeavesCallers
 link_callers linking entered link =
-    let begun : HasBegun linking.task.levels entered.task.levels = half_turns_leave_callers linking entered turn.Entered link.enters in
+    let begun : HasBegun linking.task entered.task = half_turns_leave_callers linking entered turn.Entered link.enters in
     elim begun.callers [
       | inl e ↦ e
       | inr e ↦
@@ -142,24 +152,43 @@ unfolding with_ignored
 ignored_kept [] handles = refl
 ignored_kept (one ∷ rest) handles = ignored_kept rest (put_entry handles one.condition entry.Ignored)
 
-request_kept : (it : Request) (handles : Handles) → IsBetween it → (handled it handles).kept ≡ handles.kept
-unfolding handled
-request_kept (request.Handle listed) handles between = labels_kept listed handles
-request_kept (request.Ignore listed) handles between = ignored_kept listed handles
-request_kept request.Push handles between = absurd between
-request_kept request.Pop handles between = absurd between
-request_kept (request.SetExit label) handles between = refl
-request_kept request.ExitOff handles between = refl
-request_kept request.ExitOn handles between = refl
+-- handles whose kept ones are so many, and these behind them
+abbrev HasKept : ℕ → List Handling → Handles → Type 0
+HasKept pushed base handles = (front : List Handling) × (length front ≡ pushed) × (handles.kept ≡ front ++ base)
 
-all_kept : (between : List Request) (handles : Handles) → AllByRecursion IsBetween between → (handled_all between handles).kept ≡ handles.kept
-unfolding handled_all
-all_kept [] handles all = refl
-all_kept (it ∷ rest) handles all = all_kept rest (handled it handles) all.1 ∙ request_kept it handles all.0
+kept_on : (pushed : ℕ) (base : List Handling) (handles next : Handles) → next.kept ≡ handles.kept → HasKept pushed base handles → HasKept pushed base next
+kept_on pushed base handles next e has = (has.0, has.1, e ∙ has.2)
+
+popped : (pushed : ℕ) (base front : List Handling) (handles : Handles) → length front ≡ suc pushed → handles.kept ≡ front ++ base → HasKept pushed base (handled request.Pop handles)
+unfolding handled
+popped pushed base [] handles long e = absurd (omega (arith, long))
+popped pushed base (last ∷ rest) handles long e = (rest, omega (arith, long), ap (λ (l : List Handling). (unwrap_or (after_pop l) handles).kept) e)
+
+all_kept : (between : List Request) (pushed : ℕ) (base : List Handling) (handles : Handles) → IsBalanced pushed between → HasKept pushed base handles → (handled_all between handles).kept ≡ base
+unfolding handled_all handled IsBalanced
+all_kept [] pushed base handles balanced has = none has.0 (has.1 ∙ balanced) has.2
+  where
+    none : (front : List Handling) → length front ≡ 0 → handles.kept ≡ front ++ base → handles.kept ≡ base
+    none [] long e = e
+    none (one ∷ rest) long e = absurd (omega (arith, long))
+all_kept (request.Handle listed ∷ rest) pushed base handles balanced has =
+    all_kept rest pushed base _ balanced (kept_on pushed base handles (with_labels listed handles) (labels_kept listed handles) has)
+all_kept (request.Ignore listed ∷ rest) pushed base handles balanced has =
+    all_kept rest pushed base _ balanced (kept_on pushed base handles (with_ignored listed handles) (ignored_kept listed handles) has)
+all_kept (request.Push ∷ rest) pushed base handles balanced has =
+    all_kept rest (suc pushed) base _ balanced (handles.active ∷ has.0, ap suc has.1, ap (λ (l : List Handling). handles.active ∷ l) has.2)
+all_kept (request.Pop ∷ rest) zero base handles balanced has = absurd balanced
+all_kept (request.Pop ∷ rest) (suc pushed) base handles balanced has = all_kept rest pushed base _ balanced (popped pushed base has.0 handles has.1 has.2)
+all_kept (request.SetExit label ∷ rest) pushed base handles balanced has =
+    let next = handled (request.SetExit label) handles in all_kept rest pushed base next balanced (kept_on pushed base handles next refl has)
+all_kept (request.ExitOff ∷ rest) pushed base handles balanced has =
+    let next = handled request.ExitOff handles in all_kept rest pushed base next balanced (kept_on pushed base handles next refl has)
+all_kept (request.ExitOn ∷ rest) pushed base handles balanced has =
+    let next = handled request.ExitOn handles in all_kept rest pushed base next balanced (kept_on pushed base handles next refl has)
 
 pub pops_restore : PopsRestore
 unfolding handled
-pops_restore handles between all =
+pops_restore handles between balanced =
     let last = handled_all between (handled request.Push handles) in
-    let kept : last.kept ≡ handles.active ∷ handles.kept = all_kept between (handled request.Push handles) all in
+    let kept : last.kept ≡ handles.active ∷ handles.kept = all_kept between 0 (handles.active ∷ handles.kept) (handled request.Push handles) balanced ([], refl, refl) in
     ap (λ (l : List Handling). unwrap_or (after_pop l) last) kept

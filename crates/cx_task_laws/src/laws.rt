@@ -1,7 +1,7 @@
 //! What holds of every half-turn.
 ghost use Rattle.cx_task_laws.specs.Laws.Bytes.{CommandsLeaveOthers};
-ghost use Rattle.cx_task_laws.specs.Laws.Exits.{CancelTakesNoExit, ExitsAreNearest, ExitsTakeAbends};
-ghost use Rattle.cx_task_laws.specs.Laws.Levels.{CommandsAreKept, HalfTurnsLeaveCallers, LinksAreReturned, PopsRestore, ReturnsHaveCallers};
+ghost use Rattle.cx_task_laws.specs.Laws.Exits.{CancelTakesNoExit, ExitsAreNearest, ExitsTakeAbends, HalfTurnsTakeExits};
+ghost use Rattle.cx_task_laws.specs.Laws.Levels.{CommandsAreKept, DueIsKept, HalfTurnsLeaveCallers, LinksAreReturned, PopsRestore, ReturnsHaveCallers};
 ghost use Rattle.cx_task_laws.specs.Laws.Memory.{OnlyTheseTakeMemory};
 
 /// A command leaves the areas of all other slots, and of the region itself. Each of their bytes stays, unless an output
@@ -13,28 +13,35 @@ pub fn commands_leave_others()
 }
 
 /// An abend's exit is the nearest that is on, and it is off then: the next abend goes to one above it. The levels below its
-/// own have ended, and their areas are freed. Where an exit is on an abend goes to one, unless it is asked for with CANCEL.
+/// own have ended, and their areas are freed. The program goes on at the exit's label with the registers that the level kept, R15
+/// the label, and EIBCALEN is the level's; every other byte stays. Where an exit is on an abend goes to one, unless it is asked for
+/// with CANCEL. A half-turn comes to an abend that an exit takes with its task's levels as they were: by its instructions, at
+/// a command that is refused, or behind what its command has done.
 pub fn the_nearest_exit_takes_an_abend()
     ensures nearest { ExitsAreNearest }
+    ensures half_turn { HalfTurnsTakeExits }
     ensures taken { ExitsTakeAbends }
     ensures cancel { CancelTakesNoExit }
 {}
 
 /// A half-turn leaves each level above the current one as it is: registers, code, handles and exit. A level that begins has
-/// asked for nothing. At a command the current level keeps the program's registers and code.
-#[tactic(auto, using(crate::proofs::CallerLemmas::half_turns_leave_callers, crate::proofs::RunLemmas::commands_are_kept))]
+/// asked for nothing, and its program is at its entry, with the registers of one. At a command the current level keeps the
+/// program's registers and code, and it keeps them as long as that is due.
+#[tactic(auto, using(crate::proofs::CallerLemmas::half_turns_leave_callers, crate::proofs::RunLemmas::commands_are_kept, crate::proofs::DueLemmas::due_is_kept))]
 pub fn half_turns_leave_callers()
     ensures callers { HalfTurnsLeaveCallers }
     ensures current { CommandsAreKept }
+    ensures due { DueIsKept }
 {}
 
 /// A LINK and the RETURN from it, whatever is done between them, leave the linking level's registers, code, handles and exit,
-/// and all levels above it.
+/// and all levels above it. So they do where an operator alters the task between them.
 pub fn a_link_is_returned_from()
     ensures { LinksAreReturned }
 {}
 
-/// PUSH HANDLE and the POP HANDLE that takes it back, whatever is asked for between them, leave the handles.
+/// PUSH HANDLE and the POP HANDLE that takes it back leave the handles, whatever is asked for between them, other PUSHes with
+/// their POPs among it.
 #[tactic(auto, using(crate::proofs::RunLemmas::pops_restore))]
 pub fn pop_restores_what_push_kept()
     ensures { PopsRestore }

@@ -6,7 +6,7 @@ use Rattle.cx_command.specs.Abends.{abend_code}
 use Rattle.cx_storage.specs.Storage.{areas_of, byte_at, is_of_other_slot, with_areas_kept}
 use Rattle.cx_service.specs.Resources.{without_owner}
 use Rattle.cx_state.specs.declared.replies.TurnReply.TheVariants as turn
-use Rattle.cx_state.specs.State.{Reach}
+use Rattle.cx_state.specs.State.{Reach, TaskState}
 use Rattle.cx_task.specs.Abends.{Abends}
 use Rattle.cx_region.specs.declared.changes.Change.{Change}
 use Rattle.cx_region.specs.declared.changes.Change.TheVariants.{Byte, Abend}
@@ -57,6 +57,18 @@ pub record AlterKeepsOthers (old : RegionState) (name : List ℕ) (new : RegionS
       with_areas_kept (is_of_other_slot terminal.slot) new.storage ≡ with_areas_kept (is_of_other_slot terminal.slot) old.storage)
   pub resources : MatchOption (terminal_of old name) (new.resources ≡ old.resources) (λ terminal.
       without_owner new.resources terminal.slot ≡ without_owner old.resources terminal.slot)
+
+-- where a command is due, the current level keeps the registers and the code that its program has
+abbrev pub KeepsWhereDue : TaskState → Type 0
+KeepsWhereDue task = task.due ≡ true → (task.levels.current.regs ≡ task.regs) × (task.levels.current.cc ≡ task.cc)
+
+-- what it leaves of the task: the levels above the current one, and that
+pub record AlterKeepsLevels (before after : TaskState) : Type 0 where
+  pub callers : after.levels.callers ≡ before.levels.callers
+  pub kept : KeepsWhereDue before → KeepsWhereDue after
+
+abbrev pub AlterationsKeepLevels : Type 0
+AlterationsKeepLevels = (change : Change) (before : Reach) → AlterKeepsLevels before.task (altered change before).task
 
 abbrev pub AlterationsKeepToTheirTask : Type 0
 AlterationsKeepToTheirTask = (old : RegionState) (name : List ℕ) (change : Change) (reply : AlterReply) (new : RegionState)

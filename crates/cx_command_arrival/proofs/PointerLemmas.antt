@@ -1,0 +1,145 @@
+-- The loads of pointers behind a call.
+use Rattle.std.specs.Prelude.{Ok, codes, reverse}
+use Rattle.std.proofs.Common.{◌≡◌, ℕ, ◌+◌, List, [], ◌∷◌, ◌++◌, map, refl, sym, ◌∙◌, ap, subst, arith}
+use Rattle.std.proofs.lemmas.Grind.{reverse_onto}
+use Rattle.std.proofs.lemmas.List.{append_assoc}
+use Rattle.std.proofs.lemmas.List.Sums.{sum_by-cons}
+use Rattle.cx_arrival.specs.Stands.{code_length}
+use Rattle.cx_code.specs.declared.instruction.Fields.{Fields}
+use Rattle.cx_code.specs.declared.instruction.Fields.TheVariants.{Rx}
+use Rattle.cx_code.specs.declared.table.Op.TheVariants as op
+use Rattle.cx_code.specs.Spelling.{Instruction, instruction}
+use Rattle.cx_code.specs.Table.{length_of}
+use Rattle.cx_command.specs.Commands.{row_of}
+use Rattle.cx_source.specs.declared.source.Item.{Item}
+use Rattle.cx_source.specs.declared.source.Stmt.{Stmt}
+use Rattle.cx_translate.specs.Call.{operand_of, pointers_of}
+use Rattle.cx_translate.specs.Made.{label, load}
+use Rattle.cx_translate.specs.Sections.{lines}
+use Rattle.cx_operands.specs.Bases.{Bases}
+use Rattle.cx_operands.specs.Context.{Context, register_in}
+use Rattle.cx_operands.specs.Forms.{fields_in, form_of_op, operands_of, resolved}
+use Rattle.cx_operands.specs.Judging.{both}
+use Rattle.cx_operands.specs.Storage.{indexed_in}
+use Rattle.cx_operands.specs.declared.addresses.Address.{Address}
+use Rattle.cx_operands.specs.declared.forms.Form.TheVariants as form
+use Rattle.cx_second.specs.Whole.{Whole, whole_of}
+use Rattle.cx_command_arrival.specs.Called.{call_statements, words_behind}
+use Rattle.cx_command_arrival.specs.Commands.{CallsAreMade}
+use Rattle.cx_command_arrival.specs.Pointers.{IsPointerLoad, LoadsAreResolved, PointersAreHanded, PointersAreLoaded, pointer_load, pointer_loads}
+use Rattle.cx_command_arrival.specs.Standing.{AreResolved, bases_in_use}
+use Rattle.cx_command_arrival.specs.Together.{IsMade}
+use Rattle.cx_command_arrival.proofs.CalledLemmas.{AreInstructions, StandBehind, calls_are, is_l, made_split}
+use Rattle.cx_command_arrival.specs.Stores.{context_of}
+use Rattle.cx_command_arrival.proofs.ArgumentLemmas.{both_ok, made_ok}
+use Rattle.cx_command_arrival.proofs.StandingLemmas.{instructions_stand}
+use Rattle.cx_command_arrival.proofs.StoreLemmas.{l_indexed, l_named, resolved_so}
+use Rattle.cx_command_arrival.proofs.TogetherLemmas.{stand_together}
+
+-- the loads are instructions
+loads_are : (line : ℕ) (registers : List (List ℕ)) → AreInstructions (lines line (map load registers))
+loads_are line [] = tt
+loads_are line (register ∷ registers) = (is_l line [] (register ++ codes ",DFHEITP"), loads_are line registers)
+
+all_are : (items more : List Item) → AreInstructions items → AreInstructions more → AreInstructions (items ++ more)
+all_are [] more a b = b
+all_are (item ∷ items) more a b = (a.0, all_are items more a.1 b)
+
+-- ---- instructions of lines and of more lines
+record Parted (told : Whole) (bases : Bases) (before : List Item) (at : ℕ) (items more : List Item) (code : List Instruction) : Type 0 where
+  first : List Instruction
+  rest : List Instruction
+  is : code ≡ first ++ rest
+  here : AreResolved told bases before at items first
+  behind : AreResolved told bases (reverse items ++ before) (at + code_length first) more rest
+
+parted : (told : Whole) (bases : Bases) (before : List Item) (at : ℕ) (items more : List Item) (code : List Instruction) → AreResolved told bases before at (items ++ more) code
+    → Parted told bases before at items more code
+unfolding AreResolved
+parted told bases before at [] more code r =
+    let same : at + 0 ≡ at = omega arith in
+    record { first = []; rest = code; is = refl; here = tt; behind = subst (λ n. AreResolved told bases before n more code) (sym same) r }
+parted told bases before at (item ∷ items) more [] r = absurd r
+parted told bases before at (item ∷ items) more (i ∷ code) r =
+    let p = parted told bases (item ∷ before) (at + length_of i.op) items more code r.1 in
+    let sum : code_length (i ∷ p.first) ≡ length_of i.op + code_length p.first = sum_by-cons (λ (x : Instruction). length_of x.op) i p.first in
+    let place : at + length_of i.op + code_length p.first ≡ at + code_length (i ∷ p.first) = omega (arith, sum) in
+    let lines_so : reverse items ++ (item ∷ before) ≡ reverse (item ∷ items) ++ before =
+    sym (append_assoc (reverse items) (item ∷ []) before) ∙ sym (ap (λ (l : List Item). l ++ before) (reverse_onto items item [])) in
+    record {
+      first = i ∷ p.first;
+      rest = p.rest;
+      is = ap (λ (l : List Instruction). i ∷ l) p.is;
+      here = (r.0, p.here);
+      behind = subst (λ l. AreResolved told bases l (at + code_length (i ∷ p.first)) more p.rest) lines_so
+          (subst (λ n. AreResolved told bases (reverse items ++ (item ∷ before)) n more p.rest) place p.behind);
+    }
+
+-- ---- where they stand
+loads_behind : (items : List Item) (item : Item) (exec : Stmt) (made : IsMade item exec items)
+    → StandBehind items (made.together.before ++ lines item.line (label exec.name))
+    (lines item.line (call_statements made.command (words_behind exec made.named)) ++ lines item.line (pointer_loads made.command (words_behind exec made.named)))
+loads_behind items item exec made =
+    let words = words_behind exec made.named in
+    let before = made.together.before in
+    let one = lines item.line (label exec.name) in
+    let two = lines item.line (call_statements made.command words) in
+    let loads = lines item.line (map load (pointers_of (row_of made.command).options words)) in
+    let behind = made.together.behind in
+    record {
+      rest = behind;
+      is =
+          made.together.is ∙ ap (λ k. before ++ k ++ behind) (made_split item.line exec.name made.command words)
+          ∙ ap (λ k. k ++ behind) (ap (λ k. before ++ k) (append_assoc one two loads) ∙ sym (append_assoc before one (two ++ loads)));
+    }
+
+pub pointers_are_loaded : CallsAreMade → PointersAreLoaded
+pointers_are_loaded calls_made source translated assembly item exec e accepts has =
+    let made = stand_together source translated item exec e has in
+    let words = words_behind exec made.named in
+    let first = made.together.before ++ lines item.line (label exec.name) in
+    let two = lines item.line (call_statements made.command words) in
+    let loads = lines item.line (pointer_loads made.command words) in
+    let all = loads_behind translated.items item exec made in
+    let code = instructions_stand translated assembly first (two ++ loads) all.rest accepts all.is
+    (all_are two loads (calls_are item.line made.command words) (loads_are item.line (pointers_of (row_of made.command).options words))) in
+    let p = parted (whole_of translated) (bases_in_use translated first) (reverse first) code.at two loads code.code code.resolved in
+    record {
+      made = made;
+      code = code;
+      calls = p.first;
+      loads = p.rest;
+      split = p.is;
+      called = calls_made (whole_of translated) (bases_in_use translated first) item.line code.at (reverse first) made.command words p.first p.here;
+      loaded = p.behind;
+    }
+
+pub pointers_are_handed : PointersAreHanded
+unfolding operand_of
+pointers_are_handed register = refl
+
+-- ---- as the assembler resolves them
+load_fields : (c : Context) (register : List ℕ) (fields : Fields) (made : Instruction) → fields_in form.Indexed c (register ∷ codes "DFHEITP" ∷ []) ≡ Ok fields → instruction op.L fields ≡ made
+    → IsPointerLoad c register made
+unfolding fields_in
+load_fields c register fields made e is =
+    let rx = made_ok (λ (v : ℕ × (ℕ × Address)). Rx v.0 (v.1).0 ((v.1).1).base ((v.1).1).displacement) (both (register_in c register) (indexed_in c (codes "DFHEITP"))) fields e in
+    let parts = both_ok (register_in c register) (indexed_in c (codes "DFHEITP")) (rx.0).0 (rx.0).1 rx.1 in
+    record {
+      number = (rx.0).0;
+      named = parts.0;
+      takes = record {
+        index = ((rx.0).1).0;
+        address = ((rx.0).1).1;
+        operand = parts.1;
+        is = sym is ∙ ap (instruction op.L) (sym rx.2);
+      };
+    }
+
+pub loads_are_resolved : LoadsAreResolved
+unfolding resolved
+loads_are_resolved told bases line at before register made cut r =
+    let c = context_of told bases line before (pointer_load register) in
+    let e = resolved_so told bases line at before (pointer_load register) op.L made l_named r in
+    let is = made_ok (instruction op.L) (fields_in (form_of_op op.L) c (operands_of (register ++ codes ",DFHEITP"))) made e in
+    load_fields c register is.0 made (sym (ap (λ k. fields_in k c (register ∷ codes "DFHEITP" ∷ [])) l_indexed) ∙ sym (ap (fields_in (form_of_op op.L) c) cut) ∙ is.1) is.2
