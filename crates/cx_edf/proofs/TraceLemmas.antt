@@ -11,6 +11,7 @@ use Rattle.cx_edf.specs.State.{EdfState, session_at}
 use Rattle.cx_edf.specs.Steps.{EdfHappens}
 use Rattle.cx_edf.specs.Erasure.{erased, told}
 use Rattle.cx_edf.specs.Runs.{EdfRun, IsKept, Trace, displays_after, history, last_state}
+use Rattle.cx_edf.specs.Laws.Edf.{EventsAreSteps, TracesAreRuns}
 use Rattle.cx_edf.proofs.StepLemmas.{left_runs}
 use Rattle.cx_edf.proofs.KeptLemmas.{kept_after}
 
@@ -93,6 +94,13 @@ run_of_trace old events answers states new trace ends =
       left_so_far = λ n. left_of_trace old (take n events) (take n answers) (take n states) (front_of_trace old events answers states n trace);
       displays = λ q all kept. subst (λ (s : EdfState). IsKept (session_at s q) (history old events answers states q all)) ends (kept_of_trace old events answers states q all trace kept);
     }
+
+pub traces_are_runs : TracesAreRuns
+unfolding run_of_trace
+traces_are_runs old events answers states new trace ends = (run_of_trace old events answers states new trace ends, refl)
+
+pub events_are_steps : EventsAreSteps
+events_are_steps old events answers states e given new trace row = (trace_more old events answers states e given new trace row, last_more old states new)
 
 pub run_empty : (old : EdfState) → EdfRun old [] [] old
 unfolding Trace last_state

@@ -1,6 +1,14 @@
 //! What holds of every event under EDF, and of every run of them.
-ghost use Rattle.cx_edf.specs.Laws.Edf.{EdfEventsDecide, EdfRunsDecide, ErasedEvents, ErasedEventsLeaveTheRegion, OffIsTheRegion, OtherSessionsStay, OwnEventsHaveOwnAnswers, PlainRunsAgree, SessionsAreSet, StopsAreMissedUnderSuppression, ToldAreThoseGiven};
+ghost use Rattle.cx_edf.specs.Laws.Edf.{EdfEventsDecide, EdfRunsDecide, ErasedEvents, ErasedEventsLeaveTheRegion, EventsAreSteps, OffIsTheRegion, OtherSessionsStay, OwnEventsHaveOwnAnswers, PlainRunsAgree, SessionsAreSet, StopsAreMissedUnderSuppression, ToldAreThoseGiven, TracesAreRuns};
 ghost use Rattle.cx_edf.specs.Laws.Memory.{EdfSoundIsKept, RefusedEdfEventsAreNone, StoppedEdfRunsGoOn};
+
+/// Events done one at a time are a run, with the states that they left. Such an event is what each call of a region under EDF
+/// ensures: `key`, `turn`, `alter`, `edf_on`, `edf_off`, `set_clock` and `happen` by `happens`, a definition by `defined` or
+/// `refused`; and a call that was refused memory is none, for its clause `err` leaves the state as before.
+pub fn traces_are_runs()
+    ensures steps { EventsAreSteps }
+    ensures runs { TracesAreRuns }
+{}
 
 /// A state and an event decide the answer and the state after it.
 pub fn edf_events_decide()

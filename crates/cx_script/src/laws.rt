@@ -75,7 +75,9 @@ pub fn a_transcript_is_one()
 /// actions give, in order, and each answer is the one that was written.
 pub fn a_script_runs_its_events()
     ensures { ScriptsRunTheirEvents }
-{}
+{
+    cx_edf::edf_laws::traces_are_runs();
+}
 
 /// The instructions made of an EXEC statement lead to the entry, with the argument list that is read as the statement's
 /// command, and the addresses that its arguments had at the first instruction.

@@ -20,7 +20,19 @@ use Rattle.cx_edf.specs.Sessions.{SessionState, Sessions, session_in, stop_of, t
 use Rattle.cx_edf.specs.State.{EdfState, ends_by_key, session_at}
 use Rattle.cx_edf.specs.Steps.{EdfHappens}
 use Rattle.cx_edf.specs.Erasure.{erased, is_own, is_refused, left_of, plain_reply, told}
-use Rattle.cx_edf.specs.Runs.{EdfRun}
+use Rattle.cx_edf.specs.Runs.{EdfRun, Trace, last_state}
+
+-- ---- single events are a run
+-- an answered event behind others is one more of them
+abbrev pub EventsAreSteps : Type 0
+EventsAreSteps = (old : EdfState) (events : List EdfEvent) (answers : List Answer) (states : List EdfState) (e : EdfEvent) (given : Answer) (new : EdfState)
+    → Trace old events answers states → EdfHappens (last_state old states) e given new
+    → Trace old (events ++ e ∷ []) (answers ++ given ∷ []) (states ++ new ∷ []) × (last_state old (states ++ new ∷ []) ≡ new)
+
+-- and events one after another, with the state after each, are a run
+abbrev pub TracesAreRuns : Type 0
+TracesAreRuns = (old : EdfState) (events : List EdfEvent) (answers : List Answer) (states : List EdfState) (new : EdfState)
+    → Trace old events answers states → last_state old states ≡ new → (run : EdfRun old events answers new) × (run.states ≡ states)
 
 -- ---- one outcome
 -- two outcomes of one event under EDF are equal

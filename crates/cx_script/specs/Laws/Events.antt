@@ -9,7 +9,7 @@ use Rattle.cx_edf.specs.declared.answers.Answer.{Answer}
 use Rattle.cx_edf.specs.declared.answers.EdfEvent.{EdfEvent}
 use Rattle.cx_edf.specs.declared.answers.EdfEvent.TheVariants as edf_event
 use Rattle.cx_edf.specs.State.{EdfState}
-use Rattle.cx_edf.specs.Runs.{Trace, last_state}
+use Rattle.cx_edf.specs.Runs.{EdfRun}
 use Rattle.cx_actions.specs.Texts.{answer_text}
 use Rattle.cx_script.specs.Transcript.{Runs}
 use Rattle.cx_actions.specs.Effects.{Performs}
@@ -49,12 +49,10 @@ AreTold [] [] [] = Unit {0}
 AreTold (action ∷ actions) answers (text ∷ texts) = IsToldBy (event_of action) (written_before action) answers text (λ left. AreTold actions left texts)
 AreTold _ _ _ = ⊥
 
--- the state behind the actions is that behind their events, in order, with the answers that were written
+-- the actions did their events, in order, from the one state to the other, with the answers that were written
 pub record IsRun (old : EdfState) (actions : List Action) (written : List ℕ) (new : EdfState) : Type 0 where
   pub answers : List Answer
-  pub states : List EdfState
-  pub trace : Trace old (events_of actions) answers states
-  pub ends : last_state old states ≡ new
+  pub run : EdfRun old (events_of actions) answers new
   pub texts : List (List ℕ)
   pub whole : written ≡ flat_map (λ text. text) texts
   pub told : AreTold actions answers texts

@@ -1,0 +1,5 @@
+mod ScriptLemmas
+mod RowLemmas
+mod WatchLemmas
+mod EntryLemmas
+mod SourceLemmas

@@ -1,0 +1,144 @@
+-- Watching changes nothing.
+use Rattle.std.proofs.Common.{◌≡◌, ℕ, zero, suc, Bool, true, false, List, [], ◌∷◌, ◌++◌, map, take, Option, Some, None, refl, sym, ◌∙◌, ap, subst}
+use Rattle.std.specs.Prelude.{if◌then◌else◌}
+use Rattle.std.specs.List.{AllByRecursion}
+use Rattle.std.proofs.lemmas.List.{map-append}
+use Rattle.cx_code.specs.declared.image.Image.{Image}
+use Rattle.cx_load.specs.Facts.Cascade.{fault_of}
+use Rattle.cx_load.specs.Facts.Faults.{answered_of_lowest, no_fault_of_fit}
+use Rattle.cx_load.specs.declared.fault.ImageFault.{ImageFault}
+use Rattle.cx_region.specs.declared.changes.AlterReply.TheVariants as alter
+use Rattle.cx_region.specs.declared.replies.Event.{Event}
+use Rattle.cx_region.specs.declared.replies.Event.TheVariants as event
+use Rattle.cx_region.specs.declared.replies.Reply.{Reply}
+use Rattle.cx_region.specs.declared.replies.Reply.TheVariants as reply
+use Rattle.cx_region.specs.State.{RegionState}
+use Rattle.cx_region.specs.Events.{Run}
+use Rattle.cx_region_laws.specs.Laws.Regions.{RunsDecide}
+use Rattle.cx_edf.specs.declared.answers.Answer.{Answer}
+use Rattle.cx_edf.specs.declared.answers.Answer.TheVariants as answer
+use Rattle.cx_edf.specs.declared.answers.EdfEvent.{EdfEvent}
+use Rattle.cx_edf.specs.declared.answers.EdfEvent.TheVariants as edf_event
+use Rattle.cx_edf.specs.State.{EdfState}
+use Rattle.cx_edf.specs.Erasure.{erased, is_own, is_refused, left_of, told, told_of}
+use Rattle.cx_edf.specs.Runs.{EdfRun, Trace, last_state}
+use Rattle.cx_edf.specs.Laws.Edf.{OffIsTheRegion, OwnEventsHaveOwnAnswers, ends_task, is_alteration, is_edfs}
+use Rattle.cx_actions.specs.Effects.{ByFault, Checks, Finds, Performs}
+use Rattle.cx_actions.specs.declared.actions.Action.TheVariants as action
+use Rattle.cx_script.specs.Laws.Events.{program_event}
+use Rattle.cx_headline.specs.Laws.Runs.{OfEachRun, state_behind}
+use Rattle.cx_headline.specs.Laws.Watching.{AltersNothing, IsAsUnwatched, ShowingChangesNothing, answered_in, answered_of, left_behind, told_behind}
+use Rattle.cx_headline.proofs.RowLemmas.{asked_none}
+
+abbrev events_in : List (Event × Reply) → List Event
+events_in answered = map (λ (p : Event × Reply). p.0) answered
+
+abbrev replies_in : List (Event × Reply) → List Reply
+replies_in answered = map (λ (p : Event × Reply). p.1) answered
+
+-- ---- of one event
+own_left : (old : EdfState) (e : EdfEvent) (given : Answer) → is_own old e ≡ true → ends_task old e ≡ false → (left_of old e given ≡ []) × (told_of old e given ≡ [])
+unfolding left_of told_of
+own_left old e given own ends = rw (own, asked_none old e ends) (refl, refl)
+
+on_own : (old : EdfState) (name : List ℕ) → (is_own old (edf_event.On name) ≡ true) × (is_own old (edf_event.Off name) ≡ true)
+unfolding is_own
+on_own old name = (refl, refl)
+
+region_left : (e : Event) (r : Reply) → (r ≡ reply.Alter alter.Altered → ⊥)
+    → ((if is_refused (edf_event.Plain e) (answer.Region r) then [] else e ∷ []) ≡ events_in (answered_of (edf_event.Plain e) (answer.Region r)))
+    × ((if is_refused (edf_event.Plain e) (answer.Region r) then [] else r ∷ []) ≡ replies_in (answered_of (edf_event.Plain e) (answer.Region r)))
+region_left (event.Alter name c) (reply.Alter alter.Altered) never = absurd (never refl)
+region_left (event.Alter name c) (reply.Alter _) never = (refl, refl)
+region_left (event.Alter name c) _ never = (refl, refl)
+region_left _ r never = (refl, refl)
+
+left_answered : (old : EdfState) (e : EdfEvent) (given : Answer) → is_own old e ≡ is_edfs given → ends_task old e ≡ false → (given ≡ answer.Region (reply.Alter alter.Altered) → ⊥)
+    → (left_of old e given ≡ events_in (answered_of e given)) × (told_of old e given ≡ replies_in (answered_of e given))
+unfolding left_of told_of
+left_answered old (edf_event.On name) given own ends never = own_left old (edf_event.On name) given (on_own old name).0 ends
+left_answered old (edf_event.Off name) given own ends never = own_left old (edf_event.Off name) given (on_own old name).1 ends
+left_answered old (edf_event.Plain e) (answer.Region r) own ends never = rw own (region_left e r (λ is. never (ap (λ x. answer.Region x) is)))
+left_answered old (edf_event.Plain e) answer.ToEdf own ends never = own_left old (edf_event.Plain e) answer.ToEdf own ends
+left_answered old (edf_event.Plain e) answer.Held own ends never = own_left old (edf_event.Plain e) answer.Held own ends
+left_answered old (edf_event.Plain e) answer.NotStopped own ends never = own_left old (edf_event.Plain e) answer.NotStopped own ends
+left_answered old (edf_event.Plain e) (answer.Edf r) own ends never = own_left old (edf_event.Plain e) (answer.Edf r) own ends
+
+-- ---- of a trace's front
+left_of_front : OwnEventsHaveOwnAnswers → (old : EdfState) (events : List EdfEvent) (answers : List Answer) (states : List EdfState) (n : ℕ) → Trace old events answers states
+    → AltersNothing old events answers states
+    → (left_behind old events answers states n ≡ events_in (answered_in (take n events) (take n answers)))
+    × (told_behind old events answers states n ≡ replies_in (answered_in (take n events) (take n answers)))
+unfolding Trace erased told answered_in last_state
+left_of_front law old es gs ss zero trace still = (refl, refl)
+left_of_front law old [] [] [] (suc n) trace still = (refl, refl)
+left_of_front law old [] [] (s ∷ ss) (suc n) trace still = absurd trace
+left_of_front law old [] (g ∷ gs) ss (suc n) trace still = absurd trace
+left_of_front law old (e ∷ es) [] ss (suc n) trace still = absurd trace
+left_of_front law old (e ∷ es) (g ∷ gs) [] (suc n) trace still = absurd trace
+left_of_front law old (e ∷ es) (g ∷ gs) (s ∷ ss) (suc n) trace still =
+    let here = still zero e refl in
+    let one = left_answered old e g (law old e g s trace.0) here.0 (λ is. here.1 (ap Some is)) in
+    let rest = left_of_front law s es gs ss n trace.1 (λ m x is. still (suc m) x is) in
+    let more = answered_in (take n es) (take n gs) in
+    ((λ i. one.0 i ++ rest.0 i) ∙ sym (map-append (λ (p : Event × Reply). p.0) (answered_of e g) more), (λ i. one.1 i ++ rest.1 i) ∙ sym (map-append (λ (p : Event × Reply). p.1) (answered_of e g) more))
+
+-- ---- with EDF Off
+one_more : (b : Bool) (e : Event) (r : Reply) (rest : List (Event × Reply)) → is_alteration e ≡ b → AllByRecursion (λ x. is_alteration x ≡ false) (events_in rest)
+    → AllByRecursion (λ x. is_alteration x ≡ false) (events_in ((if b then [] else (e, r) ∷ []) ++ rest))
+one_more true e r rest is all = all
+one_more false e r rest is all = (is, all)
+
+no_alterations : (events : List EdfEvent) (answers : List Answer) → AllByRecursion (λ x. is_alteration x ≡ false) (events_in (answered_in events answers))
+unfolding answered_in
+no_alterations [] gs = tt
+no_alterations (e ∷ es) [] = tt
+no_alterations (edf_event.Plain e ∷ es) (answer.Region r ∷ gs) = one_more (is_alteration e) e r (answered_in es gs) refl (no_alterations es gs)
+no_alterations (_ ∷ es) (_ ∷ gs) = no_alterations es gs
+
+off_same : RunsDecide → OffIsTheRegion → (old : EdfState) (left : List Event) (replies : List Reply) (region : RegionState) → AllByRecursion (λ e. is_alteration e ≡ false) left
+    → Run old.region left replies region → (others : List Answer) (after : EdfState)
+    → EdfRun (record { region = old.region; sessions = [] }) (map (λ e. edf_event.Plain e) left) others after
+    → (others ≡ map (λ r. answer.Region r) replies) × (after.region ≡ region)
+off_same decide law old left replies region all plain others after run =
+    let off = law (record { region = old.region; sessions = [] }) left others after refl all run in
+    let same = decide old.region left off.0 replies after.region region off.1 plain in
+    (off.2 ∙ ap (map (λ r. answer.Region r)) same.0, same.1)
+
+-- ---- the same states
+pub same_states : RunsDecide → OwnEventsHaveOwnAnswers → OffIsTheRegion → OfEachRun IsAsUnwatched
+same_states decide own off old events answers new run =
+    record {
+      plain = run.left_so_far;
+      only = λ n replies after h. decide old.region (left_behind old events answers run.states n) replies (told_behind old events answers run.states n) after (state_behind old run.states n).region h (run.left_so_far n);
+      unaltered = λ still n.
+          let left = left_of_front own old events answers run.states n run.trace still in
+          let all = subst (λ (es : List Event). AllByRecursion (λ e. is_alteration e ≡ false) es) (sym left.0) (no_alterations (take n events) (take n answers)) in
+          record {
+            events_left = left.0;
+            replies_left = left.1;
+            off = off_same decide off old (left_behind old events answers run.states n) (told_behind old events answers run.states n) (state_behind old run.states n).region all (run.left_so_far n);
+          };
+    }
+
+-- ---- what is shown
+found_by_cascade : (image : Image) (fault : Option ImageFault) → Finds image fault → fault_of image ≡ fault
+found_by_cascade image None fit = no_fault_of_fit image fit
+found_by_cascade image (Some fault) lowest = answered_of_lowest image fault lowest
+
+by_fault : (fault : Option ImageFault) (old : EdfState) (name : List ℕ) (image : Image) (text : List ℕ) (new : EdfState) → ByFault fault old name image text new → program_event fault name image ≡ None → new ≡ old
+by_fault None old name image text new does none = cc
+by_fault (Some fault) old name image text new does none = does.1
+
+unchecked : (old : EdfState) (name : List ℕ) (image : Image) (text : List ℕ) (new : EdfState) → Checks old name image text new → program_event (fault_of image) name image ≡ None → new ≡ old
+unchecked old name image text new c none =
+    by_fault c.fault old name image text new c.does (subst (λ (o : Option ImageFault). program_event o name image ≡ None) (found_by_cascade image c.fault c.finds) none)
+
+pub showing_changes_nothing : ShowingChangesNothing
+unfolding Performs
+showing_changes_nothing old (action.Image name image) text new none h = unchecked old name image text new h none
+showing_changes_nothing old (action.Source name before image) text new none h = unchecked old name image h.own new h.checks none
+showing_changes_nothing old (action.Event event) text new none h = cc
+showing_changes_nothing old (action.Screen name) text new none h = h.1
+showing_changes_nothing old (action.Display name) text new none h = h.1
+showing_changes_nothing old (action.Previous name k) text new none h = h.1

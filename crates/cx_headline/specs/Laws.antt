@@ -1,0 +1,6 @@
+-- Of which runs the headline stands, and its clauses.
+pub mod Runs
+pub mod Rows
+pub mod Sources
+pub mod Watching
+pub mod Entries

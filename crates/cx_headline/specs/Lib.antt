@@ -1,0 +1,2 @@
+-- The statements of the headline.
+pub mod Laws

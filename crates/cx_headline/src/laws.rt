@@ -1,0 +1,53 @@
+//! The headline, a public function a clause. They stand of every list of events under EDF, and of every script that ran, by the
+//! very record that `run_script` ensures of it.
+
+ghost use Rattle.cx_asm_laws.specs.Laws.Back.{ComesBack};
+ghost use Rattle.cx_headline.specs.Laws.Entries.{EntriesHoldTheirBases, TasksBeginSo};
+ghost use Rattle.cx_headline.specs.Laws.Rows.{EachIsItsRow};
+ghost use Rattle.cx_headline.specs.Laws.Runs.{OfEachRun, OfEachScript};
+ghost use Rattle.cx_headline.specs.Laws.Sources.{BlocksComeBack};
+ghost use Rattle.cx_headline.specs.Laws.Watching.{IsAsUnwatched, ShowingChangesNothing};
+
+/// Each event of a run changes the region exactly as its row says. A turn is one half-turn of the terminal's task: the
+/// instructions up to its next command, or that command. What the half-turn reached is put back, and all else is as before.
+/// EDF's own events leave the region, but a PF12 that ends a task, which is that alteration.
+pub fn every_half_turn_is_its_row()
+    ensures runs { OfEachRun EachIsItsRow }
+    ensures scripts { OfEachScript EachIsItsRow }
+{
+    cx_task::laws::half_turns_decide();
+    cx_edf::edf_laws::what_is_erased_changes_nothing();
+    cx_script::laws::a_script_runs_its_events();
+}
+
+/// Assembling an accepted source and disassembling its text by the places of its instructions gives what stands in its control
+/// section: its statements, resolved. In a script that is what DISASM writes of a block, read, translated and assembled.
+pub fn what_was_assembled_comes_back()
+    ensures sources { ComesBack }
+    ensures scripts { BlocksComeBack }
+{
+    cx_asm_laws::laws::what_was_assembled_comes_back();
+}
+
+/// Under EDF, begun, ended and shown anywhere, the region is behind each event that of a plain run of the events that are left
+/// without EDF. Where nothing was altered these are exactly the events that the region answered, but for refused alterations, in
+/// their order, each as it was given; and with EDF Off everywhere they are answered so, and lead to that region.
+pub fn watching_changes_nothing()
+    ensures runs { OfEachRun IsAsUnwatched }
+    ensures scripts { OfEachScript IsAsUnwatched }
+    ensures shown { ShowingChangesNothing }
+{
+    cx_region_laws::laws::runs_decide();
+    cx_edf::edf_laws::what_is_erased_changes_nothing();
+    cx_edf::edf_laws::off_is_the_region();
+    cx_script::laws::a_script_runs_its_events();
+}
+
+/// A premise of an EXEC statement's arrival: where a program is entered, at attach, by LINK and by XCTL, the registers that the
+/// translator's USING statements name hold what these say: the entry's address, that of DFHEISTG and that of the EXEC interface
+/// block.
+#[tactic(auto, using(crate::proofs::EntryLemmas::entries_hold_their_bases, crate::proofs::EntryLemmas::tasks_begin_so))]
+pub fn entries_hold_their_bases()
+    ensures entries { EntriesHoldTheirBases }
+    ensures tasks { TasksBeginSo }
+{}
