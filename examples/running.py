@@ -214,6 +214,11 @@ class Session:
             raise self.overdue(f"more than {ANSWERED} bytes are answered")
         return piece
 
+    def read_to(self, length):
+        """Takes what is written until so many bytes are unread, or the program has ended."""
+        while len(self.unread) < length and self.read_on():
+            pass
+
     def line(self):
         """The next line that is written."""
         while b"\n" not in self.unread:

@@ -275,6 +275,17 @@ pub(crate) fn areas_of_full_size_are_made<S: Store>(store: &mut S) -> Result<boo
     )
 }
 
+/// Two areas that share a block are made, one behind the other.
+pub(crate) fn two_areas_are_made<S: Store>(store: &mut S) -> Result<bool, AllocError> {
+    Ok(
+        get(store, 0x1000, 0x1FFF, 8, TASK)? == Some(0x1000)
+            && get(store, 0x1000, 0x1FFF, 8, OTHER)? == Some(0x1010)
+            && starts(store, 0x1000)
+            && starts(store, 0x1010)
+            && byte(store, 0x1010).is_some(),
+    )
+}
+
 /// A growth that is refused, whichever it is, leaves all as it was.
 pub(crate) fn keeps_all_when_refused<S: Store>(store: &mut S) -> bool {
     let first = get(store, 0x1000, 0x1FFF, 8, TASK).is_ok();
@@ -349,15 +360,21 @@ pub(crate) fn a_place_over_a_border<S: Store>(store: &mut S) -> Result<bool, All
     )
 }
 
-/// An area of 65,520 bytes over 17 blocks is present to its last byte; where a growth is refused all stays.
+/// An area of 65,520 bytes over 17 blocks is present to its last byte.
+pub(crate) fn a_large_area_is_made<S: Store>(store: &mut S) -> Result<bool, AllocError> {
+    let start = get(store, 0x1_0FF0, LAST, 65_520, TASK)?;
+    Ok(
+        start == Some(0x1_0FF0)
+            && byte(store, 0x2_0FDF) == Some(0)
+            && byte(store, 0x2_0FE0).is_none()
+            && store.has_span(0x1_0FF0, 65_520),
+    )
+}
+
+/// The same; where a growth is refused all stays.
 pub(crate) fn a_large_area<S: Store>(store: &mut S) -> bool {
-    match get(store, 0x1_0FF0, LAST, 65_520, TASK) {
-        Ok(start) => {
-            start == Some(0x1_0FF0)
-                && byte(store, 0x2_0FDF) == Some(0)
-                && byte(store, 0x2_0FE0).is_none()
-                && store.has_span(0x1_0FF0, 65_520)
-        }
+    match a_large_area_is_made(store) {
+        Ok(is_made) => is_made,
         Err(_) => {
             !starts(store, 0x1_0FF0)
                 && byte(store, 0x1_0FF0).is_none()

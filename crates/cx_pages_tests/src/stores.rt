@@ -74,6 +74,15 @@ fn a_large_area(rt: HostRuntime) {
 }
 
 #[test]
+fn ample_memory_does_not_run_out(rt: HostRuntime) -> Result<(), Fail> {
+    assert!(rt; rows::a_large_area_is_made(&mut FlatStore::new(rt.alloc()))?);
+    assert!(rt; rows::a_large_area_is_made(&mut PagedStore::new(rt.alloc()))?);
+    assert!(rt; rows::two_areas_are_made(&mut FlatStore::new(rt.alloc()))?);
+    assert!(rt; rows::two_areas_are_made(&mut PagedStore::new(rt.alloc()))?);
+    Ok(())
+}
+
+#[test]
 fn a_run_stops_at_its_limit(rt: HostRuntime) -> Result<(), Fail> {
     assert!(rt; runs::a_run_stops_at_its_limit(&mut FlatStore::new(rt.alloc()))?);
     assert!(rt; runs::a_run_stops_at_its_limit(&mut PagedStore::new(rt.alloc()))?);

@@ -402,14 +402,18 @@ fn operands_are_cut_outside_apostrophes(rt: HostRuntime) -> Result<(), Fail> {
     let operand = b"1,D(2,B),C','".as_slice();
     for (text, mark, expected) in [
         (operand, Mark::TopComma, b"1|D(2,B)|C','|".as_slice()),
-        (operand, Mark::Comma, b"1|D(2|B)|C','|".as_slice()),
+        (
+            b"(1),2)+(3)".as_slice(),
+            Mark::Closing,
+            b"(1),2|+(3)|".as_slice(),
+        ),
         (
             b"D(X,B)'('".as_slice(),
             Mark::Parenthesis,
             b"D|X,B|'('|".as_slice(),
         ),
         (b"A  'B C'".as_slice(), Mark::Blank, b"A||'B C'|".as_slice()),
-        (b"".as_slice(), Mark::Comma, b"|".as_slice()),
+        (b"".as_slice(), Mark::TopComma, b"|".as_slice()),
     ] {
         assert!(rt; is_cut(rt.alloc(), text, mark, expected)?);
     }
@@ -426,7 +430,7 @@ fn marks_are_found_outside_apostrophes(rt: HostRuntime) -> Result<(), Fail> {
     let expected = [true, false, false, false, true, true, true, true, false];
     assert!(rt; lie_outside(rt.alloc(), b"A'B',L'C'", &expected)?);
     assert!(rt; first_mark(b"C'A B',X REST", Mark::Blank) == 8);
-    assert!(rt; first_mark(b"AB", Mark::Comma) == 2);
+    assert!(rt; first_mark(b"AB", Mark::TopComma) == 2);
     Ok(())
 }
 
@@ -434,7 +438,7 @@ fn marks_are_found_outside_apostrophes(rt: HostRuntime) -> Result<(), Fail> {
 fn cut_count(alloc: Global, size: usize) -> Result<(usize, usize), AllocError> {
     let text = vec![in alloc; b','; size]?;
     let flags = outside(alloc, text.as_slice())?.len();
-    Ok((flags, cut(alloc, text.as_slice(), Mark::Comma)?.len()))
+    Ok((flags, cut(alloc, text.as_slice(), Mark::TopComma)?.len()))
 }
 
 #[test]
