@@ -45,11 +45,11 @@ use Rattle.cx_places.specs.declared.roles.Role.TheVariants.{Storage, Dummy}
 use Rattle.cx_command_arrival.specs.Block.{EibIsLaidOut, HasBlock, block_name, field_value, IsLaidOut}
 
 -- ---- texts
-role_ds : (name operand : List ℕ) → role_in (stmt name (codes "DS") operand) ≡ Storage true
+pub role_ds : (name operand : List ℕ) → role_in (stmt name (codes "DS") operand) ≡ Storage true
 unfolding operation_named op_named ops row_of branch_named branches register_branch_named register_branches directive_named directives
 role_ds name operand = refl
 
-role_dsect : (name operand : List ℕ) → role_in (stmt name (codes "DSECT") operand) ≡ Dummy
+pub role_dsect : (name operand : List ℕ) → role_in (stmt name (codes "DSECT") operand) ≡ Dummy
 unfolding operation_named op_named ops row_of branch_named branches register_branch_named register_branches directive_named directives
 role_dsect name operand = refl
 
@@ -90,9 +90,9 @@ unfolding constant_in written_in kind_of digit within_behind digits
 fits_17 = record { part = refl; item = refl }
 
 -- ---- names
-record Named (text : List ℕ) : Type 0 where
-  name : List ℕ
-  is : symbol_name text ≡ Some name
+pub record Named (text : List ℕ) : Type 0 where
+  pub name : List ℕ
+  pub is : symbol_name text ≡ Some name
 
 field_named : (f : EibField) → Named (eib_field f).name
 unfolding symbol_name name_of is_name is_letter name_code is_name_character code_of table is_written_in_names
@@ -167,7 +167,7 @@ field_stands line f known o fits within place begun sound =
     rw (given, unknown, is_name-laws.refl (field_named f).name) refl
 
 -- ---- one behind the other
-fault_kept : (more before : List Item) → (known_behind (more ++ before)).fault ≡ None → (known_behind before).fault ≡ None
+pub fault_kept : (more before : List Item) → (known_behind (more ++ before)).fault ≡ None → (known_behind before).fault ≡ None
 fault_kept [] before e = e
 fault_kept (item ∷ more) before e = fault_kept more before (fault_line item.line item.stmt (known_behind (more ++ before)) e)
   where
@@ -175,7 +175,7 @@ fault_kept (item ∷ more) before e = fault_kept more before (fault_line item.li
     fault_line line None known e = e
     fault_line line (Some s) known e = none_before line s known e
 
-reverse_cons : (x : Item) (xs : List Item) → reverse (x ∷ xs) ≡ reverse xs ++ x ∷ []
+pub reverse_cons : (x : Item) (xs : List Item) → reverse (x ∷ xs) ≡ reverse xs ++ x ∷ []
 reverse_cons x xs = reverse-append (x ∷ []) xs
 
 -- pieces with the offsets and lengths of their fields
@@ -289,7 +289,7 @@ has_block before rest line =
         subst (λ k. AllStand (known_behind k).symbols eib_pieces) (sym turned)
         (all_stand line eib_pieces 0 (first ∷ reverse before) (reverse rest) pieces_fit (begins line (known_behind (reverse before)) empty) (subst (λ k. (known_behind k).fault ≡ None) turned sound))
 
-none_from : {X : Type 0} (p : X → Bool) (k : ℕ) (xs : List X) → position_from p k xs ≡ None → list_any p xs ≡ false
+pub none_from : {X : Type 0} (p : X → Bool) (k : ℕ) (xs : List X) → position_from p k xs ≡ None → list_any p xs ≡ false
 none_from p k [] e = refl
 none_from p k (x ∷ xs) e = go (p x) (λ f. none_from p (k + 1) xs f) e
   where
@@ -297,7 +297,7 @@ none_from p k (x ∷ xs) e = go (p x) (λ f. none_from p (k + 1) xs f) e
     go true f e = absurd (cc)
     go false f e = f e
 
-none_found : (xs : List Item) → position is_end xs ≡ None → list_any is_end xs ≡ false
+pub none_found : (xs : List Item) → position is_end xs ≡ None → list_any is_end xs ≡ false
 none_found xs e = none_from is_end 0 xs (sym (position_from-zero is_end xs) ∙ e)
 
 put_there : (xs : List Item) → list_any is_end (with_eib xs) ≡ true → HasBlock (with_eib xs)

@@ -1,5 +1,6 @@
 pub mod BlockLemmas
 pub mod TogetherLemmas
+pub mod HeadLemmas
 pub mod StandingLemmas
 pub mod LoadedLemmas
 pub mod RaisedLemmas

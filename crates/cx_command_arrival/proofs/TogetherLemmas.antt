@@ -54,7 +54,7 @@ record IsPlain (item : Item) : Type 0 where
   storage : begins_storage item ≡ false
   end : is_end item ≡ false
 
-ArePlain : List Item → Type 0
+pub ArePlain : List Item → Type 0
 ArePlain [] = ⊤
 ArePlain (item ∷ items) = IsPlain item × ArePlain items
 
@@ -184,7 +184,7 @@ put_beside part before rest made place (inl le) = put_before_them part before re
 put_beside part before rest made place (inr le) = put_behind_them part before rest made place le
 
 -- the line that something is put beside is none of them
-HaveNot : (Item → Bool) → List Item → Type 0
+unfoldable pub HaveNot : (Item → Bool) → List Item → Type 0
 HaveNot p [] = ⊤
 HaveNot p (item ∷ items) = (p item ≡ false) × HaveNot p items
 
@@ -221,7 +221,7 @@ continuing_most continues (x ∷ before) y rest e = go (continues && is_none x.s
     go true le = omega (arith, le)
     go false le = omega arith
 
-dropped_length : (n : ℕ) (xs : List Item) → n ≤ length xs → length (drop n xs) + n ≡ length xs
+pub dropped_length : (n : ℕ) (xs : List Item) → n ≤ length xs → length (drop n xs) + n ≡ length xs
 dropped_length zero xs le = omega arith
 dropped_length (suc n) [] le = absurd (omega arith)
 dropped_length (suc n) (x ∷ xs) le = (let e = dropped_length n xs (omega arith) in omega (arith, e))
@@ -240,7 +240,7 @@ behind_beside y part before rest place e (inl less) =
     inl (omega (arith, most, long))
 
 -- ---- what a translation puts in
-no_section : (items : List Item) → ArePlain items → HaveNot begins_section items
+pub no_section : (items : List Item) → ArePlain items → HaveNot begins_section items
 unfolding ArePlain HaveNot
 no_section [] p = tt
 no_section (x ∷ items) p = ((p.0).section, no_section items p.1)
@@ -250,10 +250,20 @@ unfolding ArePlain HaveNot
 no_storage [] p = tt
 no_storage (x ∷ items) p = ((p.0).storage, no_storage items p.1)
 
-no_end : (items : List Item) → ArePlain items → HaveNot is_end items
+pub no_end : (items : List Item) → ArePlain items → HaveNot is_end items
 unfolding ArePlain HaveNot
 no_end [] p = tt
 no_end (x ∷ items) p = ((p.0).end, no_end items p.1)
+
+-- a statement begins on the first of them
+unfoldable pub Begins : List Item → Type 0
+Begins [] = ⊤
+Begins (item ∷ items) = is_none item.stmt ≡ false
+
+plain_begins : (items : List Item) → ArePlain items → Begins items
+unfolding ArePlain Begins
+plain_begins [] plain = tt
+plain_begins (item ∷ items) plain = (plain.0).begins
 
 kept_before : (p : Item → Bool) (part items : List Item) (made : List Stmt) (place : ℕ) (d : Item) → HaveNot p part → position p items ≡ Some place → StandTogether part items
     → StandTogether part (put_before made place items)
@@ -262,11 +272,11 @@ kept_before p part items made place d none found there =
     subst (λ k. StandTogether part (put_before made place k)) (sym there.is)
     (put_beside part there.before there.behind (lines (line_of (slice_get (there.before ++ part ++ there.behind) place)) made) place at)
 
-kept_behind : (p : Item → Bool) (part items : List Item) (made : List Stmt) (place : ℕ) (d : Item) → ArePlain part → HaveNot p part → position p items ≡ Some place → StandTogether part items
+kept_behind : (p : Item → Bool) (part items : List Item) (made : List Stmt) (place : ℕ) (d : Item) → Begins part → HaveNot p part → position p items ≡ Some place → StandTogether part items
     → StandTogether part (put_behind made place items)
-unfolding ArePlain
-kept_behind p [] items made place d plain none found there = nothing_together (put_behind made place items)
-kept_behind p (y ∷ part) items made place d plain none found there =
+unfolding Begins
+kept_behind p [] items made place d begun none found there = nothing_together (put_behind made place items)
+kept_behind p (y ∷ part) items made place d begun none found there =
     let all = there.before ++ (y ∷ part) ++ there.behind in
     let at : IsBeside there.before (y ∷ part) place = found_beside p there.before (y ∷ part) there.behind place d none (ap (position p) (sym there.is) ∙ found) in
     let added = lines (line_of (slice_get all place)) made in
@@ -274,7 +284,24 @@ kept_behind p (y ∷ part) items made place d plain none found there =
     (⊎_elim
     (λ le. put_before_them (y ∷ part) there.before there.behind added (behind all place) le)
     (λ le. put_behind_them (y ∷ part) there.before there.behind added (behind all place) le)
-    (behind_beside y part there.before there.behind place (plain.0).begins at))
+    (behind_beside y part there.before there.behind place begun at))
+
+module _ (part : List Item) (begun : Begins part) (sections : HaveNot begins_section part) (ends : HaveNot is_end part) (d : Item) where
+  pub with_bases_has : (items : List Item) → StandTogether part items → StandTogether part (with_bases items)
+  unfolding with_bases
+  with_bases_has items there = go (position begins_section items) refl
+    where
+      go : (place : Option ℕ) → position begins_section items ≡ place → StandTogether part (bases_behind place items)
+      go None none = there
+      go (Some place) found = kept_behind begins_section part items (bases (name_of (slice_get items place))) place d begun sections found there
+
+  pub with_eib_has : (items : List Item) → StandTogether part items → StandTogether part (with_eib items)
+  unfolding with_eib
+  with_eib_has items there = go (position is_end items) refl
+    where
+      go : (place : Option ℕ) → position is_end items ≡ place → StandTogether part (eib_before place items)
+      go None none = there
+      go (Some place) found = kept_before is_end part items eib_section place d ends found there
 
 module _ (part : List Item) (plain : ArePlain part) (d : Item) where
   with_storage_keeps : (items : List Item) → StandTogether part items → StandTogether part (with_storage items)
@@ -287,23 +314,13 @@ module _ (part : List Item) (plain : ArePlain part) (d : Item) where
 
       go : (place : Option ℕ) → position begins_storage items ≡ place → StandTogether part (storage_behind place items)
       go None none = before_section (position begins_section items) refl
-      go (Some place) found = kept_behind begins_storage part items storage_fields place d plain (no_storage part plain) found there
+      go (Some place) found = kept_behind begins_storage part items storage_fields place d (plain_begins part plain) (no_storage part plain) found there
 
   with_bases_keeps : (items : List Item) → StandTogether part items → StandTogether part (with_bases items)
-  unfolding with_bases
-  with_bases_keeps items there = go (position begins_section items) refl
-    where
-      go : (place : Option ℕ) → position begins_section items ≡ place → StandTogether part (bases_behind place items)
-      go None none = there
-      go (Some place) found = kept_behind begins_section part items (bases (name_of (slice_get items place))) place d plain (no_section part plain) found there
+  with_bases_keeps items there = with_bases_has part (plain_begins part plain) (no_section part plain) (no_end part plain) d items there
 
   with_eib_keeps : (items : List Item) → StandTogether part items → StandTogether part (with_eib items)
-  unfolding with_eib
-  with_eib_keeps items there = go (position is_end items) refl
-    where
-      go : (place : Option ℕ) → position is_end items ≡ place → StandTogether part (eib_before place items)
-      go None none = there
-      go (Some place) found = kept_before is_end part items eib_section place d (no_end part plain) found there
+  with_eib_keeps items there = with_eib_has part (plain_begins part plain) (no_section part plain) (no_end part plain) d items there
 
 -- ---- in place of the statement
 stands_expanded : (continues : Bool) (before : List Item) (item : Item) (rest part : List Item) → ((c : Bool) → expansion c item ≡ part)
@@ -357,7 +374,7 @@ unfolding fault_at
 faultless item exec is begins e = (let same : cond (begins_exec item) (fault_in_stmt item.line item.stmt) None ≡ fault_of item.line (words_of exec.operand) = rw (begins, is) refl in sym same ∙ e)
 
 -- ---- the translation
-accepted_so : (due : Option TransFault) (items : List Item) (made : Source) → judged due (record { items = items }) ≡ Ok made → (due ≡ None) × (items ≡ made.items)
+pub accepted_so : (due : Option TransFault) (items : List Item) (made : Source) → judged due (record { items = items }) ≡ Ok made → (due ≡ None) × (items ≡ made.items)
 accepted_so None items made e = (refl, (let same : record { items = items } ≡ made = cc in ap (λ s. s.items) same))
 accepted_so (Some fault) items made e = absurd (cc)
 

@@ -1,5 +1,6 @@
 -- The definitions, in reading order.
 pub mod Block
+pub mod Head
 pub mod Together
 pub mod Standing
 pub mod InStorage

@@ -6,6 +6,7 @@ ghost use Rattle.cx_command_arrival.specs.Called.{CallsAreInstructions, CallsSta
 ghost use Rattle.cx_command_arrival.specs.Calls.{MarkIsResolved};
 ghost use Rattle.cx_command_arrival.specs.CodeInStorage.{CodeIsLoaded};
 ghost use Rattle.cx_command_arrival.specs.Commands.{CallsAreMade, StatementsDecide};
+ghost use Rattle.cx_command_arrival.specs.Head.{HeadIsLaidOut};
 ghost use Rattle.cx_command_arrival.specs.Handed.{BlockStands, EntryStands, LiteralsAreLoaded};
 ghost use Rattle.cx_command_arrival.specs.InStorage.{CodeIsUnraised, LinesAreLoaded, TextsAreMade};
 ghost use Rattle.cx_command_arrival.specs.Literals.{LiteralsStand};
@@ -18,6 +19,12 @@ ghost use Rattle.cx_command_arrival.specs.Words.{ListIsPlaced, ListLies, WordsLi
 /// The assembler places each field of DFHEIBLK at the offset, and with the length, at which the region writes it.
 pub fn the_eib_is_laid_out()
     ensures { EibIsLaidOut }
+{}
+
+/// The assembler places the fields of DFHEISTG's head, DFHEIPL, DFHEITP and DFHEICAP, one behind the other at the offsets, and
+/// with the lengths, at which the region has them, and the head is as long as the region takes it to be.
+pub fn the_head_is_laid_out()
+    ensures { HeadIsLaidOut }
 {}
 
 /// The statements made of an EXEC statement stand together, one right behind the other, in the translated source, with the

@@ -8,3 +8,4 @@ pub mod TraceLemmas
 pub mod RunLemmas
 pub mod LawLemmas
 pub mod MemoryLemmas
+pub mod OutcomeLemmas

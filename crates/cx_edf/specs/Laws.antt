@@ -1,3 +1,4 @@
 -- The statements of laws.
 pub mod Edf
 pub mod Memory
+pub mod Outcomes

@@ -1,6 +1,7 @@
 //! What holds of every event under EDF, and of every run of them.
 ghost use Rattle.cx_edf.specs.Laws.Edf.{EdfEventsDecide, EdfRunsDecide, ErasedEvents, ErasedEventsLeaveTheRegion, EventsAreSteps, OffIsTheRegion, OtherSessionsStay, OwnEventsHaveOwnAnswers, PlainRunsAgree, SessionsAreSet, StopsAreMissedUnderSuppression, ToldAreThoseGiven, TracesAreRuns};
 ghost use Rattle.cx_edf.specs.Laws.Memory.{EdfSoundIsKept, RefusedEdfEventsAreNone, StoppedEdfRunsGoOn};
+ghost use Rattle.cx_edf.specs.Laws.Outcomes.{EdfEventsHaveOutcomes};
 
 /// Events done one at a time are a run, with the states that they left. Such an event is what each call of a region under EDF
 /// ensures: `key`, `turn`, `alter`, `edf_on`, `edf_off`, `set_clock` and `happen` by `happens`, a definition by `defined` or
@@ -74,6 +75,13 @@ pub fn a_refused_event_is_none()
     ensures run { StoppedEdfRunsGoOn }
 {
     edf_events_decide();
+}
+
+/// Each event under EDF has an outcome, also one that was refused memory.
+pub fn each_event_has_an_outcome()
+    ensures { EdfEventsHaveOutcomes }
+{
+    cx_region_laws::laws::each_event_has_an_outcome();
 }
 
 /// An event under EDF leads from a sound region to a sound one, over the definitions alone.

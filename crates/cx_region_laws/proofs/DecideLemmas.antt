@@ -98,10 +98,10 @@ unfolding DefinesTerminal
 terminal_decides old name r s a b h k = done_or_refused (terminal_fault old name) old (with_new_terminal old name) r s a b h k
 
 -- ---- keys
-task_place_once : (storage : Storage) (len : ℕ) (one other : Option ℕ) → IsTaskPlace storage len one → IsTaskPlace storage len other → one ≡ other
+pub task_place_once : (storage : Storage) (len : ℕ) (one other : Option ℕ) → IsTaskPlace storage len one → IsTaskPlace storage len other → one ≡ other
 task_place_once storage len one other h k = place_decides storage first_of_tasks last_of_tasks len one other h k
 
-copy_place_once : (storage : Storage) (len : ℕ) (one other : Option ℕ) → IsCopyPlace storage len one → IsCopyPlace storage len other → one ≡ other
+pub copy_place_once : (storage : Storage) (len : ℕ) (one other : Option ℕ) → IsCopyPlace storage len one → IsCopyPlace storage len other → one ≡ other
 copy_place_once storage len None None h k = refl
 copy_place_once storage len None (Some place) h k = absurd (true≢false (sym (ap (λ (n : ℕ). n == 0) h) ∙ k.0))
 copy_place_once storage len (Some place) None h k = absurd (true≢false (sym (ap (λ (n : ℕ). n == 0) k) ∙ h.0))

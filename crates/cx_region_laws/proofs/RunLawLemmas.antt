@@ -2,7 +2,7 @@
 use Rattle.std.proofs.Common.{suc, [], ◌∷◌, refl, ap, subst}
 use Rattle.cx_region.specs.State.{RegionState}
 use Rattle.cx_region.specs.Events.{Run}
-use Rattle.cx_region_laws.specs.Laws.Regions.{EachIsAnswered, RunsJoin, RunsPart}
+use Rattle.cx_region_laws.specs.Laws.Regions.{AreAsMany, RunsJoin, RunsPart}
 
 pub runs_join : RunsJoin
 unfolding Run
@@ -20,9 +20,9 @@ runs_part old new (e ∷ es) more (r ∷ rs) run =
     let rest = runs_part run.0 new es more rs run.2 in
     (rest.0, (run.0, run.1, rest.1), rest.2)
 
-pub each_is_answered : EachIsAnswered
+pub are_as_many : AreAsMany
 unfolding Run
-each_is_answered old new [] [] run = refl
-each_is_answered old new [] (r ∷ rs) run = absurd run
-each_is_answered old new (e ∷ es) [] run = absurd run
-each_is_answered old new (e ∷ es) (r ∷ rs) run = ap suc (each_is_answered run.0 new es rs run.2)
+are_as_many old new [] [] run = refl
+are_as_many old new [] (r ∷ rs) run = absurd run
+are_as_many old new (e ∷ es) [] run = absurd run
+are_as_many old new (e ∷ es) (r ∷ rs) run = ap suc (are_as_many run.0 new es rs run.2)

@@ -3,3 +3,4 @@ pub mod Regions
 pub mod Alterations
 pub mod Sound
 pub mod Memory
+pub mod Outcomes

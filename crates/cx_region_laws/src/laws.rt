@@ -1,7 +1,8 @@
 //! What holds of every event, and of every run of events.
 ghost use Rattle.cx_region_laws.specs.Laws.Alterations.{AbendsKeepOthers, AbendsLookAtNoExit, AbendsOfTasksAreDone, AlterationsDecide, AlterationsKeepLevels, AlterationsKeepStorage, AlterationsKeepToTheirTask, RefusedAlterationsLeaveTheRegion};
-ghost use Rattle.cx_region_laws.specs.Laws.Regions.{ProgramsDecide, TransactionsDecide, TerminalsDecide, TurnsDecide, EachIsAnswered, EventsDecide, KeysDecide, KeysKeepToTheirTerminal, RefusedProgramsLeaveTheRegion, RefusedTerminalsLeaveTheRegion, RefusedTransactionsLeaveTheRegion, RunsDecide, RunsJoin, RunsPart, StillKeysLeaveTheRegion, StillTurnsLeaveTheRegion, TurnsKeepOthers, TurnsKeepToTheirTask};
+ghost use Rattle.cx_region_laws.specs.Laws.Regions.{ProgramsDecide, TransactionsDecide, TerminalsDecide, TurnsDecide, AreAsMany, EventsDecide, KeysDecide, KeysKeepToTheirTerminal, RefusedProgramsLeaveTheRegion, RefusedTerminalsLeaveTheRegion, RefusedTransactionsLeaveTheRegion, RunsDecide, RunsJoin, RunsPart, StillKeysLeaveTheRegion, StillTurnsLeaveTheRegion, TurnsKeepOthers, TurnsKeepToTheirTask};
 ghost use Rattle.cx_region_laws.specs.Laws.Memory.{RefusedEventsAreNone, StoppedRunsGoOn};
+ghost use Rattle.cx_region_laws.specs.Laws.Outcomes.{EventsHaveOutcomes, HalfTurnsHaveEnds};
 ghost use Rattle.cx_region_laws.specs.Laws.Sound.{SoundIsKept};
 
 /// A region and an event decide the reply and the region after it.
@@ -98,12 +99,13 @@ pub fn refused_definitions_leave_the_region()
     ensures terminals { RefusedTerminalsLeaveTheRegion }
 {}
 
-/// Runs of events one after another are one run, a run is cut at any place into two, and each event has its reply.
-#[tactic(auto, using(crate::proofs::RunLawLemmas::runs_join, crate::proofs::RunLawLemmas::runs_part, crate::proofs::RunLawLemmas::each_is_answered))]
+/// Runs of events one after another are one run, a run is cut at any place into two, and it has as many replies as
+/// events.
+#[tactic(auto, using(crate::proofs::RunLawLemmas::runs_join, crate::proofs::RunLawLemmas::runs_part, crate::proofs::RunLawLemmas::are_as_many))]
 pub fn runs_join()
     ensures join { RunsJoin }
     ensures part { RunsPart }
-    ensures answered { EachIsAnswered }
+    ensures count { AreAsMany }
 {}
 
 /// An event that was refused memory is none: the next one is done as if it had never come, with the answer that it would
@@ -114,6 +116,15 @@ pub fn a_refused_event_is_none()
     ensures run { StoppedRunsGoOn }
 {
     events_decide();
+}
+
+/// Each event has an outcome, also one that was refused memory; and so has each half-turn that may take some.
+#[tactic(auto, using(crate::proofs::OutcomeLemmas::half_turns_have_ends))]
+pub fn each_event_has_an_outcome()
+    ensures turns { HalfTurnsHaveEnds }
+    ensures events { EventsHaveOutcomes }
+{
+    cx_load::laws::relocation();
 }
 
 /// An event of a sound region leads to a sound one, over the definitions of events alone: areas of live tasks, owners, names,

@@ -141,6 +141,6 @@ abbrev pub RunsPart : Type 0
 RunsPart = (old new : RegionState) (events more : List Event) (replies : List Reply) → Run old (events ++ more) replies new
     → (between : RegionState) × Run old events (take (length events) replies) between × Run between more (drop (length events) replies) new
 
--- each event has its reply
-abbrev pub EachIsAnswered : Type 0
-EachIsAnswered = (old new : RegionState) (events : List Event) (replies : List Reply) → Run old events replies new → length replies ≡ length events
+-- replies and events are as many
+abbrev pub AreAsMany : Type 0
+AreAsMany = (old new : RegionState) (events : List Event) (replies : List Reply) → Run old events replies new → length replies ≡ length events
