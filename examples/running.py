@@ -17,7 +17,7 @@ from typing import NamedTuple
 
 FOLDER = os.path.dirname(os.path.abspath(__file__))
 GIVEN = [os.path.abspath(word) for word in sys.argv[1:] if not word.startswith("--")]
-SECONDS = 20  # no run may take longer, and no session either
+SECONDS = 20  # no run may take longer, but one that is given more, and no session either
 BYTES = 1 << 25  # no run may write more to a file: the system ends it
 ANSWERED = 1 << 20  # nor may a session answer more
 CLOCK, CLOCK_SET = "CLOCK 000000 00000", "CLOCK SET"
@@ -132,15 +132,15 @@ def emptied(file):
     return written
 
 
-def ends_in_time(child):
+def ends_in_time(child, seconds=SECONDS):
     handle = os.pidfd_open(child)
     try:
-        return bool(select.select([handle], [], [], SECONDS)[0])
+        return bool(select.select([handle], [], [], seconds)[0])
     finally:
         os.close(handle)
 
 
-def run(command, given=b"", environment=None):
+def run(command, given=b"", environment=None, seconds=SECONDS):
     """Runs a command to its end, over what it is given on standard input. Signals that Python ignores have their effect on
     it."""
     files = files_of(os.getpid(), threading.get_ident())
@@ -149,13 +149,13 @@ def run(command, given=b"", environment=None):
     streams = [(os.POSIX_SPAWN_DUP2, file, number) for number, file in enumerate(files)]
     signals = [signal.SIGPIPE, signal.SIGXFSZ]
     child = os.posix_spawn(command[0], command, environment or os.environ, file_actions=streams, setsigdef=signals)
-    in_time = ends_in_time(child)
+    in_time = ends_in_time(child, seconds)
     if not in_time:
         os.kill(child, signal.SIGKILL)
     status = os.waitstatus_to_exitcode(os.waitpid(child, 0)[1])
     _, out, told = (emptied(file) for file in files)
     if not in_time or status == -signal.SIGXFSZ:
-        why = f"it writes more than {BYTES} bytes" if in_time else f"no end within {SECONDS} seconds"
+        why = f"it writes more than {BYTES} bytes" if in_time else f"no end within {seconds} seconds"
         raise Overdue(f"{' '.join(map(str, command))}: FAILED, {why}")
     return Ended(status, out, told)
 

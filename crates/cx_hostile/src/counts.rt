@@ -20,6 +20,27 @@ pub struct Counts {
     pub counts: Vec<Count>,
 }
 
+/// The answers that must come: each that a turn of a task can get, and each condition that a command can meet.
+pub const DUE: [&str; 17] = [
+    "AtCommand",
+    "Performed",
+    "Entered",
+    "Returned",
+    "Waiting",
+    "Ended",
+    "TookLabel",
+    "TookExit",
+    "Abended",
+    "INVREQ",
+    "NOSPACE",
+    "LENGERR",
+    "ITEMERR",
+    "PGMIDERR",
+    "NOSTG",
+    "QIDERR",
+    "ENQBUSY",
+];
+
 /// The abend codes of the region and their characters.
 const CODES: [([u8; 4], &str); 13] = [
     ([0xC1, 0xE2, 0xD9, 0xC1], "ASRA"),
@@ -72,7 +93,7 @@ fn reply_words(reply: &Reply) -> (&'static str, &'static str) {
 }
 
 /// An answer in words.
-fn words(answer: &Answer) -> (&'static str, &'static str) {
+pub fn words(answer: &Answer) -> (&'static str, &'static str) {
     match answer {
         Answer::Region(reply) => reply_words(reply),
         Answer::ToEdf => ("ToEdf", ""),
@@ -121,6 +142,17 @@ impl Counts {
                 times: 1,
             })?,
         )
+    }
+
+    /// How often an answer came, or a condition with any answer that tells it.
+    pub fn times(&self, word: &str) -> u64 {
+        let mut times = 0u64;
+        for count in self.counts.iter() {
+            if count.what == word || count.more == word {
+                times = times.saturating_add(count.times);
+            }
+        }
+        times
     }
 
     /// Counts an answer.

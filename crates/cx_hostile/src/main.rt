@@ -1,14 +1,21 @@
 //! Turns hostile programs in a region, and looks after each event whether the region is what it has to be. The first line
 //! of its input is the number of programs; each further line has the length of an example's working storage and the hexadecimal digits
-//! of its text. A third of the programs have bytes of any values, a third rows of the table of instructions with fields of
-//! any values, and a third are examples with one to three bytes changed; each second one is run under EDF, and the same
-//! events, without EDF's own, beside it in a region without EDF.
+//! of its text. A fifth of the programs have bytes of any values, a fifth rows of the table of instructions with fields of
+//! any values, and a fifth are examples with one to three bytes changed; two fifths are calls with drawn options and arguments, some of
+//! these with bytes changed too. Each second one is run under EDF, and the same events, without EDF's own, beside it in
+//! a region without EDF.
 //!
-//! Each violation is printed, and last how often each answer was given.
+//! Each violation is printed, then how often each answer was given, and last how often those came that must. The status is 1
+//! where there was a violation, or one of the last is 0.
+//!
+//! The file stdout is recorded from this program, since how often an answer comes of what is drawn nothing else can tell: it shows
+//! that each build draws and counts the same. What must hold doesn't rest on it, but is looked at here.
 #![tactic(auto)]
 
 mod acts;
 mod alone;
+mod calls;
+mod code;
 mod counts;
 mod draws;
 mod modes;
@@ -19,11 +26,12 @@ mod texts;
 mod trial;
 
 use crate::alone::first_halt;
-use crate::counts::Counts;
+use crate::calls::of_calls;
+use crate::counts::{Counts, DUE};
 use crate::draws::Draws;
 use crate::setup::{defined, image_of, other_image};
 use crate::stop::Stop;
-use crate::texts::{Subject, all_rows, changed, of_rows, plain};
+use crate::texts::{Subject, TURNS, all_rows, changed, of_rows, plain};
 use crate::trial::Trial;
 use cx_code::Op;
 use cx_edf::Debugged;
@@ -51,6 +59,7 @@ fn example(alloc: Global, line: &str) -> Result<Option<Subject>, AllocError> {
     Ok(Some(Subject {
         text,
         stg_len: stg_len.parse().unwrap_or(0),
+        turns: TURNS,
     }))
 }
 
@@ -62,92 +71,134 @@ fn subject(
     number: u32,
 ) -> Result<Subject, AllocError> {
     let at = draws.below(65_536) as usize % material.examples.len().max(1);
-    match (number % 3, material.examples.get(at)) {
+    match (number % 5, material.examples.get(at)) {
         (0, Some(program)) => changed(alloc, draws, program),
         (1, _) => of_rows(alloc, draws, material.rows.as_slice()),
-        _ => plain(alloc, draws),
+        (2, _) => plain(alloc, draws),
+        _ => of_calls(alloc, draws, number),
     }
 }
 
-/// The trial of an image, with EDF and a region without it, or without EDF.
-fn trial_of(alloc: Global, image: &CheckedImage, is_edf: bool) -> Result<Trial, Stop> {
+/// A program's image, how many turns it gets, and whether it is run under EDF.
+#[derive(Drop)]
+struct Case {
+    image: CheckedImage,
+    turns: u32,
+    is_edf: bool,
+}
+
+/// The trial of a case, with EDF and a region without it, or without EDF.
+fn trial_of(alloc: Global, case: &Case) -> Result<Trial, Stop> {
     let other = other_image(alloc)?;
-    let debugged = Debugged::new(alloc, defined(alloc, &other, image)?);
-    if !is_edf {
+    let debugged = Debugged::new(alloc, defined(alloc, &other, &case.image)?);
+    if !case.is_edf {
         return Ok(Trial::new(debugged, None));
     }
-    match defined(alloc, &other, image) {
+    match defined(alloc, &other, &case.image) {
         Ok(region) => Ok(Trial::new(debugged, Some(region))),
         Err(stop) => Err(stop),
     }
 }
 
-/// What ended a trial behind so many events, in words.
-fn told_of(stop: Stop, events: u64) -> Result<Option<(&'static str, u64)>, AllocError> {
+/// What was met that must not be, behind how many events, and what the last of them was answered: all in words.
+#[derive(Drop)]
+struct Finding {
+    text: &'static str,
+    events: u64,
+    answer: (&'static str, &'static str),
+}
+
+const NO_ANSWER: (&str, &str) = ("nothing", "");
+
+/// What ended a trial behind so many events.
+fn told_of(
+    stop: Stop,
+    events: u64,
+    answer: (&'static str, &'static str),
+) -> Result<Option<Finding>, AllocError> {
     match stop {
         Stop::Memory => Err(AllocError),
-        Stop::Met(violation) => Ok(Some((violation.text(), events))),
+        Stop::Met(violation) => Ok(Some(Finding {
+            text: violation.text(),
+            events,
+            answer,
+        })),
     }
 }
 
 /// Runs a trial.
 fn run_trial(
     trial: &mut Trial,
+    turns: u32,
     draws: &mut Draws,
     counts: &mut Counts,
-) -> Result<Option<(&'static str, u64)>, AllocError> {
-    match trial.run(draws, counts) {
+) -> Result<Option<Finding>, AllocError> {
+    match trial.run(turns, draws, counts) {
         Ok(()) => Ok(None),
-        Err(stop) => told_of(stop, trial.events),
+        Err(stop) => told_of(stop, trial.events, trial.last_words()),
     }
 }
 
-/// Runs the trial of an image, and counts. What was met that must not be, in words, and behind how many events.
+/// Runs the trial of a case, and counts. What was met that must not be.
 fn met(
     alloc: Global,
     draws: &mut Draws,
     counts: &mut Counts,
-    image: &CheckedImage,
-    is_edf: bool,
-) -> Result<Option<(&'static str, u64)>, AllocError> {
-    if let Some(halt) = first_halt(alloc, image)? {
+    case: &Case,
+) -> Result<Option<Finding>, AllocError> {
+    if let Some(halt) = first_halt(alloc, &case.image)? {
         counts.halt(halt)?;
     }
-    match trial_of(alloc, image, is_edf) {
-        Ok(mut trial) => run_trial(&mut trial, draws, counts),
-        Err(stop) => told_of(stop, 0),
+    match trial_of(alloc, case) {
+        Ok(mut trial) => run_trial(&mut trial, case.turns, draws, counts),
+        Err(stop) => told_of(stop, 0, NO_ANSWER),
     }
 }
 
-/// Runs the program of a number. What was met that must not be, in words, and behind how many events.
+/// Runs the program of a number. What was met that must not be.
 fn run(
     alloc: Global,
     draws: &mut Draws,
     counts: &mut Counts,
     material: &Material,
     number: u32,
-) -> Result<Option<(&'static str, u64)>, AllocError> {
-    let Subject { text, stg_len } = subject(alloc, draws, material, number)?;
-    match image_of(text, stg_len, alloc) {
-        Some(image) => met(alloc, draws, counts, &image, number % 2 == 0),
-        None => Ok(Some(("there is no image", 0))),
-    }
+) -> Result<Option<Finding>, AllocError> {
+    let program = subject(alloc, draws, material, number)?;
+    let Some(image) = image_of(program.text, program.stg_len, alloc) else {
+        return Ok(Some(Finding {
+            text: "there is no image",
+            events: 0,
+            answer: NO_ANSWER,
+        }));
+    };
+    let case = Case {
+        image,
+        turns: program.turns,
+        is_edf: number % 2 == 0,
+    };
+    met(alloc, draws, counts, &case)
 }
 
-/// Runs so many programs, and prints what must not be met.
+/// Runs so many programs, and prints what must not be met. Whether nothing was.
 fn run_all(
     rt: &HostRuntime,
     counts: &mut Counts,
     material: &Material,
     programs: u32,
-) -> io::Result<()> {
+) -> io::Result<bool> {
     let mut draws = Draws::new();
+    let mut is_well = true;
     for number in 0..programs {
-        if let Some((text, event)) = run(rt.alloc(), &mut draws, counts, material, number)? {
-            println!(rt; "image {number}, event {event}: {text}")?;
+        if let Some(finding) = run(rt.alloc(), &mut draws, counts, material, number)? {
+            let (what, more) = finding.answer;
+            println!(rt;
+                "image {number}, event {}: {}, answered {what} {more}",
+                finding.events, finding.text
+            )?;
+            is_well = false;
         }
     }
-    Ok(())
+    Ok(is_well)
 }
 
 /// Reads the number of programs, and the examples.
@@ -171,6 +222,17 @@ fn print(rt: &HostRuntime, counts: &Counts) -> io::Result<()> {
     Ok(())
 }
 
+/// Prints how often each answer came that must. Whether all did.
+fn print_due(rt: &HostRuntime, counts: &Counts) -> io::Result<bool> {
+    let mut is_well = true;
+    for answer in DUE {
+        let times = counts.times(answer);
+        println!(rt; "{answer} in all: {times}")?;
+        is_well = is_well && times > 0;
+    }
+    Ok(is_well)
+}
+
 fn main(rt: HostRuntime) -> io::Result<()> {
     let mut material = Material {
         rows: all_rows(rt.alloc())?,
@@ -178,7 +240,11 @@ fn main(rt: HostRuntime) -> io::Result<()> {
     };
     let programs = read(&rt, &mut material)?;
     let mut counts = Counts::new(rt.alloc());
-    run_all(&rt, &mut counts, &material, programs)?;
+    let is_well = run_all(&rt, &mut counts, &material, programs)?;
     println!(rt; "{programs} images")?;
-    print(&rt, &counts)
+    print(&rt, &counts)?;
+    if print_due(&rt, &counts)? && is_well {
+        return Ok(());
+    }
+    Err(io::Error::other("a violation, or an answer that must come didn't"))
 }

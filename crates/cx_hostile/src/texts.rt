@@ -4,12 +4,16 @@ use crate::draws::Draws;
 use cx_code::Op;
 use std::alloc::{AllocError, Global};
 
-/// A program: its text, and the length of its working storage.
+/// A program: its text, the length of its working storage, and how many turns it gets.
 #[derive(Drop)]
 pub struct Subject {
     pub text: Vec<u8>,
     pub stg_len: u32,
+    pub turns: u32,
 }
+
+/// The turns that most programs get.
+pub const TURNS: u32 = 200;
 
 /// The least length of working storage.
 const LEAST_STG: u32 = 80;
@@ -54,6 +58,7 @@ pub fn plain(alloc: Global, draws: &mut Draws) -> Result<Subject, AllocError> {
     Ok(Subject {
         text,
         stg_len: stg_len(draws),
+        turns: TURNS,
     })
 }
 
@@ -105,6 +110,7 @@ pub fn of_rows(alloc: Global, draws: &mut Draws, rows: &[Op]) -> Result<Subject,
     Ok(Subject {
         text,
         stg_len: stg_len(draws),
+        turns: TURNS,
     })
 }
 
@@ -120,5 +126,6 @@ pub fn changed(alloc: Global, draws: &mut Draws, program: &Subject) -> Result<Su
     Ok(Subject {
         text,
         stg_len: program.stg_len,
+        turns: program.turns,
     })
 }

@@ -1,7 +1,7 @@
-//! One image, turned two hundred times in a region of its own.
+//! One image, turned many times in a region of its own.
 
 use crate::acts::{Act, Done, Sent, perform, perform_alone};
-use crate::counts::Counts;
+use crate::counts::{Counts, words};
 use crate::draws::Draws;
 use crate::modes::{Mode, Watch};
 use crate::seen::{Seen, are_same, is_whole};
@@ -11,9 +11,6 @@ use cx_ebcdic::{Aid, Name4};
 use cx_edf::{Answer, Debugged};
 use cx_pages::PagedStore;
 use cx_region::{AlterReply, Region, Reply};
-
-/// The turns of the hostile program's terminal.
-const TURNS: u32 = 200;
 
 /// The first turns of each other terminal.
 const FIRST_TURNS: u32 = 3;
@@ -35,7 +32,7 @@ pub struct Trial {
     alone: Option<Region<PagedStore>>,
     watch: Watch,
     seen: [Seen; 3],
-    pub last: Option<Answer>,
+    last: Option<Answer>,
     pub events: u64,
 }
 
@@ -56,12 +53,20 @@ impl Trial {
         }
     }
 
-    /// Two hundred turns of the hostile program's terminal, with what comes between them.
-    pub fn run(&mut self, draws: &mut Draws, counts: &mut Counts) -> Result<(), Stop> {
+    /// What was answered last, in words.
+    pub fn last_words(&self) -> (&'static str, &'static str) {
+        match &self.last {
+            Some(answer) => words(answer),
+            None => ("nothing", ""),
+        }
+    }
+
+    /// So many turns of the hostile program's terminal, with what comes between them.
+    pub fn run(&mut self, turns: u32, draws: &mut Draws, counts: &mut Counts) -> Result<(), Stop> {
         for terminal in OTHERS {
             self.begin(Name4::from_bytes(terminal), counts)?;
         }
-        for _turn in 0..TURNS {
+        for _turn in 0..turns {
             self.turn(draws, counts)?;
         }
         Ok(())
