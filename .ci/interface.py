@@ -1,5 +1,5 @@
 """What the prover reads of a source file: the text without comments, and of a library the text without the bodies of its
-functions, since a crate above sees a function by its signature and clauses alone.
+functions, since a crate above sees a function by its signature and clauses alone; and which clauses are those of public functions.
 
 Bodies stay where something above might read them: of a const fn, of a trait's methods, and of a function that holds items of
 its own. A file whose functions can't be told apart from their bodies stays whole: too much read makes an edit due for nothing,
@@ -12,6 +12,7 @@ TOKEN = re.compile(
     re.S | re.X,
 )
 CLAUSES = ("requires", "ensures", "ghost")
+PROVED = ("coded", "invariant", "inverse", "inverse_ok", "sound")
 ITEMS = {"impl", "struct", "enum", "trait", "macro_rules", "union", "mod", "static", "const", "ghost"}
 CLOSES = {"{": "}", "(": ")", "[": "]"}
 
@@ -129,3 +130,89 @@ def own_text(text):
 def antt_text(text):
     """Returns what the prover reads of a definition file: all of it but blank lines and lines of comment."""
     return filled_lines(re.sub(r"(?m)^\s*--(\s.*)?$", "", text))
+
+
+def header_end(tokens, at):
+    """Returns the index of the brace or semicolon that ends an item's head."""
+    while tokens[at][0] not in ("{", ";") or tokens[at - 1][0] in ("<", ",", "=") and tokens[at][0] == "{":
+        at = block_end(tokens, at) if tokens[at][0] in ("(", "[") or tokens[at][0] == "{" else at + 1
+    return at
+
+
+def type_named(words):
+    """Returns the name of the type or trait that these words of an impl's head spell, without what it is applied to."""
+    depth, name = 0, None
+    for word in words:
+        if not depth and word in ("<", "where"):
+            break
+        depth += (word in CLOSES) - (word in CLOSES.values())
+        name = word if re.match(r"[^\W\d]", word) and word not in ("mut", "dyn") else name
+    return name
+
+
+def behind_angles(words):
+    """Returns what stands behind the parameters that an impl's head begins with."""
+    depth = 0
+    for at, word in enumerate(words):
+        depth += (word == "<") - (word == ">" and words[at - 1] not in ("-", "="))
+        if not depth:
+            return words[at + 1 :] if word == ">" else words[at:]
+    return []
+
+
+def impl_head(words):
+    """Returns the names in an impl's head, that of its type and that of its trait if it has one, and whether it has one."""
+    words = behind_angles(words)
+    at = words.index("for") if "for" in words else -1
+    return {type_named(words[at + 1 :]), type_named(words[: max(at, 0)])} - {None}, at >= 0
+
+
+def is_public(tokens, at):
+    """Tells whether `pub` stands before the item whose word is at this index."""
+    while at and tokens[at - 1][0] in ("const", "unsafe", "final", "async"):
+        at -= 1
+    return bool(at) and tokens[at - 1][0] == "pub"
+
+
+def clauses_at(tokens, at):
+    """Returns the places of the clauses of the function whose `fn` is at this index, and the index behind it."""
+    found, start = [], None
+    while tokens[at][0] != ";" and not (tokens[at][0] == "{" and tokens[at - 1][0] not in ("<", ",", "=")):
+        if tokens[at][0] in CLAUSES:
+            start, at = at, block_end(tokens, next_block(tokens, at))
+            found.append((tokens[start][1], tokens[at - 1][2]))
+        else:
+            at = block_end(tokens, at) if tokens[at][0] in CLOSES else at + 1
+    return found, block_end(tokens, at) if tokens[at][0] == "{" else at + 1
+
+
+def functions_in(text):
+    """Returns what is said of each function and value that isn't private in its type or module: which names must be public for it to be
+    seen (its own, or those of the trait and the type that it stands in), and the places of its clauses. The members of an impl of a
+    trait are clauses too, but for those that are proved: they say what a function gives, and as what a value is seen."""
+    tokens, at, found, closing, owner = tokens_of(text)[0], 0, [], None, None
+    while at < len(tokens):
+        word = tokens[at][0]
+        if at == closing:
+            owner, closing = None, None
+        if word == "macro_rules":
+            at = block_end(tokens, next_block(tokens, at))
+        elif word in ("impl", "trait") and owner is None:
+            end = header_end(tokens, at)
+            head = [it[0] for it in tokens[at + 1 : end]]
+            owner, closing = ({head[0]}, True) if word == "trait" else impl_head(head), block_end(tokens, end) - 1
+            at = end + 1
+        elif word == "fn" and re.match(r"[^\W\d]", tokens[at + 1][0]):
+            spans, end = clauses_at(tokens, at)
+            names, is_trait = owner or ({tokens[at + 1][0]}, False)
+            if is_trait or is_public(tokens, at):
+                found.append((names, spans))
+            at = end
+        elif word == "ghost" and owner and owner[1] and tokens[at + 2][0] == "=":
+            end = block_end(tokens, next_block(tokens, at))
+            if tokens[at + 1][0] not in PROVED:
+                found.append((owner[0], [(tokens[at][1], tokens[end - 1][2])]))
+            at = end
+        else:
+            at += 1
+    return found

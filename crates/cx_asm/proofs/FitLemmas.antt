@@ -13,9 +13,8 @@ use Rattle.cx_source.specs.declared.source.Source.{Source}
 use Rattle.cx_places.specs.Placed.{IsPlaced, known_of}
 use Rattle.cx_places.specs.declared.places.Places.{Places}
 use Rattle.cx_operands.specs.Bases.{none_in_use}
-use Rattle.cx_second.specs.Parts.Telling.{told_by}
 use Rattle.cx_second.specs.Statements.{Stated, statements_of}
-use Rattle.cx_second.specs.Whole.{whole_of}
+use Rattle.cx_second.specs.Whole.{whole_of, told_by}
 use Rattle.cx_asm.specs.Assembly.{size_of, standing_of}
 use Rattle.cx_asm.proofs.JoinLemmas.{joined_in_turn}
 use Rattle.cx_asm.proofs.TellingLemmas.{told_is}

@@ -8,8 +8,7 @@ use Rattle.cx_places.specs.Known.{Known}
 use Rattle.cx_places.specs.Placed.{IsPlaced, known_of}
 use Rattle.cx_places.specs.declared.place.ControlSection.{ControlSection}
 use Rattle.cx_places.specs.declared.places.Places.{Places}
-use Rattle.cx_second.specs.Parts.Telling.{told_by}
-use Rattle.cx_second.specs.Whole.{whole, whole_known, whole_of}
+use Rattle.cx_second.specs.Whole.{whole, whole_known, whole_of, told_by}
 
 named_back : (control : Option (List ℕ)) (length : ℕ) → option_map (λ (c : ControlSection). c.name) (option_map (λ name. record { name = name; length = length }) control) ≡ control
 named_back None length = refl

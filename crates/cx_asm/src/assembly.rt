@@ -5,7 +5,7 @@ ghost use Rattle.std.specs.Option.{option_map_or};
 ghost use Rattle.cx_source.specs.declared.source.Source.{Source};
 ghost use Rattle.cx_image.specs.Assembled.{IsAssembled};
 ghost use Rattle.cx_places.specs.Placed.{IsPlaced, known_of};
-ghost use Rattle.cx_second.specs.Parts.Telling.{told_by};
+ghost use Rattle.cx_second.specs.Whole.{told_by};
 ghost use Rattle.cx_second.specs.Statements.{end_of, placed_of, statements_of};
 ghost use Rattle.cx_asm.specs.Assembly.{Assembles, assembly_of, end_line, entry_by, made_of, second_fault_of, section_of, size_of, unless_refused, unless_too_large};
 

@@ -4,8 +4,7 @@ ghost use Rattle.std.specs.Prelude.{◌≡◌, OnOk, option_map};
 ghost use Rattle.std.specs.Prelude.{true};
 ghost use Rattle.cx_terms.specs.Items.{constant_in};
 ghost use Rattle.cx_pools.specs.Pools.{Placed};
-ghost use Rattle.cx_second.specs.Parts.Telling.{told_by};
-ghost use Rattle.cx_second.specs.Whole.{item_made};
+ghost use Rattle.cx_second.specs.Whole.{item_made, told_by};
 ghost use Rattle.cx_asm.specs.Laws.Standing.{IsWithin};
 ghost use Rattle.cx_asm.specs.Resolving.{counter_at, data_standing, item_standing, items_standing, joined, literal_standing, pool_standing, space_standing};
 

@@ -4,7 +4,7 @@ ghost use Rattle.std.specs.Prelude.{◌≡◌, IfOk, drop, map, take, None, [], 
 ghost use Rattle.cx_pools.specs.Pools.{literal_size};
 ghost use Rattle.cx_places.specs.Known.{role_in};
 ghost use Rattle.cx_image.specs.Listing.{listing_line};
-ghost use Rattle.cx_second.specs.Parts.Telling.{told_by};
+ghost use Rattle.cx_second.specs.Whole.{told_by};
 ghost use Rattle.cx_asm.specs.Listing.{end_behind, item_end, line_with, listed, object_length, object_of, offset_shown};
 
 use crate::section::is_control;

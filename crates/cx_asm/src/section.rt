@@ -4,8 +4,7 @@ ghost use Rattle.std.specs.Prelude.{◌≡◌, IfOk, OnOk};
 ghost use Rattle.cx_operands.specs.Bases.{none_in_use};
 ghost use Rattle.cx_places.specs.Known.{is_control, role_in};
 ghost use Rattle.cx_second.specs.Statements.{placed_items};
-ghost use Rattle.cx_second.specs.Whole.{pool_of};
-ghost use Rattle.cx_second.specs.Parts.Telling.{told_by};
+ghost use Rattle.cx_second.specs.Whole.{pool_of, told_by};
 ghost use Rattle.cx_asm.specs.Laws.Standing.{IsWithin};
 ghost use Rattle.cx_asm.specs.Resolving.{instruction_standing, items_standing, joined, last_pool, pool_standing, role_standing, standing_from, statement_standing};
 

@@ -9,8 +9,8 @@ use Rattle.std.proofs.lemmas.List.Sums.{sum_by-cons}
 use Rattle.cx_command.specs.declared.commands.Command.{Command}
 use Rattle.cx_command.specs.declared.conditions.Condition.{Condition}
 use Rattle.cx_command.specs.declared.legal.ListedCondition.{ListedCondition}
-use Rattle.cx_command.specs.Conditions.{entry_of}
-use Rattle.cx_command.specs.Legal.{handled, is_handled_number, is_legal_list, lists_conditions, may_list}
+use Rattle.cx_command.specs.Conditions.{entry_of, handled}
+use Rattle.cx_command.specs.Legal.{is_handled_number, is_legal_list, lists_conditions, may_list}
 use Rattle.cx_storage.specs.Address.{address_in}
 use Rattle.cx_storage.specs.Storage.{Storage}
 use Rattle.cx_call.specs.Call.{Call, has_label}

@@ -5,8 +5,7 @@ use Rattle.std.specs.List.{find}
 use Rattle.std.specs.Prelude.{◌==◌}
 use Rattle.cx_command.specs.declared.conditions.Condition.{Condition}
 use Rattle.cx_command.specs.declared.legal.ListedCondition.{ListedCondition}
-use Rattle.cx_command.specs.Conditions.{entry_of}
-use Rattle.cx_command.specs.Legal.{handled}
+use Rattle.cx_command.specs.Conditions.{entry_of, handled}
 use Rattle.cx_call.specs.Call.{Call, has_label}
 use Rattle.cx_call.specs.declared.listed.Listed.{Listed}
 

@@ -1,8 +1,7 @@
 //! The conditions that a call lists, with their labels.
 ghost use Rattle.std.specs.Prelude.{◌≡◌, ◌≤◌, ◌<◌, ◌^◌, ◌==◌, ◌++◌, ◌+◌, [], ◌∷◌, List, drop, length, slice_get};
 ghost use Rattle.std.specs.List.{find};
-ghost use Rattle.cx_command.specs.Conditions.{entry_of};
-ghost use Rattle.cx_command.specs.Legal.{handled};
+ghost use Rattle.cx_command.specs.Conditions.{entry_of, handled};
 ghost use Rattle.cx_command.specs.declared.legal.ListedCondition.{ListedCondition};
 ghost use Rattle.cx_call.specs.Listed.{handled_with, labelled, listed_of, listed_with};
 
@@ -12,19 +11,6 @@ use std::marker::Model;
 
 /// The most conditions that HANDLE or IGNORE CONDITION lists.
 const CONDITIONS: usize = 16;
-
-/// The conditions that may be listed: all but NORMAL.
-const HANDLED: [Condition; 9] = [
-    Condition::Error,
-    Condition::Invreq,
-    Condition::Nospace,
-    Condition::Lengerr,
-    Condition::Itemerr,
-    Condition::Pgmiderr,
-    Condition::Nostg,
-    Condition::Qiderr,
-    Condition::Enqbusy,
-];
 
 /// A condition that HANDLE or IGNORE CONDITION lists.
 #[derive(Clone, Copy, Debug, PartialEq, Eq)]
@@ -91,7 +77,7 @@ impl ListedConditions {
 fn handled_with(number: u8) -> Option<Condition>
     ensures { result ≡ handled_with number }
 {
-    find_numbered(&HANDLED, number)
+    find_numbered(Condition::handled(), number)
 }
 
 /// The first of some conditions that has a number.

@@ -1,6 +1,6 @@
 //! Disassembly of a text.
 
-ghost use Rattle.std.specs.Prelude.{◌≡◌, IfOk};
+ghost use Rattle.std.specs.Prelude.{◌≡◌, IfOk, IsOk, length};
 ghost use Rattle.cx_code.specs.Reading.{canonical};
 ghost use Rattle.cx_code.specs.Lines.{bytes_in, line_of, lines};
 
@@ -72,8 +72,11 @@ fn line_of(alloc: Global, text: &[u8], span: Span) -> Result<Line, AllocError>
 /// canonical spelling, and data otherwise: so is a shift whose third register isn't zero. Bytes past
 /// the text's end are left out of code and data spans, also before a code span is judged; with none
 /// left the line is data without bytes. A space span keeps its length.
+///
+/// Memory comes only where a growth was refused; without spans it takes none.
 pub fn disassemble(alloc: Global, text: &[u8], spans: &[Span]) -> Result<Vec<Line>, AllocError>
-    ensures { IfOk result (λ found. found.items ≡ lines text.now spans.now) }
+    ensures lines { IfOk result (λ found. found.items ≡ lines text.now spans.now) }
+    ensures empty { length spans.now ≡ 0 → IsOk result }
 {
     let mut found = Vec::new(alloc);
     for span in spans {

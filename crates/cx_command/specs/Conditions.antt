@@ -1,6 +1,7 @@
 -- Exceptional conditions (Application Programmer's Reference Manual, SC33-0077, "Exceptional conditions").
 -- The numbers and abend codes are this project's own.
-use Rattle.std.specs.Prelude.{ℕ, Option, Some, None, List, codes, option_and_then}
+use Rattle.std.specs.Prelude.{ℕ, ◌==◌, Option, Some, None, List, [], ◌∷◌, codes, option_and_then, unwrap_or}
+use Rattle.std.specs.List.{position}
 use Rattle.cx_ebcdic.specs.Names.{name_of}
 use Rattle.cx_command.specs.declared.conditions.Condition.{Condition}
 use Rattle.cx_command.specs.declared.conditions.Condition.TheVariants.{Normal, Error, Invreq, Nospace, Lengerr, Itemerr, Pgmiderr, Nostg, Qiderr, Enqbusy}
@@ -25,6 +26,14 @@ entry_of Pgmiderr = entry 27 (codes "PGMIDERR") (Some (codes "AEI0"))
 entry_of Nostg = entry 42 (codes "NOSTG") None
 entry_of Qiderr = entry 44 (codes "QIDERR") (Some (codes "AEYH"))
 entry_of Enqbusy = entry 55 (codes "ENQBUSY") None
+
+-- the conditions that a program can handle: all but NORMAL
+abbrev pub handled : List Condition
+handled = Error ∷ Invreq ∷ Nospace ∷ Lengerr ∷ Itemerr ∷ Pgmiderr ∷ Nostg ∷ Qiderr ∷ Enqbusy ∷ []
+
+-- a condition's place among all, from 0, which is NORMAL's
+abbrev pub place_of : Condition → ℕ
+place_of condition = unwrap_or (position (λ other. (entry_of other).number == (entry_of condition).number) (Normal ∷ handled)) 0
 
 -- the abend code as it stands in storage
 unfoldable pub abend_code_of : Condition → Option (List ℕ)

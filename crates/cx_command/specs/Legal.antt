@@ -6,10 +6,8 @@ use Rattle.cx_command.specs.declared.options.Rule.{Rule}
 use Rattle.cx_command.specs.declared.options.Rule.TheVariants.{Together, NotBoth, Needs, OneOfTwo, OneOfThree}
 use Rattle.cx_command.specs.declared.commands.Command.{Command}
 use Rattle.cx_command.specs.declared.commands.Command.TheVariants.{HandleCondition, IgnoreCondition}
-use Rattle.cx_command.specs.declared.conditions.Condition.{Condition}
-use Rattle.cx_command.specs.declared.conditions.Condition.TheVariants.{Error, Invreq, Nospace, Lengerr, Itemerr, Pgmiderr, Nostg, Qiderr, Enqbusy}
 use Rattle.cx_command.specs.declared.legal.ListedCondition.{ListedCondition}
-use Rattle.cx_command.specs.Conditions.{entry_of}
+use Rattle.cx_command.specs.Conditions.{entry_of, handled}
 use Rattle.cx_command.specs.Commands.{row_of}
 
 -- the commands whose option byte 1 counts conditions
@@ -68,10 +66,6 @@ is_legal_second byte = bit_and byte 0x3F == 0
 unfoldable pub is_legal : Command → ℕ → ℕ → Bool
 is_legal command first second =
     (if lists_conditions command then nat_le 1 first && nat_le first 16 else is_legal_set command first) && is_legal_second second
-
--- the conditions that a program can handle: all but NORMAL
-abbrev pub handled : List Condition
-handled = Error ∷ Invreq ∷ Nospace ∷ Lengerr ∷ Itemerr ∷ Pgmiderr ∷ Nostg ∷ Qiderr ∷ Enqbusy ∷ []
 
 unfoldable pub is_handled_number : ℕ → Bool
 is_handled_number number = list_any (λ condition. (entry_of condition).number == number) handled

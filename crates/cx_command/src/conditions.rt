@@ -1,8 +1,8 @@
 //! The exceptional conditions.
-ghost use Rattle.std.specs.Prelude.{◌≡◌, ◌↔◌, ◌==◌, Some};
+ghost use Rattle.std.specs.Prelude.{◌≡◌, ◌<◌, ◌↔◌, ◌==◌, Some};
 ghost use Rattle.std.specs.List.{find};
 ghost use Rattle.std.specs.Str.{bytes_eq};
-ghost use Rattle.cx_command.specs.Conditions.{abend_code_of, entry_of};
+ghost use Rattle.cx_command.specs.Conditions.{abend_code_of, entry_of, handled, place_of};
 
 use cx_ebcdic::Name4;
 
@@ -26,7 +26,7 @@ pub enum Condition {
 
 impl Condition {
     /// All conditions, in the order of their numbers.
-    pub const ALL: [Condition; 10] = [
+    const ALL: [Condition; 10] = [
         Condition::Normal,
         Condition::Error,
         Condition::Invreq,
@@ -38,6 +38,21 @@ impl Condition {
         Condition::Qiderr,
         Condition::Enqbusy,
     ];
+
+    /// The conditions that a program can handle, in the order of their numbers: all but NORMAL.
+    pub fn handled() -> &'static [Condition]
+        ensures { result.now ≡ handled }
+    {
+        &Condition::ALL[1..]
+    }
+
+    /// The condition's place among all ten, in the order of their numbers: 0 for NORMAL, 9 for ENQBUSY.
+    pub fn place(self) -> usize
+        ensures value { result ≡ place_of self }
+        ensures bound { result < 10 }
+    {
+        self as usize
+    }
 
     /// The number that EIBRESP and RESP's word get.
     pub fn number(self) -> u8

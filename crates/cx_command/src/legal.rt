@@ -9,19 +9,6 @@ use crate::options::{CommandOption, Rule};
 /// The bits of a byte, from the left.
 const BITS: [u8; 8] = [0x80, 0x40, 0x20, 0x10, 0x08, 0x04, 0x02, 0x01];
 
-/// The conditions that a program can handle.
-const HANDLED: [Condition; 9] = [
-    Condition::Error,
-    Condition::Invreq,
-    Condition::Nospace,
-    Condition::Lengerr,
-    Condition::Itemerr,
-    Condition::Pgmiderr,
-    Condition::Nostg,
-    Condition::Qiderr,
-    Condition::Enqbusy,
-];
-
 impl Command {
     /// Whether the two option bytes of an argument list's block are legal for the command.
     ///
@@ -132,7 +119,9 @@ impl Command {
 fn is_handled_number(number: u8) -> bool
     ensures { result ≡ is_handled_number number }
 {
-    HANDLED.iter().any(|condition| condition.number() == number)
+    Condition::handled()
+        .iter()
+        .any(|condition| condition.number() == number)
 }
 
 /// Whether some of these conditions has a number.

@@ -7,7 +7,7 @@ use Rattle.cx_arrival.specs.Stands.{AreAt}
 use Rattle.cx_code.specs.declared.disassembly.Line.{Line}
 use Rattle.cx_code.specs.Spelling.{Instruction, IsWellFormed, spelling}
 use Rattle.cx_code.specs.Table.{length_of}
-use Rattle.cx_image.specs.Laws.Cover.{is_code}
+use Rattle.cx_image.specs.Resolved.{is_code}
 use Rattle.cx_source.specs.declared.source.Item.{Item}
 use Rattle.cx_source.specs.declared.source.Source.{Source}
 use Rattle.cx_storage.specs.Address.{along}

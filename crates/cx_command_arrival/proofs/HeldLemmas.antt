@@ -21,9 +21,8 @@ use Rattle.cx_places.specs.declared.roles.Role.{Role}
 use Rattle.cx_places.specs.declared.roles.Role.TheVariants as role
 use Rattle.cx_operands.specs.Bases.{Bases}
 use Rattle.cx_operands.specs.Values.{item_in}
-use Rattle.cx_image.specs.Laws.Cover.{is_code}
 use Rattle.cx_image.specs.Relocated.{words_at}
-use Rattle.cx_image.specs.Resolved.{end_of}
+use Rattle.cx_image.specs.Resolved.{end_of, is_code}
 use Rattle.cx_second.specs.SecondFaults.{bases_after}
 use Rattle.cx_second.specs.Statements.{Stated, operation_of, placed_items}
 use Rattle.cx_second.specs.Whole.{Whole, item_made, pool_of}

@@ -3,8 +3,7 @@ use Rattle.std.proofs.Common.{◌≡◌, ◌⊎◌, inl, inr, ◌≤◌, ℕ, �
 use Rattle.std.specs.List.{AllByRecursion}
 use Rattle.cx_code.specs.declared.disassembly.Line.{Line}
 use Rattle.cx_operands.specs.Bases.{none_in_use}
-use Rattle.cx_image.specs.Laws.Cover.{is_code}
-use Rattle.cx_image.specs.Resolved.{AreApart, end_of}
+use Rattle.cx_image.specs.Resolved.{AreApart, end_of, is_code}
 use Rattle.cx_second.specs.Statements.{statements_of}
 use Rattle.cx_second.specs.Whole.{whole_of}
 use Rattle.cx_asm.specs.Assembly.{section_of, standing_of}

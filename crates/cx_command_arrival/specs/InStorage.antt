@@ -3,8 +3,7 @@ use Rattle.std.specs.Prelude.{◌≡◌, ◌⊎◌, ℕ, ◌+◌, ◌≤◌, tru
 use Rattle.std.specs.List.{AllByRecursion}
 use Rattle.cx_code.specs.declared.disassembly.Line.{Line}
 use Rattle.cx_image.specs.Assembled.{AssembledParts}
-use Rattle.cx_image.specs.Laws.Cover.{is_code}
-use Rattle.cx_image.specs.Resolved.{AreApart, bytes_of, end_of, size_of}
+use Rattle.cx_image.specs.Resolved.{AreApart, bytes_of, end_of, size_of, is_code}
 use Rattle.cx_image.specs.Text.{text_of}
 use Rattle.cx_load.specs.Fault.{IsFit}
 use Rattle.cx_load.specs.Program.{IsLoaded}

@@ -1,5 +1,5 @@
 -- EDF's displays (own): a main page, the working storage, and the user's screen.
-use Rattle.std.specs.Prelude.{ℕ, ◌+◌, ◌-◌, ◌*◌, ◌^◌, nat_le, nat_lt, if◌then◌else◌, Option, Some, None, List, [], ◌∷◌, codes, fold, map, slice_index}
+use Rattle.std.specs.Prelude.{ℕ, ◌+◌, ◌-◌, ◌*◌, ◌/◌, ◌^◌, nat_le, nat_lt, if◌then◌else◌, Option, Some, None, List, [], ◌∷◌, ◌++◌, codes, fold, map, slice_index}
 use Rattle.std.specs.Option.{option_and_then, option_map, option_map_or}
 use Rattle.cx_command.specs.Commands.{command_with, row_of}
 use Rattle.cx_command.specs.Conditions.{entry_of}
@@ -20,7 +20,7 @@ use Rattle.cx_display.specs.declared.seen.Seen.{Seen}
 use Rattle.cx_display.specs.declared.stops.Ending.TheVariants as ending
 use Rattle.cx_display.specs.declared.stops.Kind.{Kind}
 use Rattle.cx_display.specs.declared.stops.Kind.TheVariants as kind
-use Rattle.cx_display.specs.Texts.{with_line, hex_at, hex_group, character_group}
+use Rattle.cx_display.specs.Texts.{with_line, with_lines, hex_at, hex_group, character_group}
 
 -- ---- what is seen of a task
 abbrev pub seen_of : TaskState → Seen
@@ -42,17 +42,15 @@ abbrev pub seen_at : RegionState → List ℕ → Kind → Option Seen
 seen_at region name (kind.Over how) = None
 seen_at region name other = option_map seen_of (task_of region name)
 
--- ---- the main page's lines
--- line 1
+-- ---- the main page, a line with its number and pieces
+-- line 1: of no task nothing but blanks stands there
 abbrev pub heading : List ℕ → List ℕ → List ℕ → List ℕ → List (List ℕ)
 heading tran program number terminal =
     codes "TRANSACTION " ∷ tran ∷ codes "  PROGRAM " ∷ program ∷ codes "  TASK " ∷ number ∷ codes "  TERMINAL " ∷ terminal ∷ []
 
-abbrev pub task_heading : Seen → List ℕ → List (List ℕ)
-task_heading task name = heading (shown task.tran) (shown task.program) (digits 10 7 task.number) (shown name)
-
-abbrev pub blank_heading : List ℕ → List (List ℕ)
-blank_heading name = heading (codes "    ") (codes "        ") (codes "       ") (shown name)
+abbrev pub task_heading : List ℕ → Option Seen → List (List ℕ)
+task_heading name None = heading (codes "    ") (codes "        ") (codes "       ") (shown name)
+task_heading name (Some task) = heading (shown task.tran) (shown task.program) (digits 10 7 task.number) (shown name)
 
 -- line 2
 abbrev pub status_of : Kind → List ℕ
@@ -79,46 +77,37 @@ name_of_function (Some function) = option_map_or (λ command. (row_of command).n
 unfoldable pub command_text : Storage → Seen → Kind → List ℕ
 command_text storage task kind.Before = name_of_function (function_due storage task)
 command_text storage task (kind.After condition) = name_of_function (halfword_at storage (field_at task eib.Fn))
-command_text storage task (kind.Exit code) = []
-command_text storage task (kind.Over how) = []
+command_text storage task other = []
 
 -- lines 4 to 14: an argument, with 16 bytes
+abbrev pub quarters : List ℕ
+quarters = 0 ∷ 4 ∷ 8 ∷ 12 ∷ []
+
 abbrev pub argument : Storage → ℕ → ℕ → List (List ℕ)
 argument storage k address =
     codes "ARG " ∷ digits 10 2 k ∷ codes " " ∷ digits 16 6 address ∷ codes "  "
-    ∷ hex_group storage address 16 0 ∷ hex_group storage address 16 4 ∷ hex_group storage address 16 8 ∷ hex_group storage address 16 12 ∷ codes "  "
-    ∷ character_group storage address 16 0 ∷ character_group storage address 16 4 ∷ character_group storage address 16 8 ∷ character_group storage address 16 12 ∷ []
-
-abbrev pub and_more : Storage → ℕ → ℕ → List (List ℕ) → (List (List ℕ) → List (List ℕ)) → ℕ → List (List ℕ)
-and_more storage list k page more w =
-    let shown_too = with_line page (k + 3) (argument storage k (address_in w)) in
-    if nat_le (2 ^ 31) w then shown_too else more shown_too
+    ∷ map (hex_group storage address 16) quarters ++ codes "  " ∷ map (character_group storage address 16) quarters
 
 -- The arguments with these numbers, up to a word that isn't in storage, and none behind one with its high bit set.
-unfoldable pub arguments_put : Storage → ℕ → List ℕ → List (List ℕ) → List (List ℕ)
-arguments_put storage list [] page = page
-arguments_put storage list (k ∷ ks) page =
-    option_map_or (and_more storage list k page (λ next. arguments_put storage list ks next)) (word_at storage (along list (4 * k))) page
+unfoldable pub arguments : Storage → ℕ → List ℕ → List (ℕ × List (List ℕ))
+arguments storage list [] = []
+arguments storage list (k ∷ ks) =
+    option_map_or
+    (λ w. (k + 4, argument storage k (address_in w)) ∷ (if nat_le (2 ^ 31) w then [] else arguments storage list ks))
+    (word_at storage (along list (4 * k)))
+    []
 
-abbrev pub numbers : List ℕ
-numbers = 0 ∷ 1 ∷ 2 ∷ 3 ∷ 4 ∷ 5 ∷ 6 ∷ 7 ∷ 8 ∷ 9 ∷ 10 ∷ []
-
-abbrev pub arguments_at : Storage → Seen → Kind → List (List ℕ) → List (List ℕ)
-arguments_at storage task kind.Before page = arguments_put storage (list_of task) numbers page
-arguments_at storage task (kind.After condition) page = page
-arguments_at storage task (kind.Exit code) page = page
-arguments_at storage task (kind.Over how) page = page
+abbrev pub arguments_due : Storage → Seen → Kind → List (ℕ × List (List ℕ))
+arguments_due storage task kind.Before = arguments storage (list_of task) (0 ∷ 1 ∷ 2 ∷ 3 ∷ 4 ∷ 5 ∷ 6 ∷ 7 ∷ 8 ∷ 9 ∷ 10 ∷ [])
+arguments_due storage task other = []
 
 -- lines 15 to 18: four registers from one on
-abbrev pub registers : List ℕ → List ℕ → ℕ → List (List ℕ)
-registers label regs k =
-    label ∷ codes " " ∷ digits 16 8 (slice_index regs k) ∷ codes " " ∷ digits 16 8 (slice_index regs (k + 1))
-    ∷ codes " " ∷ digits 16 8 (slice_index regs (k + 2)) ∷ codes " " ∷ digits 16 8 (slice_index regs (k + 3)) ∷ []
-
-abbrev pub with_registers : Seen → List (List ℕ) → List (List ℕ)
-with_registers task page =
-    with_line (with_line (with_line (with_line page 14 (registers (codes "R00") task.regs 0)) 15 (registers (codes "R04") task.regs 4)) 16 (registers (codes "R08") task.regs 8)) 17
-    (registers (codes "R12") task.regs 12)
+abbrev pub registers : List ℕ → ℕ → ℕ × List (List ℕ)
+registers regs k = (
+  15 + k / 4,
+  codes "R" ∷ digits 10 2 k ∷ codes " " ∷ digits 16 8 (slice_index regs k) ∷ codes " " ∷ digits 16 8 (slice_index regs (k + 1))
+      ∷ codes " " ∷ digits 16 8 (slice_index regs (k + 2)) ∷ codes " " ∷ digits 16 8 (slice_index regs (k + 3)) ∷ [],
+)
 
 -- line 19
 abbrev pub state_line : Seen → List (List ℕ)
@@ -134,39 +123,39 @@ eib_line storage task =
 
 -- line 21
 abbrev pub outcome : Kind → List (List ℕ)
-outcome kind.Before = []
 outcome (kind.After condition) = codes "RESPONSE " ∷ (entry_of condition).name ∷ []
 outcome (kind.Exit code) = codes "ABEND " ∷ shown code ∷ []
-outcome (kind.Over ending.Ended) = []
 outcome (kind.Over (ending.Abended code)) = codes "ABEND " ∷ shown code ∷ []
+outcome other = []
 
 -- line 24
 abbrev pub keys : List ℕ
 keys = codes "ENTER GO ON  PF3 END  PF4 SUPPRESS  PF5 STORAGE  PF6 USER  PF9 STOP  PF10 BACK"
 
--- ---- the pages
--- the lines that show a task; where there is none, only its heading stands, without it
-abbrev pub with_task : Storage → List ℕ → Kind → Option Seen → List (List ℕ) → List (List ℕ)
-with_task storage name stop None page = with_line page 0 (blank_heading name)
-with_task storage name stop (Some task) page =
-    let named = with_line (with_line page 0 (task_heading task name)) 2 (codes "COMMAND " ∷ command_text storage task stop ∷ []) in
-    let listed = with_registers task (arguments_at storage task stop named) in
-    with_line (with_line listed 18 (state_line task)) 19 (eib_line storage task)
+-- lines 3 to 20, where there is a task
+abbrev pub task_lines : Storage → Kind → Option Seen → List (ℕ × List (List ℕ))
+task_lines storage stop None = []
+task_lines storage stop (Some task) =
+    (3, codes "COMMAND " ∷ command_text storage task stop ∷ [])
+    ∷ arguments_due storage task stop ++ map (registers task.regs) quarters ++ (19, state_line task) ∷ (20, eib_line storage task) ∷ []
 
 unfoldable pub main_page : Storage → List ℕ → Kind → Option Seen → List (List ℕ)
 main_page storage name stop task =
-    with_line (with_line (with_line (with_task storage name stop task blank_page) 1 (codes "STATUS " ∷ status_of stop ∷ [])) 20 (outcome stop)) 23 (keys ∷ [])
+    with_lines
+    blank_page
+    ((1, task_heading name task) ∷ (2, codes "STATUS " ∷ status_of stop ∷ []) ∷ task_lines storage stop task ++ (21, outcome stop) ∷ (24, keys ∷ []) ∷ [])
 
+-- ---- the other pages
 -- one of 22 rows of 16 bytes, where the working storage goes so far
 abbrev pub storage_row : Storage → Seen → ℕ → List (List ℕ)
 storage_row storage task row =
     let at = along task.stg (16 * row) in let count = task.stg_len - 16 * row in
     digits 16 6 at ∷ codes "  "
     ∷ hex_group storage at count 0 ∷ codes " " ∷ hex_group storage at count 4 ∷ codes " " ∷ hex_group storage at count 8 ∷ codes " " ∷ hex_group storage at count 12 ∷ codes "  "
-    ∷ character_group storage at count 0 ∷ character_group storage at count 4 ∷ character_group storage at count 8 ∷ character_group storage at count 12 ∷ []
+    ∷ map (character_group storage at count) quarters
 
 unfoldable pub with_row : Storage → Seen → List (List ℕ) → ℕ → List (List ℕ)
-with_row storage task page row = if nat_lt (16 * row) task.stg_len then with_line page (row + 1) (storage_row storage task row) else page
+with_row storage task page row = if nat_lt (16 * row) task.stg_len then with_line page (row + 2) (storage_row storage task row) else page
 
 abbrev pub rows : List ℕ
 rows = 0 ∷ 1 ∷ 2 ∷ 3 ∷ 4 ∷ 5 ∷ 6 ∷ 7 ∷ 8 ∷ 9 ∷ 10 ∷ 11 ∷ 12 ∷ 13 ∷ 14 ∷ 15 ∷ 16 ∷ 17 ∷ 18 ∷ 19 ∷ 20 ∷ 21 ∷ []
@@ -176,7 +165,7 @@ storage_heading task = codes "WORKING STORAGE " ∷ digits 16 6 task.stg ∷ cod
 
 unfoldable pub storage_page : Storage → Option Seen → List (List ℕ)
 storage_page storage None = blank_page
-storage_page storage (Some task) = fold (with_row storage task) (with_line blank_page 0 (storage_heading task)) rows
+storage_page storage (Some task) = fold (with_row storage task) (with_line blank_page 1 (storage_heading task)) rows
 
 -- the user's screen
 unfoldable pub user_page : RegionState → List ℕ → List (List ℕ)

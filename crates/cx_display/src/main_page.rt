@@ -1,9 +1,9 @@
 //! The main page of a display.
-ghost use Rattle.std.specs.Prelude.{◌≡◌, ◌∷◌, [], ◌+◌, ◌<◌, ◌≤◌, Some, codes};
+ghost use Rattle.std.specs.Prelude.{◌≡◌, ◌∷◌, [], ◌+◌, ◌≤◌, Some, codes, map};
 ghost use Rattle.std.specs.List.{AllByRecursion};
 ghost use Rattle.cx_text.specs.Texts.{shown};
-ghost use Rattle.cx_display.specs.Texts.{with_line};
-ghost use Rattle.cx_display.specs.Displays.{argument, arguments_at, arguments_put, blank_heading, command_text, eib_line, function_due, heading, main_page, name_of_function, outcome, registers, state_line, status_of, task_heading, with_registers, with_task};
+ghost use Rattle.cx_display.specs.Texts.{with_line, with_lines};
+ghost use Rattle.cx_display.specs.Displays.{argument, arguments, arguments_due, command_text, eib_line, function_due, heading, main_page, name_of_function, outcome, quarters, registers, state_line, status_of, task_heading, task_lines};
 
 use crate::rows::{character_group, hex_at, hex_group};
 use crate::seen::{Seen, halfword, word};
@@ -19,7 +19,6 @@ const KEYS: &[u8] =
     b"ENTER GO ON  PF3 END  PF4 SUPPRESS  PF5 STORAGE  PF6 USER  PF9 STOP  PF10 BACK";
 
 /// The main page: what is due or was done, and what the task has, where it is seen.
-#[tactic(auto, unfolding(crate::specs::Displays::main_page))]
 pub(crate) fn main_page<S: Store + Drop>(
     region: &Region<S>,
     name: Name4,
@@ -29,54 +28,33 @@ pub(crate) fn main_page<S: Store + Drop>(
     ensures { result ≡ main_page region.now.storage name kind.now task.now }
 {
     let mut page = Page::blank();
-    put_task(&mut page, region, name, kind, task);
-    page.put_line(1, &[b"STATUS ", status(kind)]);
+    put_heading(&mut page, name, task);
+    page.put_line(2, &[b"STATUS ", status(kind)]);
+    put_task(&mut page, region, kind, task);
     put_outcome(&mut page, kind);
-    page.put_line(23, &[KEYS]);
+    page.put_line(24, &[KEYS]);
     page
 }
 
-/// The lines that show a task; where there is none, the heading alone, without it.
-fn put_task<S: Store + Drop>(
-    page: &mut Page,
-    region: &Region<S>,
-    name: Name4,
-    kind: &Kind,
-    task: &Option<Seen>,
-)
-    ensures { page.new ≡ with_task region.now.storage name kind.now task.now page.old }
-{
-    match task {
-        None => put_blank_heading(page, name),
-        Some(task) => put_seen(page, region, name, kind, task),
-    }
-}
-
-/// Line 1 without a task.
-fn put_blank_heading(page: &mut Page, name: Name4)
-    ensures { page.new ≡ with_line page.old 0 (blank_heading name) }
+/// Line 1.
+fn put_heading(page: &mut Page, name: Name4, task: &Option<Seen>)
+    ensures { page.new ≡ with_line page.old 1 (task_heading name task.now) }
 {
     let terminal = shown_bytes(&name.bytes());
-    put_names(page, *b"    ", *b"        ", *b"       ", terminal);
-}
-
-/// Line 1.
-fn put_heading(page: &mut Page, name: Name4, task: &Seen)
-    ensures { page.new ≡ with_line page.old 0 (task_heading task.now name) }
-{
+    let Some(task) = task else {
+        return put_names(page, *b"    ", *b"        ", *b"       ", terminal);
+    };
     let tran = shown_bytes(&task.tran.bytes());
     let program = shown_bytes(&task.program.bytes());
-    let number = decimal::<7>(task.number);
-    let terminal = shown_bytes(&name.bytes());
-    put_names(page, tran, program, number, terminal);
+    put_names(page, tran, program, decimal::<7>(task.number), terminal);
 }
 
 /// Line 1 of these texts.
 fn put_names(page: &mut Page, tran: [u8; 4], program: [u8; 8], number: [u8; 7], terminal: [u8; 4])
-    ensures { page.new ≡ with_line page.old 0 (heading tran program number terminal) }
+    ensures { page.new ≡ with_line page.old 1 (heading tran program number terminal) }
 {
     page.put_line(
-        0,
+        1,
         &[
             b"TRANSACTION ",
             &tran,
@@ -90,18 +68,15 @@ fn put_names(page: &mut Page, tran: [u8; 4], program: [u8; 8], number: [u8; 7], 
     );
 }
 
-/// The lines that show a task.
-fn put_seen<S: Store + Drop>(
-    page: &mut Page,
-    region: &Region<S>,
-    name: Name4,
-    kind: &Kind,
-    task: &Seen,
-)
-    ensures { page.new ≡ with_task region.now.storage name kind.now (Some task.now) page.old }
+/// Lines 3 to 20, where there is a task.
+#[tactic(auto, using(crate::proofs::LineLemmas::lines_behind))]
+fn put_task<S: Store + Drop>(page: &mut Page, region: &Region<S>, kind: &Kind, task: &Option<Seen>)
+    ensures { page.new ≡ with_lines page.old (task_lines region.now.storage kind.now task.now) }
 {
-    put_heading(page, name, task);
-    page.put_line(2, &[b"COMMAND ", command(region, kind, task)]);
+    let Some(task) = task else {
+        return;
+    };
+    page.put_line(3, &[b"COMMAND ", command(region, kind, task)]);
     put_arguments_due(page, region, kind, task);
     put_registers(page, task);
     put_state(page, task);
@@ -162,7 +137,7 @@ const NUMBERS: [u32; 11] = [0, 1, 2, 3, 4, 5, 6, 7, 8, 9, 10];
 
 /// Lines 4 to 14, before a command.
 fn put_arguments_due<S: Store + Drop>(page: &mut Page, region: &Region<S>, kind: &Kind, task: &Seen)
-    ensures { page.new ≡ arguments_at region.now.storage task.now kind.now page.old }
+    ensures { page.new ≡ with_lines page.old (arguments_due region.now.storage task.now kind.now) }
 {
     match kind {
         Kind::Before => put_arguments(page, region, address_in(task.regs[1]), &NUMBERS),
@@ -173,10 +148,10 @@ fn put_arguments_due<S: Store + Drop>(page: &mut Page, region: &Region<S>, kind:
 }
 
 /// The arguments with these numbers, up to the last one of the list.
-#[tactic(auto, unfolding(crate::specs::Displays::arguments_put))]
+#[tactic(auto, unfolding(crate::specs::Displays::arguments))]
 fn put_arguments<S: Store + Drop>(page: &mut Page, region: &Region<S>, list: u32, numbers: &[u32])
     requires { AllByRecursion (λ k. k ≤ 10) numbers.now }
-    ensures { page.new ≡ arguments_put region.now.storage list numbers.now page.old }
+    ensures { page.new ≡ with_lines page.old (arguments region.now.storage list numbers.now) }
 {
     let Some((k, rest)) = numbers.split_first() else {
         return;
@@ -193,7 +168,7 @@ fn put_arguments<S: Store + Drop>(page: &mut Page, region: &Region<S>, list: u32
 /// An argument's line.
 fn put_argument<S: Store + Drop>(page: &mut Page, region: &Region<S>, k: u32, address: u32)
     requires { k ≤ 10 }
-    ensures { page.new ≡ with_line page.old (k + 3) (argument region.now.storage k address) }
+    ensures { page.new ≡ with_line page.old (k + 4) (argument region.now.storage k address) }
 {
     let number = decimal::<2>(k);
     let place = hexadecimal::<6>(address);
@@ -206,7 +181,7 @@ fn put_argument<S: Store + Drop>(page: &mut Page, region: &Region<S>, k: u32, ad
     let g = character_group(region, address, 16, 8);
     let h = character_group(region, address, 16, 12);
     page.put_line(
-        k as usize + 3,
+        k as usize + 4,
         &[
             b"ARG ", &number, b" ", &place, b"  ", &a, &b, &c, &d, b"  ", &e, &f, &g, &h,
         ],
@@ -215,39 +190,43 @@ fn put_argument<S: Store + Drop>(page: &mut Page, region: &Region<S>, k: u32, ad
 
 /// Lines 15 to 18.
 fn put_registers(page: &mut Page, task: &Seen)
-    ensures { page.new ≡ with_registers task.now page.old }
+    ensures { page.new ≡ with_lines page.old (map (registers task.now.regs) quarters) }
 {
-    put_four(page, 14, b"R00", &task.regs, 0);
-    put_four(page, 15, b"R04", &task.regs, 4);
-    put_four(page, 16, b"R08", &task.regs, 8);
-    put_four(page, 17, b"R12", &task.regs, 12);
+    put_four(page, &task.regs, 0);
+    put_four(page, &task.regs, 4);
+    put_four(page, &task.regs, 8);
+    put_four(page, &task.regs, 12);
 }
 
 /// Four registers on a line.
-fn put_four(page: &mut Page, line: usize, label: &[u8], regs: &[u32; 16], k: usize)
-    requires line { line < 24 }
-    requires four { k ≤ 12 }
-    ensures { page.new ≡ with_line page.old line (registers label.now regs.now k) }
+fn put_four(page: &mut Page, regs: &[u32; 16], k: u32)
+    requires { k ≤ 12 }
+    ensures { page.new ≡ with_lines page.old (registers regs.now k ∷ []) }
 {
-    let a = hexadecimal::<8>(regs[k]);
-    let b = hexadecimal::<8>(regs[k + 1]);
-    let c = hexadecimal::<8>(regs[k + 2]);
-    let d = hexadecimal::<8>(regs[k + 3]);
-    page.put_line(line, &[label, b" ", &a, b" ", &b, b" ", &c, b" ", &d]);
+    let first = k as usize;
+    let number = decimal::<2>(k);
+    let a = hexadecimal::<8>(regs[first]);
+    let b = hexadecimal::<8>(regs[first + 1]);
+    let c = hexadecimal::<8>(regs[first + 2]);
+    let d = hexadecimal::<8>(regs[first + 3]);
+    page.put_line(
+        15 + first / 4,
+        &[b"R", &number, b" ", &a, b" ", &b, b" ", &c, b" ", &d],
+    );
 }
 
 /// Line 19.
 fn put_state(page: &mut Page, task: &Seen)
-    ensures { page.new ≡ with_line page.old 18 (state_line task.now) }
+    ensures { page.new ≡ with_line page.old 19 (state_line task.now) }
 {
     let code = decimal::<1>(u32::from(task.cc));
     let next = hexadecimal::<6>(task.next);
-    page.put_line(18, &[b"CC ", &code, b"  NEXT ", &next]);
+    page.put_line(19, &[b"CC ", &code, b"  NEXT ", &next]);
 }
 
 /// Line 20.
 fn put_eib<S: Store + Drop>(page: &mut Page, region: &Region<S>, task: &Seen)
-    ensures { page.new ≡ with_line page.old 19 (eib_line region.now.storage task.now) }
+    ensures { page.new ≡ with_line page.old 20 (eib_line region.now.storage task.now) }
 {
     let function = along(task.eib, EibField::Fn.offset());
     let length = along(task.eib, EibField::Calen.offset());
@@ -258,7 +237,7 @@ fn put_eib<S: Store + Drop>(page: &mut Page, region: &Region<S>, task: &Seen)
     let e = hex_at(region, length, 2, 0);
     let f = hex_at(region, length, 2, 1);
     page.put_line(
-        19,
+        20,
         &[
             b"EIBFN ",
             &a,
@@ -276,23 +255,23 @@ fn put_eib<S: Store + Drop>(page: &mut Page, region: &Region<S>, task: &Seen)
 
 /// Line 21.
 fn put_outcome(page: &mut Page, kind: &Kind)
-    ensures { page.new ≡ with_line page.old 20 (outcome kind.now) }
+    ensures { page.new ≡ with_line page.old 21 (outcome kind.now) }
 {
     match kind {
-        Kind::Before => page.put_line(20, &[]),
+        Kind::Before => page.put_line(21, &[]),
         Kind::After(condition) => {
-            page.put_line(20, &[b"RESPONSE ", condition.name().as_bytes()]);
+            page.put_line(21, &[b"RESPONSE ", condition.name().as_bytes()]);
         }
         Kind::Exit(code) => put_abend(page, code),
-        Kind::Over(Ending::Ended) => page.put_line(20, &[]),
+        Kind::Over(Ending::Ended) => page.put_line(21, &[]),
         Kind::Over(Ending::Abended(code)) => put_abend(page, code),
     }
 }
 
 /// Line 21 at an abend.
 fn put_abend(page: &mut Page, code: &Name4)
-    ensures { page.new ≡ with_line page.old 20 (codes "ABEND " ∷ shown code.now ∷ []) }
+    ensures { page.new ≡ with_line page.old 21 (codes "ABEND " ∷ shown code.now ∷ []) }
 {
     let code = shown_bytes(&code.bytes());
-    page.put_line(20, &[b"ABEND ", &code]);
+    page.put_line(21, &[b"ABEND ", &code]);
 }

@@ -31,11 +31,11 @@ pub(crate) fn storage_page<S: Store + Drop>(region: &Region<S>, task: &Option<Se
 
 /// Line 1.
 fn put_heading(page: &mut Page, task: &Seen)
-    ensures { page.new ≡ with_line page.old 0 (storage_heading task.now) }
+    ensures { page.new ≡ with_line page.old 1 (storage_heading task.now) }
 {
     let place = hexadecimal::<6>(task.stg);
     let length = hexadecimal::<6>(task.stg_len);
-    page.put_line(0, &[b"WORKING STORAGE ", &place, b" LENGTH ", &length]);
+    page.put_line(1, &[b"WORKING STORAGE ", &place, b" LENGTH ", &length]);
 }
 
 /// Rows with these numbers.
@@ -71,7 +71,7 @@ fn put_row<S: Store + Drop>(page: &mut Page, region: &Region<S>, task: &Seen, ro
     let g = character_group(region, address, count, 8);
     let h = character_group(region, address, count, 12);
     page.put_line(
-        row as usize + 1,
+        row as usize + 2,
         &[
             &place, b"  ", &a, b" ", &b, b" ", &c, b" ", &d, b"  ", &e, &f, &g, &h,
         ],

@@ -17,9 +17,9 @@ use Rattle.cx_edf.specs.declared.answers.Answer.{Answer}
 use Rattle.cx_edf.specs.Sessions.{Sessions}
 use Rattle.cx_edf.specs.State.{EdfState, ends_by_key, holds, refuses, stopped_at}
 use Rattle.cx_edf.specs.Steps.{EdfHappens, Owned, Passed, Through}
-use Rattle.cx_edf.specs.Runs.{EdfRun, Trace, last_state}
+use Rattle.cx_edf.specs.Runs.{EdfRun, IsDoneEdf, Trace, last_state}
 use Rattle.cx_edf.specs.Laws.Edf.{EdfEventsDecide}
-use Rattle.cx_edf.specs.Laws.Memory.{EdfSoundIsKept, IsDoneEdf, RefusedEdfEventsAreNone, StoppedEdfRunsGoOn}
+use Rattle.cx_edf.specs.Laws.Memory.{EdfSoundIsKept, RefusedEdfEventsAreNone, StoppedEdfRunsGoOn}
 use Rattle.cx_edf.proofs.TraceLemmas.{run_of_trace}
 
 -- ---- soundness

@@ -1,6 +1,7 @@
 -- Runs under EDF (own).
-use Rattle.std.specs.Prelude.{◌≡◌, ℕ, ◌<◌, ◌⊎◌, ⊤, Bool, true, false, List, [], ◌∷◌, ◌++◌, Option, Some, None, IsSomeAnd, length, take, slice_get, if◌then◌else◌}
+use Rattle.std.specs.Prelude.{◌≡◌, ℕ, ◌<◌, ◌⊎◌, ⊤, Bool, true, false, List, [], ◌∷◌, ◌++◌, Option, Some, None, IsSomeAnd, length, take, slice_get, Result, IfOk, OnErr, if◌then◌else◌}
 use Rattle.std.specs.List.{AllByRecursion}
+use Rattle.std.specs.declared.alloc.AllocError.{AllocError}
 use Rattle.circular_buffer.specs.Buffer.{keep_last}
 use Rattle.cx_display.specs.declared.displays.Display.{Display}
 use Rattle.cx_display.specs.declared.stops.Kind.{Kind}
@@ -95,6 +96,12 @@ unfoldable pub MayTakeEdf : EdfState → EdfEvent → Type 0
 MayTakeEdf old (edf_event.On name) = reply_to_on old name ≡ edf.Started
 MayTakeEdf old (edf_event.Off name) = ⊥
 MayTakeEdf old (edf_event.Plain e) = (is_own old (edf_event.Plain e) ≡ false) × MayTakeMemory old.region e
+
+-- What the one door for events promises: it is answered; or it was refused memory that it may take, and all is as before.
+pub record IsDoneEdf (old : EdfState) (e : EdfEvent) (result : Result Answer AllocError) (new : EdfState) : Type 0 where
+  pub happens : IfOk result (λ given. EdfHappens old e given new)
+  pub memory : OnErr result (MayTakeEdf old e)
+  pub err : OnErr result (new ≡ old)
 
 -- A run that stopped after so many events, and left the state as these did: in front of all of them, or at an event that
 -- may take memory.

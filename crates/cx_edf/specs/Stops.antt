@@ -1,8 +1,9 @@
 -- Where a task stops under suppression (own).
-use Rattle.std.specs.Prelude.{ℕ, Bool, true, false, ◌||◌, ◌&&◌, ◌==◌, List, [], ◌∷◌, length, fold, codes, Option, Some, None, if◌then◌else◌}
+use Rattle.std.specs.Prelude.{ℕ, Bool, true, false, ◌||◌, ◌&&◌, ◌==◌, List, ◌∷◌, length, fold, codes, get_or, map, replicate, slice_set, Option, Some, None, if◌then◌else◌}
 use Rattle.std.specs.List.{find, list_all, slice_split, zip}
 use Rattle.std.specs.Option.{option_map}
 use Rattle.cx_ebcdic.specs.Characters.{shown_as}
+use Rattle.cx_command.specs.Conditions.{entry_of, handled, place_of}
 use Rattle.cx_command.specs.declared.conditions.Condition.{Condition}
 use Rattle.cx_command.specs.declared.conditions.Condition.TheVariants as condition
 use Rattle.cx_display.specs.declared.stops.Kind.{Kind}
@@ -16,19 +17,10 @@ use Rattle.cx_edf.specs.declared.stop_words.Stops.{Stops}
 abbrev pub stop_word_name : StopWord → List ℕ
 stop_word_name word.Abend = codes "ABEND"
 stop_word_name word.End = codes "END"
-stop_word_name word.Error = codes "ERROR"
-stop_word_name word.Invreq = codes "INVREQ"
-stop_word_name word.Nospace = codes "NOSPACE"
-stop_word_name word.Lengerr = codes "LENGERR"
-stop_word_name word.Itemerr = codes "ITEMERR"
-stop_word_name word.Pgmiderr = codes "PGMIDERR"
-stop_word_name word.Nostg = codes "NOSTG"
-stop_word_name word.Qiderr = codes "QIDERR"
-stop_word_name word.Enqbusy = codes "ENQBUSY"
+stop_word_name (word.Met condition) = (entry_of condition).name
 
 abbrev pub stop_words : List StopWord
-stop_words =
-    word.Abend ∷ word.End ∷ word.Error ∷ word.Invreq ∷ word.Nospace ∷ word.Lengerr ∷ word.Itemerr ∷ word.Pgmiderr ∷ word.Nostg ∷ word.Qiderr ∷ word.Enqbusy ∷ []
+stop_words = word.Abend ∷ word.End ∷ map word.Met handled
 
 -- bytes are shown as a text: they are as many, and each is shown as its character
 abbrev pub is_shown_as : List ℕ → List ℕ → Bool
@@ -40,8 +32,7 @@ stop_word_of bytes = find (λ w. is_shown_as (stop_word_name w) bytes) stop_word
 
 -- no stop condition, and those of a new session: ABEND alone
 abbrev pub no_stops : Stops
-no_stops =
-    record { abend = false; end = false; error = false; invreq = false; nospace = false; lengerr = false; itemerr = false; pgmiderr = false; nostg = false; qiderr = false; enqbusy = false }
+no_stops = record { abend = false; end = false; met = replicate 10 false }
 
 abbrev pub stops_at_first : Stops
 stops_at_first = record no_stops { abend = true }
@@ -50,34 +41,17 @@ stops_at_first = record no_stops { abend = true }
 abbrev pub with_stop : Stops → StopWord → Stops
 with_stop stops word.Abend = record stops { abend = true }
 with_stop stops word.End = record stops { end = true }
-with_stop stops word.Error = record stops { error = true }
-with_stop stops word.Invreq = record stops { invreq = true }
-with_stop stops word.Nospace = record stops { nospace = true }
-with_stop stops word.Lengerr = record stops { lengerr = true }
-with_stop stops word.Itemerr = record stops { itemerr = true }
-with_stop stops word.Pgmiderr = record stops { pgmiderr = true }
-with_stop stops word.Nostg = record stops { nostg = true }
-with_stop stops word.Qiderr = record stops { qiderr = true }
-with_stop stops word.Enqbusy = record stops { enqbusy = true }
+with_stop stops (word.Met condition) = record stops { met = slice_set stops.met (place_of condition) true }
 
 -- whether a condition is named
 abbrev pub names : Stops → Condition → Bool
-names stops condition.Normal = false
-names stops condition.Error = stops.error
-names stops condition.Invreq = stops.invreq
-names stops condition.Nospace = stops.nospace
-names stops condition.Lengerr = stops.lengerr
-names stops condition.Itemerr = stops.itemerr
-names stops condition.Pgmiderr = stops.pgmiderr
-names stops condition.Nostg = stops.nostg
-names stops condition.Qiderr = stops.qiderr
-names stops condition.Enqbusy = stops.enqbusy
+names stops condition = get_or stops.met (place_of condition) false
 
 -- What is taken under suppression: after NORMAL nothing, after another condition what is named, or all where ERROR is.
 unfoldable pub takes : Stops → Kind → Bool
 takes stops kind.Before = false
 takes stops (kind.After condition.Normal) = false
-takes stops (kind.After c) = stops.error || names stops c
+takes stops (kind.After c) = names stops condition.Error || names stops c
 takes stops (kind.Exit code) = stops.abend
 takes stops (kind.Over ending.Ended) = stops.end
 takes stops (kind.Over (ending.Abended code)) = stops.abend

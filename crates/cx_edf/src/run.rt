@@ -4,7 +4,7 @@ ghost use Rattle.cx_region.specs.Events.{IsAllowed};
 ghost use Rattle.cx_region.specs.Sound.{IsSound};
 ghost use Rattle.cx_edf.specs.Answers.{alter_answer, key_answer, turn_answer};
 ghost use Rattle.cx_edf.specs.Steps.{EdfHappens};
-ghost use Rattle.cx_edf.specs.Runs.{AreAllowedEdf, EdfRun, EdfRunStopped, IsAllowedEdf, MayTakeEdf};
+ghost use Rattle.cx_edf.specs.Runs.{AreAllowedEdf, EdfRun, EdfRunStopped, IsAllowedEdf, IsDoneEdf, MayTakeEdf};
 ghost use Rattle.cx_edf.specs.declared.answers.EdfEvent.TheVariants as edf_event;
 
 use crate::answers::{AlterAnswer, Answer, EdfEvent, KeyAnswer, TurnAnswer};
@@ -52,9 +52,7 @@ impl<S: Store + Drop> Debugged<S> {
     #[tactic(auto, unfolding(crate::specs::Steps::EdfHappens, crate::specs::Runs::MayTakeEdf, crate::specs::Erasure::is_own))]
     pub fn happen(&mut self, event: &EdfEvent) -> Result<Answer, AllocError>
         requires { IsAllowedEdf event.now }
-        ensures happens { IfOk result (λ given. EdfHappens self.old event.now given self.new) }
-        ensures memory { OnErr result (MayTakeEdf self.old event.now) }
-        ensures err { OnErr result (self.new ≡ self.old) }
+        ensures done { IsDoneEdf self.old event.now result self.new }
         ensures sound { IsSound self.new.region }
     {
         match event {

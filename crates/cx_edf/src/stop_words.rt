@@ -3,6 +3,7 @@ ghost use Rattle.std.specs.Prelude.{◌≡◌, ◌==◌, false, map};
 ghost use Rattle.std.specs.List.{find, list_all, zip};
 ghost use Rattle.std.specs.Str.{bytes_eq};
 ghost use Rattle.cx_ebcdic.specs.Characters.{shown_as};
+ghost use Rattle.cx_command.specs.Conditions.{entry_of};
 ghost use Rattle.cx_edf.specs.Stops.{is_shown_as, names, stop_word_name, stop_word_of, stops_at_first, stops_named, takes, with_part, with_stop};
 
 use cx_command::Condition;
@@ -12,35 +13,15 @@ use cx_text::shown_byte;
 /// A stop condition: what a task stops at under suppression.
 #[derive(Clone, Copy, Debug, PartialEq, Eq)]
 pub enum StopWord {
+    /// ABEND.
     Abend,
+    /// END.
     End,
-    Error,
-    Invreq,
-    Nospace,
-    Lengerr,
-    Itemerr,
-    Pgmiderr,
-    Nostg,
-    Qiderr,
-    Enqbusy,
+    /// A condition that a command meets, by its name.
+    Met(Condition),
 }
 
 impl StopWord {
-    /// All stop conditions.
-    const ALL: [StopWord; 11] = [
-        StopWord::Abend,
-        StopWord::End,
-        StopWord::Error,
-        StopWord::Invreq,
-        StopWord::Nospace,
-        StopWord::Lengerr,
-        StopWord::Itemerr,
-        StopWord::Pgmiderr,
-        StopWord::Nostg,
-        StopWord::Qiderr,
-        StopWord::Enqbusy,
-    ];
-
     /// The word as an operator enters it, as `PGMIDERR`.
     pub fn name(self) -> &'static str
         ensures { result.now ≡ stop_word_name self }
@@ -48,15 +29,7 @@ impl StopWord {
         match self {
             StopWord::Abend => "ABEND",
             StopWord::End => "END",
-            StopWord::Error => "ERROR",
-            StopWord::Invreq => "INVREQ",
-            StopWord::Nospace => "NOSPACE",
-            StopWord::Lengerr => "LENGERR",
-            StopWord::Itemerr => "ITEMERR",
-            StopWord::Pgmiderr => "PGMIDERR",
-            StopWord::Nostg => "NOSTG",
-            StopWord::Qiderr => "QIDERR",
-            StopWord::Enqbusy => "ENQBUSY",
+            StopWord::Met(condition) => condition.name(),
         }
     }
 }
@@ -66,31 +39,16 @@ impl StopWord {
 pub struct Stops {
     pub abend: bool,
     pub end: bool,
-    pub error: bool,
-    pub invreq: bool,
-    pub nospace: bool,
-    pub lengerr: bool,
-    pub itemerr: bool,
-    pub pgmiderr: bool,
-    pub nostg: bool,
-    pub qiderr: bool,
-    pub enqbusy: bool,
+    /// The conditions, each at its place (`Condition::place`).
+    pub met: [bool; 10],
 }
 
 impl Stops {
     /// None.
-    pub const NONE: Stops = Stops {
+    const NONE: Stops = Stops {
         abend: false,
         end: false,
-        error: false,
-        invreq: false,
-        nospace: false,
-        lengerr: false,
-        itemerr: false,
-        pgmiderr: false,
-        nostg: false,
-        qiderr: false,
-        enqbusy: false,
+        met: [false; 10],
     };
 
     /// Those that a session begins with: ABEND alone.
@@ -111,15 +69,7 @@ impl Stops {
         match word {
             StopWord::Abend => stops.abend = true,
             StopWord::End => stops.end = true,
-            StopWord::Error => stops.error = true,
-            StopWord::Invreq => stops.invreq = true,
-            StopWord::Nospace => stops.nospace = true,
-            StopWord::Lengerr => stops.lengerr = true,
-            StopWord::Itemerr => stops.itemerr = true,
-            StopWord::Pgmiderr => stops.pgmiderr = true,
-            StopWord::Nostg => stops.nostg = true,
-            StopWord::Qiderr => stops.qiderr = true,
-            StopWord::Enqbusy => stops.enqbusy = true,
+            StopWord::Met(condition) => stops.met[condition.place()] = true,
         }
         stops
     }
@@ -128,18 +78,7 @@ impl Stops {
     pub fn names(self, condition: Condition) -> bool
         ensures { result ≡ names self condition }
     {
-        match condition {
-            Condition::Normal => false,
-            Condition::Error => self.error,
-            Condition::Invreq => self.invreq,
-            Condition::Nospace => self.nospace,
-            Condition::Lengerr => self.lengerr,
-            Condition::Itemerr => self.itemerr,
-            Condition::Pgmiderr => self.pgmiderr,
-            Condition::Nostg => self.nostg,
-            Condition::Qiderr => self.qiderr,
-            Condition::Enqbusy => self.enqbusy,
-        }
+        self.met[condition.place()]
     }
 
     /// Whether a task stops there under suppression: after a condition that is named, or any but NORMAL where ERROR is;
@@ -151,7 +90,7 @@ impl Stops {
         match kind {
             Kind::Before => false,
             Kind::After(Condition::Normal) => false,
-            Kind::After(condition) => self.error || self.names(*condition),
+            Kind::After(condition) => self.names(Condition::Error) || self.names(*condition),
             Kind::Exit(_) => self.abend,
             Kind::Over(Ending::Abended(_)) => self.abend,
             Kind::Over(Ending::Ended) => self.end,
@@ -188,17 +127,24 @@ fn with_part(stops: Option<Stops>, part: &[u8]) -> Option<Stops>
 fn spelled(bytes: &[u8]) -> Option<StopWord>
     ensures { result ≡ stop_word_of bytes.now }
 {
-    shown_among(&StopWord::ALL, bytes)
+    if is_shown(bytes, b"ABEND") {
+        Some(StopWord::Abend)
+    } else if is_shown(bytes, b"END") {
+        Some(StopWord::End)
+    } else {
+        let condition = shown_among(Condition::handled(), bytes)?;
+        Some(StopWord::Met(condition))
+    }
 }
 
-/// The first of some stop conditions that bytes spell.
-fn shown_among(words: &[StopWord], bytes: &[u8]) -> Option<StopWord>
-    ensures { result ≡ find (λ word. is_shown_as (stop_word_name word) bytes.now) words.now }
+/// The first of some conditions whose name bytes spell.
+fn shown_among(conditions: &[Condition], bytes: &[u8]) -> Option<Condition>
+    ensures { result ≡ find (λ condition. is_shown_as (entry_of condition).name bytes.now) conditions.now }
 {
-    words
+    conditions
         .iter()
         .copied()
-        .find(|word| is_shown(bytes, word.name().as_bytes()))
+        .find(|condition| is_shown(bytes, condition.name().as_bytes()))
 }
 
 /// Whether bytes are shown as a text.

@@ -47,19 +47,6 @@ const OFTEN: [Command; 9] = [
     Command::Receive,
 ];
 
-/// The conditions that a program may handle.
-const HANDLED: [Condition; 9] = [
-    Condition::Error,
-    Condition::Invreq,
-    Condition::Nospace,
-    Condition::Lengerr,
-    Condition::Itemerr,
-    Condition::Pgmiderr,
-    Condition::Nostg,
-    Condition::Qiderr,
-    Condition::Enqbusy,
-];
-
 /// Where an argument of a mark may be.
 fn fields_of(mark: Mark) -> &'static [u16] {
     match mark {
@@ -118,7 +105,7 @@ fn push_listing(
     second: u8,
 ) -> Result<(), AllocError> {
     let [high, low] = command.function().to_be_bytes();
-    let condition = draws.pick(&HANDLED).unwrap_or(Condition::Error);
+    let condition = draws.pick(Condition::handled()).unwrap_or(Condition::Error);
     let has_label = command == Command::HandleCondition && draws.is_one_in(2);
     let label = if has_label { 0x80 } else { 0 };
     code.block(&[high, low, 1, second, condition.number(), label])?;

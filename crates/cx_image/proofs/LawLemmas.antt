@@ -7,8 +7,8 @@ use Rattle.std.proofs.lemmas.List.{get_or-take, get_or-drop, ext_get_or}
 use Rattle.cx_code.specs.declared.disassembly.Line.{Line}
 use Rattle.cx_code.specs.Lines.{lines, line_of}
 use Rattle.cx_image.specs.Assembled.{AssembledParts, IsAssembled}
-use Rattle.cx_image.specs.Laws.Cover.{covers, StandsIn, IsTextOf, as_data, is_code}
-use Rattle.cx_image.specs.Resolved.{bytes_of, size_of, end_of, AreApart}
+use Rattle.cx_image.specs.Laws.Cover.{covers, StandsIn, IsTextOf, as_data}
+use Rattle.cx_image.specs.Resolved.{bytes_of, size_of, end_of, AreApart, is_code}
 use Rattle.cx_image.specs.Spans.{span_of, spans_of}
 
 -- a line behind an offset

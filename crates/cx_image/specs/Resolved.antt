@@ -1,5 +1,5 @@
 -- Resolved lines: what stands at each place of the control section, in address order (this product's own).
-use Rattle.std.specs.Prelude.{ℕ, ◌+◌, ◌≤◌, List, [], ◌∷◌, length, replicate}
+use Rattle.std.specs.Prelude.{ℕ, ◌+◌, ◌≤◌, List, [], ◌∷◌, length, replicate, Bool, true, false}
 use Rattle.cx_code.specs.declared.disassembly.Line.{Line}
 use Rattle.cx_code.specs.declared.disassembly.What.{What}
 use Rattle.cx_code.specs.declared.disassembly.What.TheVariants.{Code, Data, Space}
@@ -34,3 +34,11 @@ end_behind from (line ∷ rest) = end_behind (end_of line) rest
 abbrev pub AreApart : ℕ → List Line → ℕ → Type 0
 AreApart from [] size = from ≤ size
 AreApart from (line ∷ rest) size = (from ≤ line.at) × AreApart (end_of line) rest size
+
+-- whether a line is an instruction
+abbrev pub is_code : Line → Bool
+is_code line = is_code_what line.what
+  where
+    is_code_what : What → Bool
+    is_code_what (Code i) = true
+    is_code_what _ = false

@@ -5,9 +5,9 @@ ghost use Rattle.std.specs.List.{list_any};
 ghost use Rattle.cx_code.specs.declared.disassembly.Line.{Line};
 ghost use Rattle.cx_code.specs.Lines.{lines};
 ghost use Rattle.cx_image.specs.Assembled.{AssembledParts, IsAssembled};
-ghost use Rattle.cx_image.specs.Laws.Cover.{AreWellFormed, IsTextOf, as_data, is_code};
+ghost use Rattle.cx_image.specs.Laws.Cover.{AreWellFormed, IsTextOf, as_data};
 ghost use Rattle.cx_image.specs.Relocated.{words_at};
-ghost use Rattle.cx_image.specs.Resolved.{AreApart, end_of};
+ghost use Rattle.cx_image.specs.Resolved.{AreApart, end_of, is_code};
 ghost use Rattle.cx_image.specs.Spans.{spans_of};
 ghost use Rattle.cx_image.specs.Text.{text_of};
 

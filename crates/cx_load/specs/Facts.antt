@@ -1,3 +1,2 @@
--- Lemmas about images that the crates above cite, and the cascade of tests that they speak of.
-pub mod Cascade
+-- Lemmas about images that the crates above cite.
 pub mod Faults

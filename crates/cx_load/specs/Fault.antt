@@ -1,5 +1,5 @@
 -- What makes an image fit to be loaded (this product's own).
-use Rattle.std.specs.Prelude.{◌≡◌, ℕ, ◌+◌, ◌<◌, ◌≤◌, IsTrue, Bool, true, false, ◌&&◌, ◌||◌, not, nat_le, nat_lt, List, [], ◌∷◌, length, codes}
+use Rattle.std.specs.Prelude.{◌≡◌, ℕ, ◌+◌, ◌<◌, ◌≤◌, IsTrue, Bool, true, false, ◌&&◌, ◌||◌, not, nat_le, nat_lt, List, [], ◌∷◌, length, codes, Option, Some, None, if◌then◌else◌}
 use Rattle.std.specs.List.{list_all}
 use Rattle.cx_code.specs.declared.image.Image.{Image}
 use Rattle.cx_load.specs.declared.fault.ImageFault.{ImageFault}
@@ -62,6 +62,15 @@ fault_number StgLength = 5
 pub record IsLowestFault (image : Image) (fault : ImageFault) : Type 0 where
   pub met : IsTrue (applies fault image)
   pub lowest : (other : ImageFault) → fault_number other < fault_number fault → applies other image ≡ false
+
+-- the first of the faults that applies, or none
+unfoldable pub fault_of : Image → Option ImageFault
+fault_of image =
+    if not (has_length image) then Some BadLength
+    else (if not (has_entry image) then Some EntryOutside
+    else (if not (are_inside (length image.text) image.relocs) then Some RelocOutside
+    else (if not (all_apart image.relocs) then Some Overlap
+    else (if not (has_stg_length image) then Some StgLength else None))))
 
 -- what holds of an image without a fault
 pub record IsFit (image : Image) : Type 0 where

@@ -1,8 +1,7 @@
 //! Checking an image.
 
 ghost use Rattle.std.specs.Prelude.{◌≡◌, MatchOption, MatchResult, Some};
-ghost use Rattle.cx_load.specs.Fault.{IsFit, IsLowestFault, all_apart, are_apart, are_inside, fault_name, is_apart};
-ghost use Rattle.cx_load.specs.Facts.Cascade.{fault_of};
+ghost use Rattle.cx_load.specs.Fault.{IsFit, IsLowestFault, all_apart, are_apart, are_inside, fault_name, is_apart, fault_of};
 ghost use Rattle.cx_load.specs.Laws.Words.{are_in_order};
 
 use cx_code::Image;
@@ -97,7 +96,7 @@ fn fault_of(image: &Image) -> Option<ImageFault>
 }
 
 /// The fault of the first test that fails.
-#[tactic(auto, unfolding(crate::specs::Facts::Cascade::fault_of, crate::specs::Fault::has_length, crate::specs::Fault::has_entry, crate::specs::Fault::has_stg_length))]
+#[tactic(auto, unfolding(crate::specs::Fault::fault_of, crate::specs::Fault::has_length, crate::specs::Fault::has_entry, crate::specs::Fault::has_stg_length))]
 fn first_fault(image: &Image) -> Option<ImageFault>
     ensures { result ≡ fault_of image.now }
 {

@@ -13,8 +13,9 @@ use Rattle.cx_storage.specs.Facts.Writes.{byte_after_set, byte_after_set_elsewhe
 use Rattle.cx_storage.specs.declared.areas.Area.{Area}
 use Rattle.cx_storage.specs.declared.areas.Owner.{Owner}
 use Rattle.cx_pages.specs.declared.page.Page.{Page}
-use Rattle.cx_pages.specs.Parts.Directory.{there, in_granules}
-use Rattle.cx_pages.specs.Parts.Shown.{spot, held_in, storage_of, IsAligned, IsShown}
+use Rattle.cx_pages.specs.Parts.Directory.{in_granules}
+use Rattle.cx_pages.specs.Pages.{there, held_in, storage_of}
+use Rattle.cx_pages.specs.Parts.Shown.{spot, IsAligned, IsShown}
 use Rattle.cx_pages.proofs.ShownLemmas.{shows_is, shows_as, areas_shown, shown_sound, shown_aligned, shown_byte}
 
 -- a byte set

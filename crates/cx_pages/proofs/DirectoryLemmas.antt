@@ -5,8 +5,9 @@ use Rattle.std.proofs.lemmas.Option.{slice_get_read}
 use Rattle.std.proofs.lemmas.Bool.{cases_Bool, cases_eq, eq-eqb, ne_eqb, le-ltb, lt-ltb, le-leb, lt-leb, cases_lt, and_from}
 use Rattle.cx_pages.specs.declared.page.Page.{Page}
 use Rattle.cx_pages.specs.Parts.Frame.{HasAll, Skips}
-use Rattle.cx_pages.specs.Parts.Page.{found, is_made}
-use Rattle.cx_pages.specs.Parts.Directory.{there, has_page}
+use Rattle.cx_pages.specs.Parts.Page.{is_made}
+use Rattle.cx_pages.specs.Pages.{found, there}
+use Rattle.cx_pages.specs.Parts.Directory.{has_page}
 
 get_set_same : (ps : List Page) (i : ℕ) (p : Page) → i < length ps → slice_get (slice_set ps i p) i ≡ Some p
 get_set_same [] i p h = absurd (omega arith)

@@ -2,7 +2,8 @@
 use Rattle.std.proofs.Common.{Option, Some, None, List, max, ◌≢◌, ◌≡◌, ℕ, zero, suc, ◌+◌, ◌-◌, ◌*◌, ◌/◌, ◌%◌, ◌<◌, ◌≤◌, min, true, false, refl, arith, inl, inr, replicate, length, slice_index, slice_get, is_some, lt-ltb, le-ltb}
 use Rattle.std.proofs.lemmas.Bool.{cases_lt}
 use Rattle.std.proofs.lemmas.Option.{slice_get-get_or}
-use Rattle.cx_pages.specs.Parts.Frame.{HasAll, seen, Skips}
+use Rattle.cx_pages.specs.Parts.Frame.{HasAll, Skips}
+use Rattle.cx_pages.specs.Pages.{seen}
 use Rattle.cx_pages.specs.Parts.Runs.{AllFree, IsRunsTo, IsRuns}
 use Rattle.cx_pages.specs.declared.frame.Frame.{Frame}
 

@@ -4,7 +4,8 @@ use Rattle.std.proofs.lemmas.Bool.{cases_lt, cases_eq, eq-eqb, ne_eqb, le-leb, l
 use Rattle.std.proofs.lemmas.List.{get_or-set_same, get_or-set_other}
 use Rattle.cx_pages.specs.declared.frame.Frame.{Frame}
 use Rattle.cx_pages.specs.declared.frame.Runs.{Runs}
-use Rattle.cx_pages.specs.Parts.Frame.{HasAll, seen}
+use Rattle.cx_pages.specs.Parts.Frame.{HasAll}
+use Rattle.cx_pages.specs.Pages.{seen}
 use Rattle.cx_pages.specs.Parts.Runs.{IsRunsTo}
 use Rattle.cx_pages.proofs.FrameLemmas.{has_all, runs_free, runs_taken}
 use Rattle.cx_pages.specs.Parts.Reach.{IsFlat, Reaches, ReachesAre}

@@ -11,8 +11,8 @@ use Rattle.cx_storage.specs.Facts.Sound.{IsSound-head, IsSound-tail, covers_case
 use Rattle.cx_storage.specs.declared.areas.Area.{Area}
 use Rattle.cx_pages.specs.declared.page.Page.{Page}
 use Rattle.cx_pages.specs.Parts.Frame.{Skips}
-use Rattle.cx_pages.specs.Parts.Directory.{there}
-use Rattle.cx_pages.specs.Parts.Shown.{storage_of, held_in, IsAligned, IsShown}
+use Rattle.cx_pages.specs.Pages.{there, storage_of, held_in}
+use Rattle.cx_pages.specs.Parts.Shown.{IsAligned, IsShown}
 use Rattle.cx_pages.proofs.ShownLemmas.{shown_sound, shown_aligned, shown_byte}
 
 -- a granule whose first byte is absent has none

@@ -5,8 +5,8 @@ use Rattle.cx_storage.specs.Storage.{Storage, end_of, byte_at, areas_of, IsSound
 use Rattle.cx_storage.specs.Facts.Sound.{sound_nil, IsSound-head, IsSound-tail, IsSound-apart, covers_cases, covers_from}
 use Rattle.cx_storage.specs.declared.areas.Area.{Area}
 use Rattle.cx_pages.specs.declared.page.Page.{Page}
-use Rattle.cx_pages.specs.Parts.Directory.{there}
-use Rattle.cx_pages.specs.Parts.Shown.{cells, held_in, storage_of, IsAligned, IsShown}
+use Rattle.cx_pages.specs.Pages.{there, cells, held_in, storage_of}
+use Rattle.cx_pages.specs.Parts.Shown.{IsAligned, IsShown}
 
 cells_are : (pages : List Page) (a : ℕ) (bytes : List ℕ) → ((k : ℕ) → k < length bytes → there pages (a + k) ≡ slice_get bytes k) → cells pages a (length bytes) ≡ bytes
 cells_are pages a [] each = refl

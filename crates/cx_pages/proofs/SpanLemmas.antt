@@ -14,8 +14,8 @@ use Rattle.cx_storage.specs.Facts.Writes.{written_whole, areas_after_write, byte
 use Rattle.cx_storage.specs.declared.areas.Area.{Area}
 use Rattle.cx_pages.specs.declared.page.Page.{Page}
 use Rattle.cx_pages.specs.Parts.Frame.{HasAll}
-use Rattle.cx_pages.specs.Parts.Directory.{there}
-use Rattle.cx_pages.specs.Parts.Shown.{storage_of, IsShown}
+use Rattle.cx_pages.specs.Pages.{there, storage_of}
+use Rattle.cx_pages.specs.Parts.Shown.{IsShown}
 use Rattle.cx_pages.proofs.ShownLemmas.{shows_is, shows_as, areas_shown, shown_sound, shown_aligned, shown_byte}
 
 -- bytes that are present one after the other are a span that is

@@ -7,7 +7,8 @@ use Rattle.cx_storage.specs.Storage.{Storage, area_at, IsSound}
 use Rattle.cx_storage.specs.Facts.Sound.{IsSound-head, IsSound-tail, IsSound-apart}
 use Rattle.cx_storage.specs.declared.areas.Area.{Area}
 use Rattle.cx_pages.specs.declared.page.Page.{Page}
-use Rattle.cx_pages.specs.Parts.Shown.{spot, storage_of, held_in, IsShown}
+use Rattle.cx_pages.specs.Parts.Shown.{spot, IsShown}
+use Rattle.cx_pages.specs.Pages.{storage_of, held_in}
 use Rattle.cx_pages.proofs.ShownLemmas.{shown_sound}
 
 -- the later areas start behind an area

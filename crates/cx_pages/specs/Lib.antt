@@ -1,3 +1,5 @@
+-- The definitions.
+pub mod Pages
 -- Words of private functions.
 pub mod Parts
 pub mod Facts

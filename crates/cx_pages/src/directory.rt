@@ -3,13 +3,14 @@
 ghost use Rattle.std.specs.Prelude.{◌≡◌, ◌≢◌, ℕ, ◌+◌, ◌-◌, ◌*◌, ◌/◌, ◌%◌, ◌<◌, ◌≤◌, ◌^◌, ◌==◌, ◌⊎◌, true, false, length, Some, None, is_some, nat_lt, slice_get, if◌then◌else◌, IsSome, IfSome, OnSome, OnOk};
 ghost use Rattle.std.specs.Option.{option_map};
 ghost use Rattle.cx_pages.specs.Parts.Frame.{HasAll, Skips};
-ghost use Rattle.cx_pages.specs.Parts.Directory.{there, has_page, in_granules};
+ghost use Rattle.cx_pages.specs.Parts.Directory.{has_page, in_granules};
+ghost use Rattle.cx_pages.specs.Pages.{there};
 
 use crate::page::Page;
 use std::alloc::{AllocError, Global};
 
 /// The byte at an address, where it is present.
-#[tactic(auto, unfolding(crate::specs::Parts::Directory::there))]
+#[tactic(auto, unfolding(crate::specs::Pages::there))]
 #[inline(always)]
 pub(crate) fn byte_in(pages: &Vec<Page>, a: u32) -> Option<u8>
     ensures { result ≡ there pages.now.items a }
@@ -21,7 +22,7 @@ pub(crate) fn byte_in(pages: &Vec<Page>, a: u32) -> Option<u8>
 }
 
 /// Writes a byte. False, and no change, where it isn't present.
-#[tactic(auto, unfolding(crate::specs::Parts::Directory::there))]
+#[tactic(auto, unfolding(crate::specs::Pages::there))]
 pub(crate) fn set_in(pages: &mut Vec<Page>, a: u32, value: u8) -> bool
     ensures present { result ≡ is_some (there pages.old.items a) }
     ensures after { (x : ℕ) → there pages.new.items x ≡ (if x == a then option_map (λ (_ : ℕ). value) (there pages.old.items a) else there pages.old.items x) }
@@ -36,7 +37,7 @@ pub(crate) fn set_in(pages: &mut Vec<Page>, a: u32, value: u8) -> bool
 }
 
 /// Makes the granule `g` zero, of which the first `count` bytes are present then, where its page is made.
-#[tactic(auto, unfolding(crate::specs::Parts::Directory::there, crate::specs::Parts::Directory::has_page))]
+#[tactic(auto, unfolding(crate::specs::Pages::there, crate::specs::Parts::Directory::has_page))]
 pub(crate) fn mark_in(pages: &mut Vec<Page>, g: usize, count: u8)
     ensures made { has_page pages.old.items (g / 256) ≡ true → (x : ℕ) → there pages.new.items x ≡ (if x / 16 == g then (if nat_lt (x % 16) count then Some 0 else None) else there pages.old.items x) }
     ensures gone { count ≡ 0 → (x : ℕ) → there pages.new.items x ≡ (if x / 16 == g then None else there pages.old.items x) }
@@ -50,7 +51,7 @@ pub(crate) fn mark_in(pages: &mut Vec<Page>, g: usize, count: u8)
 }
 
 /// Whether the bytes from `a` to before `end`, all of one page, are present.
-#[tactic(auto, unfolding(crate::specs::Parts::Directory::there))]
+#[tactic(auto, unfolding(crate::specs::Pages::there))]
 pub(crate) fn has_in(pages: &Vec<Page>, a: usize, end: usize) -> bool
     requires order { a < end }
     requires together { a % 4096 + (end - a) ≤ 4096 }

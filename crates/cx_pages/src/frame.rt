@@ -84,7 +84,8 @@ fn copy_bytes(bytes: &mut [u8], from: usize, source: &[u8])
 }
 
 impl Frame {
-    ghost use Rattle.cx_pages.specs.Parts.Frame.{HasAll, seen, Skips};
+    ghost use Rattle.cx_pages.specs.Parts.Frame.{HasAll, Skips};
+    ghost use Rattle.cx_pages.specs.Pages.{seen};
 
     /// A page without a byte that is present.
     pub(crate) fn new() -> Self
@@ -98,7 +99,7 @@ impl Frame {
     }
 
     /// The byte at the place `k`, where it is present.
-    #[tactic(auto, unfolding(crate::specs::Parts::Frame::seen))]
+    #[tactic(auto, unfolding(crate::specs::Pages::seen))]
     #[inline(always)]
     pub(crate) fn byte(&self, k: usize) -> Option<u8>
         requires { k < 4096 }
@@ -112,7 +113,7 @@ impl Frame {
     }
 
     /// Writes a byte at the place `k`. False, and no change, where it isn't present.
-    #[tactic(auto, unfolding(crate::specs::Parts::Frame::seen))]
+    #[tactic(auto, unfolding(crate::specs::Pages::seen))]
     pub(crate) fn set(&mut self, k: usize, value: u8) -> bool
         requires { k < 4096 }
         ensures present { result ≡ is_some (seen self.old k) }
@@ -127,7 +128,7 @@ impl Frame {
     }
 
     /// Makes the granule `g` zero, of which the first `count` bytes are present then.
-    #[tactic(auto, unfolding(crate::specs::Parts::Frame::seen))]
+    #[tactic(auto, unfolding(crate::specs::Pages::seen))]
     pub(crate) fn mark(&mut self, g: usize, count: u8)
         requires { g < 256 }
         ensures { (j : ℕ) → seen self.new j ≡ (if j / 16 == g then (if nat_lt (j % 16) count then Some 0 else None) else seen self.old j) }
@@ -141,7 +142,7 @@ impl Frame {
     }
 
     /// Whether the bytes from `from` to before `to` are present, granule by granule.
-    #[tactic(auto, using(crate::proofs::FrameLemmas::has_short, crate::proofs::FrameLemmas::has_last), unfolding(crate::specs::Parts::Frame::seen))]
+    #[tactic(auto, using(crate::proofs::FrameLemmas::has_short, crate::proofs::FrameLemmas::has_last), unfolding(crate::specs::Pages::seen))]
     #[inline(never)]
     fn has_each(&self, from: usize, to: usize) -> bool
         requires order { from < to }
@@ -203,7 +204,7 @@ impl Frame {
     }
 
     /// Writes bytes from the place `from` on. False, and no change, where one of the places isn't present.
-    #[tactic(auto, unfolding(crate::specs::Parts::Frame::seen))]
+    #[tactic(auto, unfolding(crate::specs::Pages::seen))]
     #[inline(always)]
     pub(crate) fn write(&mut self, from: usize, source: &[u8]) -> bool
         requires { from + length source.now ≤ 4096 }
@@ -221,7 +222,7 @@ impl Frame {
     }
 
     /// Looks for the runs of free granules, unless they are known.
-    #[tactic(auto, unfolding(crate::specs::Parts::Frame::seen))]
+    #[tactic(auto, unfolding(crate::specs::Pages::seen))]
     pub(crate) fn sum_up(&mut self)
         ensures { (k : ℕ) → seen self.new k ≡ seen self.old k }
     {

@@ -3,7 +3,8 @@
 ghost use Rattle.std.specs.Prelude.{◌≡◌, ℕ, ◌+◌, ◌-◌, ◌/◌, ◌%◌, ◌<◌, ◌≤◌, ◌==◌, ◌⊎◌, true, false, length, Some, None, is_some, nat_lt, slice_get, if◌then◌else◌, IsSome, IfSome, OnOk, OnErr};
 ghost use Rattle.std.specs.Option.{option_map};
 ghost use Rattle.cx_pages.specs.Parts.Frame.{HasAll, Skips};
-ghost use Rattle.cx_pages.specs.Parts.Page.{found, is_made};
+ghost use Rattle.cx_pages.specs.Parts.Page.{is_made};
+ghost use Rattle.cx_pages.specs.Pages.{found};
 
 use crate::frame::Frame;
 use std::alloc::{AllocError, Global};
@@ -16,7 +17,7 @@ pub struct Page {
 
 impl Page {
     /// A page that isn't made.
-    #[tactic(auto, unfolding(crate::specs::Parts::Page::found))]
+    #[tactic(auto, unfolding(crate::specs::Pages::found))]
     pub(crate) fn new() -> Self
         ensures { (k : ℕ) → found result k ≡ None }
     {
@@ -24,7 +25,7 @@ impl Page {
     }
 
     /// Makes the page where it isn't. It changes no byte.
-    #[tactic(auto, unfolding(crate::specs::Parts::Page::found))]
+    #[tactic(auto, unfolding(crate::specs::Pages::found))]
     pub(crate) fn make(&mut self, alloc: Global) -> Result<(), AllocError>
         ensures made { OnOk result (is_made self.new ≡ true) }
         ensures same { (k : ℕ) → found self.new k ≡ found self.old k }
@@ -36,7 +37,7 @@ impl Page {
     }
 
     /// The byte at the place `k`, where it is present.
-    #[tactic(auto, unfolding(crate::specs::Parts::Page::found))]
+    #[tactic(auto, unfolding(crate::specs::Pages::found))]
     #[inline(always)]
     pub(crate) fn byte(&self, k: usize) -> Option<u8>
         requires { k < 4096 }
@@ -49,7 +50,7 @@ impl Page {
     }
 
     /// Writes a byte at the place `k`. False, and no change, where it isn't present.
-    #[tactic(auto, unfolding(crate::specs::Parts::Page::found))]
+    #[tactic(auto, unfolding(crate::specs::Pages::found))]
     pub(crate) fn set(&mut self, k: usize, value: u8) -> bool
         requires { k < 4096 }
         ensures present { result ≡ is_some (found self.old k) }
@@ -62,7 +63,7 @@ impl Page {
     }
 
     /// Makes the granule `g` zero, of which the first `count` bytes are present then, where the page is made.
-    #[tactic(auto, unfolding(crate::specs::Parts::Page::found))]
+    #[tactic(auto, unfolding(crate::specs::Pages::found))]
     pub(crate) fn mark(&mut self, g: usize, count: u8)
         requires { g < 256 }
         ensures granule { is_made self.old ≡ true → (j : ℕ) → found self.new j ≡ (if j / 16 == g then (if nat_lt (j % 16) count then Some 0 else None) else found self.old j) }
@@ -75,7 +76,7 @@ impl Page {
     }
 
     /// Whether the bytes from `from` to before `to` are present.
-    #[tactic(auto, unfolding(crate::specs::Parts::Page::found))]
+    #[tactic(auto, unfolding(crate::specs::Pages::found))]
     pub(crate) fn has(&self, from: usize, to: usize) -> bool
         requires order { from < to }
         requires within { to ≤ 4096 }
@@ -89,7 +90,7 @@ impl Page {
     }
 
     /// The bytes from `from` to before `to`, where all of them are present.
-    #[tactic(auto, unfolding(crate::specs::Parts::Page::found))]
+    #[tactic(auto, unfolding(crate::specs::Pages::found))]
     #[inline(always)]
     pub(crate) fn part(&self, from: usize, to: usize) -> Option<&[u8]>
         requires order { from < to }
@@ -105,7 +106,7 @@ impl Page {
     }
 
     /// Writes bytes from the place `from` on. False, and no change, where one of the places isn't present.
-    #[tactic(auto, unfolding(crate::specs::Parts::Page::found))]
+    #[tactic(auto, unfolding(crate::specs::Pages::found))]
     #[inline(always)]
     pub(crate) fn write(&mut self, from: usize, source: &[u8]) -> bool
         requires { from + length source.now ≤ 4096 }
@@ -121,7 +122,7 @@ impl Page {
     }
 
     /// Looks for the runs of free granules.
-    #[tactic(auto, unfolding(crate::specs::Parts::Page::found))]
+    #[tactic(auto, unfolding(crate::specs::Pages::found))]
     pub(crate) fn sum_up(&mut self)
         ensures { (k : ℕ) → found self.new k ≡ found self.old k }
     {
@@ -131,7 +132,7 @@ impl Page {
     }
 
     /// How many free granules are at the end, where it is known that `need` of them in a row don't begin before.
-    #[tactic(auto, unfolding(crate::specs::Parts::Page::found))]
+    #[tactic(auto, unfolding(crate::specs::Pages::found))]
     pub(crate) fn tail(&self, need: usize) -> Option<usize>
         ensures { IfSome result (λ tail. Skips (found self.now) need tail) }
     {

@@ -2,7 +2,8 @@
 
 ghost use Rattle.std.specs.Prelude.{◌≡◌, []};
 ghost use Rattle.cx_pages.specs.Facts.Shown.{IsShown-prop, IsShown-sound};
-ghost use Rattle.cx_pages.specs.Parts.Shown.{storage_of, IsShown};
+ghost use Rattle.cx_pages.specs.Parts.Shown.{IsShown};
+ghost use Rattle.cx_pages.specs.Pages.{storage_of};
 
 use crate::page::Page;
 use crate::store::{

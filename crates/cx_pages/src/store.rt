@@ -3,7 +3,8 @@
 ghost use Rattle.std.specs.Prelude.{◌≡◌, ℕ, ◌+◌, ◌%◌, ◌^◌, ◌<◌, ◌≤◌, [], length, Ok, Some, None, is_some, unwrap_or, IfSome, IsSome, OnSome, IfOk, OnErr};
 ghost use Rattle.cx_storage.specs.Storage.{byte_at, span, with_byte, with_bytes, written, area_at, with_area, with_areas_kept, starts_elsewhere, is_of_other_slot, IsTogether};
 ghost use Rattle.cx_storage.specs.Place.{IsLeastPlace};
-ghost use Rattle.cx_pages.specs.Parts.Shown.{storage_of, IsShown};
+ghost use Rattle.cx_pages.specs.Parts.Shown.{IsShown};
+ghost use Rattle.cx_pages.specs.Pages.{storage_of};
 
 use crate::directory::{
     byte_in, clear_in, has_in, make_in, part_in, set_in, sum_in, tail_in, write_in, zero_in,

@@ -2,7 +2,8 @@
 
 ghost use Rattle.std.specs.Prelude.{◌≡◌, ℕ, ◌≤◌, length, nat_lt, vec_len};
 ghost use Rattle.cx_storage.specs.Storage.{area_at};
-ghost use Rattle.cx_pages.specs.Parts.Shown.{spot, storage_of, IsShown};
+ghost use Rattle.cx_pages.specs.Parts.Shown.{spot, IsShown};
+ghost use Rattle.cx_pages.specs.Pages.{storage_of};
 
 use crate::page::Page;
 use cx_storage::Area;

@@ -3,8 +3,7 @@ use Rattle.std.proofs.Common.{◌≡◌, ℕ, zero, suc, ◌+◌, List, [], ◌�
 use Rattle.std.specs.Prelude.{slice_get}
 use Rattle.std.proofs.lemmas.List.{map-append}
 use Rattle.std.proofs.lemmas.Option.{none-some, same_Some}
-use Rattle.cx_pools.specs.Parts.Texts.{by_text}
-use Rattle.cx_pools.specs.Pools.{Pooled}
+use Rattle.cx_pools.specs.Pools.{Pooled, by_text}
 use Rattle.cx_pools.specs.declared.open.Used.{Used}
 
 taken_more : (es : List (Bor (List ℕ) × Used)) (i : ℕ) (e : Bor (List ℕ) × Used) → Some e ≡ slice_get es i → take (suc i) (by_text es) ≡ take i (by_text es) ++ (e.0.now, e.1) ∷ []

@@ -8,7 +8,7 @@ use Rattle.std.proofs.lemmas.Cmp.{nat_list_eq_equiv}
 use Rattle.std.proofs.lemmas.List.{map-append}
 use Rattle.std.proofs.lemmas.Map.Keys.{IsDistinct-head, IsDistinct-tail}
 use Rattle.indexmap.specs.IndexMap.{insert_entry}
-use Rattle.cx_pools.specs.Parts.Texts.{by_text}
+use Rattle.cx_pools.specs.Pools.{by_text}
 use Rattle.cx_tables.specs.Facts.Tables.{insert_entry_absent}
 
 pub lookup_by_text : {V : Type 0} (test : List ℕ → Bool) (es : List (Bor (List ℕ) × V)) → lookup test (by_text es) ≡ lookup (λ k. test k.now) es

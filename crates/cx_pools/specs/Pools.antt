@@ -4,6 +4,7 @@ use Rattle.std.specs.List.{filter}
 use Rattle.std.specs.Map.{lookup}
 use Rattle.std.specs.Result.{result_err}
 use Rattle.std.specs.Str.{bytes_eq}
+use Rattle.std.specs.Borrow.{Bor}
 use Rattle.cx_terms.specs.Digits.{bound}
 use Rattle.cx_terms.specs.Faults.{lowest}
 use Rattle.cx_terms.specs.Items.{Constant, constant_in, size_of}
@@ -111,3 +112,7 @@ placed_from offset (e ∷ es) = (e.0, stands_at offset e.1) ∷ placed_from (cap
 -- the literals of a pool that begins at an offset
 abbrev pub placed : ℕ → Pooled → Placed
 placed offset pool = placed_from offset (grouped pool)
+
+-- a table by borrowed texts, as one by the texts themselves
+abbrev pub by_text : {V : Type 0} → List (Bor (List ℕ) × V) → List (List ℕ × V)
+by_text {V} es = map {B = List ℕ × V} (λ e. (e.0.now, e.1)) es

@@ -5,8 +5,7 @@ ghost use Rattle.std.specs.List.{IsDistinct};
 ghost use Rattle.std.specs.Map.{keys_of, lookup};
 ghost use Rattle.std.specs.Str.{bytes_eq};
 ghost use Rattle.cx_terms.specs.Digits.{bound};
-ghost use Rattle.cx_pools.specs.Parts.Texts.{by_text};
-ghost use Rattle.cx_pools.specs.Pools.{capped, group_of, grouped, of_group, placed, placed_from};
+ghost use Rattle.cx_pools.specs.Pools.{capped, group_of, grouped, of_group, placed, placed_from, by_text};
 
 use crate::open::{OpenPool, Used, capped};
 use crate::texts::push_literal;
@@ -30,8 +29,7 @@ pub struct Pool<'a> {
 }
 
 impl<'a> Model for Pool<'a> {
-    ghost use Rattle.cx_pools.specs.Parts.Texts.{by_text};
-    ghost use Rattle.cx_pools.specs.Pools.{Placed};
+    ghost use Rattle.cx_pools.specs.Pools.{Placed, by_text};
 
     ghost Value = { Placed };
 

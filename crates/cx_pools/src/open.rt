@@ -4,8 +4,7 @@ ghost use Rattle.std.specs.Prelude.{◌≡◌, ◌≤◌, ◌+◌, [], ◌∷◌
 ghost use Rattle.std.specs.List.{IsDistinct, list_any};
 ghost use Rattle.std.specs.Map.{keys_of, lookup};
 ghost use Rattle.std.specs.Str.{bytes_eq};
-ghost use Rattle.cx_pools.specs.Parts.Texts.{by_text};
-ghost use Rattle.cx_pools.specs.Pools.{UsesFirst, capped, is_new_in, is_pooled, literal_text, lowest_part, part_fault, pool_extent, pool_size, with_literal, with_part, with_parts};
+ghost use Rattle.cx_pools.specs.Pools.{UsesFirst, capped, is_new_in, is_pooled, literal_text, lowest_part, part_fault, pool_extent, pool_size, with_literal, with_part, with_parts, by_text};
 ghost use Rattle.cx_terms.specs.Digits.{bound};
 
 use crate::texts::push_used;
@@ -42,8 +41,8 @@ pub struct OpenPool<'a> {
 }
 
 impl<'a> Model for OpenPool<'a> {
-    ghost use Rattle.cx_pools.specs.Parts.Texts.{IsOpen, by_text};
-    ghost use Rattle.cx_pools.specs.Pools.{Pooled};
+    ghost use Rattle.cx_pools.specs.Parts.Texts.{IsOpen};
+    ghost use Rattle.cx_pools.specs.Pools.{Pooled, by_text};
 
     ghost Value = { Pooled };
 

@@ -3,7 +3,7 @@
 ghost use Rattle.std.specs.Prelude.{◌≡◌, ◌∷◌, ◌++◌, [], None, OnOk, OnErr};
 ghost use Rattle.std.specs.Map.{lookup};
 ghost use Rattle.std.specs.Str.{bytes_eq};
-ghost use Rattle.cx_pools.specs.Parts.Texts.{by_text};
+ghost use Rattle.cx_pools.specs.Pools.{by_text};
 
 use crate::closed::Literal;
 use crate::open::Used;

@@ -1,12 +1,14 @@
 -- Entries given to conditions, and the conditions that wait.
 use Rattle.std.specs.Prelude.{◌≡◌, ◌≢◌, not, is_some}
-use Rattle.std.proofs.Common.{refl}
+use Rattle.std.proofs.Common.{ℕ, zero, suc, ◌<◌, List, ◌∷◌, length, get_or, refl, sym, ◌∙◌, ap, subst, arith}
+use Rattle.std.proofs.lemmas.List.{ext_get_or, get_or-set_other, get_or-set_same}
 use Rattle.cx_ebcdic.specs.Characters.{code_of, table}
 use Rattle.cx_ebcdic.specs.Names.{is_name_character, name_code, name_of}
-use Rattle.cx_command.specs.Conditions.{abend_code_of}
+use Rattle.cx_command.specs.Conditions.{abend_code_of, handled, place_of}
 use Rattle.cx_command.specs.declared.conditions.Condition.{Condition}
 use Rattle.cx_command.specs.declared.conditions.Condition.TheVariants.{Normal, Error, Invreq, Nospace, Lengerr, Itemerr, Pgmiderr, Nostg, Qiderr, Enqbusy}
 use Rattle.cx_program.specs.declared.entries.Entry.{Entry}
+use Rattle.cx_program.specs.declared.entries.Entry.TheVariants.{NoEntry}
 use Rattle.cx_program.specs.declared.entries.Entries.{Entries}
 use Rattle.cx_program.specs.Entries.{entry_for, with_entry}
 use Rattle.cx_program.specs.Handles.{waits}
@@ -25,55 +27,64 @@ has_code_or_waits Nostg exceptional not_error = refl
 has_code_or_waits Qiderr exceptional not_error = refl
 has_code_or_waits Enqbusy exceptional not_error = refl
 
--- a condition other than NORMAL has the entry that it was given
-pub entry_for_same : (entries : Entries) (condition : Condition) (entry : Entry) → condition ≢ Normal → entry_for (with_entry entries condition entry) condition ≡ entry
+-- each condition stands at its place
+at_place : (condition : Condition) → get_or (Normal ∷ handled) (place_of condition) Normal ≡ condition
+at_place Normal = refl
+at_place Error = refl
+at_place Invreq = refl
+at_place Nospace = refl
+at_place Lengerr = refl
+at_place Itemerr = refl
+at_place Pgmiderr = refl
+at_place Nostg = refl
+at_place Qiderr = refl
+at_place Enqbusy = refl
+
+-- each place is that of the condition there
+place_at : (i : ℕ) → i < 10 → place_of (get_or (Normal ∷ handled) i Normal) ≡ i
+place_at zero less = refl
+place_at (suc zero) less = refl
+place_at (suc (suc zero)) less = refl
+place_at (suc (suc (suc zero))) less = refl
+place_at (suc (suc (suc (suc zero)))) less = refl
+place_at (suc (suc (suc (suc (suc zero))))) less = refl
+place_at (suc (suc (suc (suc (suc (suc zero)))))) less = refl
+place_at (suc (suc (suc (suc (suc (suc (suc zero))))))) less = refl
+place_at (suc (suc (suc (suc (suc (suc (suc (suc zero)))))))) less = refl
+place_at (suc (suc (suc (suc (suc (suc (suc (suc (suc zero))))))))) less = refl
+place_at (suc (suc (suc (suc (suc (suc (suc (suc (suc (suc i)))))))))) less = absurd (omega (arith, less))
+
+place_once : (a b : Condition) → place_of a ≡ place_of b → a ≡ b
+place_once a b same = sym (at_place a) ∙ ap (λ i. get_or (Normal ∷ handled) i Normal) same ∙ at_place b
+
+place_within : (condition : Condition) → place_of condition < 10
+place_within Normal = omega arith
+place_within Error = omega arith
+place_within Invreq = omega arith
+place_within Nospace = omega arith
+place_within Lengerr = omega arith
+place_within Itemerr = omega arith
+place_within Pgmiderr = omega arith
+place_within Nostg = omega arith
+place_within Qiderr = omega arith
+place_within Enqbusy = omega arith
+
+-- a condition has the entry that it was given
+pub entry_for_same : (entries : Entries) (condition : Condition) (entry : Entry) → length entries.of ≡ 10 → entry_for (with_entry entries condition entry) condition ≡ entry
 unfolding entry_for with_entry
-entry_for_same entries Normal entry exceptional = absurd (exceptional refl)
-entry_for_same entries Error entry exceptional = refl
-entry_for_same entries Invreq entry exceptional = refl
-entry_for_same entries Nospace entry exceptional = refl
-entry_for_same entries Lengerr entry exceptional = refl
-entry_for_same entries Itemerr entry exceptional = refl
-entry_for_same entries Pgmiderr entry exceptional = refl
-entry_for_same entries Nostg entry exceptional = refl
-entry_for_same entries Qiderr entry exceptional = refl
-entry_for_same entries Enqbusy entry exceptional = refl
+entry_for_same entries condition entry ten = get_or-set_same entries.of (place_of condition) entry NoEntry (omega (arith, place_within condition, ten))
 
 -- every other condition keeps its entry
 pub entry_for_other : (entries : Entries) (condition other : Condition) (entry : Entry) → other ≢ condition → entry_for (with_entry entries condition entry) other ≡ entry_for entries other
 unfolding entry_for with_entry
-entry_for_other entries Normal other entry apart = refl
-entry_for_other entries Error Error entry apart = absurd (apart refl)
-entry_for_other entries Error _ entry apart = refl
-entry_for_other entries Invreq Invreq entry apart = absurd (apart refl)
-entry_for_other entries Invreq _ entry apart = refl
-entry_for_other entries Nospace Nospace entry apart = absurd (apart refl)
-entry_for_other entries Nospace _ entry apart = refl
-entry_for_other entries Lengerr Lengerr entry apart = absurd (apart refl)
-entry_for_other entries Lengerr _ entry apart = refl
-entry_for_other entries Itemerr Itemerr entry apart = absurd (apart refl)
-entry_for_other entries Itemerr _ entry apart = refl
-entry_for_other entries Pgmiderr Pgmiderr entry apart = absurd (apart refl)
-entry_for_other entries Pgmiderr _ entry apart = refl
-entry_for_other entries Nostg Nostg entry apart = absurd (apart refl)
-entry_for_other entries Nostg _ entry apart = refl
-entry_for_other entries Qiderr Qiderr entry apart = absurd (apart refl)
-entry_for_other entries Qiderr _ entry apart = refl
-entry_for_other entries Enqbusy Enqbusy entry apart = absurd (apart refl)
-entry_for_other entries Enqbusy _ entry apart = refl
+entry_for_other entries condition other entry apart = get_or-set_other entries.of (place_of condition) (place_of other) entry NoEntry (λ same. apart (place_once other condition same))
 
 -- the entries are what they answer for each condition
-pub entries_same : (a b : Entries) → ((condition : Condition) → entry_for a condition ≡ entry_for b condition) → a ≡ b
+pub entries_same : (a b : Entries) → length a.of ≡ 10 → length b.of ≡ 10 → ((condition : Condition) → entry_for a condition ≡ entry_for b condition) → a ≡ b
 unfolding entry_for
-entries_same a b same =
-    λ i. record {
-      error = same Error i;
-      invreq = same Invreq i;
-      nospace = same Nospace i;
-      lengerr = same Lengerr i;
-      itemerr = same Itemerr i;
-      pgmiderr = same Pgmiderr i;
-      nostg = same Nostg i;
-      qiderr = same Qiderr i;
-      enqbusy = same Enqbusy i;
-    }
+entries_same a b a_ten b_ten same =
+    ap
+    (λ (of : List Entry). record { of = of })
+    (ext_get_or NoEntry a.of b.of (a_ten ∙ sym b_ten) (λ i less.
+    let here : place_of (get_or (Normal ∷ handled) i Normal) ≡ i = place_at i (omega (arith, less, a_ten)) in
+    subst (λ (k : ℕ). get_or a.of k NoEntry ≡ get_or b.of k NoEntry) here (same (get_or (Normal ∷ handled) i Normal))))

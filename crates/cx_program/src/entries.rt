@@ -64,66 +64,41 @@ impl Exit {
     }
 }
 
-/// The entry of each condition that a program can handle: all but NORMAL.
-#[derive(Clone, Copy, Debug, PartialEq, Eq, Default)]
+/// The entry of each condition, at the condition's place (`Condition::place`). NORMAL, which no command meets, takes up the first.
+#[derive(Clone, Copy, Debug, PartialEq, Eq)]
 pub struct Entries {
-    /// That of ERROR, which also serves each condition that has none and doesn't wait.
-    pub error: Entry,
-    /// INVREQ's entry.
-    pub invreq: Entry,
-    /// NOSPACE's entry.
-    pub nospace: Entry,
-    /// LENGERR's entry.
-    pub lengerr: Entry,
-    /// ITEMERR's entry.
-    pub itemerr: Entry,
-    /// PGMIDERR's entry.
-    pub pgmiderr: Entry,
-    /// NOSTG's entry.
-    pub nostg: Entry,
-    /// QIDERR's entry.
-    pub qiderr: Entry,
-    /// ENQBUSY's entry.
-    pub enqbusy: Entry,
+    /// The entries in the order of the conditions' numbers.
+    pub of: [Entry; 10],
+}
+
+impl Default for Entries {
+    ghost use Rattle.cx_program.specs.Entries.{no_entries};
+
+    ghost is_default = { λ entries. entries ≡ no_entries };
+
+    /// No entry for any condition.
+    fn default() -> Entries {
+        Entries {
+            of: [Entry::NoEntry; 10],
+        }
+    }
 }
 
 impl Entries {
-    /// A condition's entry. NORMAL has none.
+    /// A condition's entry.
     #[tactic(auto, unfolding(crate::specs::Entries::entry_for))]
     pub(crate) fn entry_for(&self, condition: Condition) -> Entry
         ensures { result ≡ entry_for self.now condition }
     {
-        match condition {
-            Condition::Normal => Entry::NoEntry,
-            Condition::Error => self.error,
-            Condition::Invreq => self.invreq,
-            Condition::Nospace => self.nospace,
-            Condition::Lengerr => self.lengerr,
-            Condition::Itemerr => self.itemerr,
-            Condition::Pgmiderr => self.pgmiderr,
-            Condition::Nostg => self.nostg,
-            Condition::Qiderr => self.qiderr,
-            Condition::Enqbusy => self.enqbusy,
-        }
+        self.of[condition.place()]
     }
 
-    /// Gives a condition another entry. NORMAL gets none.
+    /// Gives a condition another entry.
     #[tactic(auto, unfolding(crate::specs::Entries::with_entry))]
     pub(crate) fn put(&mut self, condition: Condition, entry: Entry)
         ensures { self.new ≡ with_entry self.old condition entry }
     {
-        match condition {
-            Condition::Normal => {}
-            Condition::Error => self.error = entry,
-            Condition::Invreq => self.invreq = entry,
-            Condition::Nospace => self.nospace = entry,
-            Condition::Lengerr => self.lengerr = entry,
-            Condition::Itemerr => self.itemerr = entry,
-            Condition::Pgmiderr => self.pgmiderr = entry,
-            Condition::Nostg => self.nostg = entry,
-            Condition::Qiderr => self.qiderr = entry,
-            Condition::Enqbusy => self.enqbusy = entry,
-        }
+        self.of[condition.place()] = entry;
     }
 }
 

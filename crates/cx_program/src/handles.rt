@@ -49,7 +49,6 @@ impl HandleTable {
     /// HANDLE CONDITION with a label: the instruction at that address takes control where a command meets
     /// the condition.
     pub fn set(&mut self, condition: Condition, label: u32)
-        requires { condition ≢ Condition.Normal }
         ensures { self.new ≡ put_entry self.old condition (Entry.Label label) }
     {
         self.active.entries.put(condition, Entry::Label(label));
@@ -57,7 +56,6 @@ impl HandleTable {
 
     /// IGNORE CONDITION: the program goes on after a command that meets the condition.
     pub fn ignore(&mut self, condition: Condition)
-        requires { condition ≢ Condition.Normal }
         ensures { self.new ≡ put_entry self.old condition Entry.Ignored }
     {
         self.active.entries.put(condition, Entry::Ignored);
@@ -65,7 +63,6 @@ impl HandleTable {
 
     /// HANDLE CONDITION without a label: the condition has no entry any more.
     pub fn default(&mut self, condition: Condition)
-        requires { condition ≢ Condition.Normal }
         ensures { self.new ≡ put_entry self.old condition Entry.NoEntry }
     {
         self.active.entries.put(condition, Entry::NoEntry);

@@ -1,16 +1,18 @@
 -- An event that was answered by want of memory may take some.
-use Rattle.std.proofs.Common.{◌≡◌, ℕ, Bool, true, false, cond, List, length, None, Some, Option, Result, Ok, Err, MatchOption, IsOkUnless, IsErrOf, OnErr, refl, ap}
+use Rattle.std.proofs.Common.{◌≡◌, ℕ, Bool, true, false, cond, List, length, None, Some, Option, Result, Ok, Err, MatchOption, IsOkUnless, IsErrOf, OnErr, refl, ap, subst}
 use Rattle.cx_code.specs.declared.image.Image.{Image}
 use Rattle.cx_ebcdic.specs.declared.aids.Aid.{Aid}
 use Rattle.cx_load.specs.Program.{IsProgramPlace}
 use Rattle.cx_load.specs.declared.program.Loaded.{Loaded}
+use Rattle.std.specs.declared.alloc.AllocError.{AllocError}
 use Rattle.cx_region.specs.State.{RegionState}
 use Rattle.cx_region.specs.Attach.{KeyGrows, input_from}
 use Rattle.cx_region.specs.Defining.{program_fault, transaction_fault, terminal_fault}
-use Rattle.cx_region.specs.Events.{MayTakeMemory}
+use Rattle.cx_region.specs.Events.{IsDone, MayTakeMemory}
 use Rattle.cx_region.specs.Turn.{TurnGrows}
 use Rattle.cx_region.specs.declared.replies.DefineFault.{DefineFault}
 use Rattle.cx_region.specs.declared.replies.DefineFault.TheVariants.{Duplicate, Full, Memory, NoProgram}
+use Rattle.cx_region.specs.declared.replies.Event.{Event}
 use Rattle.cx_region.specs.declared.replies.Event.TheVariants as event
 
 -- no refusal is want of memory
@@ -52,6 +54,10 @@ key_memory old name aid bytes h = h
 pub turn_memory : (old : RegionState) (name : List ℕ) → TurnGrows old name → MayTakeMemory old (event.Turn name)
 unfolding MayTakeMemory
 turn_memory old name h = h
+
+-- an event whose call was refused memory
+pub not_done : {A F : Type 0} (old new : RegionState) (e : Event) (r : Result A F) (fault : F) {refusal : AllocError} → r ≡ Err fault → MayTakeMemory old e → OnErr r (new ≡ old) → IsDone old e (Err refusal) new
+not_done old new e r fault is due same = record { happens = tt; memory = due; err = subst (λ x. OnErr x (new ≡ old)) is same }
 
 -- what holds anyway holds of an error
 pub on_err : {A E : Type 0} (r : Result A E) (P : Type 0) → P → OnErr r P

@@ -1,6 +1,7 @@
 -- Events of a region, and runs of them (this product's own).
-use Rattle.std.specs.Prelude.{◌≡◌, ℕ, ◌<◌, ◌≤◌, ◌⊎◌, None, IsSomeAnd, List, [], ◌∷◌, length, take, slice_get}
+use Rattle.std.specs.Prelude.{◌≡◌, ℕ, ◌<◌, ◌≤◌, ◌⊎◌, None, IsSomeAnd, List, [], ◌∷◌, length, take, slice_get, Result, IfOk, OnErr}
 use Rattle.std.specs.List.{AllByRecursion}
+use Rattle.std.specs.declared.alloc.AllocError.{AllocError}
 use Rattle.cx_region.specs.declared.replies.Event.{Event}
 use Rattle.cx_region.specs.declared.replies.Event.TheVariants as event
 use Rattle.cx_region.specs.declared.replies.Reply.{Reply}
@@ -39,6 +40,12 @@ MayTakeMemory region (event.Clock time date) = ⊥
 MayTakeMemory region (event.Key name aid bytes) = KeyGrows region name (input_from aid bytes).bytes
 MayTakeMemory region (event.Turn name) = TurnGrows region name
 MayTakeMemory region (event.Alter name change) = ⊥
+
+-- What the one door for events promises: it is answered; or it was refused memory that it may take, and all is as before.
+pub record IsDone (old : RegionState) (event : Event) (result : Result Reply AllocError) (new : RegionState) : Type 0 where
+  pub happens : IfOk result (λ reply. Happens old event reply new)
+  pub memory : OnErr result (MayTakeMemory old event)
+  pub err : OnErr result (new ≡ old)
 
 -- A run that stopped after so many events, and left the region as these did: in front of all of them, or at an event
 -- that may take memory.

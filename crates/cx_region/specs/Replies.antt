@@ -6,6 +6,8 @@ use Rattle.cx_region.specs.declared.replies.DefineFault.{DefineFault}
 use Rattle.cx_region.specs.declared.replies.DefineFault.TheVariants as define
 use Rattle.cx_region.specs.declared.replies.KeyReply.{KeyReply}
 use Rattle.cx_region.specs.declared.replies.KeyReply.TheVariants as key
+use Rattle.cx_load.specs.declared.program.LoadFault.{LoadFault}
+use Rattle.cx_load.specs.declared.program.LoadFault.TheVariants as load
 
 abbrev pub define_fault_name : DefineFault → List ℕ
 define_fault_name define.Duplicate = codes "Duplicate"
@@ -28,3 +30,8 @@ alter_reply_name alter.NoSuchTerminal = codes "NoSuchTerminal"
 alter_reply_name alter.NoTask = codes "NoTask"
 alter_reply_name alter.NotDue = codes "NotDue"
 alter_reply_name alter.NoByte = codes "NoByte"
+
+-- a program's refused load, as a refused definition
+abbrev pub fault_from : LoadFault → DefineFault
+fault_from load.NoRoom = define.NoRoom
+fault_from load.Memory = define.Memory

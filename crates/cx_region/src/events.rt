@@ -1,6 +1,6 @@
 //! Events, and runs of them.
-ghost use Rattle.std.specs.Prelude.{◌≡◌, ◌≤◌, IfOk, IfErr, OnErr, length};
-ghost use Rattle.cx_region.specs.Events.{AreAllowed, Happens, IsAllowed, MayTakeMemory, Run, RunStopped};
+ghost use Rattle.std.specs.Prelude.{◌≡◌, ◌≤◌, IfOk, IfErr, length};
+ghost use Rattle.cx_region.specs.Events.{AreAllowed, IsAllowed, IsDone, Run, RunStopped};
 ghost use Rattle.cx_region.specs.Sound.{IsSound};
 
 use crate::replies::{DefineFault, Event, Reply, RunStop};
@@ -17,9 +17,7 @@ impl<S: Store + Drop> Region<S> {
     #[tactic(auto, using(crate::proofs::EventLemmas::program_memory, crate::proofs::EventLemmas::transaction_memory, crate::proofs::EventLemmas::terminal_memory, crate::proofs::EventLemmas::key_memory, crate::proofs::EventLemmas::turn_memory), unfolding(crate::specs::Events::Happens, crate::specs::Defining::DefinesTransaction, crate::specs::Defining::DefinesTerminal))]
     pub fn happen(&mut self, event: &Event) -> Result<Reply, AllocError>
         requires { IsAllowed event.now }
-        ensures happens { IfOk result (λ reply. Happens self.old event.now reply self.new) }
-        ensures memory { OnErr result (MayTakeMemory self.old event.now) }
-        ensures err { OnErr result (self.new ≡ self.old) }
+        ensures done { IsDone self.old event.now result self.new }
         ensures sound { IsSound self.new }
     {
         match event {

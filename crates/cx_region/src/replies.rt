@@ -68,7 +68,7 @@ impl<T: Drop> From<AllocFailed<T>> for DefineFault {
 }
 
 impl From<LoadFault> for DefineFault {
-    ghost use Rattle.cx_region.specs.Parts.Loading.{fault_from};
+    ghost use Rattle.cx_region.specs.Replies.{fault_from};
 
     ghost from_gives = { λ load_fault fault. fault ≡ fault_from load_fault };
 

@@ -6,8 +6,8 @@ use Rattle.std.specs.declared.alloc.AllocError.{AllocError}
 use Rattle.cx_region.specs.declared.replies.Event.{Event}
 use Rattle.cx_region.specs.declared.replies.Reply.{Reply}
 use Rattle.cx_region.specs.State.{RegionState}
-use Rattle.cx_region.specs.Events.{Happens, Run}
-use Rattle.cx_region_laws.specs.Laws.Memory.{IsDone, RefusedEventsAreNone, StoppedRunsGoOn}
+use Rattle.cx_region.specs.Events.{Happens, IsDone, Run}
+use Rattle.cx_region_laws.specs.Laws.Memory.{RefusedEventsAreNone, StoppedRunsGoOn}
 use Rattle.cx_region_laws.specs.Laws.Regions.{EventsDecide}
 use Rattle.cx_region_laws.proofs.RunLawLemmas.{runs_join}
 

@@ -1,7 +1,7 @@
 -- An action has one outcome, and a run of a script is one of its events.
 use Rattle.std.proofs.Common.{◌≡◌, ℕ, List, [], ◌∷◌, ◌++◌, None, Some, Option, refl, sym, ap, ◌∙◌, subst}
 use Rattle.cx_code.specs.declared.image.Image.{Image}
-use Rattle.cx_load.specs.Facts.Cascade.{fault_of}
+use Rattle.cx_load.specs.Fault.{fault_of}
 use Rattle.cx_load.specs.Facts.Faults.{answered_of_lowest, no_fault_of_fit}
 use Rattle.cx_load.specs.declared.fault.ImageFault.{ImageFault}
 use Rattle.cx_edf.specs.declared.answers.Answer.{Answer}

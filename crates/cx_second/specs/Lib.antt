@@ -2,5 +2,3 @@
 pub mod Statements
 pub mod Whole
 pub mod SecondFaults
--- Words of private functions.
-pub mod Parts

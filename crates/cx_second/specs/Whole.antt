@@ -1,11 +1,12 @@
 -- What the whole source tells, and what a statement's operand is read by (GC33-4010, "Symbols", "Location Counter Reference", "Literals").
-use Rattle.std.specs.Prelude.{ℕ, Bool, false, Option, Some, None, option_and_then, unwrap_or, Result, Ok, Err, List, [], slice_get}
+use Rattle.std.specs.Prelude.{ℕ, Bool, false, Option, Some, None, option_and_then, unwrap_or, Result, Ok, Err, List, [], slice_get, option_map}
 use Rattle.std.specs.Map.{lookup}
 use Rattle.std.specs.Str.{bytes_eq}
 use Rattle.cx_terms.specs.Items.{Constant, constant_in, length_of}
 use Rattle.cx_terms.specs.Bytes.{Made}
 use Rattle.cx_terms.specs.declared.values.Value.{Value}
 use Rattle.cx_terms.specs.declared.faults.FaultKind.{FaultKind}
+use Rattle.cx_terms.specs.Symbols.{find_in}
 use Rattle.cx_pools.specs.Pools.{Placed, literal_text}
 use Rattle.cx_pools.specs.declared.closed.Literal.{Literal}
 use Rattle.cx_places.specs.Given.{location_counter}
@@ -13,6 +14,7 @@ use Rattle.cx_places.specs.Known.{Known, role_in}
 use Rattle.cx_places.specs.Placed.{all_pools, known_of}
 use Rattle.cx_places.specs.declared.roles.Role.{Role}
 use Rattle.cx_places.specs.declared.roles.Role.TheVariants.{Instruction}
+use Rattle.cx_places.specs.declared.places.Places.{Places}
 use Rattle.cx_source.specs.declared.source.Source.{Source}
 use Rattle.cx_operands.specs.Bases.{Bases}
 use Rattle.cx_operands.specs.Context.{Context, context}
@@ -74,3 +76,7 @@ directive_context told bases s = context told.find (counter_of s) bases None
 -- one copy of an item of a DS, or of a DC or a literal, which the location counter stands at
 abbrev pub item_made : Whole → Bool → Option Value → List ℕ → Result Made FaultKind
 item_made told is_ds at text = item_in is_ds told.find at told.control text
+
+-- what the places of a first pass tell
+abbrev pub told_by : Places → Whole
+told_by places = whole (find_in places.symbols) places.pools (option_map (λ control. control.name) places.control)

@@ -7,9 +7,8 @@ ghost use Rattle.cx_terms.specs.Faults.{lower, lowest};
 ghost use Rattle.cx_operands.specs.Directives.{entry_in};
 ghost use Rattle.cx_operands.specs.Bases.{none_in_use};
 ghost use Rattle.cx_operands.specs.Forms.{resolved};
-ghost use Rattle.cx_second.specs.Parts.Telling.{told_by};
 ghost use Rattle.cx_second.specs.SecondFaults.{directive_fault, instruction_fault, item_fault, items_fault, literals_fault, operand_fault, part_fault, text_fault};
-ghost use Rattle.cx_second.specs.Whole.{directive_context, instruction_context, item_made};
+ghost use Rattle.cx_second.specs.Whole.{directive_context, instruction_context, item_made, told_by};
 
 use crate::statements::{Statement, StatementItem, placed_items};
 use crate::whole::{control_name, counter_of, item_made, literal_of, pool_of};

@@ -3,7 +3,7 @@
 ghost use Rattle.std.specs.Prelude.{◌≡◌, IfOk, IsOk, OnOk, false, reverse};
 ghost use Rattle.std.specs.Option.{option_map_or};
 ghost use Rattle.cx_operands.specs.Directives.{changes_bases};
-ghost use Rattle.cx_second.specs.Parts.Telling.{told_by};
+ghost use Rattle.cx_second.specs.Whole.{told_by};
 ghost use Rattle.cx_second.specs.SecondFaults.{bases_after, judged_after, bases_by, judged_behind, using_fault};
 ghost use Rattle.cx_second.specs.Statements.{operation_of};
 

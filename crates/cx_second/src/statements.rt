@@ -1,6 +1,6 @@
 //! The statements of a source, each with its line and its place.
 
-ghost use Rattle.std.specs.Prelude.{◌≡◌, IfOk, map, option_map, slice_get};
+ghost use Rattle.std.specs.Prelude.{◌≡◌, IfOk, IsOk, length, map, option_map, slice_get};
 ghost use Rattle.std.specs.List.{filter_map, find, zip};
 ghost use Rattle.cx_places.specs.Known.{parts_in, role_in};
 ghost use Rattle.cx_places.specs.Placed.{known_of};
@@ -182,12 +182,19 @@ fn items_with<'a>(
 }
 
 /// The items of a DS or DC, each with its offset.
+///
+/// Memory comes only where a growth was refused; where no item has a place it takes none.
+#[tactic(auto, using(crate::proofs::ItemLemmas::zip_of_none))]
 pub fn placed_items<'a>(
     alloc: Global,
     statement: &Statement<'a>,
 ) -> Result<Vec<StatementItem<'a>>, AllocError>
-    ensures { IfOk result (λ found. found.items ≡ placed_items statement.now) }
+    ensures items { IfOk result (λ found. found.items ≡ placed_items statement.now) }
+    ensures empty { length statement.now.place.items ≡ 0 → IsOk result }
 {
+    if statement.place.items.as_slice().is_empty() {
+        return Ok(Vec::new(alloc));
+    }
     let texts = cut(alloc, statement.stmt.operand.as_slice(), Mark::TopComma)?;
     items_with(alloc, texts.as_slice(), statement.place.items.as_slice())
 }

@@ -4,8 +4,7 @@ ghost use Rattle.std.specs.Prelude.{◌≡◌, IfOk, [], false, option_map, unwr
 ghost use Rattle.std.specs.Option.{option_copied};
 ghost use Rattle.cx_terms.specs.Expressions.{Answers};
 ghost use Rattle.cx_terms.specs.Items.{constant_in};
-ghost use Rattle.cx_second.specs.Parts.Telling.{told_by};
-ghost use Rattle.cx_second.specs.Whole.{counter_of, item_made, length_once, literal_of, literal_place, own_length, pool_of};
+ghost use Rattle.cx_second.specs.Whole.{counter_of, item_made, length_once, literal_of, literal_place, own_length, pool_of, told_by};
 
 use crate::statements::Statement;
 use cx_ebcdic::Name8;

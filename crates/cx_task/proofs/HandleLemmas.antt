@@ -1,21 +1,9 @@
 -- The entries that a program asks for in turn.
 use Rattle.std.proofs.Common.{◌≡◌, ℕ, zero, suc, ◌+◌, ◌≤◌, List, [], ◌∷◌, length, drop, refl, arith, slice_get, Some}
-use Rattle.cx_command.specs.declared.conditions.Condition.{Condition}
-use Rattle.cx_command.specs.declared.conditions.Condition.TheVariants.{Normal}
-use Rattle.cx_program.specs.declared.entries.Entry.{Entry}
 use Rattle.cx_program.specs.declared.entries.Entry.TheVariants.{Ignored}
-use Rattle.cx_program.specs.Entries.{with_entry}
 use Rattle.cx_program.specs.Handles.{Handles, put_entry}
 use Rattle.cx_call.specs.declared.listed.Listed.{Listed}
 use Rattle.cx_task.specs.Changes.{entry_asked, with_ignored, with_labels}
-
--- NORMAL has no entry
-normal_alone : (handles : Handles) (entry : Entry) → put_entry handles Normal entry ≡ handles
-unfolding with_entry
-normal_alone handles entry = refl
-
-pub put_normal : (handles : Handles) (condition : Condition) (entry : Entry) → condition ≡ Normal → handles ≡ put_entry handles condition entry
-put_normal handles condition entry is = rw (is, normal_alone handles entry) refl
 
 labels_suc : (handles : Handles) (all : List Listed) (k : ℕ) (listed : Listed) → slice_get all k ≡ Some listed
     → with_labels (drop (suc k) all) (put_entry handles listed.condition (entry_asked listed.label)) ≡ with_labels (drop k all) handles

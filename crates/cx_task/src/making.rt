@@ -14,7 +14,6 @@ ghost use Rattle.cx_task.specs.Parts.Making.{MatchItem, MatchPush, copied_len};
 
 use crate::areas::{MOST_BYTES, get_both, get_filled, get_stg, got_owner, put_cap};
 use cx_call::{Listed, Piece};
-use cx_command::Condition;
 use cx_ebcdic::Name8;
 use cx_program::HandleTable;
 use cx_service::{Enqueues, Queues, ResourceName, Screen};
@@ -92,13 +91,9 @@ fn show<S: Store>(store: &S, screen: &mut Screen, piece: Piece, erase: bool)
 }
 
 /// HANDLE CONDITION of one condition.
-#[tactic(auto, using(crate::proofs::HandleLemmas::put_normal))]
 fn handle_one(table: &mut HandleTable, listed: Listed)
     ensures { table.new ≡ put_entry table.old listed.condition (entry_asked listed.label) }
 {
-    if listed.condition == Condition::Normal {
-        return;
-    }
     match listed.label {
         Some(label) => table.set(listed.condition, label),
         None => table.default(listed.condition),
@@ -115,24 +110,13 @@ fn handle_all(table: &mut HandleTable, conditions: &[Listed])
     }
 }
 
-/// IGNORE CONDITION of one condition.
-#[tactic(auto, using(crate::proofs::HandleLemmas::put_normal))]
-fn ignore_one(table: &mut HandleTable, listed: Listed)
-    ensures { table.new ≡ put_entry table.old listed.condition Entry.Ignored }
-{
-    if listed.condition == Condition::Normal {
-        return;
-    }
-    table.ignore(listed.condition);
-}
-
 /// IGNORE CONDITION.
 #[tactic(auto, using(crate::proofs::HandleLemmas::ignored_step, crate::proofs::HandleLemmas::ignored_end))]
 fn ignore_all(table: &mut HandleTable, conditions: &[Listed])
     ensures { table.new ≡ with_ignored conditions.now table.old }
 {
     for listed in conditions {
-        ignore_one(table, *listed);
+        table.ignore(listed.condition);
     }
 }
 

@@ -1,6 +1,6 @@
 //! Pages of 24 lines of 80 characters.
 
-ghost use Rattle.std.specs.Prelude.{◌≡◌, ◌≤◌, ◌<◌, ◌++◌, IfOk, OnOk, List, length, map, slice_set};
+ghost use Rattle.std.specs.Prelude.{◌≡◌, ◌≤◌, ◌-◌, ◌++◌, IfOk, OnOk, List, length, map, slice_set};
 ghost use Rattle.cx_text.specs.Pages.{IsPage, blank_page, lines_from, numbered, page_text};
 ghost use Rattle.cx_text.specs.Texts.{in_columns, joined, shown, trimmed};
 
@@ -63,13 +63,14 @@ impl Page {
         &self.lines
     }
 
-    /// Puts pieces, one behind the other, in place of a line, counted from 0: what is beyond the line is cut, and blanks fill
+    /// Puts pieces, one behind the other, in place of a line, counted from 1: what is beyond the line is cut, and blanks fill
     /// it. It takes no memory.
     pub fn put_line(&mut self, line: usize, pieces: &[&[u8]])
-        requires { line < 24 }
-        ensures { self.new ≡ slice_set self.old line (in_columns 80 (joined (map (λ piece. piece.now) pieces.now))) }
+        requires from { 1 ≤ line }
+        requires to { line ≤ 24 }
+        ensures { self.new ≡ slice_set self.old (line - 1) (in_columns 80 (joined (map (λ piece. piece.now) pieces.now))) }
     {
-        self.lines[line] = in_columns(pieces);
+        self.lines[line - 1] = in_columns(pieces);
     }
 
     /// The lines that are not wholly blank, each with its number, without the blanks at its end, and with LF.

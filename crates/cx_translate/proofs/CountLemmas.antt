@@ -12,9 +12,9 @@ use Rattle.cx_command.specs.declared.conditions.Condition.{Condition}
 use Rattle.cx_command.specs.declared.options.CommandOption.{CommandOption}
 use Rattle.cx_command.specs.Commands.{row_of}
 use Rattle.cx_command.specs.Facts.Commands.{each_command}
-use Rattle.cx_command.specs.Conditions.{entry_of}
+use Rattle.cx_command.specs.Conditions.{entry_of, handled}
 use Rattle.cx_command.specs.Options.{common_of, option_name}
-use Rattle.cx_command.specs.Legal.{handled, lists_conditions}
+use Rattle.cx_command.specs.Legal.{lists_conditions}
 use Rattle.cx_translate.specs.declared.due.Due.{Due}
 use Rattle.cx_translate.specs.declared.words.Word.{Word}
 use Rattle.cx_translate.specs.Due.{common_due, condition_called, condition_due, due_of, due_of_mark, option_called}

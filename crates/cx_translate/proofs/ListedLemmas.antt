@@ -10,8 +10,8 @@ use Rattle.cx_command.specs.declared.conditions.Condition.{Condition}
 use Rattle.cx_command.specs.declared.conditions.Condition.TheVariants.{Normal, Error, Invreq, Nospace, Lengerr, Itemerr, Pgmiderr, Nostg, Qiderr, Enqbusy}
 use Rattle.cx_command.specs.declared.options.CommandOption.{CommandOption}
 use Rattle.cx_command.specs.Commands.{row_of}
-use Rattle.cx_command.specs.Conditions.{entry_of}
-use Rattle.cx_command.specs.Legal.{handled, is_handle, is_handled_number, is_legal_list, is_listed, lists_conditions, may_list}
+use Rattle.cx_command.specs.Conditions.{entry_of, handled}
+use Rattle.cx_command.specs.Legal.{is_handle, is_handled_number, is_legal_list, is_listed, lists_conditions, may_list}
 use Rattle.cx_translate.specs.declared.due.Due.{Due}
 use Rattle.cx_translate.specs.declared.due.Due.TheVariants.{Nothing, Label}
 use Rattle.cx_translate.specs.declared.words.Argument.{Argument}

@@ -10,10 +10,10 @@ use Rattle.cx_command.specs.declared.options.CommandOption.{CommandOption}
 use Rattle.cx_command.specs.declared.options.CommonOption.TheVariants.{Nohandle, Resp}
 use Rattle.cx_command.specs.declared.options.Mark.{Mark}
 use Rattle.cx_command.specs.declared.options.Mark.TheVariants.{Flag, Name4, Name8}
-use Rattle.cx_command.specs.Conditions.{entry_of}
+use Rattle.cx_command.specs.Conditions.{entry_of, handled}
 use Rattle.cx_command.specs.Options.{common_of, option_name}
 use Rattle.cx_command.specs.Commands.{row_of}
-use Rattle.cx_command.specs.Legal.{handled, is_handle, lists_conditions}
+use Rattle.cx_command.specs.Legal.{is_handle, lists_conditions}
 use Rattle.cx_translate.specs.declared.due.Due.{Due}
 use Rattle.cx_translate.specs.declared.due.Due.TheVariants.{Nothing, Name, Value, Label}
 use Rattle.cx_translate.specs.declared.words.Argument.{Argument}

@@ -28,19 +28,6 @@ pub enum Due {
     Label,
 }
 
-/// The conditions that a program can handle.
-const HANDLED: [Condition; 9] = [
-    Condition::Error,
-    Condition::Invreq,
-    Condition::Nospace,
-    Condition::Lengerr,
-    Condition::Itemerr,
-    Condition::Pgmiderr,
-    Condition::Nostg,
-    Condition::Qiderr,
-    Condition::Enqbusy,
-];
-
 /// The argument that is due with an option of this mark.
 fn due_of_mark(mark: Mark) -> Due
     ensures { result ≡ due_of_mark mark }
@@ -69,7 +56,7 @@ fn option_called(options: &[CommandOption], name: &[u8]) -> Option<CommandOption
 pub(crate) fn condition_called(name: &[u8]) -> Option<Condition>
     ensures { result ≡ condition_called name.now }
 {
-    HANDLED
+    Condition::handled()
         .iter()
         .copied()
         .find(|condition| condition.name().as_bytes() == name)

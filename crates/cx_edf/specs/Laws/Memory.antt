@@ -1,5 +1,5 @@
 -- What always holds of the region under EDF is kept, and an event that was refused memory is none.
-use Rattle.std.specs.Prelude.{◌≡◌, ℕ, ⊤, List, ◌++◌, drop, Result, Err, IfOk, OnErr}
+use Rattle.std.specs.Prelude.{◌≡◌, ℕ, ⊤, List, ◌++◌, drop, Result, Err, IfOk}
 use Rattle.std.specs.declared.alloc.AllocError.{AllocError}
 use Rattle.cx_region.specs.Sound.{IsSound}
 use Rattle.cx_region_laws.specs.Laws.Sound.{ArePartsSound, IsChecked}
@@ -8,7 +8,7 @@ use Rattle.cx_edf.specs.declared.answers.EdfEvent.TheVariants as edf_event
 use Rattle.cx_edf.specs.declared.answers.Answer.{Answer}
 use Rattle.cx_edf.specs.State.{EdfState}
 use Rattle.cx_edf.specs.Steps.{EdfHappens}
-use Rattle.cx_edf.specs.Runs.{EdfRun, EdfRunStopped, IsAllowedEdf, MayTakeEdf}
+use Rattle.cx_edf.specs.Runs.{EdfRun, EdfRunStopped, IsAllowedEdf, IsDoneEdf}
 
 -- ---- soundness
 -- the image of a program that is to be defined was checked
@@ -22,12 +22,6 @@ abbrev pub EdfSoundIsKept : Type 0
 EdfSoundIsKept = (old new : EdfState) (e : EdfEvent) (given : Answer) → IsSound old.region → IsAllowedEdf e → IsCheckedEdf e → EdfHappens old e given new → ArePartsSound new.region → IsSound new.region
 
 -- ---- memory
--- what is promised of the one door for events: it is answered, or was refused memory
-pub record IsDoneEdf (old : EdfState) (e : EdfEvent) (result : Result Answer AllocError) (new : EdfState) : Type 0 where
-  pub happens : IfOk result (λ given. EdfHappens old e given new)
-  pub memory : OnErr result (MayTakeEdf old e)
-  pub err : OnErr result (new ≡ old)
-
 -- What comes after a refused event is done as if that had never come; so its answer and the state after it, with all modes and
 -- displays, are those that it would have had.
 pub record IsAsWithoutEdf (old : EdfState) (next : EdfEvent) (result : Result Answer AllocError) (new : EdfState) : Type 0 where

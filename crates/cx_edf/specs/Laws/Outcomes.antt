@@ -5,7 +5,8 @@ use Rattle.cx_edf.specs.declared.answers.EdfEvent.{EdfEvent}
 use Rattle.cx_edf.specs.declared.answers.Answer.{Answer}
 use Rattle.cx_edf.specs.State.{EdfState}
 use Rattle.cx_edf.specs.Steps.{EdfHappens}
-use Rattle.cx_edf.specs.Laws.Memory.{IsCheckedEdf, IsDoneEdf}
+use Rattle.cx_edf.specs.Runs.{IsDoneEdf}
+use Rattle.cx_edf.specs.Laws.Memory.{IsCheckedEdf}
 
 -- there is an answer to the event, and a state behind it
 pub record HasOutcomeEdf (old : EdfState) (e : EdfEvent) : Type 0 where

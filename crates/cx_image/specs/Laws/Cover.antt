@@ -34,11 +34,3 @@ AreWellFormed resolved = AllByRecursion (λ line. IsSound line.what) resolved
 -- a span called data
 abbrev pub as_data : Span → Span
 as_data span = record span { kind = kinds.Data }
-
--- whether a line is an instruction
-abbrev pub is_code : Line → Bool
-is_code line = is_code_what line.what
-  where
-    is_code_what : What → Bool
-    is_code_what (Code i) = true
-    is_code_what _ = false

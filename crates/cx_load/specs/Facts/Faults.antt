@@ -5,8 +5,7 @@ use Rattle.std.proofs.lemmas.Bool.{and_from, le-leb, leb-true, lt-ltb, ltb-true,
 use Rattle.cx_code.specs.declared.image.Image.{Image}
 use Rattle.cx_load.specs.declared.fault.ImageFault.{ImageFault}
 use Rattle.cx_load.specs.declared.fault.ImageFault.TheVariants.{BadLength, EntryOutside, RelocOutside, Overlap, StgLength}
-use Rattle.cx_load.specs.Fault.{has_length, has_entry, are_inside, all_apart, has_stg_length, applies, fault_number, IsFit, IsLowestFault}
-use Rattle.cx_load.specs.Facts.Cascade.{fault_of}
+use Rattle.cx_load.specs.Fault.{has_length, has_entry, are_inside, all_apart, has_stg_length, applies, fault_number, IsFit, IsLowestFault, fault_of}
 
 both : (a b : Bool) → (a && b) ≡ true → (a ≡ true) × (b ≡ true)
 both true b e = (refl, e)

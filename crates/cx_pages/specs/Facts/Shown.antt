@@ -6,8 +6,8 @@ use Rattle.cx_storage.specs.Storage.{byte_at, IsSound}
 use Rattle.cx_storage.specs.Facts.Sound.{IsSound-prop}
 use Rattle.cx_storage.specs.declared.areas.Area.{Area}
 use Rattle.cx_pages.specs.declared.page.Page.{Page}
-use Rattle.cx_pages.specs.Parts.Directory.{there}
-use Rattle.cx_pages.specs.Parts.Shown.{IsAligned, IsShown, storage_of}
+use Rattle.cx_pages.specs.Pages.{there, storage_of}
+use Rattle.cx_pages.specs.Parts.Shown.{IsAligned, IsShown}
 
 pub IsShown-prop : (areas : List Area) (pages : List Page) → IsProp (IsShown areas pages)
 unfolding IsShown

@@ -1,10 +1,5 @@
--- What a frame holds.
-use Rattle.std.specs.Prelude.{◌+◌, ◌*◌, ◌≡◌, ◌<◌, ◌≤◌, true, is_some, ℕ, ◌/◌, ◌%◌, Option, None, nat_lt, slice_get, slice_index, if◌then◌else◌}
-use Rattle.cx_pages.specs.declared.frame.Frame.{Frame}
-
--- the byte at the place k of a frame, where it is among the first of its granule that are counted
-unfoldable pub seen : Frame → ℕ → Option ℕ
-seen frame k = if nat_lt (k % 16) (slice_index frame.counts (k / 16)) then slice_get frame.bytes k else None
+-- What is asked of the bytes of a frame.
+use Rattle.std.specs.Prelude.{◌+◌, ◌*◌, ◌≡◌, ◌<◌, ◌≤◌, true, is_some, ℕ, ◌/◌, Option, None}
 
 -- whether there is a byte at each place from one on to before another
 abbrev pub HasAll : (ℕ → Option ℕ) → ℕ → ℕ → Type 0

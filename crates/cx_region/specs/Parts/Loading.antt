@@ -1,6 +1,4 @@
 -- What a refused load of a program is answered.
-use Rattle.cx_load.specs.declared.program.LoadFault.{LoadFault}
-use Rattle.cx_load.specs.declared.program.LoadFault.TheVariants as load
 use Rattle.std.specs.Prelude.{ℕ, None}
 use Rattle.cx_storage.specs.Storage.{Storage}
 use Rattle.cx_load.specs.Program.{IsProgramPlace}
@@ -12,8 +10,3 @@ abbrev pub MatchLoadRefusal : Storage → ℕ → DefineFault → Type 0
 MatchLoadRefusal storage len NoRoom = IsProgramPlace storage len None
 MatchLoadRefusal storage len Memory = IsProgramPlace storage len None → ⊥
 MatchLoadRefusal storage len _ = ⊥
-
--- the same, as a definition's refusal
-abbrev pub fault_from : LoadFault → DefineFault
-fault_from load.NoRoom = NoRoom
-fault_from load.Memory = Memory

@@ -1,16 +1,10 @@
 -- An event that was refused memory is none.
-use Rattle.std.specs.Prelude.{◌≡◌, ℕ, List, ◌++◌, drop, Result, Err, IfOk, OnErr}
+use Rattle.std.specs.Prelude.{◌≡◌, ℕ, List, ◌++◌, drop, Result, Err, IfOk}
 use Rattle.std.specs.declared.alloc.AllocError.{AllocError}
 use Rattle.cx_region.specs.declared.replies.Event.{Event}
 use Rattle.cx_region.specs.declared.replies.Reply.{Reply}
 use Rattle.cx_region.specs.State.{RegionState}
-use Rattle.cx_region.specs.Events.{Happens, MayTakeMemory, Run, RunStopped}
-
--- what is promised of the one door for events: it is answered, or was refused memory
-pub record IsDone (old : RegionState) (e : Event) (result : Result Reply AllocError) (new : RegionState) : Type 0 where
-  pub happens : IfOk result (λ reply. Happens old e reply new)
-  pub memory : OnErr result (MayTakeMemory old e)
-  pub err : OnErr result (new ≡ old)
+use Rattle.cx_region.specs.Events.{Happens, IsDone, Run, RunStopped}
 
 -- What comes after a refused event is done as if that had never come; so its answer and the region after it are those that it
 -- would have had.

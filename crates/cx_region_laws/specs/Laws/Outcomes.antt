@@ -7,8 +7,7 @@ use Rattle.cx_task.specs.Turn.{Grows, HalfTurn}
 use Rattle.cx_region.specs.declared.replies.Event.{Event}
 use Rattle.cx_region.specs.declared.replies.Reply.{Reply}
 use Rattle.cx_region.specs.State.{RegionState}
-use Rattle.cx_region.specs.Events.{Happens}
-use Rattle.cx_region_laws.specs.Laws.Memory.{IsDone}
+use Rattle.cx_region.specs.Events.{Happens, IsDone}
 use Rattle.cx_region_laws.specs.Laws.Sound.{IsChecked}
 
 -- there is a reply to the event, and a region behind it

@@ -2,7 +2,7 @@
 use Rattle.std.specs.Prelude.{◌≡◌, ℕ, List, [], ◌∷◌, ◌++◌, Option, Some, None}
 use Rattle.std.specs.List.{filter_map, flat_map}
 use Rattle.cx_code.specs.declared.image.Image.{Image}
-use Rattle.cx_load.specs.Facts.Cascade.{fault_of}
+use Rattle.cx_load.specs.Fault.{fault_of}
 use Rattle.cx_load.specs.declared.fault.ImageFault.{ImageFault}
 use Rattle.cx_region.specs.declared.replies.Event.TheVariants as event
 use Rattle.cx_edf.specs.declared.answers.Answer.{Answer}

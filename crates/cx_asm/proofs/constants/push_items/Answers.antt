@@ -1,5 +1,5 @@
 use Rattle.std.proofs.Common.{sym}
-use Rattle.cx_second.specs.Parts.Telling.{told_by}
+use Rattle.cx_second.specs.Whole.{told_by}
 use Rattle.cx_asm.proofs.FitLemmas.{fits_first}
 use Rattle.cx_asm.proofs.JoinLemmas.{items_next}
 use Rattle.cx_asm.proofs.constants.push_items.Goals as goal

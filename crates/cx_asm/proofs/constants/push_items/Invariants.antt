@@ -1,5 +1,5 @@
 use Rattle.std.proofs.Common.{◌≡◌, drop}
-use Rattle.cx_second.specs.Parts.Telling.{told_by}
+use Rattle.cx_second.specs.Whole.{told_by}
 use Rattle.cx_asm.specs.Resolving.{items_standing, joined}
 use Rattle.cx_asm.proofs.constants.push_items.Given as goal
 

@@ -1,4 +1,4 @@
-use Rattle.cx_second.specs.Parts.Telling.{told_by}
+use Rattle.cx_second.specs.Whole.{told_by}
 use Rattle.cx_asm.proofs.FitLemmas.{fits_first}
 use Rattle.cx_asm.proofs.JoinLemmas.{one_more, pool_next}
 use Rattle.cx_asm.proofs.constants.push_pool.Goals as goal

@@ -1,5 +1,5 @@
 use Rattle.std.proofs.Common.{◌≡◌, map, take}
-use Rattle.cx_second.specs.Parts.Telling.{told_by}
+use Rattle.cx_second.specs.Whole.{told_by}
 use Rattle.cx_asm.specs.Listing.{listed}
 use Rattle.cx_asm.proofs.listing.listing_of.Given as goal
 

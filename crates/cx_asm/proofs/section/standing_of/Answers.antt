@@ -1,5 +1,5 @@
 use Rattle.std.proofs.Common.{◌<◌, length, arith, sym}
-use Rattle.cx_second.specs.Parts.Telling.{told_by}
+use Rattle.cx_second.specs.Whole.{told_by}
 use Rattle.cx_asm.proofs.FitLemmas.{fits_first}
 use Rattle.cx_asm.proofs.JoinLemmas.{one_more, standing_next}
 use Rattle.cx_asm.proofs.section.standing_of.Goals as goal

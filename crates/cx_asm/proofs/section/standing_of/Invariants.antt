@@ -1,6 +1,6 @@
 use Rattle.std.proofs.Common.{◌≡◌, drop}
 use Rattle.cx_operands.specs.Bases.{none_in_use}
-use Rattle.cx_second.specs.Parts.Telling.{told_by}
+use Rattle.cx_second.specs.Whole.{told_by}
 use Rattle.cx_asm.specs.Resolving.{joined, standing_from}
 use Rattle.cx_asm.proofs.section.standing_of.Given as goal
 

@@ -1,5 +1,5 @@
 use Rattle.std.proofs.Common.{◌≡◌, ◌+◌, ◌/◌, None, refl, sym, arith}
-use Rattle.cx_pages.specs.Parts.Directory.{there}
+use Rattle.cx_pages.specs.Pages.{there}
 use Rattle.cx_pages.proofs.DirectoryLemmas.{ruled, ruled_none, ruled_more}
 use Rattle.cx_pages.proofs.directory.clear_in.Goals as goal
 

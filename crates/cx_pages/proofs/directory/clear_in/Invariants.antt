@@ -1,5 +1,5 @@
 use Rattle.std.proofs.Common.{◌≡◌, ℕ, None}
-use Rattle.cx_pages.specs.Parts.Directory.{there}
+use Rattle.cx_pages.specs.Pages.{there}
 use Rattle.cx_pages.proofs.DirectoryLemmas.{ruled}
 use Rattle.cx_pages.proofs.directory.clear_in.Given as goal
 

@@ -1,5 +1,6 @@
 use Rattle.std.proofs.Common.{◌≡◌, ◌≤◌, ◌<◌, ◌-◌, ◌+◌, ℕ, true, vec_len}
-use Rattle.cx_pages.specs.Parts.Directory.{there, has_page}
+use Rattle.cx_pages.specs.Parts.Directory.{has_page}
+use Rattle.cx_pages.specs.Pages.{there}
 use Rattle.cx_pages.proofs.directory.make_in.Given as goal
 
 -- no byte has changed

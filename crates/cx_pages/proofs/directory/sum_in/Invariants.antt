@@ -1,5 +1,5 @@
 use Rattle.std.proofs.Common.{◌≡◌, ℕ}
-use Rattle.cx_pages.specs.Parts.Directory.{there}
+use Rattle.cx_pages.specs.Pages.{there}
 use Rattle.cx_pages.proofs.directory.sum_in.Given as goal
 
 -- no byte has changed

@@ -1,5 +1,5 @@
 use Rattle.std.proofs.Common.{◌≡◌, ◌+◌, ◌/◌, ◌∙◌, sym, Some, None, nat_lt, if◌then◌else◌, refl, arith}
-use Rattle.cx_pages.specs.Parts.Directory.{there}
+use Rattle.cx_pages.specs.Pages.{there}
 use Rattle.cx_pages.proofs.DirectoryLemmas.{ruled, ruled_none, ruled_more, zero_step}
 use Rattle.cx_pages.proofs.directory.zero_in.Goals as goal
 

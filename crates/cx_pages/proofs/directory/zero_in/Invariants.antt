@@ -1,5 +1,6 @@
 use Rattle.std.proofs.Common.{◌≡◌, ℕ, Some, None, nat_lt, if◌then◌else◌}
-use Rattle.cx_pages.specs.Parts.Directory.{there, has_page}
+use Rattle.cx_pages.specs.Parts.Directory.{has_page}
+use Rattle.cx_pages.specs.Pages.{there}
 use Rattle.cx_pages.proofs.DirectoryLemmas.{ruled}
 use Rattle.cx_pages.proofs.directory.zero_in.Given as goal
 

@@ -1,7 +1,7 @@
 use Rattle.std.proofs.Common.{◌≡◌, ◌∙◌, ap, is_some, None, refl, sym, arith, length}
 use Rattle.std.proofs.lemmas.Option.{slice_get_read, slice_get_past}
 use Rattle.cx_storage.specs.Storage.{area_at, starts_elsewhere}
-use Rattle.cx_pages.specs.Parts.Shown.{storage_of}
+use Rattle.cx_pages.specs.Pages.{storage_of}
 use Rattle.cx_pages.proofs.TableLemmas.{area_here, area_elsewhere, area_past}
 use Rattle.cx_pages.proofs.ChangeLemmas.{area_fits, one_freed, none_freed, removed, free_is, free_shown}
 use Rattle.cx_pages.proofs.store.free_area_of.Goals as goal

@@ -2,7 +2,7 @@ use Rattle.std.proofs.Common.{◌≡◌, ◌∙◌, ℕ, None, true, false, if�
 use Rattle.std.proofs.lemmas.Bool.{eq-eqb, ne_eqb}
 use Rattle.std.proofs.lemmas.Fn.{filter_same}
 use Rattle.cx_storage.specs.Storage.{is_of_other_slot}
-use Rattle.cx_pages.specs.Parts.Directory.{there}
+use Rattle.cx_pages.specs.Pages.{there}
 use Rattle.cx_pages.proofs.ChangeLemmas.{area_fits, goes_in, slot_step, slot_kept, still_gone, goes_none, free_is, free_shown}
 use Rattle.cx_pages.proofs.store.free_slot_of.Goals as goal
 use Rattle.cx_pages.proofs.store.free_slot_of.Goals.{then-area-slot, else-area-slot, After-retain}

@@ -1,6 +1,6 @@
 use Rattle.std.proofs.Common.{◌≡◌, ℕ, drop, None, if◌then◌else◌}
 use Rattle.cx_storage.specs.Storage.{is_of_other_slot}
-use Rattle.cx_pages.specs.Parts.Directory.{there}
+use Rattle.cx_pages.specs.Pages.{there}
 use Rattle.cx_pages.proofs.ChangeLemmas.{goes_in}
 use Rattle.cx_pages.proofs.store.free_slot_of.Given as goal
 

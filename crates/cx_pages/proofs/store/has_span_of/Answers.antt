@@ -1,6 +1,6 @@
 use Rattle.std.proofs.Common.{◌≡◌, sym, ◌∙◌, arith, true, false}
 use Rattle.std.proofs.lemmas.Bool.{false≢true}
-use Rattle.cx_pages.specs.Parts.Shown.{storage_of}
+use Rattle.cx_pages.specs.Pages.{storage_of}
 use Rattle.cx_pages.proofs.SpanLemmas.{skip_there, skip_gap, no_span}
 use Rattle.cx_pages.proofs.store.has_span_of.Goals as goal
 

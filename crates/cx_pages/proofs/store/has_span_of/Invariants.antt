@@ -1,6 +1,6 @@
 use Rattle.std.proofs.Common.{◌≡◌, ◌<◌, ◌^◌, is_some}
 use Rattle.cx_storage.specs.Storage.{span}
-use Rattle.cx_pages.specs.Parts.Shown.{storage_of}
+use Rattle.cx_pages.specs.Pages.{storage_of}
 use Rattle.cx_pages.proofs.store.has_span_of.Given as goal
 
 -- the bytes tested so far are there

@@ -1,7 +1,6 @@
 use Rattle.std.proofs.Common.{◌≡◌, ◌+◌, ◌*◌, ◌<◌, ◌/◌, is_some, true, false, arith, ◌-◌, ◌⊎◌, inl, inr, ◌≤◌}
 use Rattle.std.proofs.lemmas.Bool.{cases_lt}
-use Rattle.cx_pages.specs.Parts.Directory.{there}
-use Rattle.cx_pages.specs.Parts.Shown.{storage_of}
+use Rattle.cx_pages.specs.Pages.{there, storage_of}
 use Rattle.cx_pages.proofs.ScanLemmas.{scan_start, scan_free, scan_taken, scan_found, scan_none, scan_skip, is_none}
 use Rattle.cx_pages.proofs.store.place_of.Goals as goal
 use Rattle.cx_pages.proofs.store.place_of.Goals.{then-is_some, else-is_some}

@@ -1,5 +1,5 @@
 use Rattle.std.proofs.Common.{◌-◌, ◌^◌, ◌≤◌}
-use Rattle.cx_pages.specs.Parts.Shown.{storage_of}
+use Rattle.cx_pages.specs.Pages.{storage_of}
 use Rattle.cx_pages.proofs.ScanLemmas.{IsScanned}
 use Rattle.cx_pages.proofs.store.place_of.Given as goal
 

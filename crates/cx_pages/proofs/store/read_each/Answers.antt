@@ -1,6 +1,6 @@
 use Rattle.std.proofs.Common.{◌≡◌, is_some, true, length, refl, arith}
 use Rattle.cx_storage.specs.Storage.{span}
-use Rattle.cx_pages.specs.Parts.Shown.{storage_of}
+use Rattle.cx_pages.specs.Pages.{storage_of}
 use Rattle.cx_pages.proofs.SpanLemmas.{filled_span}
 use Rattle.cx_pages.proofs.store.read_each.Goals as goal
 

@@ -1,6 +1,6 @@
 use Rattle.std.proofs.Common.{length, sym}
 use Rattle.cx_storage.specs.Facts.Spans.{span_length}
-use Rattle.cx_pages.specs.Parts.Shown.{storage_of}
+use Rattle.cx_pages.specs.Pages.{storage_of}
 use Rattle.cx_pages.proofs.store.read_of.Goals as goal
 
 pub copy_from_slice-requires : goal.copy_from_slice-requires

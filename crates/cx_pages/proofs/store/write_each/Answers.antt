@@ -1,5 +1,5 @@
 use Rattle.std.proofs.Common.{refl, sym, ◌∙◌, arith}
-use Rattle.cx_pages.specs.Parts.Shown.{storage_of}
+use Rattle.cx_pages.specs.Pages.{storage_of}
 use Rattle.cx_pages.proofs.SpanLemmas.{with_bytes_more, with_bytes_all}
 use Rattle.cx_pages.proofs.store.write_each.Goals as goal
 

@@ -1,6 +1,7 @@
 use Rattle.std.proofs.Common.{◌≡◌, ◌^◌, ◌<◌, drop}
 use Rattle.cx_storage.specs.Storage.{with_bytes}
-use Rattle.cx_pages.specs.Parts.Shown.{storage_of, IsShown}
+use Rattle.cx_pages.specs.Parts.Shown.{IsShown}
+use Rattle.cx_pages.specs.Pages.{storage_of}
 use Rattle.cx_pages.proofs.store.write_each.Given as goal
 
 -- what is written so far, and then the rest, is the whole

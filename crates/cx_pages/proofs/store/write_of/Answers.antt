@@ -1,7 +1,8 @@
 use Rattle.std.proofs.Common.{◌≡◌, is_some, true, false, length, sym, ◌∙◌, arith}
 use Rattle.cx_storage.specs.Storage.{span}
 use Rattle.cx_storage.specs.Facts.Writes.{written_whole, written_none}
-use Rattle.cx_pages.specs.Parts.Shown.{storage_of, IsShown}
+use Rattle.cx_pages.specs.Parts.Shown.{IsShown}
+use Rattle.cx_pages.specs.Pages.{storage_of}
 use Rattle.cx_pages.proofs.ChangeLemmas.{same_is, same_shown}
 use Rattle.cx_pages.proofs.SpanLemmas.{span_there, write_is, write_shown}
 use Rattle.cx_pages.proofs.store.write_of.Goals as goal

@@ -1,6 +1,5 @@
 use Rattle.std.proofs.Common.{◌≡◌, ◌++◌, take}
-use Rattle.cx_pools.specs.Parts.Texts.{by_text}
-use Rattle.cx_pools.specs.Pools.{of_group}
+use Rattle.cx_pools.specs.Pools.{of_group, by_text}
 use Rattle.cx_pools.proofs.closed.push_group.Given as goal
 
 abbrev pub invariant-loop-entry : goal.invariant-loop-entry

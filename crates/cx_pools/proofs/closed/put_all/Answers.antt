@@ -1,6 +1,6 @@
 use Rattle.std.proofs.Common.{ℕ, ◌<◌, List, [], length, drop-cons, arith, Bor}
 use Rattle.cx_pools.proofs.TextLemmas.{not_behind}
-use Rattle.cx_pools.specs.Parts.Texts.{by_text}
+use Rattle.cx_pools.specs.Pools.{by_text}
 use Rattle.cx_pools.specs.declared.open.Used.{Used}
 use Rattle.cx_pools.proofs.closed.put_all.Goals as goal
 

@@ -3,8 +3,7 @@ use Rattle.std.specs.List.{IsDistinct}
 use Rattle.std.specs.Map.{keys_of}
 use Rattle.std.specs.Str.{bytes_eq}
 use Rattle.cx_terms.specs.Digits.{bound}
-use Rattle.cx_pools.specs.Parts.Texts.{by_text}
-use Rattle.cx_pools.specs.Pools.{placed_from}
+use Rattle.cx_pools.specs.Pools.{placed_from, by_text}
 use Rattle.cx_pools.proofs.closed.put_all.Given as goal
 
 abbrev pub invariant-loop-entry : goal.invariant-loop-entry

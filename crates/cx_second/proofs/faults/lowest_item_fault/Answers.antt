@@ -1,6 +1,6 @@
 use Rattle.std.proofs.Common.{◌<◌, ℕ, List, [], length, arith, rules}
 use Rattle.std.proofs.lemmas.Grind.{common_steps}
-use Rattle.cx_second.specs.Parts.Telling.{told_by}
+use Rattle.cx_second.specs.Whole.{told_by}
 use Rattle.cx_second.specs.SecondFaults.{item_fault}
 use Rattle.cx_second.proofs.FaultLemmas.{one_item_more}
 use Rattle.cx_second.proofs.faults.lowest_item_fault.Goals as goal

@@ -1,7 +1,7 @@
 use Rattle.std.proofs.Common.{◌<◌, ℕ, List, [], length, arith, rules}
 use Rattle.std.proofs.lemmas.Grind.{common_steps}
 use denote.Ref.{Bor}
-use Rattle.cx_second.specs.Parts.Telling.{told_by}
+use Rattle.cx_second.specs.Whole.{told_by}
 use Rattle.cx_second.specs.SecondFaults.{part_fault}
 use Rattle.cx_second.proofs.FaultLemmas.{one_more}
 use Rattle.cx_second.proofs.faults.parts_fault.Goals as goal

@@ -1,6 +1,6 @@
 use Rattle.std.proofs.Common.{◌≡◌, drop, map}
 use Rattle.cx_terms.specs.Faults.{lower, lowest}
-use Rattle.cx_second.specs.Parts.Telling.{told_by}
+use Rattle.cx_second.specs.Whole.{told_by}
 use Rattle.cx_second.specs.SecondFaults.{part_fault}
 use Rattle.cx_second.proofs.faults.parts_fault.Given as goal
 

@@ -1,5 +1,5 @@
 use Rattle.std.proofs.Common.{◌≡◌, reverse, take}
-use Rattle.cx_second.specs.Parts.Telling.{told_by}
+use Rattle.cx_second.specs.Whole.{told_by}
 use Rattle.cx_second.specs.SecondFaults.{judged_behind}
 use Rattle.cx_second.proofs.judged.first_fault.Given as goal
 

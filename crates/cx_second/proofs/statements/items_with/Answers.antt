@@ -1,4 +1,4 @@
-use Rattle.std.proofs.Common.{◌≡◌, ◌≤◌, ◌++◌, List, ℕ, map, drop, length, append-nil, arith, rules, Bor}
+use Rattle.std.proofs.Common.{◌≤◌, List, ℕ, map, drop, length, append-nil, arith, Bor}
 use Rattle.std.proofs.lemmas.Grind.{common_steps}
 use Rattle.std.proofs.lemmas.Bool.Decides.{nat_tests}
 use Rattle.cx_second.proofs.ItemLemmas.{zip_ends}

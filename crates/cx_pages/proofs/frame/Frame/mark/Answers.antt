@@ -1,5 +1,5 @@
 use Rattle.std.proofs.Common.{refl, arith}
-use Rattle.cx_pages.specs.Parts.Frame.{seen}
+use Rattle.cx_pages.specs.Pages.{seen}
 use Rattle.cx_pages.proofs.ReachLemmas.{marked}
 use Rattle.cx_pages.proofs.frame.Frame.mark.Goals as goal
 use Rattle.cx_pages.proofs.frame.Frame.mark.Goals.{then-is_some, else-is_some}

@@ -1,5 +1,5 @@
 use Rattle.std.proofs.Common.{◌/◌, ◌%◌, refl, le-ltb, arith}
-use Rattle.cx_pages.specs.Parts.Frame.{seen}
+use Rattle.cx_pages.specs.Pages.{seen}
 use Rattle.cx_pages.proofs.FrameLemmas.{zero_index}
 use Rattle.cx_pages.proofs.frame.Frame.new.Goals as goal
 

@@ -1,4 +1,4 @@
-use Rattle.cx_pages.specs.Parts.Page.{found}
+use Rattle.cx_pages.specs.Pages.{found}
 use Rattle.cx_pages.proofs.page.Page.part.Goals as goal
 
 pub returns-in-Some-clause-gap : goal.returns-in-Some-clause-gap

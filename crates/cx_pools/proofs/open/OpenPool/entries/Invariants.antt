@@ -1,5 +1,5 @@
 use Rattle.std.proofs.Common.{◌≡◌, take}
-use Rattle.cx_pools.specs.Parts.Texts.{by_text}
+use Rattle.cx_pools.specs.Pools.{by_text}
 use Rattle.cx_pools.proofs.open.OpenPool.entries.Given as goal
 
 abbrev pub invariant-loop-i : goal.invariant-loop-i

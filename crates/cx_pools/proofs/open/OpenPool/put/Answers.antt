@@ -1,7 +1,7 @@
 use Rattle.std.proofs.Common.{◌≡◌, None, rules}
 use Rattle.std.specs.Map.{lookup}
 use Rattle.std.specs.Str.{bytes_eq}
-use Rattle.cx_pools.specs.Parts.Texts.{by_text}
+use Rattle.cx_pools.specs.Pools.{by_text}
 use Rattle.cx_pools.proofs.SizeLemmas.{one_open}
 use Rattle.cx_pools.proofs.open.OpenPool.put.Goals as goal
 

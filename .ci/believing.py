@@ -1,0 +1,158 @@
+"""What a reader must believe of a repository, in the program, the crates that it stands on and the crates of laws:
+
+- definitions: the definition files of a crate but those of its modules Laws, Facts and Parts;
+- laws' statements: those of Laws;
+- clauses of public functions: `requires` and `ensures` of each function, and of each method of a type or a trait, that a crate's root
+  gives to others; and the members of such a type's impls of traits that aren't proved: as what a value is seen, what a
+  conversion gives.
+
+A definition cites definitions, a law and a clause definitions and laws: so nothing that is meant stands in Facts, which has lemmas, or
+in Parts, which has the words of functions that no other crate calls."""
+import functools
+import glob
+import os
+import re
+
+from interface import functions_in
+from repository import Repository, text_of
+
+PROGRAM = "cicsedf"
+APART = ("Laws", "Facts", "Parts")  # modules of specs/ without definitions: statements of laws, lemmas, words of private functions
+IMPORT = re.compile(r"^[ \t]*(?:pub )?(?:use|mod)\b[^{\n]*(?:\{[^}]*\})?[^\n]*\n?", re.M)
+USE = re.compile(r"\buse Rattle\.(\w+)\.([\w.]+?)(?:\.\{([^}]*)\})?(?: as (\w+))?[ \t]*(?:;|$)", re.M)
+BEFORE, BEHIND = r"[\s(){}\[\],;]", r"[\s(){}\[\],;.]"  # what may stand before a word and behind it
+
+
+@functools.cache
+def without_comments(text):
+    """Returns a text of definitions without its comments."""
+    return re.sub(r"(?m)^[ \t]*--(?:[ \t].*)?$", "", re.sub(r"\{-.*?-\}", "", text, flags=re.S))
+
+
+@functools.cache
+def without_imports(text):
+    """Returns a text of definitions without comments and imports."""
+    return IMPORT.sub("", without_comments(text))
+
+
+def filled(text, comment="--"):
+    """Returns how many lines of a text are neither blank nor a comment."""
+    return sum(bool(it.strip()) and not it.strip().startswith(comment) for it in text.split("\n"))
+
+
+def cites(text, word):
+    """Tells whether a text cites this word."""
+    return word in text and re.search(rf"(?:^|(?<={BEFORE})){re.escape(word)}(?={BEHIND}|$)", text) is not None
+
+
+@functools.cache
+def imports_of(text):
+    """Returns what a text imports: the crate, the path in it, and what this is called here."""
+    found = []
+    for crate, path, items, renamed in USE.findall(text):
+        if items:
+            words = [it.strip().partition(" as ") for it in items.split(",") if it.strip()]
+            found += [(crate, f"{path}.{word}", name or word) for word, _, name in words]
+        else:
+            found.append((crate, path, renamed or path.rpartition(".")[2]))
+    return found
+
+
+def paths_in(text):
+    """Returns what a text without imports cites by its whole path, in the form of an import."""
+    return [(crate, path, path.rpartition(".")[2]) for crate, path in re.findall(r"\bRattle\.(\w+)\.([\w.]+)", text)]
+
+
+clauses_in = functools.cache(functions_in)
+
+
+class Crate:
+    """A crate's definition files and sources."""
+
+    def __init__(self, root, name):
+        folder = os.path.normpath(f"{root}/crates/{name}")
+        self.specs, self.sources = f"{folder}/specs", f"{folder}/src"
+        files = sorted(glob.glob(f"{self.specs}/**/*.antt", recursive=True))
+        self.texts = {os.path.relpath(it, self.specs)[: -len(".antt")]: text_of(it) for it in files}
+        self.passed = {}
+        for of, path, _, renamed in USE.findall(self.texts.get("Lib", "")):
+            self.passed[renamed or path.rpartition(".")[2]] = of, path
+
+    def modules(self, within="Lib", folder=""):
+        """Returns its definition files in reading order, which Lib and the files that hold others tell."""
+        for module in re.findall(r"^pub mod (\w+)", self.texts.get(within, ""), re.M):
+            if f"{folder}{module}" in self.texts and (folder or module not in APART):
+                yield f"{folder}{module}"
+                yield from self.modules(f"{folder}{module}", f"{folder}{module}/")
+
+    def kinds(self):
+        """Returns each definition file with the module that tells its kind: Laws, Facts, Parts, or None where it has definitions."""
+        for path in self.texts:
+            first = path.partition("/")[0]
+            yield path, first if first in APART else None
+
+    def exports(self):
+        """Returns the names that it gives to other crates, the modules that it gives whole, and all names that its sources declare. A
+        program gives what its root uses of its other modules."""
+        texts = {os.path.basename(it)[: -len(".rt")]: text_of(it) for it in glob.glob(f"{self.sources}/*.rt")}
+        root, use = (texts["lib"], "pub use ") if "lib" in texts else (texts["main"], "use crate::")
+        lines = re.findall(rf"^{use}([^;]+);", root, re.M)
+        names = {it.partition(" as ")[0] for line in lines for it in re.findall(r"\w+(?: as \w+)?\b(?!::)", line)}
+        item = re.compile(r"^(?:pub(?:\(crate\))? )?(?:struct|enum|trait|(?:const )?fn) (\w+)", re.M)
+        declared = {it for text in texts.values() for it in item.findall(text)}
+        return names, {*re.findall(r"^pub mod (\w+);", root, re.M)}, declared
+
+    def clauses(self):
+        """Returns the clauses of its public functions: the source's path, its text, and their places in it."""
+        names, whole, declared = self.exports()
+        for path in sorted(glob.glob(f"{self.sources}/*.rt")):
+            own = declared - names if os.path.basename(path)[: -len(".rt")] not in whole else set()
+            text = text_of(path)
+            yield path, text, [it for seen_by, spans in clauses_in(text) if not seen_by & own for it in spans]
+
+
+class Believed:
+    """The definitions, laws and clauses of the crates that the program stands on, of it, and of the crates of laws."""
+
+    def __init__(self, root="."):
+        self.root, repository = root, Repository(root)
+        self.crates = {it: Crate(root, it) for it in repository.libraries}
+        below = repository.below(PROGRAM)
+        self.counted = [it for it in self.crates if it in below or it.endswith("_laws")]
+
+    def kind(self, crate, path):
+        """Returns what a path of a crate names: Laws, Facts, Parts, proofs, or None for definitions, declarations and what is the kit's."""
+        if crate not in self.crates:
+            return None
+        at, _, inner = path.partition(".")
+        first, _, rest = inner.partition(".")
+        it = self.crates[crate]
+        if at != "specs" or not inner:
+            return at
+        if first in it.passed and first not in it.texts:
+            of, path = it.passed[first]
+            return self.kind(of, f"{path}.{rest}".rstrip("."))
+        return first if first in APART else None
+
+    def lines(self, crate):
+        """Returns how many lines a crate has of definitions, of statements of laws and of clauses."""
+        texts = [(kind, filled(without_imports(self.crates[crate].texts[path]))) for path, kind in self.crates[crate].kinds()]
+        clauses = sum(filled(text[start:end], "//") for _, text, spans in self.crates[crate].clauses() for start, end in spans)
+        return sum(n for kind, n in texts if kind is None), sum(n for kind, n in texts if kind == "Laws"), clauses
+
+    def cited_apart(self, crate):
+        """Returns the words that are cited where they mustn't be. A definition cites definitions; a law or a public clause also laws."""
+        it = self.crates[crate]
+        for path, kind in it.kinds():
+            if kind in (None, "Laws"):
+                text = without_comments(it.texts[path])
+                for of, module, word in imports_of(text) + paths_in(without_imports(text)):
+                    stands = self.kind(of, module)
+                    if stands not in (None, kind):
+                        yield f"{it.specs}/{path}.antt: {word} stands in {of}'s {stands}"
+        for path, text, spans in it.clauses():
+            clauses = "\n".join(text[start:end] for start, end in spans)
+            for of, module, word in [it for it in imports_of(text) if cites(clauses, it[2])] + paths_in(clauses):
+                stands = self.kind(of, module)
+                if stands not in (None, "Laws"):
+                    yield f"{path}: a public clause cites {word}, which stands in {of}'s {stands}"
