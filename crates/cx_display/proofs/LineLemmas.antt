@@ -8,6 +8,7 @@ use Rattle.cx_display.specs.declared.stops.Kind.{Kind}
 use Rattle.cx_display.specs.Texts.{with_line, with_lines}
 use Rattle.cx_display.specs.Displays.{keys, main_page, outcome, status_of, task_heading, task_lines}
 
+-- lines behind others
 pub lines_behind : (page : List (List ℕ)) (first rest : List (ℕ × List (List ℕ))) → with_lines page (first ++ rest) ≡ with_lines (with_lines page first) rest
 lines_behind page first rest = fold-append (λ page line. with_line page line.0 line.1) page first rest
 

@@ -42,8 +42,8 @@ abbrev pub seen_at : RegionState → List ℕ → Kind → Option Seen
 seen_at region name (kind.Over how) = None
 seen_at region name other = option_map seen_of (task_of region name)
 
--- ---- the main page, a line with its number and pieces
--- line 1: of no task nothing but blanks stands there
+-- ---- the main page: its lines, each with its number and pieces
+-- line 1: where there is no task, blanks stand in place of its names and its number
 abbrev pub heading : List ℕ → List ℕ → List ℕ → List ℕ → List (List ℕ)
 heading tran program number terminal =
     codes "TRANSACTION " ∷ tran ∷ codes "  PROGRAM " ∷ program ∷ codes "  TASK " ∷ number ∷ codes "  TERMINAL " ∷ terminal ∷ []
@@ -79,10 +79,11 @@ command_text storage task kind.Before = name_of_function (function_due storage t
 command_text storage task (kind.After condition) = name_of_function (halfword_at storage (field_at task eib.Fn))
 command_text storage task other = []
 
--- lines 4 to 14: an argument, with 16 bytes
+-- where the four words of 16 bytes begin, and the four lines of 16 registers
 abbrev pub quarters : List ℕ
 quarters = 0 ∷ 4 ∷ 8 ∷ 12 ∷ []
 
+-- lines 4 to 14: an argument, with 16 bytes
 abbrev pub argument : Storage → ℕ → ℕ → List (List ℕ)
 argument storage k address =
     codes "ARG " ∷ digits 10 2 k ∷ codes " " ∷ digits 16 6 address ∷ codes "  "

@@ -64,7 +64,8 @@ impl Exit {
     }
 }
 
-/// The entry of each condition, at the condition's place (`Condition::place`). NORMAL, which no command meets, takes up the first.
+/// The entry of each condition, at the condition's place (`Condition::place`). NORMAL's is the first; no choice is made for NORMAL, so
+/// nothing asks for it.
 #[derive(Clone, Copy, Debug, PartialEq, Eq)]
 pub struct Entries {
     /// The entries in the order of the conditions' numbers.

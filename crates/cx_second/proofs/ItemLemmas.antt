@@ -11,6 +11,7 @@ zip_none (k ∷ ks) = refl
 pub zip_ends : {K X : Type 0} (ks : List K) (vs : List X) (i : ℕ) → length vs ≤ i → zip ks (drop i vs) ≡ []
 zip_ends ks vs i past = rw (drop_of_length-le vs {i = i} past) (zip_none ks)
 
+-- without offsets no text has a place
 pub zip_of_none : {K X : Type 0} (ks : List K) (vs : List X) → length vs ≡ 0 → zip ks vs ≡ []
 zip_of_none ks [] none = zip_none ks
 zip_of_none ks (v ∷ vs) none = absurd (omega (arith, none))
