@@ -1,9 +1,10 @@
 """What the prover reads of a source file: the text without comments, and of a library the text without the bodies of its
-functions, since a crate above sees a function by its signature and clauses alone; and which clauses are those of public functions.
+functions and without its private functions, since a crate above sees a public function alone, by its signature and clauses; and
+which clauses are those of public functions.
 
-Bodies stay where something above might read them: of a const fn, of a trait's methods, and of a function that holds items of
-its own. A file whose functions can't be told apart from their bodies stays whole: too much read makes an edit due for nothing,
-too little would leave one untried."""
+A function stays whole where something above might read it: a const fn, a trait's methods, the bodies in an impl of a trait aside,
+and a function that holds items of its own. A file whose functions can't be told apart stays whole: too much read makes an edit due
+for nothing, too little would leave one untried."""
 import re
 
 TOKEN = re.compile(
@@ -11,6 +12,7 @@ TOKEN = re.compile(
     r"""|(?P<word>[^\W\d][\w']*|'[^\W\d]\w*)|(?P<other>\S)""",
     re.S | re.X,
 )
+USE = re.compile(r"(?m)^([ \t]*(?:ghost )?use )([^;{]+)(?:\{([^}]*)\})?;\n?")
 CLAUSES = ("requires", "ensures", "ghost")
 PROVED = ("coded", "invariant", "inverse", "inverse_ok", "sound")
 ITEMS = {"impl", "struct", "enum", "trait", "macro_rules", "union", "mod", "static", "const", "ghost"}
@@ -111,10 +113,76 @@ def bodies_of(text):
     return found
 
 
+def item_start(tokens, at):
+    """Returns the index at which the private item begins whose word is at this index: at its attributes; None where it is public."""
+    while at and tokens[at - 1][0] in ("const", "unsafe", "final", "async"):
+        at -= 1
+    if [it[0] for it in tokens[max(at - 4, 0) : at]] == ["pub", "(", "crate", ")"]:
+        at -= 4
+    elif at and tokens[at - 1][0] in ("pub", ")"):
+        return None
+    while at and tokens[at - 1][0] == "]":
+        depth, start = 0, at
+        while depth or start == at:
+            start -= 1
+            depth += {"]": 1, "[": -1}.get(tokens[start][0], 0)
+        if not start or tokens[start - 1][0] != "#":
+            break
+        at = start - 1
+    return at
+
+
+def private_in(text):
+    """Returns the places of the functions that aren't public: those of a module, and of a type's own impls."""
+    tokens, at, found = tokens_of(text)[0], 0, []
+    while at < len(tokens):
+        word = tokens[at][0]
+        if word == "macro_rules":
+            at = block_end(tokens, next_block(tokens, at))
+        elif word in ("impl", "trait"):
+            end = header_end(tokens, at)
+            is_trait = word == "trait" or impl_head([it[0] for it in tokens[at + 1 : end]])[1]
+            at = block_end(tokens, end) if is_trait else end + 1
+        elif word == "fn" and re.match(r"[^\W\d]", tokens[at + 1][0]):
+            body, start = body_of(tokens, at), item_start(tokens, at)
+            holds_items = body and ITEMS & {it[0] for it in tokens[body[0] : body[1]]}
+            if body and start is not None and not holds_items and tokens[at - 1][0] != "const":
+                found.append((tokens[start][1], tokens[body[1] - 1][2]))
+            at = body[1] if body else at + 1
+        else:
+            at += 1
+    return found
+
+
+def is_cited(name, text):
+    """Tells whether the text may cite an imported name; an operator's holes are left out."""
+    parts = [it for it in re.split("◌", name.rpartition(" as ")[2].strip()) if it]
+    return all(re.search(rf"(?<!\w){re.escape(it)}(?!\w)" if re.match(r"\w", it) else re.escape(it), text) for it in parts)
+
+
+def without_unused(text):
+    """Returns the text without the imports that nothing in it cites, and without the lines that name private modules."""
+    text = re.sub(r"(?m)^mod \w+;\n?", "", text)
+    rest = USE.sub("", text)
+
+    def kept(use):
+        path, names = use[2], use[3]
+        if names is None:
+            return use[0] if is_cited(path.rpartition("::")[2].rpartition(".")[2], rest) else ""
+        cited = [it.strip() for it in names.split(",") if it.strip() and is_cited(it, rest)]
+        return f"{use[1]}{path}{{{', '.join(cited)}}};\n" if cited else ""
+
+    return USE.sub(kept, text)
+
+
 def interface(text):
-    """Returns what a crate above reads of a library's source: all of it but comments and bodies."""
+    """Returns what a crate above reads of a library's source: all of it but comments, bodies, private functions, and what they import."""
     try:
-        return own_text(without(text, bodies_of(text), "{}"))
+        private = private_in(text)
+        bodies = [it for it in bodies_of(text) if not any(start <= it[0] < end for start, end in private)]
+        for start, end, put in sorted([(*it, "") for it in private] + [(*it, "{}") for it in bodies], reverse=True):
+            text = f"{text[:start]}{put}{text[end:]}"
+        return filled_lines(without_unused(own_text(text)))
     except (Unclear, IndexError):
         return own_text(text)
 
