@@ -17,6 +17,7 @@ from interface import functions_in
 from repository import Repository, text_of
 
 PROGRAM = "cicsedf"
+HEADLINE = "cx_headline"  # laws too, of all of it
 APART = ("Laws", "Facts", "Parts")  # modules of specs/ without definitions: statements of laws, lemmas, words of private functions
 IMPORT = re.compile(r"^[ \t]*(?:pub )?(?:use|mod)\b[^{\n]*(?:\{[^}]*\})?[^\n]*\n?", re.M)
 USE = re.compile(r"\buse Rattle\.(\w+)\.([\w.]+?)(?:\.\{([^}]*)\})?(?: as (\w+))?[ \t]*(?:;|$)", re.M)
@@ -118,7 +119,7 @@ class Believed:
         self.root, repository = root, Repository(root)
         self.crates = {it: Crate(root, it) for it in repository.libraries}
         below = repository.below(PROGRAM)
-        self.counted = [it for it in self.crates if it in below or it.endswith("_laws")]
+        self.counted = [it for it in self.crates if it in below or it.endswith("_laws") or it == HEADLINE]
 
     def kind(self, crate, path):
         """Returns what a path of a crate names: Laws, Facts, Parts, proofs, or None for definitions, declarations and what is the kit's."""

@@ -19,7 +19,7 @@ use Rattle.cx_operands.specs.declared.addresses.Address.{Address}
 use Rattle.cx_operands.specs.declared.bases.Base.{Base}
 use Rattle.cx_command_arrival.specs.Arguments.{HoldsBase, IsAddressed, IsAddressedBy, IsPlaceOf, OperandsAddress, Sections}
 
-abbrev Nearest : Type 0
+abbrev pub Nearest : Type 0
 Nearest = (bases : Bases) (section : List ℕ) (number : ℤ) → IsNearest bases section number (nearest bases section number)
 
 -- ---- what was judged
@@ -29,7 +29,7 @@ both_ok {A} {B} (Ok one) (Err fault) a b e = absurd (cc)
 both_ok {A} {B} (Err fault) (Ok other) a b e = absurd (cc)
 both_ok {A} {B} (Err one) (Err other) a b e = absurd (cc)
 
-judged_ok : {A B : Type 0} (judge : A → Result B FaultKind) (of : Result A FaultKind) (b : B) → judged judge of ≡ Ok b → (a : A) × (of ≡ Ok a) × (judge a ≡ Ok b)
+pub judged_ok : {A B : Type 0} (judge : A → Result B FaultKind) (of : Result A FaultKind) (b : B) → judged judge of ≡ Ok b → (a : A) × (of ≡ Ok a) × (judge a ≡ Ok b)
 judged_ok judge (Ok value) b e = (value, refl, e)
 judged_ok judge (Err fault) b e = absurd (cc)
 
@@ -37,12 +37,12 @@ pub made_ok : {A B : Type 0} (make : A → B) (of : Result A FaultKind) (b : B) 
 made_ok make (Ok value) b e = (value, refl, cc)
 made_ok make (Err fault) b e = absurd (cc)
 
-or_ok : {A : Type 0} (found : Option A) (fault : FaultKind) (a : A) → ok_or found fault ≡ Ok a → found ≡ Some a
+pub or_ok : {A : Type 0} (found : Option A) (fault : FaultKind) (a : A) → ok_or found fault ≡ Ok a → found ≡ Some a
 or_ok (Some found) fault a e = cc
 or_ok None fault a e = absurd (cc)
 
 -- ---- an implied address
-absolute_is : (number : ℤ) (at : Address) → option_map (address 0) (displacement_of number) ≡ Some at → (at.base ≡ 0) × (number ≡ pos at.displacement)
+pub absolute_is : (number : ℤ) (at : Address) → option_map (address 0) (displacement_of number) ≡ Some at → (at.base ≡ 0) × (number ≡ pos at.displacement)
 absolute_is (pos n) at e = go (int_le (pos 0) (pos n) && int_le (pos n) (pos 4095)) e
   where
     go : (b : Bool) → option_map (address 0) (cond b (Some n) None) ≡ Some at → (at.base ≡ 0) × (pos n ≡ pos at.displacement)
@@ -65,7 +65,7 @@ at_register sections regs bases register d x section number (Some (Some base)) i
     modulo : (b i n : ℕ) → address_in (b + i + n) ≡ along (along (address_in b) n) i
     modulo b i n = omega arith
 
-implied_is : Nearest → (sections : Sections) (regs : List ℕ) (bases : Bases) (section : Option (List ℕ)) (number : ℤ) (at : Address) (x : ℕ) → addressed_in bases section number ≡ Ok at
+pub implied_is : Nearest → (sections : Sections) (regs : List ℕ) (bases : Bases) (section : Option (List ℕ)) (number : ℤ) (at : Address) (x : ℕ) → addressed_in bases section number ≡ Ok at
     → IsPlaceOf sections regs bases at.base section number (given regs x) (effective regs x at.base at.displacement)
 unfolding effective
 implied_is near sections regs bases None number at x e =

@@ -23,3 +23,4 @@ pub mod KeptLemmas
 pub mod ArrivingLemmas
 pub mod OneLemmas
 pub mod PointerLemmas
+pub mod ReturnedLemmas

@@ -46,14 +46,14 @@ all_are [] more a b = b
 all_are (item ∷ items) more a b = (a.0, all_are items more a.1 b)
 
 -- ---- instructions of lines and of more lines
-record Parted (told : Whole) (bases : Bases) (before : List Item) (at : ℕ) (items more : List Item) (code : List Instruction) : Type 0 where
-  first : List Instruction
-  rest : List Instruction
-  is : code ≡ first ++ rest
-  here : AreResolved told bases before at items first
-  behind : AreResolved told bases (reverse items ++ before) (at + code_length first) more rest
+pub record Parted (told : Whole) (bases : Bases) (before : List Item) (at : ℕ) (items more : List Item) (code : List Instruction) : Type 0 where
+  pub first : List Instruction
+  pub rest : List Instruction
+  pub is : code ≡ first ++ rest
+  pub here : AreResolved told bases before at items first
+  pub behind : AreResolved told bases (reverse items ++ before) (at + code_length first) more rest
 
-parted : (told : Whole) (bases : Bases) (before : List Item) (at : ℕ) (items more : List Item) (code : List Instruction) → AreResolved told bases before at (items ++ more) code
+pub parted : (told : Whole) (bases : Bases) (before : List Item) (at : ℕ) (items more : List Item) (code : List Instruction) → AreResolved told bases before at (items ++ more) code
     → Parted told bases before at items more code
 unfolding AreResolved
 parted told bases before at [] more code r =

@@ -15,3 +15,4 @@ pub mod CodeInStorage
 pub mod Commands
 pub mod Arriving
 pub mod Pointers
+pub mod Returned

@@ -11,6 +11,7 @@ ghost use Rattle.cx_command_arrival.specs.Handed.{BlockStands, EntryStands, Lite
 ghost use Rattle.cx_command_arrival.specs.InStorage.{CodeIsUnraised, LinesAreLoaded, TextsAreMade};
 ghost use Rattle.cx_command_arrival.specs.Literals.{LiteralsStand};
 ghost use Rattle.cx_command_arrival.specs.Pointers.{LoadsAreResolved, PointersAreHanded, PointersAreLoaded};
+ghost use Rattle.cx_command_arrival.specs.Returned.{PointersComeBack, PointersHaveOnePlace};
 ghost use Rattle.cx_command_arrival.specs.Standing.{InstructionsStand};
 ghost use Rattle.cx_command_arrival.specs.Stores.{BranchIsResolved, StoresAreResolved};
 ghost use Rattle.cx_command_arrival.specs.Together.{MadeStandTogether};
@@ -199,4 +200,20 @@ pub fn pointers_are_loaded()
     ensures handed { PointersAreHanded }
 {
     calls_are_made();
+}
+
+/// Each pointer of an EXEC statement of an accepted translation that is loaded comes back, if its register is an operand by
+/// itself: at a machine that is at the pointer's load, where the base register holds its USING's base as it did when the call
+/// began, that register gets the word that stands at the address that was handed over for the pointer, and all else stays.
+/// For what is handed over and what the load takes are one place, whatever the sections' places and the other registers are.
+pub fn pointers_come_back()
+    ensures place { PointersHaveOnePlace }
+    ensures back { PointersComeBack }
+{
+    cx_operands::laws::an_implied_address_is_nearest();
+    cx_storage::laws::span_is_bytes();
+    cx_arrival::laws::loads_give_words();
+    texts_are_made();
+    code_is_loaded();
+    pointers_are_loaded();
 }

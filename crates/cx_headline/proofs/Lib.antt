@@ -3,3 +3,4 @@ mod RowLemmas
 mod WatchLemmas
 mod EntryLemmas
 mod SourceLemmas
+mod DueLemmas

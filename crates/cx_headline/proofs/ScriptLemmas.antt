@@ -1,5 +1,5 @@
 -- What was done of a script that ran.
-use Rattle.std.proofs.Common.{ℕ, List, length, take, take_all, le_refl, Option, Result, Ok, Err, refl, sym}
+use Rattle.std.proofs.Common.{ℕ, List, length, take, take_all, le_refl, Option, None, Result, Ok, Err, refl, sym}
 use Rattle.cx_edf.specs.declared.answers.Answer.{Answer}
 use Rattle.cx_edf.specs.declared.answers.EdfEvent.{EdfEvent}
 use Rattle.cx_edf.specs.State.{EdfState}
@@ -7,8 +7,11 @@ use Rattle.cx_actions.specs.Effects.{Performs, fresh_state}
 use Rattle.cx_blocks.specs.declared.faults.RunFault.{RunFault}
 use Rattle.cx_blocks.specs.declared.faults.RunFault.TheVariants.{BadLine, Source, Read, Write, Memory, ReadBound}
 use Rattle.cx_blocks.specs.declared.faults.Summary.{Summary}
-use Rattle.cx_script.specs.Script.{Script, line_count, script_of}
-use Rattle.cx_script.specs.Transcript.{Ends, Stops, WroteAll}
+use Rattle.cx_lines.specs.Lines.{lines_met}
+use Rattle.cx_lines.specs.declared.input.Ending.{Ending}
+use Rattle.cx_script.specs.Facts.Fronts.{first_actions}
+use Rattle.cx_script.specs.Script.{Script, script_of}
+use Rattle.cx_script.specs.Transcript.{Ends, Stops, WroteAll, front_of}
 use Rattle.cx_script.specs.Laws.Events.{ScriptsRunTheirEvents, events_of}
 use Rattle.cx_headline.specs.Laws.Runs.{IsDoneOf, OfEachRun, OfEachScript, WasWritten}
 
@@ -27,39 +30,41 @@ of_whole law script answer before after w written =
       did = law fresh_state script.actions w.text w.new w.runs;
     }
 
-done_of : ScriptsRunTheirEvents → (script : Script) (lines : ℕ) (answer : Result Summary RunFault) (before after : Option (List ℕ))
-    → Ends Performs fresh_state script lines answer before after → IsDoneOf script answer before after
-unfolding Stops
-done_of law script lines (Ok summary) before after e = of_whole law script (Ok summary) before after e.2 e.2.written
-done_of law script lines (Err (BadLine n)) before after e = of_whole law script (Err (BadLine n)) before after e.1 e.1.written
-done_of law script lines (Err (Source n which)) before after e = of_whole law script (Err (Source n which)) before after e.1 e.1.written
-done_of law script lines (Err Read) before after e = of_whole law script (Err Read) before after e.1 e.1.written
-done_of law script lines (Err ReadBound) before after e = of_whole law script (Err ReadBound) before after e.1 e.1.written
-done_of law script lines (Err Memory) before after e =
+done_of : ScriptsRunTheirEvents → (ending : Ending) (bytes : List ℕ) (answer : Result Summary RunFault) (before after : Option (List ℕ))
+    → Ends Performs fresh_state ending bytes answer before after → IsDoneOf (script_of ending bytes) answer before after
+unfolding Stops script_of
+done_of law ending bytes (Ok summary) before after e = of_whole law (script_of ending bytes) (Ok summary) before after e.2 e.2.written
+done_of law ending bytes (Err (BadLine n)) before after e = of_whole law (script_of ending bytes) (Err (BadLine n)) before after e.1 e.1.written
+done_of law ending bytes (Err (Source n which)) before after e = of_whole law (script_of ending bytes) (Err (Source n which)) before after e.1 e.1.written
+done_of law ending bytes (Err Read) before after e = of_whole law (script_of ending bytes) (Err Read) before after e.1 e.1.written
+done_of law ending bytes (Err ReadBound) before after e = of_whole law (script_of ending bytes) (Err ReadBound) before after e.1 e.1.written
+done_of law ending bytes (Err Memory) before after e =
+    let actions = (front_of (lines_met ending bytes) e.line).actions in
     record {
-      count = e.0;
-      actions = take e.0 script.actions;
-      first = refl;
+      count = length actions;
+      actions = actions;
+      first = sym (first_actions ending 1 None (lines_met ending bytes) e.line);
       all = λ stopped. cc;
-      text = e.1.text;
-      written = e.1.written;
-      new = e.1.new;
-      did = law fresh_state (take e.0 script.actions) e.1.text e.1.new e.1.runs;
+      text = e.done.text;
+      written = e.done.written;
+      new = e.done.new;
+      did = law fresh_state actions e.done.text e.done.new e.done.runs;
     }
-done_of law script lines (Err Write) before after e =
+done_of law ending bytes (Err Write) before after e =
+    let actions = take e.0 (script_of ending bytes).actions in
     record {
       count = e.0;
-      actions = take e.0 script.actions;
+      actions = actions;
       first = refl;
       all = λ stopped. cc;
       text = e.1.text;
       written = e.1.written;
       new = e.1.new;
-      did = law fresh_state (take e.0 script.actions) e.1.text e.1.new e.1.runs;
+      did = law fresh_state actions e.1.text e.1.new e.1.runs;
     }
 
 -- what holds of each run holds of what each script did
 pub of_scripts : ScriptsRunTheirEvents → (Holds : EdfState → List EdfEvent → List Answer → List EdfState → Type 0) → OfEachRun Holds → OfEachScript Holds
 of_scripts law Holds each left left_after failed answer before after ran =
-    let done = done_of law (script_of ran.ending ran.bytes) (line_count ran.ending ran.bytes) answer before after ran.ends in
+    let done = done_of law ran.ending ran.bytes answer before after ran.ends in
     (done, each fresh_state (events_of done.actions) done.did.answers done.new done.did.run)

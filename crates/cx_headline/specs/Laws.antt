@@ -4,3 +4,4 @@ pub mod Rows
 pub mod Sources
 pub mod Watching
 pub mod Entries
+pub mod Due

@@ -2,11 +2,13 @@
 //! very record that `run_script` ensures of it.
 
 ghost use Rattle.cx_asm_laws.specs.Laws.Back.{ComesBack};
+ghost use Rattle.cx_headline.specs.Laws.Due.{AlwaysKeepsWhatIsDue, EventsKeepWhatIsDue, KeepsWhatIsDue, RunsKeepWhatIsDue, StillKeepsWhatIsDue};
 ghost use Rattle.cx_headline.specs.Laws.Entries.{EntriesHoldTheirBases, TasksBeginSo};
 ghost use Rattle.cx_headline.specs.Laws.Rows.{EachIsItsRow};
 ghost use Rattle.cx_headline.specs.Laws.Runs.{OfEachRun, OfEachScript};
 ghost use Rattle.cx_headline.specs.Laws.Sources.{BlocksComeBack};
 ghost use Rattle.cx_headline.specs.Laws.Watching.{IsAsUnwatched, ShowingChangesNothing};
+ghost use Rattle.cx_region.specs.Defining.{fresh_region};
 
 /// Each event of a run changes the region exactly as its row says. A turn is one half-turn of the terminal's task: the
 /// instructions up to its next command, or that command. What the half-turn reached is put back, and all else is as before.
@@ -51,3 +53,18 @@ pub fn entries_hold_their_bases()
     ensures entries { EntriesHoldTheirBases }
     ensures tasks { TasksBeginSo }
 {}
+
+/// Wherever a command is due, the task's current level keeps the registers and the condition code that its program has at the
+/// command. So it is in a fresh region, and after each event of one in which it is so: definitions, the clock, keys, turns and
+/// alterations. So it is behind each event of a run under EDF that begins in such a region, and in every state of a script.
+pub fn what_is_due_is_kept()
+    ensures fresh { KeepsWhatIsDue fresh_region }
+    ensures events { EventsKeepWhatIsDue }
+    ensures runs { RunsKeepWhatIsDue }
+    ensures watched { OfEachRun StillKeepsWhatIsDue }
+    ensures scripts { OfEachScript AlwaysKeepsWhatIsDue }
+{
+    cx_task_laws::laws::half_turns_leave_callers();
+    cx_region_laws::laws::an_alteration_keeps_to_its_task();
+    cx_script::laws::a_script_runs_its_events();
+}

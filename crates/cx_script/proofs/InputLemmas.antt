@@ -5,7 +5,7 @@ use Rattle.std.specs.Result.{result_err}
 use Rattle.std.proofs.lemmas.List.{append_cancel_right}
 use Rattle.cx_edf.specs.State.{EdfState}
 use Rattle.cx_lines.specs.Input.{Reads, is_failure, most_bytes}
-use Rattle.cx_script.specs.Script.{Script, script_of, line_count}
+use Rattle.cx_script.specs.Script.{script_of}
 use Rattle.cx_script.specs.Transcript.{Ends, Stops, WroteAll}
 use Rattle.cx_actions.specs.Effects.{Performs, fresh_state}
 use Rattle.cx_script.specs.Outcome.{HasRead}
@@ -54,31 +54,31 @@ same_reads PastBound Failed input after later bytes other p q few less f e = cc
 same_reads PastBound PastBound input after later bytes other p q few less f e = (refl, sym p.1 ∙ q.1)
 
 -- a fault of the script's own
-own : {S : Type 0} (performs : S → Action → List ℕ → S → Type 0) (old : S) (script : Script) (fault : RunFault) (before after : Option (List ℕ))
-    → was_stopped (Err fault) ≡ false → Stops performs old script fault before after
-    → (script.fault ≡ Some fault) × WroteAll performs old script.actions before after
+own : {S : Type 0} (performs : S → Action → List ℕ → S → Type 0) (old : S) (ending : Ending) (bytes : List ℕ) (fault : RunFault) (before after : Option (List ℕ))
+    → was_stopped (Err fault) ≡ false → Stops performs old ending bytes fault before after
+    → ((script_of ending bytes).fault ≡ Some fault) × WroteAll performs old (script_of ending bytes).actions before after
 unfolding Stops
-own performs old script (BadLine n) before after e s = s
-own performs old script (Source n which) before after e s = s
-own performs old script Read before after e s = s
-own performs old script Write before after e s = cc
-own performs old script Memory before after e s = cc
-own performs old script ReadBound before after e s = s
+own performs old ending bytes (BadLine n) before after e s = s
+own performs old ending bytes (Source n which) before after e s = s
+own performs old ending bytes Read before after e s = s
+own performs old ending bytes Write before after e s = cc
+own performs old ending bytes Memory before after e s = cc
+own performs old ending bytes ReadBound before after e s = s
 
 -- the fault of a run that was not stopped, and what it wrote
-pub told : (script : Script) (lines : ℕ) (answer : Result Summary RunFault) (before after : Option (List ℕ)) → was_stopped answer ≡ false
-    → Ends Performs fresh_state script lines answer before after → (result_err answer ≡ script.fault) × WroteAll Performs fresh_state script.actions before after
-told script lines (Ok s) before after e h = (sym h.0, h.2)
-told script lines (Err fault) before after e h = let o = own Performs fresh_state script fault before after e h in (sym o.0, o.1)
+pub told : (ending : Ending) (bytes : List ℕ) (answer : Result Summary RunFault) (before after : Option (List ℕ)) → was_stopped answer ≡ false
+    → Ends Performs fresh_state ending bytes answer before after → (result_err answer ≡ (script_of ending bytes).fault) × WroteAll Performs fresh_state (script_of ending bytes).actions before after
+told ending bytes (Ok s) before after e h = (sym h.0, h.2)
+told ending bytes (Err fault) before after e h = let o = own Performs fresh_state ending bytes fault before after e h in (sym o.0, o.1)
 
-same_answer : (script : Script) (lines : ℕ) (answer other : Result Summary RunFault) (before after later : Option (List ℕ)) → was_stopped answer ≡ false → was_stopped other ≡ false
-    → Ends Performs fresh_state script lines answer before after → Ends Performs fresh_state script lines other before later → answer ≡ other
-same_answer script lines (Ok s) (Ok t) before after later e f p q = ap (λ (n : ℕ). let s : Summary = record { lines = n } in let r : Result Summary RunFault = Ok s in r) (p.1 ∙ sym q.1)
-same_answer script lines (Ok s) (Err g) before after later e f p q = let o = own Performs fresh_state script g before later f q in let none = p.0 in let some = o.0 in cc
-same_answer script lines (Err g) (Ok s) before after later e f p q = let o = own Performs fresh_state script g before after e p in let none = q.0 in let some = o.0 in cc
-same_answer script lines (Err g) (Err h) before after later e f p q =
-    let o = own Performs fresh_state script g before after e p in
-    let m = own Performs fresh_state script h before later f q in
+same_answer : (ending : Ending) (bytes : List ℕ) (answer other : Result Summary RunFault) (before after later : Option (List ℕ)) → was_stopped answer ≡ false → was_stopped other ≡ false
+    → Ends Performs fresh_state ending bytes answer before after → Ends Performs fresh_state ending bytes other before later → answer ≡ other
+same_answer ending bytes (Ok s) (Ok t) before after later e f p q = ap (λ (n : ℕ). let s : Summary = record { lines = n } in let r : Result Summary RunFault = Ok s in r) (p.1 ∙ sym q.1)
+same_answer ending bytes (Ok s) (Err g) before after later e f p q = let o = own Performs fresh_state ending bytes g before later f q in let none = p.0 in let some = o.0 in cc
+same_answer ending bytes (Err g) (Ok s) before after later e f p q = let o = own Performs fresh_state ending bytes g before after e p in let none = q.0 in let some = o.0 in cc
+same_answer ending bytes (Err g) (Err h) before after later e f p q =
+    let o = own Performs fresh_state ending bytes g before after e p in
+    let m = own Performs fresh_state ending bytes h before later f q in
     let one = o.0 in let two = m.0 in cc
 
 appended : (text : List ℕ) (after later : Option (List ℕ)) (a b : List ℕ) → a ≡ b → Appends (Some text) after a → Appends (Some text) later b → after ≡ later
@@ -95,15 +95,14 @@ module _ (decides : (old : EdfState) (action : Action) (text other : List ℕ) (
 
   both : (ending another : Ending) (bytes other : List ℕ) (answer second : Result Summary RunFault) (text : List ℕ) (after later : Option (List ℕ))
       → ending ≡ another → bytes ≡ other → was_stopped answer ≡ false → was_stopped second ≡ false
-      → Ends Performs fresh_state (script_of ending bytes) (line_count ending bytes) answer (Some text) after
-      → Ends Performs fresh_state (script_of another other) (line_count another other) second (Some text) later
+      → Ends Performs fresh_state ending bytes answer (Some text) after → Ends Performs fresh_state another other second (Some text) later
       → (answer ≡ second) × (after ≡ later)
   both ending another bytes other answer second text after later e b f g p q =
-      let moved = subst (λ (k : Ending). Ends Performs fresh_state (script_of k other) (line_count k other) second (Some text) later) (sym e) q in
-      let there = subst (λ (l : List ℕ). Ends Performs fresh_state (script_of ending l) (line_count ending l) second (Some text) later) (sym b) moved in
-      let first = told (script_of ending bytes) (line_count ending bytes) answer (Some text) after f p in
-      let last = told (script_of ending bytes) (line_count ending bytes) second (Some text) later g there in (
-        same_answer (script_of ending bytes) (line_count ending bytes) answer second (Some text) after later f g p there,
+      let moved = subst (λ (k : Ending). Ends Performs fresh_state k other second (Some text) later) (sym e) q in
+      let there = subst (λ (l : List ℕ). Ends Performs fresh_state ending l second (Some text) later) (sym b) moved in
+      let first = told ending bytes answer (Some text) after f p in
+      let last = told ending bytes second (Some text) later g there in (
+        same_answer ending bytes answer second (Some text) after later f g p there,
         same_text (script_of ending bytes).actions text after later first.1 last.1,
       )
 
@@ -124,7 +123,7 @@ past_bound PastBound input bytes after failed p f e =
 
 pub read_bound_is : ReadBoundIsPastTheBound
 read_bound_is input after failed written written_after r =
-    let o = own Performs fresh_state (script_of r.ending r.bytes) ReadBound written written_after refl r.ends in
+    let o = own Performs fresh_state r.ending r.bytes ReadBound written written_after refl r.ends in
     past_bound r.ending input r.bytes after failed r.read r.failure o.0
 
 err_is : (answer : Result Summary RunFault) (fault : RunFault) → result_err answer ≡ Some fault → answer ≡ Err fault
@@ -140,7 +139,7 @@ bounded PastBound input bytes after failed p few f h = ap (λ (l : List ℕ). (s
 pub is_read_bound : PastTheBoundIsReadBound
 is_read_bound input after failed answer written written_after r h e =
     let fault = bounded r.ending input r.bytes after failed (read_of answer r.ending (Some input) after r.bytes e r.read) r.within r.failure h in
-    let t = told (script_of r.ending r.bytes) (line_count r.ending r.bytes) answer written written_after e r.ends in
+    let t = told r.ending r.bytes answer written written_after e r.ends in
     err_is answer ReadBound (t.0 ∙ fault)
 
 only_failed : (ending : Ending) → may_have ending (Some Read) ≡ true → is_failure ending ≡ true
@@ -150,7 +149,7 @@ only_failed PastBound e = cc
 
 pub read_is : ReadIsAFailure
 read_is left after failed written written_after r =
-    let o = own Performs fresh_state (script_of r.ending r.bytes) Read written written_after refl r.ends in
+    let o = own Performs fresh_state r.ending r.bytes Read written written_after refl r.ends in
     r.failure ∙ only_failed r.ending (has_this r.ending r.bytes (Some Read) o.0)
 
 told_by : (ending : Ending) (left after : Option (List ℕ)) (bytes : List ℕ) (answer : Result Summary RunFault) → Reads most_bytes ending left after bytes → true ≡ is_failure ending
@@ -161,5 +160,5 @@ told_by PastBound left after bytes answer p f e = cc
 
 pub failures_told : FailuresAreTold
 failures_told left after answer written written_after r e =
-    let t = told (script_of r.ending r.bytes) (line_count r.ending r.bytes) answer written written_after e r.ends in
+    let t = told r.ending r.bytes answer written written_after e r.ends in
     told_by r.ending left after r.bytes answer (read_of answer r.ending left after r.bytes e r.read) r.failure t.0

@@ -1,8 +1,8 @@
 -- A run of a script, piece by piece.
-use Rattle.std.proofs.Common.{◌≡◌, ℕ, ◌+◌, ◌-◌, ◌<◌, ◌≤◌, Bool, true, false, List, [], ◌∷◌, ◌++◌, length, take, drop, None, Some, Option, Result, Ok, Err, MatchOption, IsOkAnd, IfErr, OnErr, OnOk, cond, nat_le, refl, sym, ap, ◌∙◌, subst, append-nil, append_assoc, zero-add, arith, length-append, length-drop}
+use Rattle.std.proofs.Common.{◌≡◌, ℕ, ◌+◌, ◌-◌, ◌<◌, ◌≤◌, inl, Bool, true, false, List, [], ◌∷◌, ◌++◌, length, take, drop, None, Some, Option, Result, Ok, Err, MatchOption, IsOkAnd, IfErr, OnErr, OnOk, cond, nat_le, refl, sym, ap, ◌∙◌, subst, append-nil, append_assoc, arith, length-append, length-drop}
 use Rattle.std.specs.Io.KnownBytes.{Appends, Consumes, IsAtEnd, Keeps}
-use Rattle.cx_lines.specs.Devices.{Sends, Told, WroteFront, told}
-use Rattle.cx_lines.specs.Facts.Devices.{front_flushed, sends_flushed, sends_front, sends_nil, sends_trans, sends_written}
+use Rattle.cx_lines.specs.Devices.{Told, WroteFront, told}
+use Rattle.cx_lines.specs.Facts.Devices.{front_flushed, sends_flushed, sends_written}
 use Rattle.std.specs.Str.Lines.{strip_carriage_return}
 use Rattle.std.proofs.KnownBytes.{Consumes-nil, Consumes-trans, Consumes-kept}
 use borrow.Author.Tests.{leb-true, leb-false}
@@ -15,10 +15,11 @@ use Rattle.cx_blocks.specs.Blocks.{step_at, step_in}
 use Rattle.cx_lines.specs.Input.{Reads, is_failure, most_bytes}
 use Rattle.cx_lines.specs.Lines.{is_too_long, last_met, lines_met}
 use Rattle.cx_script.specs.Outcome.{RanScript}
-use Rattle.cx_script.specs.Script.{Script, script_from, script_of, line_count, fault_at, before, led_to}
-use Rattle.cx_script.specs.Transcript.{Runs, WroteAll, Stops, Ends}
+use Rattle.cx_script.specs.Script.{script_from, script_of, fault_at}
+use Rattle.cx_script.specs.Transcript.{Runs, WroteAll, Stops, Ends, front_of}
+use Rattle.cx_script.specs.Facts.Fronts.{first_actions}
 use Rattle.cx_blocks.specs.Faults.{is_write}
-use Rattle.cx_script.specs.Parts.Progress.{Acted, TakesLine, behind_done, Came, Closes, Halts, SentAll, SentSome, Stopped, Seen}
+use Rattle.cx_script.specs.Parts.Progress.{TakesLine, Took, Came, Closes, Halts, SentAll, SentSome, Stopped, Seen}
 use Rattle.cx_lines.specs.Unbroken.{IsUnbroken}
 use Rattle.cx_actions.specs.declared.actions.Action.{Action}
 use Rattle.cx_blocks.specs.declared.faults.RunFault.{RunFault}
@@ -28,7 +29,7 @@ use Rattle.cx_lines.specs.declared.input.Ending.{Ending}
 use Rattle.cx_lines.specs.declared.input.Ending.TheVariants.{AtEnd, Failed, PastBound}
 use Rattle.cx_lines.specs.Facts.Lines.{line_met, none_met, begins_long, long_bytes, unbroken_append, BeginsLong}
 use Rattle.cx_script.proofs.OutcomeLemmas.{has_read}
-use Rattle.cx_script.proofs.RunLemmas.{front, of_line, runs_append, runs_line, led, reached_start, reached_line, stops_line, ended}
+use Rattle.cx_script.proofs.RunLemmas.{closes_behind, ended, front, halts_behind, own_fault, stops_line, took_line, took_none, took_trans}
 
 -- a line that is too long is a bad one
 pub no_step : (n : ℕ) (block : Option Block) (line : List ℕ) → is_too_long line ≡ true → step_at n block line ≡ Err (BadLine n)
@@ -38,32 +39,19 @@ no_step n block line e = ap (λ b. cond b (Err (BadLine n)) (step_in n block lin
 pub too_long_line : (n : ℕ) (block : Option Block) (bytes : List ℕ) → 4097 < length bytes → step_at n block (strip_carriage_return bytes) ≡ Err (BadLine n)
 too_long_line n block bytes h = no_step n block (strip_carriage_return bytes) (long_bytes bytes h)
 
-behind_append : (a b : List Action) (s : Script) → behind_done a (behind_done b s) ≡ behind_done (a ++ b) s
-behind_append a b s = ap (λ (l : List Action). let r : Script = record { actions = l; fault = s.fault } in r) (sym (append_assoc a b s.actions))
-
-before_done : (action : Option Action) (s : Script) → before action s ≡ behind_done (of_line action) s
-before_done None s = refl
-before_done (Some action) s = refl
-
 module _ {S : Type 0} (performs : S → Action → List ℕ → S → Type 0) where
   pub came_start : (old : S) (n : ℕ) (block : Option Block) (ahead : List ℕ) (w : Told) → Came performs old n block ahead w old n block ahead w
-  unfolding Runs
-  came_start old n block ahead w =
-      record { done = []; text = []; runs = (refl, refl); written = sends_nil w; splits = λ ending rest. refl; counts = λ ending rest. refl }
+  came_start old n block ahead w = record { lines = []; met = λ ending rest. refl; took = took_none performs old n block w }
 
   -- more bytes behind both
   pub came_more : (old mid : S) (n m : ℕ) (block next : Option Block) (ahead left more : List ℕ) (first after : Told)
       → Came performs old n block ahead first mid m next left after → Came performs old n block (ahead ++ more) first mid m next (left ++ more) after
   came_more old mid n m block next ahead left more first after c =
       record {
-        done = c.done;
-        text = c.text;
-        runs = c.runs;
-        written = c.written;
-        splits = λ ending rest. ap (λ l. script_from ending (n + 1) block (lines_met ending l)) (append_assoc ahead more rest) ∙ c.splits ending (more ++ rest)
-            ∙ ap (λ l. behind_done c.done (script_from ending (m + 1) next (lines_met ending l))) (sym (append_assoc left more rest));
-        counts = λ ending rest. ap (λ l. n + length (lines_met ending l)) (append_assoc ahead more rest) ∙ c.counts ending (more ++ rest)
-            ∙ ap (λ l. m + length (lines_met ending l)) (sym (append_assoc left more rest));
+        lines = c.lines;
+        met = λ ending rest. ap (lines_met ending) (append_assoc ahead more rest) ∙ c.met ending (more ++ rest)
+            ∙ ap (λ (l : List ℕ). c.lines ++ lines_met ending l) (sym (append_assoc left more rest));
+        took = c.took;
       }
 
   pub came_trans : (old mid new : S) (n m k : ℕ) (block next last : Option Block) (ahead left right : List ℕ) (first after end : Told)
@@ -71,152 +59,81 @@ module _ {S : Type 0} (performs : S → Action → List ℕ → S → Type 0) wh
       → Came performs old n block ahead first new k last right end
   came_trans old mid new n m k block next last ahead left right first after end c d =
       record {
-        done = c.done ++ d.done;
-        text = c.text ++ d.text;
-        runs = runs_append performs old c.done c.text mid d.done d.text new c.runs d.runs;
-        written = sends_trans first after end c.text d.text c.written d.written;
-        splits = λ ending rest. c.splits ending rest ∙ ap (behind_done c.done) (d.splits ending rest)
-            ∙ behind_append c.done d.done (script_from ending (k + 1) last (lines_met ending (right ++ rest)));
-        counts = λ ending rest. c.counts ending rest ∙ d.counts ending rest;
+        lines = c.lines ++ d.lines;
+        met = λ ending rest. c.met ending rest ∙ ap (λ (l : List (List ℕ)). c.lines ++ l) (d.met ending rest)
+            ∙ sym (append_assoc c.lines d.lines (lines_met ending (right ++ rest)));
+        took = took_trans performs old mid new n m k block next last c.lines d.lines first after end c.took d.took;
       }
 
   -- a line that an LF ends
   line_ahead : (ending : Ending) (line behind rest : List ℕ) → IsUnbroken line → lines_met ending ((line ++ 10 ∷ behind) ++ rest) ≡ strip_carriage_return line ∷ lines_met ending (behind ++ rest)
   line_ahead ending line behind rest u = ap (lines_met ending) (append_assoc line (10 ∷ behind) rest) ∙ line_met ending line (behind ++ rest) u
 
-  one_more : (n : ℕ) (line : List ℕ) (lines : List (List ℕ)) → n + length (line ∷ lines) ≡ n + 1 + length lines
-  one_more n line lines = omega arith
-
   pub came_line : (old new : S) (n : ℕ) (block next : Option Block) (line behind : List ℕ) (before after : Told)
-      → IsUnbroken line → TakesLine performs (step_at (n + 1) block (strip_carriage_return line)) old before (Ok tt) new after next
+      → IsUnbroken line → TakesLine performs (n + 1) (step_at (n + 1) block (strip_carriage_return line)) old before (Ok tt) new after next
       → Came performs old n block (line ++ 10 ∷ behind) before new (n + 1) next behind after
-  unfolding TakesLine Acted script_from
   came_line old new n block next line behind before after u t =
-      let step = t.0 in
       record {
-        done = of_line step.action;
-        text = t.3.0;
-        runs = runs_line performs old step.action t.3.0 new t.3.1;
-        written = t.3.2;
-        splits = λ ending rest. ap (λ l. script_from ending (n + 1) block l) (line_ahead ending line behind rest u)
-            ∙ led performs (step_at (n + 1) block (strip_carriage_return line)) step (λ b. script_from ending (n + 1 + 1) b (lines_met ending (behind ++ rest))) t.1
-            ∙ before_done step.action (script_from ending (n + 1 + 1) step.block (lines_met ending (behind ++ rest)))
-            ∙ ap (λ b. behind_done (of_line step.action) (script_from ending (n + 1 + 1) b (lines_met ending (behind ++ rest)))) (sym t.2);
-        counts = λ ending rest. ap (λ l. n + length l) (line_ahead ending line behind rest u) ∙ one_more n (strip_carriage_return line) (lines_met ending (behind ++ rest));
+        lines = strip_carriage_return line ∷ [];
+        met = λ ending rest. line_ahead ending line behind rest u;
+        took = took_line performs old new n block next (strip_carriage_return line) before after t;
       }
 
   -- ---- what was done before, and how the rest ended
-  wrote_all_more : (old mid : S) (done actions : List Action) (text : List ℕ) (first after last : Told) → Runs performs old done text mid → Sends first after text
-      → SentAll performs mid actions after last → SentAll performs old (done ++ actions) first last
-  wrote_all_more old mid done actions text first after last r a w =
-      record { text = text ++ w.text; new = w.new; runs = runs_append performs old done text mid actions w.text w.new r w.runs; written = sends_trans first after last text w.text a w.written }
-
-  wrote_some_more : (old mid : S) (done actions : List Action) (text : List ℕ) (first after last : Told) → Runs performs old done text mid → Sends first after text
-      → SentSome performs mid actions after last → SentSome performs old (done ++ actions) first last
-  wrote_some_more old mid done actions text first after last r a w =
-      record { text = text ++ w.text; new = w.new; runs = runs_append performs old done text mid actions w.text w.new r w.runs; written = sends_front first after last text w.text a w.written }
-
-  all_of : (old mid : S) (script left : Script) (done : List Action) (text : List ℕ) (first after last : Told) → script ≡ behind_done done left
-      → Runs performs old done text mid → Sends first after text → SentAll performs mid left.actions after last → SentAll performs old script.actions first last
-  all_of old mid script left done text first after last e r a w =
-      subst (λ (l : List Action). SentAll performs old l first last) (sym (ap (λ (s : Script). s.actions) e)) (wrote_all_more old mid done left.actions text first after last r a w)
-
-  front_of : (script left : Script) (done : List Action) (k : ℕ) → script ≡ behind_done done left → done ++ take k left.actions ≡ take (length done + k) script.actions
-  front_of script left done k e = sym (take-append-add done left.actions k) ∙ ap (λ (s : Script). take (length done + k) s.actions) (sym e)
-
-  own_stops : (old mid : S) (script left : Script) (done : List Action) (text : List ℕ) (fault : RunFault) (first after last : Told) → script ≡ behind_done done left
-      → Runs performs old done text mid → Sends first after text → (left.fault ≡ Some fault) × SentAll performs mid left.actions after last
-      → (script.fault ≡ Some fault) × SentAll performs old script.actions first last
-  own_stops old mid script left done text fault first after last e r a s =
-      (ap (λ (x : Script). x.fault) e ∙ s.0, all_of old mid script left done text first after last e r a s.1)
-
-  joined_stops : (old mid : S) (script left : Script) (done : List Action) (text : List ℕ) (fault : RunFault) (first after last : Told) → script ≡ behind_done done left
-      → Runs performs old done text mid → Sends first after text → Halts performs mid left fault after last → Halts performs old script fault first last
-  unfolding Halts
-  joined_stops old mid script left done text Memory first after last e r a s =
-      (length done + s.0, subst (λ (l : List Action). SentAll performs old l first last) (front_of script left done s.0 e) (wrote_all_more old mid done (take s.0 left.actions) text first after last r a s.1))
-  joined_stops old mid script left done text Write first after last e r a s =
-      (length done + s.0, subst (λ (l : List Action). SentSome performs old l first last) (front_of script left done s.0 e) (wrote_some_more old mid done (take s.0 left.actions) text first after last r a s.1))
-  joined_stops old mid script left done text (BadLine n) first after last e r a s = own_stops old mid script left done text (BadLine n) first after last e r a s
-  joined_stops old mid script left done text (Source n which) first after last e r a s = own_stops old mid script left done text (Source n which) first after last e r a s
-  joined_stops old mid script left done text Read first after last e r a s = own_stops old mid script left done text Read first after last e r a s
-  joined_stops old mid script left done text ReadBound first after last e r a s = own_stops old mid script left done text ReadBound first after last e r a s
-
-  joined_ends : (old mid : S) (script left : Script) (done : List Action) (text : List ℕ) (lines : ℕ) (answer : Result Summary RunFault) (first after last : Told) → script ≡ behind_done done left
-      → Runs performs old done text mid → Sends first after text → Closes performs mid left lines answer after last → Closes performs old script lines answer first last
-  joined_ends old mid script left done text lines (Ok s) first after last e r a h =
-      (ap (λ (x : Script). x.fault) e ∙ h.0, h.1, all_of old mid script left done text first after last e r a h.2)
-  joined_ends old mid script left done text lines (Err fault) first after last e r a h = joined_stops old mid script left done text fault first after last e r a h
-
   -- a run that stopped behind what was done
   pub came_stopped : (old mid : S) (n m : ℕ) (block next : Option Block) (ahead left : List ℕ) (fault : RunFault) (first after last : Told)
       → Came performs old n block ahead first mid m next left after → Stopped performs mid m next left fault after last → Stopped performs old n block ahead fault first last
   came_stopped old mid n m block next ahead left fault first after last c s =
       record {
-        stops = λ ending rest. joined_stops old mid (script_from ending (n + 1) block (lines_met ending (ahead ++ rest))) (script_from ending (m + 1) next (lines_met ending (left ++ rest)))
-            c.done c.text fault first after last (c.splits ending rest) c.runs c.written (s.stops ending rest);
+        stops = λ ending rest. subst (λ (l : List (List ℕ)). Halts performs old ending n block l fault first last) (sym (c.met ending rest))
+            (halts_behind performs old mid n m block next c.lines (lines_met ending (left ++ rest)) ending fault first after last c.took (s.stops ending rest));
       }
 
   -- a line that could not be taken
   pub line_stopped : (old new : S) (n : ℕ) (block next : Option Block) (line behind : List ℕ) (fault : RunFault) (before after : Told)
-      → IsUnbroken line → TakesLine performs (step_at (n + 1) block (strip_carriage_return line)) old before (Err fault) new after next
+      → IsUnbroken line → TakesLine performs (n + 1) (step_at (n + 1) block (strip_carriage_return line)) old before (Err fault) new after next
       → Stopped performs old n block (line ++ 10 ∷ behind) fault before after
   line_stopped old new n block next line behind fault before after u t =
       record {
-        stops = λ ending rest.
-            let lines = lines_met ending (behind ++ rest) in
-            let whole = script_from ending (n + 1) block (strip_carriage_return line ∷ lines) in
-            subst (λ (l : List (List ℕ)). Halts performs old (script_from ending (n + 1) block l) fault before after) (sym (line_ahead ending line behind rest u))
-            (stops_line performs old old new whole before before after ending (n + 1) block next (strip_carriage_return line) lines fault (reached_start performs old whole before) t);
+        stops = λ ending rest. subst (λ (l : List (List ℕ)). Halts performs old ending n block l fault before after) (sym (line_ahead ending line behind rest u))
+            (stops_line performs old new ending n block next (strip_carriage_return line) (lines_met ending (behind ++ rest)) fault before after t);
       }
 
   -- bytes that are too long already
   long_script : (old : S) (ending : Ending) (n : ℕ) (block : Option Block) (lines : List (List ℕ)) (before : Told) → BeginsLong lines
-      → Halts performs old (script_from ending n block lines) (BadLine n) before before
-  unfolding Halts Runs script_from
+      → Halts performs old ending n block lines (BadLine (n + 1)) before before
+  unfolding Halts
   long_script old ending n block [] before h = absurd h
-  long_script old ending n block (line ∷ lines) before h =
-      let bad = ap (λ d. led_to d (λ next. script_from ending (n + 1) next lines)) (no_step n block line h) in (
-        ap (λ (s : Script). s.fault) bad,
-        record { text = []; new = old; runs = subst (λ (l : List Action). Runs performs old l [] old) (sym (ap (λ (s : Script). s.actions) bad)) (refl, refl); written = sends_nil before },
-      )
+  long_script old ending n block (line ∷ lines) before h = own_fault performs old ending n block line lines (BadLine (n + 1)) before before (no_step (n + 1) block line h, refl)
 
   pub long_stopped : (old : S) (n : ℕ) (block : Option Block) (bytes : List ℕ) (before : Told) → IsUnbroken bytes → is_too_long (strip_carriage_return bytes) ≡ true
       → Stopped performs old n block bytes (BadLine (n + 1)) before before
   long_stopped old n block bytes before u h =
-      record { stops = λ ending rest. long_script old ending (n + 1) block (lines_met ending (bytes ++ rest)) before (begins_long ending bytes rest u h) }
+      record { stops = λ ending rest. long_script old ending n block (lines_met ending (bytes ++ rest)) before (begins_long ending bytes rest u h) }
 
   -- ---- the end
   pub finished : (old : S) (n : ℕ) (block : Option Block) (part : List ℕ) (ending : Ending) (before : Told) (r : Result Summary RunFault)
       → IsUnbroken part → last_met ending part ≡ [] → MatchOption (fault_at ending block) (IsOkAnd r (λ s. s.lines ≡ n)) (λ f. r ≡ Err f)
-      → Closes performs old (script_from ending (n + 1) block (lines_met ending part)) (n + length (lines_met ending part)) r before before
+      → Closes performs old ending n block (lines_met ending part) r before before
   finished old n block part ending before r u e h =
-      let none : lines_met ending part ≡ [] = none_met ending part u ∙ e in
-      let script = script_from ending (n + 1) block [] in
-      subst (λ (l : List (List ℕ)). Closes performs old (script_from ending (n + 1) block l) (n + length l) r before before) (sym none)
-      (subst (λ (k : ℕ). Closes performs old script k r before before) (let same : n ≡ n + 0 = omega arith in same)
-      (ended performs old old script before before ending (n + 1) n block (fault_at ending block) r refl (reached_start performs old script before) h))
+      subst (λ (l : List (List ℕ)). Closes performs old ending n block l r before before) (sym (none_met ending part u ∙ e)) (ended performs old ending n block r before h)
 
   pub finished_line : (old new : S) (n m : ℕ) (block next : Option Block) (part line : List ℕ) (ending : Ending) (before after : Told) (r : Result Summary RunFault)
-      → IsUnbroken part → last_met ending part ≡ line ∷ [] → TakesLine performs (step_at (n + 1) block line) old before (Ok tt) new after next → m ≡ n + 1
+      → IsUnbroken part → last_met ending part ≡ line ∷ [] → TakesLine performs (n + 1) (step_at (n + 1) block line) old before (Ok tt) new after next → m ≡ n + 1
       → MatchOption (fault_at ending next) (IsOkAnd r (λ s. s.lines ≡ m)) (λ f. r ≡ Err f)
-      → Closes performs old (script_from ending (n + 1) block (lines_met ending part)) (n + length (lines_met ending part)) r before after
+      → Closes performs old ending n block (lines_met ending part) r before after
   finished_line old new n m block next part line ending before after r u e t k h =
-      let one : lines_met ending part ≡ line ∷ [] = none_met ending part u ∙ e in
-      let script = script_from ending (n + 1) block (line ∷ []) in
-      let reached = reached_line performs old old new script before before after ending (n + 1) block next line [] (reached_start performs old script before) t in
-      subst (λ (l : List (List ℕ)). Closes performs old (script_from ending (n + 1) block l) (n + length l) r before after) (sym one)
-      (subst (λ (i : ℕ). Closes performs old script i r before after) k
-      (ended performs old new script before after ending (n + 1 + 1) m next (fault_at ending next) r refl reached h))
+      let last : Closes performs new ending (n + 1) next [] r after after =
+      subst (λ (i : ℕ). Closes performs new ending i next [] r after after) k (ended performs new ending m next r after h) in
+      subst (λ (l : List (List ℕ)). Closes performs old ending n block l r before after) (sym (none_met ending part u ∙ e))
+      (closes_behind performs old new n (n + 1) block next (line ∷ []) [] ending r before after after (took_line performs old new n block next line before after t) last)
 
   pub finished_badly : (old new : S) (n : ℕ) (block next : Option Block) (part line : List ℕ) (ending : Ending) (before after : Told) (fault : RunFault)
-      → IsUnbroken part → last_met ending part ≡ line ∷ [] → TakesLine performs (step_at (n + 1) block line) old before (Err fault) new after next
-      → Halts performs old (script_from ending (n + 1) block (lines_met ending part)) fault before after
+      → IsUnbroken part → last_met ending part ≡ line ∷ [] → TakesLine performs (n + 1) (step_at (n + 1) block line) old before (Err fault) new after next
+      → Halts performs old ending n block (lines_met ending part) fault before after
   finished_badly old new n block next part line ending before after fault u e t =
-      let one : lines_met ending part ≡ line ∷ [] = none_met ending part u ∙ e in
-      let script = script_from ending (n + 1) block (line ∷ []) in
-      subst (λ (l : List (List ℕ)). Halts performs old (script_from ending (n + 1) block l) fault before after) (sym one)
-      (stops_line performs old old new script before before after ending (n + 1) block next line [] fault (reached_start performs old script before) t)
+      subst (λ (l : List (List ℕ)). Halts performs old ending n block l fault before after) (sym (none_met ending part u ∙ e))
+      (stops_line performs old new ending n block next line [] fault before after t)
 
   -- ---- what waits is written, or a front of it
   sent_flushed : (old : S) (actions : List Action) (first : Told) (b c : Option (List ℕ)) (waits : List ℕ) → SentAll performs old actions first (told b waits) → Appends b c waits
@@ -232,67 +149,88 @@ module _ {S : Type 0} (performs : S → Action → List ℕ → S → Type 0) wh
   all_front old actions first b c waits s w =
       subst (λ (l : List Action). SentSome performs old l first (told c [])) (sym (take_all (length actions) actions (omega arith))) (sent_front old actions first b c waits s w)
 
-  halts_flushed : (old : S) (script : Script) (fault : RunFault) (first : Told) (b c : Option (List ℕ)) (waits : List ℕ) → (fault ≡ Write → ⊥) → Halts performs old script fault first (told b waits)
-      → Appends b c waits → Halts performs old script fault first (told c [])
+  halts_flushed : (old : S) (ending : Ending) (n : ℕ) (block : Option Block) (lines : List (List ℕ)) (fault : RunFault) (first : Told) (b c : Option (List ℕ)) (waits : List ℕ) → (fault ≡ Write → ⊥)
+      → Halts performs old ending n block lines fault first (told b waits) → Appends b c waits → Halts performs old ending n block lines fault first (told c [])
   unfolding Halts
-  halts_flushed old script Memory first b c waits n h w = (h.0, sent_flushed old (take h.0 script.actions) first b c waits h.1 w)
-  halts_flushed old script Write first b c waits n h w = absurd (n refl)
-  halts_flushed old script (BadLine m) first b c waits n h w = (h.0, sent_flushed old script.actions first b c waits h.1 w)
-  halts_flushed old script (Source m which) first b c waits n h w = (h.0, sent_flushed old script.actions first b c waits h.1 w)
-  halts_flushed old script Read first b c waits n h w = (h.0, sent_flushed old script.actions first b c waits h.1 w)
-  halts_flushed old script ReadBound first b c waits n h w = (h.0, sent_flushed old script.actions first b c waits h.1 w)
+  halts_flushed old ending n block lines Memory first b c waits not h w =
+      record {
+        line = h.line;
+        within = h.within;
+        led = h.led;
+        good = h.good;
+        done = sent_flushed old (script_from Failed (n + 1) block (take h.line lines)).actions first b c waits h.done w;
+      }
+  halts_flushed old ending n block lines Write first b c waits not h w = absurd (not refl)
+  halts_flushed old ending n block lines (BadLine m) first b c waits not h w = (h.0, sent_flushed old (script_from ending (n + 1) block lines).actions first b c waits h.1 w)
+  halts_flushed old ending n block lines (Source m which) first b c waits not h w = (h.0, sent_flushed old (script_from ending (n + 1) block lines).actions first b c waits h.1 w)
+  halts_flushed old ending n block lines Read first b c waits not h w = (h.0, sent_flushed old (script_from ending (n + 1) block lines).actions first b c waits h.1 w)
+  halts_flushed old ending n block lines ReadBound first b c waits not h w = (h.0, sent_flushed old (script_from ending (n + 1) block lines).actions first b c waits h.1 w)
 
-  halts_front : (old : S) (script : Script) (fault : RunFault) (first : Told) (b c : Option (List ℕ)) (waits : List ℕ) → (fault ≡ Write → ⊥) → Halts performs old script fault first (told b waits)
-      → WroteFront b c waits → Halts performs old script Write first (told c [])
+  halts_front : (old : S) (ending : Ending) (n : ℕ) (block : Option Block) (lines : List (List ℕ)) (fault : RunFault) (first : Told) (b c : Option (List ℕ)) (waits : List ℕ) → (fault ≡ Write → ⊥)
+      → Halts performs old ending n block lines fault first (told b waits) → WroteFront b c waits → Halts performs old ending n block lines Write first (told c [])
   unfolding Halts
-  halts_front old script Memory first b c waits n h w = (h.0, sent_front old (take h.0 script.actions) first b c waits h.1 w)
-  halts_front old script Write first b c waits n h w = absurd (n refl)
-  halts_front old script (BadLine m) first b c waits n h w = (length script.actions, all_front old script.actions first b c waits h.1 w)
-  halts_front old script (Source m which) first b c waits n h w = (length script.actions, all_front old script.actions first b c waits h.1 w)
-  halts_front old script Read first b c waits n h w = (length script.actions, all_front old script.actions first b c waits h.1 w)
-  halts_front old script ReadBound first b c waits n h w = (length script.actions, all_front old script.actions first b c waits h.1 w)
+  halts_front old ending n block lines Memory first b c waits not h w =
+      let front = (script_from Failed (n + 1) block (take h.line lines)).actions in (
+        length front,
+        subst (λ (l : List Action). SentSome performs old l first (told c [])) (sym (first_actions ending (n + 1) block lines h.line)) (sent_front old front first b c waits h.done w),
+      )
+  halts_front old ending n block lines Write first b c waits not h w = absurd (not refl)
+  halts_front old ending n block lines (BadLine m) first b c waits not h w = let all = (script_from ending (n + 1) block lines).actions in (length all, all_front old all first b c waits h.1 w)
+  halts_front old ending n block lines (Source m which) first b c waits not h w = let all = (script_from ending (n + 1) block lines).actions in (length all, all_front old all first b c waits h.1 w)
+  halts_front old ending n block lines Read first b c waits not h w = let all = (script_from ending (n + 1) block lines).actions in (length all, all_front old all first b c waits h.1 w)
+  halts_front old ending n block lines ReadBound first b c waits not h w = let all = (script_from ending (n + 1) block lines).actions in (length all, all_front old all first b c waits h.1 w)
 
   pub stopped_flushed : (old : S) (n : ℕ) (block : Option Block) (ahead : List ℕ) (fault : RunFault) (first : Told) (b c : Option (List ℕ)) (waits : List ℕ) → (fault ≡ Write → ⊥)
       → Stopped performs old n block ahead fault first (told b waits) → Appends b c waits → Stopped performs old n block ahead fault first (told c [])
   stopped_flushed old n block ahead fault first b c waits not s w =
-      record { stops = λ ending rest. halts_flushed old (script_from ending (n + 1) block (lines_met ending (ahead ++ rest))) fault first b c waits not (s.stops ending rest) w }
+      record { stops = λ ending rest. halts_flushed old ending n block (lines_met ending (ahead ++ rest)) fault first b c waits not (s.stops ending rest) w }
 
   pub stopped_front : (old : S) (n : ℕ) (block : Option Block) (ahead : List ℕ) (fault : RunFault) (first : Told) (b c : Option (List ℕ)) (waits : List ℕ) → (fault ≡ Write → ⊥)
       → Stopped performs old n block ahead fault first (told b waits) → WroteFront b c waits → Stopped performs old n block ahead Write first (told c [])
   stopped_front old n block ahead fault first b c waits not s w =
-      record { stops = λ ending rest. halts_front old (script_from ending (n + 1) block (lines_met ending (ahead ++ rest))) fault first b c waits not (s.stops ending rest) w }
+      record { stops = λ ending rest. halts_front old ending n block (lines_met ending (ahead ++ rest)) fault first b c waits not (s.stops ending rest) w }
 
   -- behind a failed write it doesn't matter what waits
-  halts_write : (old : S) (script : Script) (first : Told) (b : Option (List ℕ)) (waits : List ℕ) → Halts performs old script Write first (told b waits) → Halts performs old script Write first (told b [])
+  halts_write : (old : S) (ending : Ending) (n : ℕ) (block : Option Block) (lines : List (List ℕ)) (first : Told) (b : Option (List ℕ)) (waits : List ℕ)
+      → Halts performs old ending n block lines Write first (told b waits) → Halts performs old ending n block lines Write first (told b [])
   unfolding Halts
-  halts_write old script first b waits h = (h.0, record { text = h.1.text; new = h.1.new; runs = h.1.runs; written = h.1.written })
+  halts_write old ending n block lines first b waits h = (h.0, record { text = h.1.text; new = h.1.new; runs = h.1.runs; written = h.1.written })
 
   pub stopped_write : (old : S) (n : ℕ) (block : Option Block) (ahead : List ℕ) (first : Told) (b : Option (List ℕ)) (waits : List ℕ)
       → Stopped performs old n block ahead Write first (told b waits) → Stopped performs old n block ahead Write first (told b [])
   stopped_write old n block ahead first b waits s =
-      record { stops = λ ending rest. halts_write old (script_from ending (n + 1) block (lines_met ending (ahead ++ rest))) first b waits (s.stops ending rest) }
+      record { stops = λ ending rest. halts_write old ending n block (lines_met ending (ahead ++ rest)) first b waits (s.stops ending rest) }
+
+  took_flushed : (old mid : S) (n m : ℕ) (block next : Option Block) (lines : List (List ℕ)) (first : Told) (b c : Option (List ℕ)) (waits : List ℕ)
+      → Took performs old n block lines first mid m next (told b waits) → Appends b c waits → Took performs old n block lines first mid m next (told c [])
+  took_flushed old mid n m block next lines first b c waits d w =
+      record { done = d.done; text = d.text; runs = d.runs; written = sends_flushed first b c waits d.text d.written w; asks = d.asks; count = d.count }
 
   pub came_flushed : (old mid : S) (n m : ℕ) (block next : Option Block) (ahead left : List ℕ) (first : Told) (b c : Option (List ℕ)) (waits : List ℕ)
       → Came performs old n block ahead first mid m next left (told b waits) → Appends b c waits → Came performs old n block ahead first mid m next left (told c [])
   came_flushed old mid n m block next ahead left first b c waits d w =
-      record { done = d.done; text = d.text; runs = d.runs; written = sends_flushed first b c waits d.text d.written w; splits = d.splits; counts = d.counts }
+      record { lines = d.lines; met = d.met; took = took_flushed old mid n m block next d.lines first b c waits d.took w }
+
+  took_front : (old mid : S) (n m : ℕ) (block next : Option Block) (lines more : List (List ℕ)) (ending : Ending) (first : Told) (b c : Option (List ℕ)) (waits : List ℕ)
+      → Took performs old n block lines first mid m next (told b waits) → WroteFront b c waits → Halts performs old ending n block (lines ++ more) Write first (told c [])
+  unfolding Halts
+  took_front old mid n m block next lines more ending first b c waits d w =
+      let done = front (script_from ending (n + 1) block (lines ++ more)) d.done (script_from ending (m + 1) next more) (d.asks ending more) in (
+        length d.done,
+        record {
+          text = d.text;
+          new = mid;
+          runs = subst (λ (l : List Action). Runs performs old l d.text mid) (sym done) d.runs;
+          written = front_flushed first b c waits [] d.text d.written w;
+        },
+      )
 
   pub came_front : (old mid : S) (n m : ℕ) (block next : Option Block) (ahead left : List ℕ) (first : Told) (b c : Option (List ℕ)) (waits : List ℕ)
       → Came performs old n block ahead first mid m next left (told b waits) → WroteFront b c waits → Stopped performs old n block ahead Write first (told c [])
-  unfolding Halts
   came_front old mid n m block next ahead left first b c waits d w =
       record {
-        stops = λ ending rest.
-            let script = script_from ending (n + 1) block (lines_met ending (ahead ++ rest)) in
-            let done : take (length d.done) script.actions ≡ d.done = front performs script d.done (script_from ending (m + 1) next (lines_met ending (left ++ rest))) (d.splits ending rest) in (
-              length d.done,
-              record {
-                text = d.text;
-                new = mid;
-                runs = subst (λ (l : List Action). Runs performs old l d.text mid) (sym done) d.runs;
-                written = front_flushed first b c waits [] d.text d.written w;
-              },
-            );
+        stops = λ ending rest. subst (λ (l : List (List ℕ)). Halts performs old ending n block l Write first (told c [])) (sym (d.met ending rest))
+            (took_front old mid n m block next d.lines (lines_met ending (left ++ rest)) ending first b c waits d.took w);
       }
 
   -- ---- a piece that was taken, by its answer
@@ -333,19 +271,29 @@ module _ {S : Type 0} (performs : S → Action → List ℕ → S → Type 0) wh
   all_written : (old : S) (actions : List Action) (first last : Option (List ℕ)) → SentAll performs old actions (told first []) (told last []) → WroteAll performs old actions first last
   all_written old actions first last w = record { text = w.text; new = w.new; runs = w.runs; written = sends_written first last w.text w.written }
 
-  pub stopped_written : (old : S) (script : Script) (fault : RunFault) (first last : Option (List ℕ)) → Halts performs old script fault (told first []) (told last []) → Stops performs old script fault first last
-  unfolding Stops Halts
-  stopped_written old script Memory first last h = (h.0, all_written old (take h.0 script.actions) first last h.1)
-  stopped_written old script Write first last h = (h.0, record { text = h.1.text; new = h.1.new; runs = h.1.runs; written = h.1.written })
-  stopped_written old script (BadLine n) first last h = (h.0, all_written old script.actions first last h.1)
-  stopped_written old script (Source n which) first last h = (h.0, all_written old script.actions first last h.1)
-  stopped_written old script Read first last h = (h.0, all_written old script.actions first last h.1)
-  stopped_written old script ReadBound first last h = (h.0, all_written old script.actions first last h.1)
+  stopped_written : (old : S) (ending : Ending) (bytes : List ℕ) (fault : RunFault) (first last : Option (List ℕ))
+      → Halts performs old ending 0 None (lines_met ending bytes) fault (told first []) (told last []) → Stops performs old ending bytes fault first last
+  unfolding Stops Halts script_of
+  stopped_written old ending bytes Memory first last h =
+      let number : 0 + h.line + 1 ≡ h.line + 1 = omega arith in
+      record {
+        line = h.line;
+        within = inl h.within;
+        led = h.led;
+        good = λ bad. h.good (bad ∙ ap (λ (k : ℕ). let due : Option RunFault = Some (BadLine k) in due) (sym number));
+        done = all_written old (front_of (lines_met ending bytes) h.line).actions first last h.done;
+      }
+  stopped_written old ending bytes Write first last h = (h.0, record { text = h.1.text; new = h.1.new; runs = h.1.runs; written = h.1.written })
+  stopped_written old ending bytes (BadLine n) first last h = (h.0, all_written old (script_of ending bytes).actions first last h.1)
+  stopped_written old ending bytes (Source n which) first last h = (h.0, all_written old (script_of ending bytes).actions first last h.1)
+  stopped_written old ending bytes Read first last h = (h.0, all_written old (script_of ending bytes).actions first last h.1)
+  stopped_written old ending bytes ReadBound first last h = (h.0, all_written old (script_of ending bytes).actions first last h.1)
 
-  ends_written : (old : S) (script : Script) (lines : ℕ) (answer : Result Summary RunFault) (first last : Option (List ℕ)) → Closes performs old script lines answer (told first []) (told last [])
-      → Ends performs old script lines answer first last
-  ends_written old script lines (Ok s) first last h = (h.0, h.1, all_written old script.actions first last h.2)
-  ends_written old script lines (Err fault) first last h = stopped_written old script fault first last h
+  ends_written : (old : S) (ending : Ending) (bytes : List ℕ) (answer : Result Summary RunFault) (first last : Option (List ℕ))
+      → Closes performs old ending 0 None (lines_met ending bytes) answer (told first []) (told last []) → Ends performs old ending bytes answer first last
+  unfolding script_of
+  ends_written old ending bytes (Ok s) first last h = (h.0, omega (arith, h.1), all_written old (script_of ending bytes).actions first last h.2)
+  ends_written old ending bytes (Err fault) first last h = stopped_written old ending bytes fault first last h
 
   -- ---- from the script's beginning
   pub seen_start : (start : S) (left : Option (List ℕ)) (n : ℕ) (block : Option Block) (part : List ℕ) (w : Option (List ℕ)) → n ≡ 0 → block ≡ None → part ≡ []
@@ -370,26 +318,19 @@ module _ {S : Type 0} (performs : S → Action → List ℕ → S → Type 0) wh
       }
 
   ends_from : (start mid : S) (bytes part : List ℕ) (ending : Ending) (m : ℕ) (next : Option Block) (answer : Result Summary RunFault) (first after last : Option (List ℕ))
-      → Came performs start 0 None bytes (told first []) mid m next part (told after [])
-      → Closes performs mid (script_from ending (m + 1) next (lines_met ending part)) (m + length (lines_met ending part)) answer (told after []) (told last [])
-      → Ends performs start (script_of ending bytes) (line_count ending bytes) answer first last
-  unfolding script_of line_count
+      → Came performs start 0 None bytes (told first []) mid m next part (told after []) → Closes performs mid ending m next (lines_met ending part) answer (told after []) (told last [])
+      → Ends performs start ending bytes answer first last
   ends_from start mid bytes part ending m next answer first after last c h =
-      let split : script_from ending 1 None (lines_met ending bytes) ≡ behind_done c.done (script_from ending (m + 1) next (lines_met ending part)) =
-      ap (λ (l : List ℕ). script_from ending 1 None (lines_met ending l)) (sym (append-nil bytes)) ∙ c.splits ending []
-      ∙ ap (λ (l : List ℕ). behind_done c.done (script_from ending (m + 1) next (lines_met ending l))) (append-nil part) in
-      let count : m + length (lines_met ending part) ≡ length (lines_met ending bytes) =
-      ap (λ (l : List ℕ). m + length (lines_met ending l)) (sym (append-nil part)) ∙ sym (c.counts ending []) ∙ zero-add (length (lines_met ending (bytes ++ [])))
-      ∙ ap (λ (l : List ℕ). length (lines_met ending l)) (append-nil bytes) in
-      ends_written start (script_from ending 1 None (lines_met ending bytes)) (length (lines_met ending bytes)) answer first last
-      (subst (λ (k : ℕ). Closes performs start (script_from ending 1 None (lines_met ending bytes)) k answer (told first []) (told last [])) count
-      (joined_ends start mid (script_from ending 1 None (lines_met ending bytes)) (script_from ending (m + 1) next (lines_met ending part)) c.done c.text (m + length (lines_met ending part)) answer
-      (told first []) (told after []) (told last []) split c.runs c.written h))
+      let met : lines_met ending bytes ≡ c.lines ++ lines_met ending part =
+      ap (lines_met ending) (sym (append-nil bytes)) ∙ c.met ending [] ∙ ap (λ (l : List ℕ). c.lines ++ lines_met ending l) (append-nil part) in
+      ends_written start ending bytes answer first last
+      (subst (λ (l : List (List ℕ)). Closes performs start ending 0 None l answer (told first []) (told last [])) (sym met)
+      (closes_behind performs start mid 0 m None next c.lines (lines_met ending part) ending answer (told first []) (told after []) (told last []) c.took h))
 
   pub ran_finished : (start mid : S) (left now : Option (List ℕ)) (failed : Bool) (bytes part : List ℕ) (ending : Ending) (m : ℕ) (next : Option Block) (answer : Result Summary RunFault) (first after last : Option (List ℕ))
       → Reads most_bytes ending left now bytes → length bytes ≤ most_bytes → failed ≡ is_failure ending
       → Came performs start 0 None bytes (told first []) mid m next part (told after [])
-      → Closes performs mid (script_from ending (m + 1) next (lines_met ending part)) (m + length (lines_met ending part)) answer (told after []) (told last [])
+      → Closes performs mid ending m next (lines_met ending part) answer (told after []) (told last [])
       → RanScript performs start left now failed answer first last
   ran_finished start mid left now failed bytes part ending m next answer first after last r few f c h =
       record { bytes = bytes; ending = ending; read = has_read answer ending left now bytes r; within = few; failure = f; ends = ends_from start mid bytes part ending m next answer first after last c h }
@@ -397,10 +338,9 @@ module _ {S : Type 0} (performs : S → Action → List ℕ → S → Type 0) wh
   -- ---- why no more was read
   -- of bytes that were read in front of some more, where a run stopped in them
   stops_on : (start : S) (seen rest bytes : List ℕ) (fault : RunFault) (ending : Ending) (first last : Option (List ℕ)) → Stopped performs start 0 None seen fault (told first []) (told last []) → seen ++ rest ≡ bytes
-      → Ends performs start (script_of ending bytes) (line_count ending bytes) (Err fault) first last
-  unfolding script_of
-  stops_on start seen rest bytes fault ending first last s e = stopped_written start (script_from ending 1 None (lines_met ending bytes)) fault first last
-      (subst (λ (l : List ℕ). Halts performs start (script_from ending 1 None (lines_met ending l)) fault (told first []) (told last [])) e (s.stops ending rest))
+      → Ends performs start ending bytes (Err fault) first last
+  stops_on start seen rest bytes fault ending first last s e = stopped_written start ending bytes fault first last
+      (subst (λ (l : List ℕ). Halts performs start ending 0 None (lines_met ending l) fault (told first []) (told last [])) e (s.stops ending rest))
 
   fronts : (most : ℕ) (seen more : List ℕ) → length seen ≤ most → seen ++ take (most - length seen) more ≡ take most (seen ++ more)
   fronts most seen more few =
@@ -437,7 +377,7 @@ module _ {S : Type 0} (performs : S → Action → List ℕ → S → Type 0) wh
 
   pub ran_failed : (start mid : S) (left now then : Option (List ℕ)) (failed : Bool) (read m : ℕ) (next : Option Block) (part : List ℕ) (answer : Result Summary RunFault) (first after last : Option (List ℕ))
       → Seen performs start left now read mid m next part first after → Keeps now then → read ≤ 16777216 → failed ≡ true
-      → Closes performs mid (script_from Failed (m + 1) next (lines_met Failed part)) (m + length (lines_met Failed part)) answer (told after []) (told last [])
+      → Closes performs mid Failed m next (lines_met Failed part) answer (told after []) (told last [])
       → RanScript performs start left then failed answer first last
   unfolding most_bytes
   ran_failed start mid left now then failed read m next part answer first after last s k few f h =
@@ -445,7 +385,7 @@ module _ {S : Type 0} (performs : S → Action → List ℕ → S → Type 0) wh
 
   pub ran_at_end : (start mid : S) (left now then : Option (List ℕ)) (failed : Bool) (read n m : ℕ) (buffer : List ℕ) (next : Option Block) (part : List ℕ) (answer : Result Summary RunFault) (first after last : Option (List ℕ))
       → Seen performs start left now read mid m next part first after → n ≡ 0 → Consumes now then (take n buffer) → IsAtEnd then → read ≤ 16777216 → failed ≡ false
-      → Closes performs mid (script_from AtEnd (m + 1) next (lines_met AtEnd part)) (m + length (lines_met AtEnd part)) answer (told after []) (told last [])
+      → Closes performs mid AtEnd m next (lines_met AtEnd part) answer (told after []) (told last [])
       → RanScript performs start left then failed answer first last
   unfolding most_bytes
   ran_at_end start mid left now then failed read n m buffer next part answer first after last s e c end few f h =
@@ -491,7 +431,7 @@ module _ {S : Type 0} (performs : S → Action → List ℕ → S → Type 0) wh
   pub ran_past : (start old mid : S) (left now then : Option (List ℕ)) (failed : Bool) (read taken room n m : ℕ) (block next : Option Block) (part last piece buffer : List ℕ) (answer : Result Summary RunFault) (first before after end : Option (List ℕ))
       → Seen performs start left now read old n block part first before → Consumes now then (take taken buffer) → piece ≡ take room buffer → room < taken → taken ≤ length buffer
       → read + room ≡ 16777216 → failed ≡ false → Came performs old n block (part ++ piece) (told before []) mid m next last (told after [])
-      → Closes performs mid (script_from PastBound (m + 1) next (lines_met PastBound last)) (m + length (lines_met PastBound last)) answer (told after []) (told end [])
+      → Closes performs mid PastBound m next (lines_met PastBound last) answer (told after []) (told end [])
       → RanScript performs start left then failed answer first end
   unfolding most_bytes
   ran_past start old mid left now then failed read taken room n m block next part last piece buffer answer first before after end s c e less few bound f d h =
@@ -510,7 +450,7 @@ module _ {S : Type 0} (performs : S → Action → List ℕ → S → Type 0) wh
 
   pub piece_line_stopped : (old mid new : S) (n m : ℕ) (block next last : Option Block) (ahead part rest bytes behind : List ℕ) (fault : RunFault) (first after end : Told)
       → Came performs old n block ahead first mid m next (part ++ rest) after → rest ≡ bytes ++ 10 ∷ behind → IsUnbroken part → IsUnbroken bytes
-      → TakesLine performs (step_at (m + 1) next (strip_carriage_return (part ++ bytes))) mid after (Err fault) new end last
+      → TakesLine performs (m + 1) (step_at (m + 1) next (strip_carriage_return (part ++ bytes))) mid after (Err fault) new end last
       → Stopped performs old n block ahead fault first end
   piece_line_stopped old mid new n m block next last ahead part rest bytes behind fault first after end c e u v t =
       came_stopped old mid n m block next ahead ((part ++ bytes) ++ 10 ∷ behind) fault first after end
@@ -519,7 +459,7 @@ module _ {S : Type 0} (performs : S → Action → List ℕ → S → Type 0) wh
 
   pub piece_line : (old mid new : S) (n m k : ℕ) (block next last : Option Block) (ahead part rest bytes behind empty : List ℕ) (first after end : Told)
       → Came performs old n block ahead first mid m next (part ++ rest) after → rest ≡ bytes ++ 10 ∷ behind → IsUnbroken part → IsUnbroken bytes
-      → TakesLine performs (step_at (m + 1) next (strip_carriage_return (part ++ bytes))) mid after (Ok tt) new end last → k ≡ m + 1 → empty ≡ []
+      → TakesLine performs (m + 1) (step_at (m + 1) next (strip_carriage_return (part ++ bytes))) mid after (Ok tt) new end last → k ≡ m + 1 → empty ≡ []
       → Came performs old n block ahead first new k last (empty ++ behind) end
   piece_line old mid new n m k block next last ahead part rest bytes behind empty first after end c e u v t lines none =
       subst (λ (i : ℕ). Came performs old n block ahead first new i last (empty ++ behind) end) (sym lines)

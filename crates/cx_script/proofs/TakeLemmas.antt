@@ -15,54 +15,56 @@ nothing : (before after : Option (List ℕ)) (waits : List ℕ) → told after w
 nothing before after waits e = ap (λ (t : Told). told t.written []) e
 
 module _ {S : Type 0} (performs : S → Action → List ℕ → S → Type 0) where
-  own : (due : Result Step RunFault) (met fault : RunFault) (old : S) (before : Told) (block : Option Block)
-      → met ≡ fault → TakesLine performs due old before (Err met) old before block → TakesLine performs due old before (Err fault) old before block
-  own due met fault old before block e t = subst (λ f. TakesLine performs due old before (Err f) old before block) e t
+  own : (number : ℕ) (due : Result Step RunFault) (met fault : RunFault) (old : S) (before : Told) (block : Option Block)
+      → met ≡ fault → TakesLine performs number due old before (Err met) old before block → TakesLine performs number due old before (Err fault) old before block
+  own number due met fault old before block e t = subst (λ f. TakesLine performs number due old before (Err f) old before block) e t
 
-  -- a line's own fault, or want of memory
-  pub line_faulty : (due r : Result Step RunFault) (fault : RunFault) (old : S) (before : Told) (block : Option Block)
-      → r ≡ Err fault → (is_memory r ≡ false → r ≡ due) → is_write r ≡ false → TakesLine performs due old before (Err fault) old before block
+  -- a line's own fault, or want of memory where it isn't a bad one
+  pub line_faulty : (number : ℕ) (due r : Result Step RunFault) (fault : RunFault) (old : S) (before : Told) (block : Option Block)
+      → r ≡ Err fault → (is_memory r ≡ false → r ≡ due) → (due ≡ Err (BadLine number) → r ≡ Err (BadLine number)) → is_write r ≡ false
+      → TakesLine performs number due old before (Err fault) old before block
   unfolding TakesLine
-  line_faulty due (Ok step) fault old before block e h w = cc
-  line_faulty due (Err (BadLine m)) fault old before block e h w = let same : (BadLine m) ≡ fault = cc in own due (BadLine m) fault old before block same (sym (h refl), refl)
-  line_faulty due (Err (Source m which)) fault old before block e h w = let same : (Source m which) ≡ fault = cc in own due (Source m which) fault old before block same (sym (h refl), refl)
-  line_faulty due (Err Read) fault old before block e h w = let same : Read ≡ fault = cc in own due Read fault old before block same (sym (h refl), refl)
-  line_faulty due (Err ReadBound) fault old before block e h w = let same : ReadBound ≡ fault = cc in own due ReadBound fault old before block same (sym (h refl), refl)
-  line_faulty due (Err Write) fault old before block e h w = cc
-  line_faulty due (Err Memory) fault old before block e h w = let same : Memory ≡ fault = cc in subst (λ f. TakesLine performs due old before (Err f) old before block) same refl
+  line_faulty number due (Ok step) fault old before block e h bad w = cc
+  line_faulty number due (Err (BadLine m)) fault old before block e h bad w = let same : (BadLine m) ≡ fault = cc in own number due (BadLine m) fault old before block same (sym (h refl), refl)
+  line_faulty number due (Err (Source m which)) fault old before block e h bad w = let same : (Source m which) ≡ fault = cc in own number due (Source m which) fault old before block same (sym (h refl), refl)
+  line_faulty number due (Err Read) fault old before block e h bad w = let same : Read ≡ fault = cc in own number due Read fault old before block same (sym (h refl), refl)
+  line_faulty number due (Err ReadBound) fault old before block e h bad w = let same : ReadBound ≡ fault = cc in own number due ReadBound fault old before block same (sym (h refl), refl)
+  line_faulty number due (Err Write) fault old before block e h bad w = cc
+  line_faulty number due (Err Memory) fault old before block e h bad w =
+      let same : Memory ≡ fault = cc in own number due Memory fault old before block same ((λ is. let told = bad is in cc), refl)
 
-  pub line_acted : (due : Result Step RunFault) (step : Step) (old new : S) (before after : Told) (r : Result (Unit {0}) RunFault)
+  pub line_acted : (number : ℕ) (due : Result Step RunFault) (step : Step) (old new : S) (before after : Told) (r : Result (Unit {0}) RunFault)
       → due ≡ Ok step → Acted performs step.action old before r new after
-      → TakesLine performs due old before r new after step.block
+      → TakesLine performs number due old before r new after step.block
   unfolding TakesLine Acted
-  line_acted due step old new before after (Ok done) e a = (step, e, refl, a)
-  line_acted due step old new before after (Err Memory) e a = a
-  line_acted due step old new before after (Err Write) e a = (step, e, a)
-  line_acted due step old new before after (Err (BadLine m)) e a = absurd a
-  line_acted due step old new before after (Err (Source m which)) e a = absurd a
-  line_acted due step old new before after (Err Read) e a = absurd a
-  line_acted due step old new before after (Err ReadBound) e a = absurd a
+  line_acted number due step old new before after (Ok done) e a = (step, e, refl, a)
+  line_acted number due step old new before after (Err Memory) e a = ((λ bad. cc), a)
+  line_acted number due step old new before after (Err Write) e a = (step, e, a)
+  line_acted number due step old new before after (Err (BadLine m)) e a = absurd a
+  line_acted number due step old new before after (Err (Source m which)) e a = absurd a
+  line_acted number due step old new before after (Err Read) e a = absurd a
+  line_acted number due step old new before after (Err ReadBound) e a = absurd a
 
   -- ---- a line behind which what waits is written
-  pub line_written : (due : Result Step RunFault) (old new : S) (before after : Option (List ℕ)) (mid : Option (List ℕ)) (waits : List ℕ) (block : Option Block)
-      → TakesLine performs due old (told before []) (Ok tt) new (told mid waits) block → Appends mid after waits
-      → TakesLine performs due old (told before []) (Ok tt) new (told after []) block
+  pub line_written : (number : ℕ) (due : Result Step RunFault) (old new : S) (before after : Option (List ℕ)) (mid : Option (List ℕ)) (waits : List ℕ) (block : Option Block)
+      → TakesLine performs number due old (told before []) (Ok tt) new (told mid waits) block → Appends mid after waits
+      → TakesLine performs number due old (told before []) (Ok tt) new (told after []) block
   unfolding TakesLine Acted
-  line_written due old new before after mid waits block t w = (t.0, t.1, t.2, (t.3.0, t.3.1, sends_flushed (told before []) mid after waits t.3.0 t.3.2 w))
+  line_written number due old new before after mid waits block t w = (t.0, t.1, t.2, (t.3.0, t.3.1, sends_flushed (told before []) mid after waits t.3.0 t.3.2 w))
 
-  pub line_unwritten : (due : Result Step RunFault) (old new : S) (before after : Option (List ℕ)) (mid : Option (List ℕ)) (waits : List ℕ) (block : Option Block)
-      → TakesLine performs due old (told before []) (Ok tt) new (told mid waits) block → WroteFront mid after waits
-      → TakesLine performs due old (told before []) (Err Write) new (told after []) block
+  pub line_unwritten : (number : ℕ) (due : Result Step RunFault) (old new : S) (before after : Option (List ℕ)) (mid : Option (List ℕ)) (waits : List ℕ) (block : Option Block)
+      → TakesLine performs number due old (told before []) (Ok tt) new (told mid waits) block → WroteFront mid after waits
+      → TakesLine performs number due old (told before []) (Err Write) new (told after []) block
   unfolding TakesLine Acted
-  line_unwritten due old new before after mid waits block t w = (t.0, t.1, (t.3.0, t.3.1, front_flushed (told before []) mid after waits [] t.3.0 t.3.2 w))
+  line_unwritten number due old new before after mid waits block t w = (t.0, t.1, (t.3.0, t.3.1, front_flushed (told before []) mid after waits [] t.3.0 t.3.2 w))
 
   -- where nothing waited, nothing waits behind a fault
-  pub line_failed : (due : Result Step RunFault) (fault : RunFault) (old new : S) (before after : Option (List ℕ)) (waits : List ℕ) (block : Option Block)
-      → TakesLine performs due old (told before []) (Err fault) new (told after waits) block → TakesLine performs due old (told before []) (Err fault) new (told after []) block
+  pub line_failed : (number : ℕ) (due : Result Step RunFault) (fault : RunFault) (old new : S) (before after : Option (List ℕ)) (waits : List ℕ) (block : Option Block)
+      → TakesLine performs number due old (told before []) (Err fault) new (told after waits) block → TakesLine performs number due old (told before []) (Err fault) new (told after []) block
   unfolding TakesLine Acted
-  line_failed due (BadLine n) old new before after waits block t = (t.0, nothing before after waits t.1)
-  line_failed due (Source n which) old new before after waits block t = (t.0, nothing before after waits t.1)
-  line_failed due Read old new before after waits block t = (t.0, nothing before after waits t.1)
-  line_failed due ReadBound old new before after waits block t = (t.0, nothing before after waits t.1)
-  line_failed due Memory old new before after waits block t = nothing before after waits t
-  line_failed due Write old new before after waits block t = t
+  line_failed number due (BadLine n) old new before after waits block t = (t.0, nothing before after waits t.1)
+  line_failed number due (Source n which) old new before after waits block t = (t.0, nothing before after waits t.1)
+  line_failed number due Read old new before after waits block t = (t.0, nothing before after waits t.1)
+  line_failed number due ReadBound old new before after waits block t = (t.0, nothing before after waits t.1)
+  line_failed number due Memory old new before after waits block t = (t.0, nothing before after waits t.1)
+  line_failed number due Write old new before after waits block t = t

@@ -3,7 +3,6 @@ use Rattle.std.proofs.Common.{◌≡◌, ℕ, ◌≤◌, List, [], ◌∷◌, �
 use Rattle.std.specs.List.{slice_split}
 use Rattle.std.specs.Str.Lines.{lines, lines_of_parts as std_lines_of_parts, strip_carriage_return}
 use Rattle.cx_lines.specs.Lines.{lines_met, lines_of_parts}
-use Rattle.cx_script.specs.Script.{script_of, line_count}
 use Rattle.cx_script.specs.Transcript.{Runs, Ends}
 use Rattle.cx_lines.specs.Input.{Reads, most_bytes}
 use Rattle.cx_actions.specs.Effects.{Performs, fresh_state}
@@ -26,9 +25,8 @@ same_lines_met bytes = same_parts (slice_split (λ b. b == 10) bytes)
 -- an Ok is the whole script, where the reader tells its bytes
 whole_by : (ending : Ending) (bytes : List ℕ) (left left_after written written_after : Option (List ℕ)) (summary : Summary)
     → Reads most_bytes ending left left_after bytes → length bytes ≤ most_bytes
-    → Ends Performs fresh_state (script_of ending bytes) (line_count ending bytes) (Ok summary) written written_after
+    → Ends Performs fresh_state ending bytes (Ok summary) written written_after
     → IfSome left (λ input. IsTranscribed input summary.lines written written_after)
-unfolding line_count
 whole_by AtEnd bytes None left_after written written_after summary r few e = tt
 whole_by AtEnd bytes (Some input) left_after written written_after summary r few e =
     subst (λ b. IsTranscribed b summary.lines written written_after) (sym r)

@@ -4,6 +4,7 @@ pub mod Transcript
 pub mod Outcome
 pub mod Laws
 pub mod Parts
+pub mod Facts
 pub use Rattle.cx_blocks.specs.ImageBlock
 pub use Rattle.cx_blocks.specs.SourceBlock
 pub use Rattle.cx_blocks.specs.Blocks

@@ -1,24 +1,16 @@
 -- What a run of a script answers, by the bytes that its devices tell (own).
-use Rattle.std.specs.Prelude.{◌≡◌, ℕ, ◌≤◌, Bool, ◌++◌, List, length, Option, Result, Err, IfSome}
+use Rattle.std.specs.Prelude.{◌≡◌, ℕ, ◌≤◌, ◌⊎◌, Bool, List, [], length, Option, Result, Err}
 use Rattle.cx_lines.specs.Input.{Reads, is_failure, most_bytes}
-use Rattle.cx_script.specs.Script.{script_of, line_count}
 use Rattle.cx_script.specs.Transcript.{Ends}
 use Rattle.cx_actions.specs.declared.actions.Action.{Action}
 use Rattle.cx_blocks.specs.declared.faults.RunFault.{RunFault}
 use Rattle.cx_blocks.specs.declared.faults.RunFault.TheVariants.{Memory}
 use Rattle.cx_blocks.specs.declared.faults.Summary.{Summary}
 use Rattle.cx_lines.specs.declared.input.Ending.{Ending}
-use Rattle.cx_lines.specs.declared.input.Ending.TheVariants.{AtEnd}
 
--- the bytes are a front of those that were there
-abbrev pub IsFront : Option (List ℕ) → List ℕ → Type 0
-IsFront before bytes = IfSome before (λ input. (rest : List ℕ) × (input ≡ bytes ++ rest))
-
--- What was read. Without memory it is some front of what the device has, whose complete lines count; bytes behind its
--- last LF are a line only where the front is all that the device has.
+-- what was read; without memory it may be that nothing was
 abbrev pub HasRead : Result Summary RunFault → Ending → Option (List ℕ) → Option (List ℕ) → List ℕ → Type 0
-HasRead (Err Memory) AtEnd before after bytes = Reads most_bytes AtEnd before after bytes
-HasRead (Err Memory) ending before after bytes = IsFront before bytes
+HasRead (Err Memory) ending before after bytes = Reads most_bytes ending before after bytes ⊎ ((bytes ≡ []) × (after ≡ before))
 HasRead answer ending before after bytes = Reads most_bytes ending before after bytes
 
 -- A run of a script from some state on, over actions that do what `performs` says: the bytes that were read, why no more
@@ -30,4 +22,4 @@ pub record RanScript {S : Type 0} (performs : S → Action → List ℕ → S �
   pub read : HasRead answer ending left left_after bytes
   pub within : length bytes ≤ most_bytes
   pub failure : failed ≡ is_failure ending
-  pub ends : Ends performs start (script_of ending bytes) (line_count ending bytes) answer written written_after
+  pub ends : Ends performs start ending bytes answer written written_after

@@ -1,5 +1,5 @@
 -- What a script asks: its actions in order, up to its first fault (own).
-use Rattle.std.specs.Prelude.{ℕ, ◌+◌, Option, Some, None, Result, Ok, Err, List, [], ◌∷◌, length}
+use Rattle.std.specs.Prelude.{ℕ, ◌+◌, Option, Some, None, Result, Ok, Err, List, [], ◌∷◌}
 use Rattle.cx_actions.specs.declared.actions.Action.{Action}
 use Rattle.cx_blocks.specs.declared.faults.RunFault.{RunFault}
 use Rattle.cx_blocks.specs.declared.faults.RunFault.TheVariants as fault
@@ -42,7 +42,3 @@ script_from ending number block (line ∷ lines) =
 -- the script that these bytes are
 unfoldable pub script_of : Ending → List ℕ → Script
 script_of ending bytes = script_from ending 1 None (lines_met ending bytes)
-
--- how many lines it has
-unfoldable pub line_count : Ending → List ℕ → ℕ
-line_count ending bytes = length (lines_met ending bytes)

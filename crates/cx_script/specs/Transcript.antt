@@ -1,11 +1,14 @@
 -- A run of a script: what its actions did in order, and the transcript (own).
-use Rattle.std.specs.Prelude.{◌≡◌, ℕ, Option, Some, None, Result, Ok, Err, List, [], ◌∷◌, ◌++◌, take}
+use Rattle.std.specs.Prelude.{◌≡◌, ℕ, ◌+◌, ◌<◌, ◌⊎◌, Option, Some, None, Result, Ok, Err, List, [], ◌∷◌, ◌++◌, length, take}
 use Rattle.std.specs.Io.KnownBytes.{Appends}
 use Rattle.cx_lines.specs.Devices.{WroteFront}
-use Rattle.cx_script.specs.Script.{Script}
+use Rattle.cx_lines.specs.Lines.{lines_met}
+use Rattle.cx_lines.specs.declared.input.Ending.{Ending}
+use Rattle.cx_lines.specs.declared.input.Ending.TheVariants.{Failed}
+use Rattle.cx_script.specs.Script.{Script, script_from, script_of}
 use Rattle.cx_actions.specs.declared.actions.Action.{Action}
 use Rattle.cx_blocks.specs.declared.faults.RunFault.{RunFault}
-use Rattle.cx_blocks.specs.declared.faults.RunFault.TheVariants.{Write, Memory}
+use Rattle.cx_blocks.specs.declared.faults.RunFault.TheVariants.{BadLine, Read, Write, Memory}
 use Rattle.cx_blocks.specs.declared.faults.Summary.{Summary}
 
 -- Actions one after another on some state, and the transcript: what each writes, in order. `performs` is one action: the
@@ -30,15 +33,30 @@ pub record WroteSome {S : Type 0} (performs : S → Action → List ℕ → S �
   pub runs : Runs performs old actions text new
   pub written : WroteFront before after text
 
--- How a run of a script stopped. Without memory some of its actions are done and written; after a failed write so, but
--- of the transcript only a front; any other fault is the script's own, and everything in front of it is done and written.
-unfoldable pub Stops : {S : Type 0} → (S → Action → List ℕ → S → Type 0) → S → Script → RunFault → Option (List ℕ) → Option (List ℕ) → Type 0
-Stops performs old script Memory before after = (n : ℕ) × WroteAll performs old (take n script.actions) before after
-Stops performs old script Write before after = (n : ℕ) × WroteSome performs old (take n script.actions) before after
-Stops performs old script fault before after = (script.fault ≡ Some fault) × WroteAll performs old script.actions before after
+-- what the first so many lines ask, as if no more could be read
+abbrev pub front_of : List (List ℕ) → ℕ → Script
+front_of lines n = script_from Failed 1 None (take n lines)
 
--- How a run of a script of so many lines ended: all of its actions are done and written, or it stopped.
-abbrev pub Ends : {S : Type 0} → (S → Action → List ℕ → S → Type 0) → S → Script → ℕ → Result Summary RunFault → Option (List ℕ) → Option (List ℕ) → Type 0
-Ends performs old script lines (Ok summary) before after =
-    (script.fault ≡ None) × (summary.lines ≡ lines) × WroteAll performs old script.actions before after
-Ends performs old script lines (Err fault) before after = Stops performs old script fault before after
+-- A run without memory stopped at a line, or before it had any: those in front of it have no fault, and are done and written;
+-- and it isn't a bad one.
+pub record StoppedAt {S : Type 0} (performs : S → Action → List ℕ → S → Type 0) (old : S) (lines : List (List ℕ)) (before after : Option (List ℕ)) : Type 0 where
+  -- how many stand in front of it
+  pub line : ℕ
+  pub within : (line < length lines) ⊎ (lines ≡ [])
+  pub led : (front_of lines line).fault ≡ Some Read
+  pub good : (front_of lines (line + 1)).fault ≡ Some (BadLine (line + 1)) → ⊥
+  pub done : WroteAll performs old (front_of lines line).actions before after
+
+-- How a run of the script that these bytes are stopped. Without memory it stopped at a line; after a failed write some of its
+-- actions are done, and a front of their transcript is written; any other fault is the script's own, and everything in front of
+-- it is done and written.
+unfoldable pub Stops : {S : Type 0} → (S → Action → List ℕ → S → Type 0) → S → Ending → List ℕ → RunFault → Option (List ℕ) → Option (List ℕ) → Type 0
+Stops performs old ending bytes Memory before after = StoppedAt performs old (lines_met ending bytes) before after
+Stops performs old ending bytes Write before after = (n : ℕ) × WroteSome performs old (take n (script_of ending bytes).actions) before after
+Stops performs old ending bytes fault before after = ((script_of ending bytes).fault ≡ Some fault) × WroteAll performs old (script_of ending bytes).actions before after
+
+-- How it ended: all of its actions are done and written, or it stopped.
+abbrev pub Ends : {S : Type 0} → (S → Action → List ℕ → S → Type 0) → S → Ending → List ℕ → Result Summary RunFault → Option (List ℕ) → Option (List ℕ) → Type 0
+Ends performs old ending bytes (Ok summary) before after =
+    ((script_of ending bytes).fault ≡ None) × (summary.lines ≡ length (lines_met ending bytes)) × WroteAll performs old (script_of ending bytes).actions before after
+Ends performs old ending bytes (Err fault) before after = Stops performs old ending bytes fault before after

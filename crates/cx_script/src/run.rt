@@ -6,7 +6,7 @@ ghost use Rattle.cx_blocks.specs.Blocks.{step_at};
 ghost use Rattle.cx_lines.specs.Input.{is_failure};
 ghost use Rattle.cx_lines.specs.Lines.{is_too_long, lines_met};
 ghost use Rattle.cx_script.specs.Outcome.{RanScript};
-ghost use Rattle.cx_script.specs.Script.{fault_at, script_from};
+ghost use Rattle.cx_script.specs.Script.{fault_at};
 ghost use Rattle.cx_blocks.specs.Faults.{is_read, is_write};
 ghost use Rattle.cx_actions.specs.Allowed.{IsAllowed};
 ghost use Rattle.cx_script.specs.Parts.Progress.{Acted, Came, Closes, Stopped, TakesLine};
@@ -79,7 +79,7 @@ impl<P: Stage + Drop> Progress<P> {
     ) -> Result<(), RunFault>
         requires lines { self.old.lines < 2 ^ 32 }
         requires failure { W.has_failed writer.old ≡ false }
-        ensures taken { TakesLine P.performs (step_at (self.old.lines + 1) self.old.block line.now) self.old.stage
+        ensures taken { TakesLine P.performs (self.old.lines + 1) (step_at (self.old.lines + 1) self.old.block line.now) self.old.stage
             (told (W.written writer.old) self.old.waiting) result self.new.stage (told (W.written writer.new) self.new.waiting) self.new.block }
         ensures lines { self.new.lines ≡ self.old.lines + 1 }
         ensures failure { W.has_failed writer.new ≡ is_write result }
@@ -111,7 +111,7 @@ impl<P: Stage + Drop> Progress<P> {
         requires lines { self.old.lines < 2 ^ 32 }
         requires waits { self.old.waiting ≡ [] }
         requires failure { W.has_failed writer.old ≡ false }
-        ensures taken { TakesLine P.performs (step_at (self.old.lines + 1) self.old.block line.now) self.old.stage
+        ensures taken { TakesLine P.performs (self.old.lines + 1) (step_at (self.old.lines + 1) self.old.block line.now) self.old.stage
             (told (W.written writer.old) []) result self.new.stage (told (W.written writer.new) []) self.new.block }
         ensures lines { self.new.lines ≡ self.old.lines + 1 }
         ensures failure { W.has_failed writer.new ≡ is_write result }
@@ -182,7 +182,8 @@ impl<P: Stage + Drop> Run<P> {
     ) -> Result<(), RunFault>
         requires lines { self.old.progress.lines < 2 ^ 32 }
         requires failure { W.has_failed writer.old ≡ false }
-        ensures taken { TakesLine P.performs (step_at (self.old.progress.lines + 1) self.old.progress.block (strip_carriage_return (self.old.part.items ++ bytes.now)))
+        ensures taken { TakesLine P.performs (self.old.progress.lines + 1)
+            (step_at (self.old.progress.lines + 1) self.old.progress.block (strip_carriage_return (self.old.part.items ++ bytes.now)))
             self.old.progress.stage (told (W.written writer.old) self.old.progress.waiting) result self.new.progress.stage
             (told (W.written writer.new) self.new.progress.waiting) self.new.progress.block }
         ensures lines { self.new.progress.lines ≡ self.old.progress.lines + 1 }
@@ -297,8 +298,8 @@ impl<P: Stage + Drop> Run<P> {
         requires short { is_too_long (strip_carriage_return self.part.items) ≡ false }
         requires waits { self.progress.waiting ≡ [] }
         requires failure { W.has_failed writer.old ≡ false }
-        ensures ends { Closes P.performs self.progress.stage (script_from ending (self.progress.lines + 1) self.progress.block (lines_met ending self.part.items))
-            (self.progress.lines + length (lines_met ending self.part.items)) result (told (W.written writer.old) []) (told (W.written writer.new) []) }
+        ensures ends { Closes P.performs self.progress.stage ending self.progress.lines self.progress.block (lines_met ending self.part.items) result
+            (told (W.written writer.old) []) (told (W.written writer.new) []) }
         ensures failure { W.has_failed writer.new ≡ is_write result }
         ensures read { is_read result ≡ is_failure ending }
     {

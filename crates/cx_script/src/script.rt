@@ -22,7 +22,8 @@ use std::alloc::Global;
 /// in front of it is done and written: BadLine with the line's number; Read where a read failed, and
 /// ReadBound where the script has more than 16,777,216 bytes, behind the complete lines. Write comes where
 /// a write failed or took no byte: what was written is then a front of a transcript. Memory comes only
-/// where a growth was refused: some of the lines are done then, and their transcript is written.
+/// where a growth was refused, before anything was read or at a line that isn't a bad one: the lines in
+/// front of it have no fault, are done, and their transcript is written.
 #[tactic(auto, using(crate::proofs::OutcomeLemmas::ran_nothing))]
 pub fn run_script<R: ScriptIn, W: ScriptOut>(
     alloc: Global,

@@ -100,7 +100,7 @@ finished_task (AbendsWith code cancel) r = record { slot = refl; eib = refl; cal
 
 -- ---- all that a command does
 -- the text that is handed over is that of the state which the command found
-text_same : (change : Change) (start made : Reach) → Grown change start made → handed_over change made ≡ handed_over change start
+pub text_same : (change : Change) (start made : Reach) → Grown change start made → handed_over change made ≡ handed_over change start
 unfolding Grown handed_over
 text_same Nothing start made grown = refl
 text_same (Makes it) start made grown = refl
@@ -214,7 +214,7 @@ low_from word (p ∷ ps) each = (first (word 0) (each 0 (omega arith)), low_from
     first None e = cc
     first (Some w) e = let is : address_in w ≡ p = cc in subst (λ (n : ℕ). n < 2 ^ 24) is (omega arith)
 
-call_low : (s : Storage) (list : ℕ) (call : Call) → IsCallAt s list call → AreLow call.places
+pub call_low : (s : Storage) (list : ℕ) (call : Call) → IsCallAt s list call → AreLow call.places
 call_low s list call it = low_from (λ k. list_word s list (k + 1)) call.places (λ k less. it.places k less)
 
 -- ---- a command's half-turn

@@ -13,3 +13,6 @@ mod MemoryLemmas
 mod ReturnLemmas
 mod DueLemmas
 mod TakenLemmas
+mod PlainLemmas
+mod StandLemmas
+mod PointerLemmas

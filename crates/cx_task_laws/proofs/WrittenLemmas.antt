@@ -55,7 +55,7 @@ at_low [] k p all e = cc
 at_low (first ∷ rest) zero p all e = let same : first ≡ p = cc in subst (λ (n : ℕ). n < 2 ^ 24) same all.0
 at_low (first ∷ rest) (suc k) p all e = at_low rest k p all.1 e
 
-resp_low : (call : Call) (p : ℕ) → AreLow call.places → resp_place call ≡ Some p → p < 2 ^ 24
+pub resp_low : (call : Call) (p : ℕ) → AreLow call.places → resp_place call ≡ Some p → p < 2 ^ 24
 unfolding resp_place
 resp_low call p low e = go (has_resp call.second) e
   where
@@ -92,7 +92,7 @@ unfolding with_set
 set_others slot start s eib field None own fits e = e
 set_others slot start s eib field (Some bytes) own fits e = field_others slot start s eib (content field bytes) own (fits bytes refl) e
 
-aid_fits : (o : Option ℕ) (bytes : List ℕ) → one_byte o ≡ Some bytes → 26 + length bytes ≤ eib_len
+pub aid_fits : (o : Option ℕ) (bytes : List ℕ) → one_byte o ≡ Some bytes → 26 + length bytes ≤ eib_len
 aid_fits None bytes e = cc
 aid_fits (Some b) bytes e = let is : b ∷ [] ≡ bytes = cc in subst (λ (l : List ℕ). 26 + length l ≤ eib_len) is (omega arith)
 

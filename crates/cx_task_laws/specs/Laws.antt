@@ -3,3 +3,4 @@ pub mod Bytes
 pub mod Exits
 pub mod Levels
 pub mod Memory
+pub mod Pointers

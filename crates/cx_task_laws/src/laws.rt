@@ -3,11 +3,22 @@ ghost use Rattle.cx_task_laws.specs.Laws.Bytes.{CommandsLeaveOthers};
 ghost use Rattle.cx_task_laws.specs.Laws.Exits.{CancelTakesNoExit, ExitsAreNearest, ExitsTakeAbends, HalfTurnsTakeExits};
 ghost use Rattle.cx_task_laws.specs.Laws.Levels.{CommandsAreKept, DueIsKept, HalfTurnsLeaveCallers, LinksAreReturned, PopsRestore, ReturnsHaveCallers};
 ghost use Rattle.cx_task_laws.specs.Laws.Memory.{OnlyTheseTakeMemory};
+ghost use Rattle.cx_task_laws.specs.Laws.Pointers.{OutputsStay, ProgramsGoOn};
 
 /// A command leaves the areas of all other slots, and of the region itself. Each of their bytes stays, unless an output
 /// of the command, or RESP's word, has its address.
 pub fn commands_leave_others()
     ensures { CommandsLeaveOthers }
+{
+    cx_call::laws::call_is_read();
+}
+
+/// Where a program goes on behind its command, it does so at the address in R14, with the registers and the code that it had.
+/// Each byte of the command's outputs stands at its place then, unless an output behind it, the EIB or RESP's word has its
+/// address. So a pointer that GETMAIN or READQ TS gives its SET, or ADDRESS its CWA, is the word at its place.
+pub fn a_pointer_stays()
+    ensures program { ProgramsGoOn }
+    ensures outputs { OutputsStay }
 {
     cx_call::laws::call_is_read();
 }

@@ -1,15 +1,16 @@
 -- A run of a script, line by line.
-use Rattle.std.specs.Prelude.{◌≡◌, ℕ, ◌+◌, Option, Some, None, Result, Ok, Err, List, [], ◌++◌, length, take}
+use Rattle.std.specs.Prelude.{◌≡◌, ℕ, ◌+◌, ◌<◌, Option, Some, None, Result, Ok, Err, List, [], ◌++◌, length, take}
 use Rattle.std.specs.Io.KnownBytes.{Consumes}
 use Rattle.cx_lines.specs.Devices.{Sends, SentFront, Told, told}
 use Rattle.cx_blocks.specs.declared.blocks.Block.{Block}
 use Rattle.cx_lines.specs.Lines.{lines_met}
 use Rattle.cx_script.specs.Script.{Script, script_from}
 use Rattle.cx_lines.specs.declared.input.Ending.{Ending}
+use Rattle.cx_lines.specs.declared.input.Ending.TheVariants.{Failed}
 use Rattle.cx_actions.specs.declared.actions.Action.{Action}
 use Rattle.cx_blocks.specs.declared.blocks.Step.{Step}
 use Rattle.cx_blocks.specs.declared.faults.RunFault.{RunFault}
-use Rattle.cx_blocks.specs.declared.faults.RunFault.TheVariants.{Write, Memory}
+use Rattle.cx_blocks.specs.declared.faults.RunFault.TheVariants.{BadLine, Read, Write, Memory}
 use Rattle.cx_blocks.specs.declared.faults.Summary.{Summary}
 use Rattle.cx_script.specs.Transcript.{Runs}
 
@@ -25,36 +26,35 @@ Acted performs action old before (Err Memory) new after = after ≡ before
 Acted performs action old before (Err Write) new after = (text : List ℕ) × Acts performs action old text new × SentFront before after text
 Acted performs action old before (Err _) new after = ⊥
 
--- a line of which this step or fault is due, by what was answered
-unfoldable pub TakesLine : {S : Type 0} → (S → Action → List ℕ → S → Type 0) → Result Step RunFault → S → Told → Result (Unit {0}) RunFault → S → Told → Option Block → Type 0
-TakesLine performs due old before (Err Memory) new after block = after ≡ before
-TakesLine performs due old before (Err Write) new after block =
+-- a line with this number, of which this step or fault is due, by what was answered; a bad one is never told as Memory
+unfoldable pub TakesLine : {S : Type 0} → (S → Action → List ℕ → S → Type 0) → ℕ → Result Step RunFault → S → Told → Result (Unit {0}) RunFault → S → Told → Option Block → Type 0
+TakesLine performs number due old before (Err Memory) new after block = (due ≡ Err (BadLine number) → ⊥) × (after ≡ before)
+TakesLine performs number due old before (Err Write) new after block =
     (step : Step) × (due ≡ Ok step) × Acted performs step.action old before (Err Write) new after
-TakesLine performs due old before (Err fault) new after block = (due ≡ Err fault) × (after ≡ before)
-TakesLine performs due old before (Ok done) new after block =
+TakesLine performs number due old before (Err fault) new after block = (due ≡ Err fault) × (after ≡ before)
+TakesLine performs number due old before (Ok done) new after block =
     (step : Step) × (due ≡ Ok step) × (block ≡ step.block) × Acted performs step.action old before (Ok done) new after
 
 -- what is left of a script, behind actions that were done
 abbrev pub behind_done : List Action → Script → Script
 behind_done done left = record { actions = done ++ left.actions; fault = left.fault }
 
--- how far a run of a script has come: some of its actions are done and written, and the rest of it is left
-pub record Reached {S : Type 0} (performs : S → Action → List ℕ → S → Type 0) (old : S) (script : Script) (before : Told) (new : S) (left : Script) (after : Told) : Type 0 where
+-- Some lines are done, behind so many others and in this block: however the script goes on, what it asks is their actions, and
+-- what the next lines ask.
+pub record Took {S : Type 0} (performs : S → Action → List ℕ → S → Type 0) (old : S) (n : ℕ) (block : Option Block) (lines : List (List ℕ)) (before : Told) (new : S) (m : ℕ) (next : Option Block) (after : Told) : Type 0 where
   pub done : List Action
   pub text : List ℕ
   pub runs : Runs performs old done text new
   pub written : Sends before after text
-  pub splits : script ≡ behind_done done left
+  pub asks : (ending : Ending) (more : List (List ℕ)) → script_from ending (n + 1) block (lines ++ more) ≡ behind_done done (script_from ending (m + 1) next more)
+  pub count : n + length lines ≡ m
 
--- how far a run has come from one place of a script to another: some actions are done and written, and however the script
--- goes on, what the bytes ahead ask is these actions and what the bytes left ask
+-- how far a run has come from one place of a script to another: the lines are done that the bytes ahead have in front of those
+-- of the bytes left, however the script goes on
 pub record Came {S : Type 0} (performs : S → Action → List ℕ → S → Type 0) (old : S) (n : ℕ) (block : Option Block) (ahead : List ℕ) (before : Told) (new : S) (m : ℕ) (next : Option Block) (left : List ℕ) (after : Told) : Type 0 where
-  pub done : List Action
-  pub text : List ℕ
-  pub runs : Runs performs old done text new
-  pub written : Sends before after text
-  pub splits : (ending : Ending) (rest : List ℕ) → script_from ending (n + 1) block (lines_met ending (ahead ++ rest)) ≡ behind_done done (script_from ending (m + 1) next (lines_met ending (left ++ rest)))
-  pub counts : (ending : Ending) (rest : List ℕ) → n + length (lines_met ending (ahead ++ rest)) ≡ m + length (lines_met ending (left ++ rest))
+  pub lines : List (List ℕ)
+  pub met : (ending : Ending) (rest : List ℕ) → lines_met ending (ahead ++ rest) ≡ lines ++ lines_met ending (left ++ rest)
+  pub took : Took performs old n block lines before new m next after
 
 -- the transcript of these actions is written, or waits
 pub record SentAll {S : Type 0} (performs : S → Action → List ℕ → S → Type 0) (old : S) (actions : List Action) (before after : Told) : Type 0 where
@@ -70,21 +70,31 @@ pub record SentSome {S : Type 0} (performs : S → Action → List ℕ → S →
   pub runs : Runs performs old actions text new
   pub written : SentFront before after text
 
--- how a run of a script stopped, where some of its transcript may wait yet
-unfoldable pub Halts : {S : Type 0} → (S → Action → List ℕ → S → Type 0) → S → Script → RunFault → Told → Told → Type 0
-Halts performs old script Memory before after = (n : ℕ) × SentAll performs old (take n script.actions) before after
-Halts performs old script Write before after = (n : ℕ) × SentSome performs old (take n script.actions) before after
-Halts performs old script fault before after = (script.fault ≡ Some fault) × SentAll performs old script.actions before after
+-- stopped without memory at one of these lines: those in front of it are done, and it isn't a bad one
+pub record HaltedAt {S : Type 0} (performs : S → Action → List ℕ → S → Type 0) (old : S) (n : ℕ) (block : Option Block) (lines : List (List ℕ)) (before after : Told) : Type 0 where
+  pub line : ℕ
+  pub within : line < length lines
+  pub led : (script_from Failed (n + 1) block (take line lines)).fault ≡ Some Read
+  pub good : (script_from Failed (n + 1) block (take (line + 1) lines)).fault ≡ Some (BadLine (n + line + 1)) → ⊥
+  pub done : SentAll performs old (script_from Failed (n + 1) block (take line lines)).actions before after
+
+-- how a run stopped in these lines, behind so many others, where some of its transcript may wait yet
+unfoldable pub Halts : {S : Type 0} → (S → Action → List ℕ → S → Type 0) → S → Ending → ℕ → Option Block → List (List ℕ) → RunFault → Told → Told → Type 0
+Halts performs old ending n block lines Memory before after = HaltedAt performs old n block lines before after
+Halts performs old ending n block lines Write before after =
+    (k : ℕ) × SentSome performs old (take k (script_from ending (n + 1) block lines).actions) before after
+Halts performs old ending n block lines fault before after =
+    ((script_from ending (n + 1) block lines).fault ≡ Some fault) × SentAll performs old (script_from ending (n + 1) block lines).actions before after
 
 -- how it ended
-abbrev pub Closes : {S : Type 0} → (S → Action → List ℕ → S → Type 0) → S → Script → ℕ → Result Summary RunFault → Told → Told → Type 0
-Closes performs old script lines (Ok summary) before after =
-    (script.fault ≡ None) × (summary.lines ≡ lines) × SentAll performs old script.actions before after
-Closes performs old script lines (Err fault) before after = Halts performs old script fault before after
+abbrev pub Closes : {S : Type 0} → (S → Action → List ℕ → S → Type 0) → S → Ending → ℕ → Option Block → List (List ℕ) → Result Summary RunFault → Told → Told → Type 0
+Closes performs old ending n block lines (Ok summary) before after =
+    ((script_from ending (n + 1) block lines).fault ≡ None) × (summary.lines ≡ n + length lines) × SentAll performs old (script_from ending (n + 1) block lines).actions before after
+Closes performs old ending n block lines (Err fault) before after = Halts performs old ending n block lines fault before after
 
 -- a run stopped at such a place, however the script goes on
 pub record Stopped {S : Type 0} (performs : S → Action → List ℕ → S → Type 0) (old : S) (n : ℕ) (block : Option Block) (ahead : List ℕ) (fault : RunFault) (before after : Told) : Type 0 where
-  pub stops : (ending : Ending) (rest : List ℕ) → Halts performs old (script_from ending (n + 1) block (lines_met ending (ahead ++ rest))) fault before after
+  pub stops : (ending : Ending) (rest : List ℕ) → Halts performs old ending n block (lines_met ending (ahead ++ rest)) fault before after
 
 -- what a run from a script's beginning has read so far: so many bytes, and how far it has come in them
 pub record Seen {S : Type 0} (performs : S → Action → List ℕ → S → Type 0) (start : S) (left now : Option (List ℕ)) (read : ℕ) (new : S) (m : ℕ) (next : Option Block) (part : List ℕ) (before after : Option (List ℕ)) : Type 0 where
