@@ -43,6 +43,11 @@ span_front s a n m bytes low e h =
     span_from s a m (take m bytes) low (length-take-le m bytes (omega (arith, long, h)))
     (λ k l. span_at s a n bytes k low e (omega (arith, l, h)) ∙ ap Some (sym (get_or-take m bytes k 0 l)))
 
+-- the instruction that eight bytes begin with
+pub lent_is_code : (s : Storage) (a n : ℕ) (bytes : List ℕ) → a < 2 ^ 24 → span s a 8 ≡ Some bytes → n ≡ length_of_code (slice_index bytes 0) → n ≤ 8
+    → code_bytes s a ≡ Some (take n bytes)
+lent_is_code s a n bytes low there is short = rw (first_byte s a 8 bytes there (omega arith), ← is) (span_front s a 8 n bytes low there short)
+
 pub reads_as : (bytes : List ℕ) (i : Instruction) → reading bytes ≡ Some i → read_as bytes ≡ Ok i
 unfolding read_as
 reads_as bytes i e = rw e refl

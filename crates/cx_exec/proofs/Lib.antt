@@ -8,3 +8,4 @@ pub mod TranslationLemmas
 pub mod MaskLemmas
 pub mod FetchLemmas
 pub mod BlockLemmas
+pub mod RepeatLemmas

@@ -1,15 +1,16 @@
 -- All sixteen registers, and the bytes of several.
-use Rattle.std.proofs.Common.{◌≡◌, ℕ, zero, suc, ◌+◌, ◌*◌, ◌<◌, ◌≤◌, ◌%◌, List, [], ◌∷◌, ◌++◌, length, take, slice_index, slice_set, Option, Some, None, refl, sym, ap, ◌∙◌, inl, inr, arith, add-one}
+use Rattle.std.proofs.Common.{◌≡◌, ℕ, zero, suc, ◌+◌, ◌-◌, ◌*◌, ◌^◌, ◌<◌, ◌≤◌, ◌%◌, List, [], ◌∷◌, ◌++◌, drop, length, take, slice_index, slice_set, Option, Some, None, refl, sym, ap, ◌∙◌, inl, inr, arith, add-one}
 use Rattle.std.specs.Option.{option_map, option_and_then}
 use Rattle.std.proofs.lemmas.Bool.{cases_lt}
 use Rattle.std.proofs.lemmas.Grind.{same_number_lists}
-use Rattle.cx_storage.specs.Storage.{Storage}
+use Rattle.cx_storage.specs.Storage.{Storage, byte_at, span}
+use Rattle.cx_storage.specs.Facts.Spans.{span_at, span_from, span_length}
 use Rattle.cx_storage.specs.Address.{along}
 use Rattle.cx_storage.specs.Word.{word_at}
-use Rattle.std.proofs.lemmas.List.{append_assoc, length-append, length-take-le, take_at, take_more_set}
+use Rattle.std.proofs.lemmas.List.{append_assoc, length-append, get_or-drop, get_or-take, length-drop, length-take-le, take_at, take_more, take_more_set}
 use borrow.Rule.Slice.PartMut.{put_mid, post_of}
 use Rattle.std.proofs.lemmas.List.FromFn.{length-map-range_with_len, get_or-map-range_with_len}
-use Rattle.byteorder.specs.Endian.{big_bytes}
+use Rattle.byteorder.specs.Endian.{big_bytes, big_number}
 use Rattle.cx_exec.specs.Registers.{words_at, loaded_register, loaded_registers, register_bytes}
 
 pub all_loaded : (regs new : List ℕ) (first last : ℕ) (words : List ℕ) → length new ≡ 16
@@ -69,3 +70,36 @@ words_gone s a k (suc n) h none = elim (cases_lt k n) [
 pub words_filled : (s : Storage) (a n word : ℕ) (new : List ℕ) → n < length new → words_at s a n ≡ Some (take n new) → word_at s (along a (4 * n)) ≡ Some word
     → words_at s a (n + 1) ≡ Some (take (n + 1) (slice_set new n word))
 words_filled s a n word new h so_far here = words_more s a n word (take n new) so_far here ∙ ap Some (sym (take_more_set new n word h))
+
+-- the word in a span, by its place
+first_four : (bytes : List ℕ) → big_number 4 (take 4 bytes) ≡ big_number 4 bytes
+first_four [] = refl
+first_four (b ∷ []) = refl
+first_four (b ∷ c ∷ []) = refl
+first_four (b ∷ c ∷ d ∷ []) = refl
+first_four (b ∷ c ∷ d ∷ e ∷ rest) = refl
+
+span_word : (s : Storage) (a n k : ℕ) (bytes : List ℕ) → a < 2 ^ 24 → span s a n ≡ Some bytes → k + 4 ≤ n → word_at s (along a k) ≡ Some (big_number 4 (drop k bytes))
+unfolding word_at
+span_word s a n k bytes low e fits =
+    let size : length (drop k bytes) ≡ n - k = length-drop k bytes ∙ ap (λ m. m - k) (span_length s a n bytes e) in
+    let four : length (take 4 (drop k bytes)) ≡ 4 = length-take-le 4 (drop k bytes) (omega (arith, size, fits)) in
+    let there : span s (along a k) 4 ≡ Some (take 4 (drop k bytes)) = span_from s (along a k) 4 (take 4 (drop k bytes)) (omega arith) four (λ j h.
+    let place : along (along a k) j ≡ along a (k + j) = omega arith in
+    let byte : slice_index (take 4 (drop k bytes)) j ≡ slice_index bytes (k + j) = get_or-take 4 (drop k bytes) j 0 h ∙ get_or-drop k bytes j 0 in
+    rw (place, byte) (span_at s a n bytes (k + j) low e (omega (arith, h, fits)))) in
+    rw there (ap Some (first_four (drop k bytes)))
+
+pub lent_words : (s : Storage) (a count : ℕ) (part words : List ℕ) → a < 2 ^ 24 → span s a (4 * count) ≡ Some part → count ≤ length words
+    → ((k : ℕ) → 4 * k + 4 ≤ length part → slice_index words k ≡ big_number 4 (drop (4 * k) part)) → words_at s a count ≡ Some (take count words)
+lent_words s a count part words low e room each = up count (omega arith)
+  where
+    up : (n : ℕ) → n ≤ count → words_at s a n ≡ Some (take n words)
+    up zero h = words_none s a
+    up (suc n) h =
+        let within : 4 * n + 4 ≤ 4 * count = omega (arith, h) in
+        let word = span_word s a (4 * count) (4 * n) part low e within in
+        let taken = each n (omega (arith, within, span_length s a (4 * count) part e)) in
+        let more = words_more s a n (slice_index words n) (take n words) (up n (omega (arith, h))) (rw taken word) in
+        let next : n + 1 ≡ suc n = omega arith in
+        rw next at (more ∙ ap Some (sym (take_more words n 0 (omega (arith, h, room)))))

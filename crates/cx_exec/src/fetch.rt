@@ -1,7 +1,7 @@
 //! Fetching an instruction.
 
-ghost use Rattle.std.specs.Prelude.{◌≡◌, ◌≤◌, ◌<◌, ◌^◌, length};
-ghost use Rattle.cx_exec.specs.Fetch.{code_at, read_as};
+ghost use Rattle.std.specs.Prelude.{◌≡◌, ◌≤◌, ◌<◌, ◌^◌, Some, IfSome, length};
+ghost use Rattle.cx_exec.specs.Fetch.{code_at, code_bytes, read_as};
 ghost use Rattle.cx_exec.specs.Step.{joined_second};
 
 use crate::machine::Interruption;
@@ -57,6 +57,35 @@ impl Code {
     }
 }
 
+/// The bytes of the instruction at an address, where eight bytes from there on are lent in one piece.
+#[tactic(auto, using(crate::proofs::FetchLemmas::lent_is_code, cx_storage::specs::Facts::Spans::span_length))]
+#[inline(always)]
+fn lent_code<S: Store>(store: &S, at: u32) -> Option<Code>
+    requires { at < 2 ^ 24 }
+    ensures { IfSome result (λ code. code_bytes (S.storage store.now) at ≡ Some code) }
+{
+    let part = store.slice(at, 8)?;
+    let length = instruction_length(part[0]);
+    let mut bytes = [0; 8];
+    bytes.copy_from_slice(part);
+    Some(Code { bytes, length })
+}
+
+/// The bytes of the instruction at an address, copied; None where one is absent.
+#[inline(never)]
+fn code_apart<S: Store>(store: &S, at: u32) -> Option<Code>
+    requires { at < 2 ^ 24 }
+    ensures { result ≡ code_bytes (S.storage store.now) at }
+{
+    let length = instruction_length(store.byte(at)?);
+    let mut bytes = [0; 8];
+    let code = &mut bytes[..length];
+    if !store.read(at, code) {
+        return None;
+    }
+    Some(Code { bytes, length })
+}
+
 /// The bytes of the instruction at an address.
 #[tactic(auto, unfolding(crate::specs::Fetch::code_at))]
 pub(crate) fn code_at<S: Store>(store: &S, at: u32) -> Result<Code, Interruption>
@@ -66,14 +95,8 @@ pub(crate) fn code_at<S: Store>(store: &S, at: u32) -> Result<Code, Interruption
     if at % 2 == 1 {
         return Err(Interruption::Specification);
     }
-    let Some(first) = store.byte(at) else {
-        return Err(Interruption::Addressing);
-    };
-    let length = instruction_length(first);
-    let mut bytes = [0; 8];
-    let code = &mut bytes[..length];
-    if !store.read(at, code) {
-        return Err(Interruption::Addressing);
+    if let Some(code) = lent_code(store, at) {
+        return Ok(code);
     }
-    Ok(Code { bytes, length })
+    code_apart(store, at).ok_or(Interruption::Addressing)
 }

@@ -16,6 +16,7 @@ mod multiplication;
 mod numbers;
 mod operands;
 mod registers;
+mod repeats;
 mod results;
 mod rows;
 mod runs;

@@ -1,6 +1,7 @@
 //! Several registers at once: LM and STM.
 
-ghost use Rattle.std.specs.Prelude.{◌≡◌, ◌<◌, ◌≤◌, ◌^◌, ◌+◌, ◌*◌, length, take, Some, None, MatchResult};
+ghost use Rattle.std.specs.Prelude.{◌≡◌, ℕ, ◌<◌, ◌≤◌, ◌^◌, ◌+◌, ◌*◌, drop, length, slice_index, take, Some, None, MatchResult};
+ghost use Rattle.byteorder.specs.Endian.{big_number};
 ghost use Rattle.cx_exec.specs.declared.machine.Interruption.TheVariants as interruption;
 ghost use Rattle.cx_exec.specs.Machine.{machine};
 ghost use Rattle.cx_exec.specs.Operands.{Stores};
@@ -21,9 +22,20 @@ pub(crate) fn place_after(first: u8, r: u8) -> u8
     (r + (16 - first)) % 16
 }
 
-/// Reads words in a row (at most 16), from `a` on, to the front of the buffer; interruption 5 where one is absent.
+/// Puts the words in a row that lent bytes hold (at most 16) at the front of the buffer.
+fn take_words(part: &[u8], words: &mut [u32; 16])
+    requires { length part.now ≤ 64 }
+    ensures { (k : ℕ) → 4 * k + 4 ≤ length part.now → slice_index words.new k ≡ big_number 4 (drop (4 * k) part.now) }
+{
+    for k in 0..part.len() / 4 {
+        words[k] = BigEndian::read_u32(&part[4 * k..]);
+    }
+}
+
+/// Reads words in a row (at most 16), from `a` on, to the front of the buffer, one by one; interruption 5 where one is absent.
 #[tactic(auto, using(crate::proofs::RegisterLemmas::words_none, crate::proofs::RegisterLemmas::words_gone))]
-fn read_words<S: Store>(
+#[inline(never)]
+fn read_apart<S: Store>(
     store: &S,
     a: u32,
     count: usize,
@@ -37,6 +49,25 @@ fn read_words<S: Store>(
         let word = word_at(store, along(a, 4 * k as u32))?;
         words[k] = word;
     }
+    Ok(())
+}
+
+/// Reads words in a row (at most 16), from `a` on, to the front of the buffer; interruption 5 where one is absent.
+#[tactic(auto, using(crate::proofs::RegisterLemmas::lent_words, cx_storage::specs::Facts::Spans::span_length))]
+fn read_words<S: Store>(
+    store: &S,
+    a: u32,
+    count: usize,
+    words: &mut [u32; 16],
+) -> Result<(), Interruption>
+    requires operand { a < 2 ^ 24 }
+    requires count { count ≤ 16 }
+    ensures { MatchResult result (λ _. words_at (S.storage store.now) a count ≡ Some (take count words.new)) (λ cause. (words_at (S.storage store.now) a count ≡ None) × (cause ≡ interruption.Addressing)) }
+{
+    let Some(part) = store.slice(a, 4 * count) else {
+        return read_apart(store, a, count, words);
+    };
+    take_words(part, words);
     Ok(())
 }
 

@@ -10,6 +10,7 @@ ghost use Rattle.cx_exec.specs.Strings.{moved, xored, MvcEffect, XcEffect};
 use crate::logic::string_code;
 use crate::machine::{Cpu, Interruption, Updated};
 use crate::operands::put_bytes;
+use crate::repeats::repeat;
 use crate::sequence::{content, distance, seen};
 use cx_storage::{Store, along};
 
@@ -26,6 +27,23 @@ fn move_bytes<S: Store>(store: &S, n: u32, a1: u32, a2: u32, new: &mut [u8; 256]
         let byte = seen(store, &new[..k as usize], distance(a1, from), from);
         new[k as usize] = byte;
     }
+}
+
+/// Puts the bytes that MVC stores at the front of the buffer, where the first operand may begin inside the second: those
+/// in front of its begin are then repeated.
+fn fill_bytes<S: Store>(store: &S, n: u32, a1: u32, a2: u32, new: &mut [u8; 256])
+    requires first { a1 < 2 ^ 24 }
+    requires second { a2 < 2 ^ 24 }
+    requires count { n ≤ 256 }
+    ensures { take n new.new ≡ stored_by (moved (S.storage store.now) a1 a2) n }
+{
+    let period = distance(a2, a1);
+    if period == 0 || n <= period {
+        move_bytes(store, n, a1, a2, new);
+        return;
+    }
+    move_bytes(store, period, a1, a2, new);
+    repeat(&mut new[..n as usize], period as usize);
 }
 
 /// Puts the bytes that XC stores at the front of the buffer.
@@ -183,7 +201,7 @@ pub(crate) fn mvc<S: Store>(
         return Err(Interruption::Addressing);
     }
     let mut new = [0; 256];
-    move_bytes(store, n, a1, a2, &mut new);
+    fill_bytes(store, n, a1, a2, &mut new);
     let cc = cpu.cc;
     put_bytes(cpu, store, a1, &new[..n as usize], cc, updated)
 }

@@ -1,6 +1,6 @@
 //! TR and TRT: argument bytes and a table.
 
-ghost use Rattle.std.specs.Prelude.{◌≡◌, ◌<◌, ◌≤◌, ◌^◌, take, IfSome, MatchBool};
+ghost use Rattle.std.specs.Prelude.{◌≡◌, ◌≢◌, ℕ, ◌<◌, ◌≤◌, ◌^◌, length, slice_index, take, true, IfSome, MatchBool, unwrap_or};
 ghost use Rattle.cx_storage.specs.Storage.{Storage};
 ghost use Rattle.cx_exec.specs.Machine.{machine};
 ghost use Rattle.cx_exec.specs.Sequence.{stored_by};
@@ -54,6 +54,59 @@ fn translate_bytes<S: Store>(store: &S, n: u32, a1: u32, a2: u32, new: &mut [u8;
     }
 }
 
+/// Puts the table's byte for each of some argument bytes at the front of the buffer.
+fn look_up(argument: &[u8], table: &[u8], new: &mut [u8; 256])
+    requires few { length argument.now ≤ 256 }
+    requires whole { length table.now ≡ 256 }
+    ensures { (k : ℕ) → k < length argument.now
+        → (slice_index argument.now k < 256) × (slice_index new.new k ≡ slice_index table.now (slice_index argument.now k)) }
+{
+    for k in 0..argument.len() {
+        new[k] = table[argument[k] as usize];
+    }
+}
+
+/// Puts the bytes that TR stores at the front of the buffer, where argument and table are each lent in one piece and apart.
+/// False elsewhere.
+#[tactic(auto, using(cx_storage::specs::Facts::Spans::span_length))]
+fn translate_lent<S: Store>(store: &S, n: u32, a1: u32, a2: u32, new: &mut [u8; 256]) -> bool
+    requires first { a1 < 2 ^ 24 }
+    requires second { a2 < 2 ^ 24 }
+    requires count { n ≤ 256 }
+    ensures { result ≡ true → HasTable (S.storage store.now) n a1 a2 × (take n new.new ≡ stored_by (translated (S.storage store.now) a1 a2) n) }
+{
+    let Some(argument) = store.slice(a1, n as usize) else {
+        return false;
+    };
+    let Some(table) = store.slice(a2, 256) else {
+        return false;
+    };
+    if a2 < a1 + n && a1 < a2 + 256 {
+        return false;
+    }
+    look_up(argument, table, new);
+    true
+}
+
+/// Puts the bytes that TR stores at the front of the buffer. False where an argument byte, or the table's byte for it, is absent.
+#[tactic(auto, unfolding(crate::specs::Translation::HasTable))]
+fn translate<S: Store>(store: &S, n: u32, a1: u32, a2: u32, new: &mut [u8; 256]) -> bool
+    requires first { a1 < 2 ^ 24 }
+    requires second { a2 < 2 ^ 24 }
+    requires count { n ≤ 256 }
+    ensures there { MatchBool result (HasTable (S.storage store.now) n a1 a2) (HasTable (S.storage store.now) n a1 a2 → ⊥) }
+    ensures bytes { result ≡ true → take n new.new ≡ stored_by (translated (S.storage store.now) a1 a2) n }
+{
+    if translate_lent(store, n, a1, a2, new) {
+        return true;
+    }
+    if !has_table(store, n, a1, a2) {
+        return false;
+    }
+    translate_bytes(store, n, a1, a2, new);
+    true
+}
+
 /// TR. The argument, of `n` bytes, begins at `a1`, the table at `a2`.
 #[tactic(auto, unfolding(crate::specs::Translation::TrEffect))]
 #[inline(never)]
@@ -71,14 +124,44 @@ pub(crate) fn tr<S: Store>(
     requires address { updated.address < 2 ^ 24 }
     ensures { TrEffect n a1 a2 updated (machine cpu.old (S.storage store.old)) result (machine cpu.new (S.storage store.new)) }
 {
-    if !has_table(store, n, a1, a2) {
+    let mut new = [0; 256];
+    if !translate(store, n, a1, a2, &mut new) {
         return Err(Interruption::Addressing);
     }
-    let mut new = [0; 256];
-    translate_bytes(store, n, a1, a2, &mut new);
     store.write(a1, &new[..n as usize]);
     cpu.next = updated.address;
     Ok(())
+}
+
+/// The first of some argument bytes whose byte of the table isn't zero.
+fn first_in(argument: &[u8], table: &[u8]) -> Option<u32>
+    requires few { length argument.now ≤ 256 }
+    requires whole { length table.now ≡ 256 }
+    ensures before { (j : ℕ) → j < unwrap_or result (length argument.now)
+        → (slice_index argument.now j < 256) × (slice_index table.now (slice_index argument.now j) ≡ 0) }
+    ensures found { IfSome result (λ k. (k < length argument.now) × (slice_index argument.now k < 256)
+        × (slice_index table.now (slice_index argument.now k) ≢ 0)) }
+{
+    for k in 0..argument.len() {
+        if table[argument[k] as usize] != 0 {
+            return Some(k as u32);
+        }
+    }
+    None
+}
+
+/// The first of `n` places whose byte of the table is not there with the value zero, where argument and table are each lent
+/// in one piece.
+#[tactic(auto, using(cx_storage::specs::Facts::Spans::span_length))]
+fn first_lent<S: Store>(store: &S, n: u32, a1: u32, a2: u32) -> Option<Option<u32>>
+    requires first { a1 < 2 ^ 24 }
+    requires second { a2 < 2 ^ 24 }
+    requires count { n ≤ 256 }
+    ensures { IfSome result (λ place. (place ≡ first_found (S.storage store.now) n a1 a2) × IfSome place (λ k. k < n)) }
+{
+    let argument = store.slice(a1, n as usize)?;
+    let table = store.slice(a2, 256)?;
+    Some(first_in(argument, table))
 }
 
 /// The first of `n` places whose byte of the table is not there with the value zero.
@@ -90,6 +173,9 @@ fn first_found<S: Store>(store: &S, n: u32, a1: u32, a2: u32) -> Option<u32>
     ensures place { result ≡ first_found (S.storage store.now) n a1 a2 }
     ensures within { IfSome result (λ k. k < n) }
 {
+    if let Some(place) = first_lent(store, n, a1, a2) {
+        return place;
+    }
     for k in 0..n {
         if table_byte(store, a1, a2, k) != Some(0) {
             return Some(k);

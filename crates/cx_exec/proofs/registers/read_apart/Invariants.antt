@@ -1,6 +1,6 @@
 use Rattle.std.proofs.Common.{◌≡◌, Some, take}
 use Rattle.cx_exec.specs.Registers.{words_at}
-use Rattle.cx_exec.proofs.registers.read_words.Given as goal
+use Rattle.cx_exec.proofs.registers.read_apart.Given as goal
 
 -- so many words are read
 abbrev pub invariant-loop-k : goal.invariant-loop-k
