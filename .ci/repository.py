@@ -20,6 +20,11 @@ def toolchain():
     return subprocess.run(["rt", "version"], capture_output=True, text=True, check=True).stdout.strip()
 
 
+def logic():
+    """Returns the sum of the toolchain's logic, by which each verdict names what it is proved in."""
+    return toolchain().partition(" logic ")[2] or toolchain()
+
+
 class Repository:
     """The crates that crates.txt lists."""
 
