@@ -14,7 +14,7 @@ use Rattle.cx_operands.specs.Bases.{Bases}
 use Rattle.cx_operands.specs.Context.{Context, number_at_most, register_in}
 use Rattle.cx_operands.specs.Judging.{both, judged, made_of}
 use Rattle.cx_operands.specs.Laws.AddressLaws.{Holds, IsNearest}
-use Rattle.cx_operands.specs.Storage.{Operand, crowded, explicit_address, indexed, indexed_by, indexed_in, operand_in}
+use Rattle.cx_operands.specs.Storage.{Operand, crowded, explicit_address, index_in, indexed, indexed_by, indexed_in, operand_in}
 use Rattle.cx_operands.specs.declared.addresses.Address.{Address}
 use Rattle.cx_operands.specs.declared.bases.Base.{Base}
 use Rattle.cx_command_arrival.specs.Arguments.{HoldsBase, IsAddressed, IsAddressedBy, IsPlaceOf, OperandsAddress, Sections}
@@ -105,7 +105,7 @@ addressed_by near sections regs c place (index ∷ []) x at e =
     let v = judged_ok (implied_address c.bases) place at parts.1 in
     record { value = v.0; worth = v.1; by = (parts.0, implied_is near sections regs c.bases (v.0).section (v.0).number at x v.2) }
 addressed_by near sections regs c place (index ∷ base ∷ []) x at e =
-    let parts = both_ok (register_in c index) (explicit_address c place base) x at e in
+    let parts = both_ok (index_in c index) (explicit_address c place base) x at e in
     let made = made_ok (λ v. address v.1 v.0) (both (judged (number_at_most 4095) place) (register_in c base)) at parts.1 in
     let pair = both_ok (judged (number_at_most 4095) place) (register_in c base) (made.0).0 (made.0).1 made.1 in
     let v = judged_ok (number_at_most 4095) place (made.0).0 pair.0 in
@@ -115,7 +115,7 @@ addressed_by near sections regs c place (index ∷ base ∷ []) x at e =
       by = (parts.0, pair.1 ∙ ap (λ k. Ok k.base) made.2, v.2 ∙ ap (λ k. Ok k.displacement) made.2);
     }
 addressed_by near sections regs c place (index ∷ base ∷ other ∷ more) x at e =
-    absurd (no_crowd (both_ok (register_in c index) (crowded c (explicit_address c place base) (other ∷ more)) x at e).1)
+    absurd (no_crowd (both_ok (index_in c index) (crowded c (explicit_address c place base) (other ∷ more)) x at e).1)
   where
     no_crowd : crowded c (explicit_address c place base) (other ∷ more) ≡ Ok at → ⊥
     no_crowd e = cc

@@ -6,7 +6,7 @@ use Rattle.cx_exec.specs.Machine.{effective, given}
 use Rattle.cx_terms.specs.declared.values.Value.{Value}
 use Rattle.cx_operands.specs.Bases.{Bases}
 use Rattle.cx_operands.specs.Context.{Context, number_at_most, register_in}
-use Rattle.cx_operands.specs.Storage.{Operand, indexed_in, operand_in}
+use Rattle.cx_operands.specs.Storage.{Operand, index_in, indexed_in, operand_in}
 use Rattle.cx_operands.specs.declared.addresses.Address.{Address}
 use Rattle.cx_operands.specs.declared.bases.Base.{Base}
 
@@ -36,7 +36,7 @@ IsAddressedBy sections regs c value (index ∷ []) x address =
     (register_in c index ≡ Ok x)
     × IsPlaceOf sections regs c.bases address.base value.section value.number (given regs x) (effective regs x address.base address.displacement)
 IsAddressedBy sections regs c value (index ∷ base ∷ []) x address =
-    (register_in c index ≡ Ok x) × (register_in c base ≡ Ok address.base) × (number_at_most 4095 value ≡ Ok address.displacement)
+    (index_in c index ≡ Ok x) × (register_in c base ≡ Ok address.base) × (number_at_most 4095 value ≡ Ok address.displacement)
 IsAddressedBy sections regs c value (index ∷ base ∷ other ∷ more) x address = ⊥
 
 -- An operand of an instruction of the format RX, as it is written, and the index, base and displacement that it is resolved to.

@@ -13,7 +13,7 @@ use Rattle.cx_operands.specs.declared.bases.Base.{Base}
 use Rattle.cx_operands.specs.Addresses.{address, displacement_of, reached, nearer, nearest_from, nearest, absolute_address, address_in, implied_address}
 use Rattle.cx_operands.specs.declared.addresses.Address.{Address}
 use Rattle.cx_operands.specs.Context.{Context, number_in, number_at_most, register_in}
-use Rattle.cx_operands.specs.Storage.{Operand, operand_in, addressed, plain, plain_in, indexed_by, indexed, indexed_in, counted_by, counted, counted_in, implied_length, length_field}
+use Rattle.cx_operands.specs.Storage.{Operand, operand_in, addressed, plain, plain_in, index_in, indexed_by, indexed, indexed_in, counted_by, counted, counted_in, implied_length, length_field}
 use Rattle.cx_operands.proofs.FitLemmas.{number_fits, number_to_fits, both_first, both_second, counted_fits}
 
 -- a base register and a displacement are in their ranges
@@ -123,13 +123,21 @@ plain_fits takes c text a sixteen e = plain_operand_fits c (operand_in takes c t
 abbrev pub IsPairInRange : ℕ → ℕ × Address → Type 0
 IsPairInRange most v = (v.0 ≤ most) × IsInRange v.1
 
+index_fits : (c : Context) (text : List ℕ) (n : ℕ) → index_in c text ≡ Ok n → n ≤ 15
+index_fits c [] n e = let none : 0 ≡ n = (cc) in omega arith
+index_fits c (byte ∷ text) n e = number_fits 15 c (byte ∷ text) n e
+
 indexed_by_fits : (c : Context) (place : Result Value FaultKind) (texts : List (List ℕ)) (v : ℕ × Address) → AreSixteen c → indexed_by c place texts ≡ Ok v → IsPairInRange 15 v
 indexed_by_fits c place [] v sixteen e =
     let first : Ok 0 ≡ Ok v.0 = both_first (Ok 0) (addressed c place []) v e in
     (grind arith, addressed_fits c place [] v.1 sixteen (both_second (Ok 0) (addressed c place []) v e))
-indexed_by_fits c place (index ∷ base) v sixteen e = (
-  number_fits 15 c index v.0 (both_first (register_in c index) (addressed c place base) v e),
-  addressed_fits c place base v.1 sixteen (both_second (register_in c index) (addressed c place base) v e),
+indexed_by_fits c place (index ∷ []) v sixteen e = (
+  number_fits 15 c index v.0 (both_first (register_in c index) (addressed c place []) v e),
+  addressed_fits c place [] v.1 sixteen (both_second (register_in c index) (addressed c place []) v e),
+)
+indexed_by_fits c place (index ∷ base ∷ more) v sixteen e = (
+  index_fits c index v.0 (both_first (index_in c index) (addressed c place (base ∷ more)) v e),
+  addressed_fits c place (base ∷ more) v.1 sixteen (both_second (index_in c index) (addressed c place (base ∷ more)) v e),
 )
 
 indexed_operand_fits : (c : Context) (o : Option Operand) (v : ℕ × Address) → AreSixteen c → option_map_or (indexed c) o (Err BadOperand) ≡ Ok v → IsPairInRange 15 v

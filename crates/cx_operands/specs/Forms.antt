@@ -22,7 +22,7 @@ use Rattle.cx_operands.specs.declared.forms.Form.TheVariants as form
 
 -- The table: how many operands an instruction of each form has, and what each may be.
 --   RR            R1,R2
---   RX            R1,S2  R1,S2(X2)  R1,D2(X2,B2)  R1,literal
+--   RX            R1,S2  R1,S2(X2)  R1,D2(X2,B2)  R1,D2(,B2)  R1,literal
 --   RS            R1,R3,S2  R1,R3,D2(B2)
 --   RS of shifts  R1,S2  R1,D2(B2)
 --   SI            S1,I2  D1(B1),I2

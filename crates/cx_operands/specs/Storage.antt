@@ -70,10 +70,16 @@ addressed c place (base ∷ other ∷ more) = crowded c (explicit_address c plac
 abbrev pub plain : Context → Operand → Result Address FaultKind
 plain c operand = addressed c operand.place operand.subfields
 
--- ---- S, S(X), D(X,B)
+-- ---- S, S(X), D(X,B), D(,B)
+-- an index in front of a base; one that isn't written is 0
+abbrev pub index_in : Context → List ℕ → Result ℕ FaultKind
+index_in c [] = Ok 0
+index_in c text = register_in c text
+
 abbrev pub indexed_by : Context → Result Value FaultKind → List (List ℕ) → Result (ℕ × Address) FaultKind
 indexed_by c place [] = both (Ok 0) (addressed c place [])
-indexed_by c place (index ∷ base) = both (register_in c index) (addressed c place base)
+indexed_by c place (index ∷ []) = both (register_in c index) (addressed c place [])
+indexed_by c place (index ∷ base) = both (index_in c index) (addressed c place base)
 
 abbrev pub indexed : Context → Operand → Result (ℕ × Address) FaultKind
 indexed c operand = indexed_by c operand.place operand.subfields

@@ -64,7 +64,7 @@ fn registers(alloc: Global, c: &Context<'_>, operands: &[&[u8]]) -> Judged<Field
     }
 }
 
-/// `R1,S2`, `R1,S2(X2)`, `R1,D2(X2,B2)` or `R1,literal`.
+/// `R1,S2`, `R1,S2(X2)`, `R1,D2(X2,B2)`, `R1,D2(,B2)` or `R1,literal`.
 #[tactic(auto, unfolding(crate::specs::Forms::fields_in))]
 fn indexed(alloc: Global, c: &Context<'_>, operands: &[&[u8]]) -> Judged<Fields>
     ensures { IfOk result (λ found. found ≡ fields_in form.Indexed (told c.now) (map (λ text. text.now) operands.now)) }
@@ -191,7 +191,7 @@ fn two_lengths(alloc: Global, c: &Context<'_>, operands: &[&[u8]]) -> Judged<Fie
     }
 }
 
-/// `S2`, `S2(X2)`, `D2(X2,B2)` or a literal, behind a mask.
+/// `S2`, `S2(X2)`, `D2(X2,B2)`, `D2(,B2)` or a literal, behind a mask.
 #[tactic(auto, unfolding(crate::specs::Forms::fields_in))]
 fn branch(alloc: Global, c: &Context<'_>, operands: &[&[u8]], mask: u8) -> Judged<Fields>
     ensures { IfOk result (λ found. found ≡ fields_in (form.Branch mask) (told c.now) (map (λ text. text.now) operands.now)) }
@@ -322,8 +322,8 @@ fn instruction(op: Op, fields: Fields) -> Inst
 /// reaches; BadOperand for what can't be read, a literal where none may stand, a relocatable value as a register, mask,
 /// byte, length or displacement with a base, text behind the parentheses, more in them than the operand has room for;
 /// ValueOutOfRange for a register or mask outside 0 to 15, a byte outside 0 to 255, a displacement outside 0 to 4,095, a
-/// length outside 0 to 256 (0 to 16 where there are two), written or implied. An operation that makes no instruction is
-/// UnknownOperation. Memory comes only where a growth was refused.
+/// length outside 0 to 256 (0 to 16 where there are two), written or implied. An index that is left out in front of a base
+/// is 0. An operation that makes no instruction is UnknownOperation. Memory comes only where a growth was refused.
 #[tactic(auto, using(crate::proofs::FormLemmas::resolved_well), unfolding(crate::specs::Forms::resolved))]
 pub fn resolve(
     alloc: Global,

@@ -8,7 +8,7 @@ ghost use Rattle.cx_terms.specs.declared.faults.FaultKind.TheVariants as FaultKi
 ghost use Rattle.cx_operands.specs.Judging.{judged};
 ghost use Rattle.cx_operands.specs.Addresses.{implied_address};
 ghost use Rattle.cx_operands.specs.Context.{told, worth};
-ghost use Rattle.cx_operands.specs.Storage.{addressed, counted_by, counted_in, crowded, explicit_address, expression_and_list, implied_length, indexed, indexed_in, is_literal, length_field, operand_in, plain_in, subfields_of, worths_fault};
+ghost use Rattle.cx_operands.specs.Storage.{addressed, counted_by, counted_in, crowded, explicit_address, expression_and_list, implied_length, index_in, indexed, indexed_in, is_literal, length_field, operand_in, plain_in, subfields_of, worths_fault};
 
 use crate::addresses::Address;
 use crate::context::{Context, number_of};
@@ -199,14 +199,25 @@ fn addressed(
     }
 }
 
-/// The index, 0 without one, and the address of `S`, `S(X)` or `D(X,B)`.
+/// The index in front of a base, 0 where it isn't written.
+fn index_in(alloc: Global, c: &Context<'_>, text: &[u8]) -> Judged<u8>
+    ensures { IfOk result (λ found. found ≡ index_in (told c.now) text.now) }
+{
+    match text {
+        [] => Ok(Ok(0)),
+        _ => c.register(alloc, text),
+    }
+}
+
+/// The index, 0 where none is written, and the address of `S`, `S(X)`, `D(X,B)` or `D(,B)`.
 fn indexed(alloc: Global, c: &Context<'_>, operand: &Operand<'_>) -> Judged<(u8, Address)>
     ensures { IfOk result (λ found. found ≡ indexed (told c.now) operand.now) }
 {
     match operand.subfields.as_slice() {
         [] => Ok(both(Ok(0), implied(c, operand.place))),
+        [index] => Ok(both(c.register(alloc, index)?, implied(c, operand.place))),
         [index, base @ ..] => {
-            let index = c.register(alloc, index)?;
+            let index = index_in(alloc, c, index)?;
             let address = addressed(alloc, c, operand.place, base)?;
             Ok(both(index, address))
         }
