@@ -8,6 +8,7 @@ use Rattle.cx_code.specs.declared.disassembly.What.TheVariants.{Code, Data, Spac
 use Rattle.cx_image.specs.Relocated.{words_at}
 use Rattle.cx_image.specs.Resolved.{AreApart, end_behind, end_of}
 use Rattle.cx_asm.specs.Laws.Standing.{IsWithin, WordsApart}
+use Rattle.cx_asm.specs.Parts.Kept.{kept}
 use Rattle.cx_asm.specs.Resolving.{Standing, data_line, joined, line as line_of, relocated, space_line, standing_from}
 use Rattle.cx_source.specs.declared.source.Source.{Source}
 use Rattle.cx_places.specs.Placed.{IsPlaced, known_of}
@@ -45,6 +46,12 @@ pub fits_first : (old part rest left all : Standing) (end : ℕ) → left ≡ jo
 fits_first old part rest left all end e f h =
     within_front 0 (joined old part) rest end
     (subst (λ s. IsWithin 0 s end) (sym f ∙ ap (λ (s : Standing). joined old s) e ∙ sym (joined_in_turn old part rest)) h)
+
+-- so it does where it is kept
+pub kept_fits : (keeps : Bool) (old part rest left first all : Standing) (end : ℕ) → left ≡ joined part rest → kept keeps old left ≡ kept keeps first all
+    → (keeps ≡ true → IsWithin 0 (joined first all) end) → keeps ≡ true → IsWithin 0 (joined old part) end
+kept_fits true old part rest left first all end e f h is = fits_first old part rest left (joined first all) end e f (h refl)
+kept_fits false old part rest left first all end e f h is = cc
 
 -- ---- the last of them
 pub line_fits : (from : ℕ) (lines : List Line) (l : Line) (end : ℕ) → AreApart from (lines ++ l ∷ []) end → (end_behind from lines ≤ l.at) × (end_of l ≤ end)

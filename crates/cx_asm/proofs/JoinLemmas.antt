@@ -1,12 +1,17 @@
 -- What stands, put behind what stands.
-use Rattle.std.proofs.Common.{◌≡◌, ℕ, zero, suc, ◌+◌, Bool, List, [], ◌∷◌, ◌++◌, append-nil, append_assoc, add-one, ◌<◌, drop, drop-cons, get_or, slice_get, length, arith, refl, sym, ◌∙◌, ap}
+use Rattle.std.proofs.Common.{◌≡◌, ℕ, zero, suc, ◌+◌, Bool, true, false, List, [], ◌∷◌, ◌++◌, append-nil, append_assoc, add-one, ◌<◌, drop, drop-cons, get_or, slice_get, length, arith, refl, sym, ◌∙◌, ap}
 use Rattle.cx_code.specs.declared.disassembly.Line.{Line}
-use Rattle.cx_asm.specs.Resolving.{Standing, copies, item_standing, items_standing, joined, literal_standing, nothing, pool_standing, standing, standing_from, statement_standing}
+use Rattle.std.specs.Prelude.{Result, Ok, Err}
+use Rattle.cx_terms.specs.Bytes.{Made}
+use Rattle.cx_terms.specs.Items.{Constant}
+use Rattle.cx_terms.specs.declared.faults.FaultKind.{FaultKind}
+use Rattle.cx_asm.specs.Parts.Kept.{kept}
+use Rattle.cx_asm.specs.Resolving.{Standing, constant_standing, copies, item_standing, items_standing, joined, literal_standing, nothing, pool_standing, standing, standing_from, statement_standing}
 use Rattle.cx_pools.specs.Pools.{Placed}
 use Rattle.cx_operands.specs.Bases.{Bases}
 use Rattle.cx_second.specs.Statements.{Stated}
 use Rattle.cx_second.specs.Whole.{Whole}
-use Rattle.cx_second.specs.SecondFaults.{bases_after}
+use Rattle.cx_second.specs.SecondFaults.{Judged, bases_after, judged_after}
 
 same : (ls ms : List Line) (rs qs : List ℕ) → ls ≡ ms → rs ≡ qs → standing ls rs ≡ standing ms qs
 same ls ms rs qs e f = rw (e, f) refl
@@ -62,3 +67,24 @@ standing_next told statements bases xs d i within = rw (add-one, drop-cons xs i 
 pub one_more : (old new part rest left all : Standing) → new ≡ joined old part → left ≡ joined part rest → joined old left ≡ all → joined new rest ≡ all
 one_more old new part rest left all e f h =
     ap (λ (s : Standing). joined s rest) e ∙ joined_in_turn old part rest ∙ ap (λ (s : Standing). joined old s) (sym f) ∙ h
+
+pub bases_next : (told : Whole) (number : ℕ) (s : Stated) (before behind : Judged) → behind ≡ judged_after told number s before
+    → behind.bases ≡ bases_after told before.bases s
+unfolding judged_after
+bases_next told number s before behind e = ap (λ (j : Judged). j.bases) e
+
+-- ---- where it is kept
+pub kept_nothing : (keeps : Bool) (s : Standing) → kept keeps s nothing ≡ s
+kept_nothing true s = joined_nothing s
+kept_nothing false s = refl
+
+pub kept_refused : (keeps : Bool) (s : Standing) (at : ℕ) (item : Result Constant FaultKind) (made : Result Made FaultKind) (fault : FaultKind) → made ≡ Err fault
+    → kept keeps s (constant_standing at item made) ≡ s
+kept_refused keeps s at (Ok item) (Err f) fault e = kept_nothing keeps s
+kept_refused keeps s at (Err f) made fault e = kept_nothing keeps s
+kept_refused keeps s at (Ok item) (Ok made) fault e = cc
+
+pub kept_more : (keeps : Bool) (old new part rest left all : Standing) → new ≡ kept keeps old part → left ≡ joined part rest → kept keeps old left ≡ all
+    → kept keeps new rest ≡ all
+kept_more true old new part rest left all e f h = one_more old new part rest left all e f h
+kept_more false old new part rest left all e f h = e ∙ h

@@ -6,3 +6,5 @@ mod WithinLemmas
 mod MadeLemmas
 pub mod TellingLemmas
 pub mod JoinLemmas
+pub mod FaultLemmas
+pub mod RoleLemmas

@@ -5,3 +5,5 @@ pub mod Assembly
 -- Statements of laws.
 pub mod Laws
 pub mod Facts
+-- Words of private functions.
+pub mod Parts

@@ -1,23 +1,23 @@
 //! The assembly of a source.
 
-ghost use Rattle.std.specs.Prelude.{◌≡◌, ◌≤◌, IfOk, None, option_map};
+ghost use Rattle.std.specs.Prelude.{◌≡◌, ◌≤◌, IfOk, None, option_map, true};
 ghost use Rattle.std.specs.Option.{option_map_or};
 ghost use Rattle.cx_source.specs.declared.source.Source.{Source};
 ghost use Rattle.cx_image.specs.Assembled.{IsAssembled};
 ghost use Rattle.cx_places.specs.Placed.{IsPlaced, known_of};
 ghost use Rattle.cx_second.specs.Whole.{told_by};
 ghost use Rattle.cx_second.specs.Statements.{end_of, placed_of, statements_of};
-ghost use Rattle.cx_asm.specs.Assembly.{Assembles, assembly_of, end_line, entry_by, made_of, second_fault_of, section_of, size_of, unless_refused, unless_too_large};
+ghost use Rattle.cx_asm.specs.Assembly.{Assembles, assembly_of, end_line, entry_by, made_of, second_fault_of, section_of, size_of, standing_of, unless_refused, unless_too_large};
 
 use crate::faults::{AsmFault, fault_at};
 use crate::laws::what_stands_stands_apart;
 use crate::listing::listing_of;
-use crate::section::standing_of;
+use crate::section::{Found, second_pass};
 use crate::standing::Standing;
 use cx_code::{Image, Line, Offsets, Span};
 use cx_image::{Assembled, LARGEST_TEXT, working_storage};
 use cx_places::{PlaceFault, Places, place_all};
-use cx_second::{PlacedItem, Statement, entry_of, first_fault, placed_lines, stated};
+use cx_second::{PlacedItem, Statement, entry_of, placed_lines, stated};
 use cx_source::{Source, Text};
 use cx_terms::TermFault;
 use std::alloc::{AllocError, Global};
@@ -147,16 +147,18 @@ fn section_of(
     places: &Places<'_>,
     statements: &[Statement<'_>],
     size: u32,
+    standing: Standing,
 ) -> Result<Assembled, AllocError>
     requires sound { (known_of source.now).fault ≡ None }
     requires placed { IsPlaced (known_of source.now) places.now }
     requires statements { statements.now ≡ statements_of source.now }
     requires size { size ≡ size_of source.now }
     requires fits { size ≤ 65536 }
+    requires standing { standing ≡ standing_of source.now }
     ensures { IfOk result (λ section. section ≡ section_of source.now) }
 {
     what_stands_stands_apart();
-    let Standing { lines, relocs } = standing_of(alloc, places, statements)?;
+    let Standing { lines, relocs } = standing;
     let lines = lines.into_vec();
     let entry = entry(alloc, places, statements)?;
     let stg_len = working_storage(places.stg_length);
@@ -178,6 +180,7 @@ fn made_of(
     placed: &[PlacedItem<'_>],
     statements: &[Statement<'_>],
     size: u32,
+    standing: Standing,
 ) -> Result<Assembly, AllocError>
     requires sound { (known_of source.now).fault ≡ None }
     requires places { IsPlaced (known_of source.now) places.now }
@@ -185,16 +188,36 @@ fn made_of(
     requires statements { statements.now ≡ statements_of source.now }
     requires size { size ≡ size_of source.now }
     requires fits { size ≤ 65536 }
+    requires standing { standing ≡ standing_of source.now }
     ensures { IfOk result (λ made. made ≡ made_of source.now) }
 {
-    let section = section_of(alloc, source, places, statements, size)?;
+    let section = section_of(alloc, source, places, statements, size, standing)?;
     let text = section.image().text.as_slice();
     let listing = listing_of(alloc, places, text, placed)?;
     Ok(Assembly { section, listing })
 }
 
+/// What the second pass over a source's statements finds; what they make is kept only where it fits in the largest text.
+#[tactic(auto, using(crate::proofs::TellingLemmas::told_is), unfolding(crate::specs::Assembly::second_fault_of, crate::specs::Assembly::standing_of))]
+fn found_in(
+    alloc: Global,
+    source: &Source,
+    places: &Places<'_>,
+    statements: &[Statement<'_>],
+    fits: bool,
+) -> Result<Found, AllocError>
+    requires sound { (known_of source.now).fault ≡ None }
+    requires placed { IsPlaced (known_of source.now) places.now }
+    requires statements { statements.now ≡ statements_of source.now }
+    requires fits { fits ≡ true → size_of source.now ≤ 65536 }
+    ensures first { IfOk result (λ found. found.first ≡ second_fault_of source.now) }
+    ensures standing { IfOk result (λ found. fits ≡ true → found.standing ≡ standing_of source.now) }
+{
+    what_stands_stands_apart();
+    second_pass(alloc, places, statements, fits)
+}
+
 /// The assembly of a source whose statements are placed.
-#[tactic(auto, using(crate::proofs::TellingLemmas::told_is), unfolding(crate::specs::Assembly::second_fault_of))]
 fn assemble_placed(
     alloc: Global,
     source: &Source,
@@ -207,11 +230,13 @@ fn assemble_placed(
 {
     let placed = placed_lines(alloc, source, places.statements.as_slice())?;
     let statements = stated(alloc, placed.as_slice())?;
-    if let Some(first) = first_fault(alloc, places, statements.as_slice())? {
+    let size = size_of(places);
+    let fits = size <= u128::from(LARGEST_TEXT);
+    let found = found_in(alloc, source, places, statements.as_slice(), fits)?;
+    if let Some(first) = found.first {
         return Err(fault_at(first));
     }
-    let size = size_of(places);
-    if size > u128::from(LARGEST_TEXT) {
+    if !fits {
         return Err(AsmFault::TooLarge(end_line(source, statements.as_slice())));
     }
     Ok(made_of(
@@ -221,6 +246,7 @@ fn assemble_placed(
         placed.as_slice(),
         statements.as_slice(),
         size as u32,
+        found.standing,
     )?)
 }
 

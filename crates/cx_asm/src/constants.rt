@@ -1,89 +1,123 @@
 //! What the constants of DS, DC and literals make.
 
-ghost use Rattle.std.specs.Prelude.{◌≡◌, OnOk, option_map};
-ghost use Rattle.std.specs.Prelude.{true};
+ghost use Rattle.std.specs.Prelude.{◌≡◌, IfOk, Ok, OnOk, false, map, option_map, true};
+ghost use Rattle.std.specs.Result.{result_err};
+ghost use Rattle.cx_terms.specs.Faults.{lowest};
 ghost use Rattle.cx_terms.specs.Items.{constant_in};
 ghost use Rattle.cx_pools.specs.Pools.{Placed};
+ghost use Rattle.cx_second.specs.SecondFaults.{item_fault};
 ghost use Rattle.cx_second.specs.Whole.{item_made, told_by};
 ghost use Rattle.cx_asm.specs.Laws.Standing.{IsWithin};
-ghost use Rattle.cx_asm.specs.Resolving.{counter_at, data_standing, item_standing, items_standing, joined, literal_standing, pool_standing, space_standing};
+ghost use Rattle.cx_asm.specs.Parts.Kept.{kept};
+ghost use Rattle.cx_asm.specs.Resolving.{constant_standing, counter_at, data_standing, item_standing, items_standing, joined, literal_standing, pool_standing, space_standing};
 
 use crate::standing::Standing;
 use cx_places::{Places, location_counter};
 use cx_pools::{Literal, Pool};
-use cx_second::{Statement, StatementItem, counter_of, item_made};
-use cx_terms::{Constant, TermFault, Value};
+use cx_second::{Statement, StatementItem, counter_of, item_made, made_fault};
+use cx_terms::{Constant, ConstantBytes, FaultKind, TermFault, Value, lower};
 use std::alloc::{AllocError, Global};
 
-/// Appends an item of a DC, or a literal, at an offset.
+/// Appends the copies of a constant, by what one of them is, if they are kept.
+#[tactic(auto, using(crate::proofs::JoinLemmas::kept_nothing))]
+fn push_made(
+    alloc: Global,
+    at: u128,
+    text: &[u8],
+    made: &ConstantBytes,
+    keeps: bool,
+    standing: &mut Standing,
+) -> Result<(), AllocError>
+    requires { keeps ≡ true → IsWithin 0 (joined standing.old (constant_standing at (constant_in false text.now) (Ok made.now))) 65536 }
+    ensures { OnOk result (standing.new ≡ kept keeps standing.old (constant_standing at (constant_in false text.now) (Ok made.now))) }
+{
+    match Constant::read(text, false) {
+        Ok(item) => standing.push_data(alloc, at, item.duplication(), made, keeps),
+        Err(_) => Ok(()),
+    }
+}
+
+/// Appends an item of a DC, or a literal, at an offset, if it is kept. Its fault is answered, if it has one.
+#[tactic(auto, using(crate::proofs::JoinLemmas::kept_refused))]
 fn push_constant(
     alloc: Global,
     places: &Places<'_>,
     counter: Option<Value>,
     text: &[u8],
     at: u128,
+    keeps: bool,
     standing: &mut Standing,
-) -> Result<(), AllocError>
-    requires { IsWithin 0 (joined standing.old (data_standing (told_by places.now) counter text.now at)) 65536 }
-    ensures { OnOk result (standing.new ≡ joined standing.old (data_standing (told_by places.now) counter text.now at)) }
+) -> Result<Option<FaultKind>, AllocError>
+    requires { keeps ≡ true → IsWithin 0 (joined standing.old (data_standing (told_by places.now) counter text.now at)) 65536 }
+    ensures standing { OnOk result (standing.new ≡ kept keeps standing.old (data_standing (told_by places.now) counter text.now at)) }
+    ensures fault { IfOk result (λ fault. fault ≡ result_err (item_made (told_by places.now) false counter text.now)) }
 {
-    let Ok(item) = Constant::read(text, false) else {
-        return Ok(());
-    };
     match item_made(alloc, places, false, counter, text) {
-        Ok(made) => standing.push_data(alloc, at, item.duplication(), &made),
-        Err(TermFault::Refused(_)) => Ok(()),
+        Ok(made) => {
+            push_made(alloc, at, text, &made, keeps, standing)?;
+            Ok(None)
+        }
+        Err(TermFault::Refused(fault)) => Ok(Some(fault)),
         Err(TermFault::Memory) => Err(AllocError),
     }
 }
 
-/// Appends an item of a DS.
-fn push_space(at: u128, text: &[u8], standing: &mut Standing) -> Result<(), AllocError>
-    requires { IsWithin 0 (joined standing.old (space_standing at (constant_in true text.now))) 65536 }
-    ensures { OnOk result (standing.new ≡ joined standing.old (space_standing at (constant_in true text.now))) }
+/// Appends an item of a DS, if it is kept.
+#[tactic(auto, using(crate::proofs::JoinLemmas::kept_nothing))]
+fn push_space(at: u128, text: &[u8], keeps: bool, standing: &mut Standing) -> Result<(), AllocError>
+    requires { keeps ≡ true → IsWithin 0 (joined standing.old (space_standing at (constant_in true text.now))) 65536 }
+    ensures { OnOk result (standing.new ≡ kept keeps standing.old (space_standing at (constant_in true text.now))) }
 {
     match Constant::read(text, true) {
-        Ok(item) => standing.push_space(at, item.size()),
+        Ok(item) => standing.push_space(at, item.size(), keeps),
         Err(_) => Ok(()),
     }
 }
 
-/// Appends an item of a DS or DC.
+/// Appends an item of a DS or DC, if it is kept. Its fault is answered, if it has one.
 fn push_item(
     alloc: Global,
     places: &Places<'_>,
     is_ds: bool,
     statement: &Statement<'_>,
     item: &StatementItem<'_>,
+    keeps: bool,
     standing: &mut Standing,
-) -> Result<(), AllocError>
-    requires { IsWithin 0 (joined standing.old (item_standing (told_by places.now) is_ds statement.now item.now)) 65536 }
-    ensures { OnOk result (standing.new ≡ joined standing.old (item_standing (told_by places.now) is_ds statement.now item.now)) }
+) -> Result<Option<FaultKind>, AllocError>
+    requires { keeps ≡ true → IsWithin 0 (joined standing.old (item_standing (told_by places.now) is_ds statement.now item.now)) 65536 }
+    ensures standing { OnOk result (standing.new ≡ kept keeps standing.old (item_standing (told_by places.now) is_ds statement.now item.now)) }
+    ensures fault { IfOk result (λ fault. fault ≡ item_fault (told_by places.now) is_ds statement.now item.now) }
 {
     let at = item.offset();
-    if is_ds {
-        return push_space(at, item.text(), standing);
-    }
     let counter = location_counter(statement.place().section, at, 1);
-    push_constant(alloc, places, counter, item.text(), at, standing)
+    if is_ds {
+        push_space(at, item.text(), keeps, standing)?;
+        return made_fault(alloc, places, true, counter, item.text());
+    }
+    push_constant(alloc, places, counter, item.text(), at, keeps, standing)
 }
 
-/// Appends the items of a DS or DC.
+/// Appends the items of a DS or DC, if they are kept. Their lowest fault is answered, if they have one.
+#[tactic(auto, using(crate::proofs::JoinLemmas::kept_nothing, crate::proofs::FaultLemmas::lower_nothing))]
 pub(crate) fn push_items(
     alloc: Global,
     places: &Places<'_>,
     is_ds: bool,
     statement: &Statement<'_>,
     items: &[StatementItem<'_>],
+    keeps: bool,
     standing: &mut Standing,
-) -> Result<(), AllocError>
-    requires { IsWithin 0 (joined standing.old (items_standing (told_by places.now) is_ds statement.now items.now)) 65536 }
-    ensures { OnOk result (standing.new ≡ joined standing.old (items_standing (told_by places.now) is_ds statement.now items.now)) }
+) -> Result<Option<FaultKind>, AllocError>
+    requires { keeps ≡ true → IsWithin 0 (joined standing.old (items_standing (told_by places.now) is_ds statement.now items.now)) 65536 }
+    ensures standing { OnOk result (standing.new ≡ kept keeps standing.old (items_standing (told_by places.now) is_ds statement.now items.now)) }
+    ensures fault { IfOk result (λ fault. fault ≡ lowest (map (item_fault (told_by places.now) is_ds statement.now) items.now)) }
 {
+    let mut fault = None;
     for item in items {
-        push_item(alloc, places, is_ds, statement, item, standing)?;
+        let other = push_item(alloc, places, is_ds, statement, item, keeps, standing)?;
+        fault = lower(fault, other);
     }
-    Ok(())
+    Ok(fault)
 }
 
 /// What the location counter stands at for the statement of a number.
@@ -93,37 +127,59 @@ fn counter_at(statements: &[Statement<'_>], user: usize) -> Option<Value>
     counter_of(statements.get(user)?)
 }
 
-/// Appends a literal, if there is one.
+/// Appends a literal, if there is one and it is kept.
+#[tactic(auto, using(crate::proofs::JoinLemmas::kept_nothing))]
 fn push_literal(
     alloc: Global,
     places: &Places<'_>,
     statements: &[Statement<'_>],
     literal: Option<(&[u8], Literal)>,
+    keeps: bool,
     standing: &mut Standing,
 ) -> Result<(), AllocError>
-    requires { IsWithin 0 (joined standing.old (literal_standing (told_by places.now) statements.now (option_map (λ e. (e.0.now, e.1)) literal))) 65536 }
-    ensures { OnOk result (standing.new ≡ joined standing.old (literal_standing (told_by places.now) statements.now (option_map (λ e. (e.0.now, e.1)) literal.entry))) }
+    requires { keeps ≡ true
+        → IsWithin 0 (joined standing.old (literal_standing (told_by places.now) statements.now (option_map (λ e. (e.0.now, e.1)) literal))) 65536 }
+    ensures { OnOk result (standing.new
+        ≡ kept keeps standing.old (literal_standing (told_by places.now) statements.now (option_map (λ e. (e.0.now, e.1)) literal.entry))) }
 {
     let Some((text, literal)) = literal else {
         return Ok(());
     };
     let counter = counter_at(statements, literal.user);
-    push_constant(alloc, places, counter, text, literal.offset, standing)
+    push_constant(
+        alloc,
+        places,
+        counter,
+        text,
+        literal.offset,
+        keeps,
+        standing,
+    )?;
+    Ok(())
 }
 
-/// Appends the literals of a pool.
+/// Appends the literals of a pool, if they are kept.
+#[tactic(auto, using(crate::proofs::JoinLemmas::kept_nothing))]
 pub(crate) fn push_pool(
     alloc: Global,
     places: &Places<'_>,
     statements: &[Statement<'_>],
     pool: &Pool<'_>,
+    keeps: bool,
     standing: &mut Standing,
 ) -> Result<(), AllocError>
-    requires { IsWithin 0 (joined standing.old (pool_standing (told_by places.now) statements.now pool.now)) 65536 }
-    ensures { OnOk result (standing.new ≡ joined standing.old (pool_standing (told_by places.now) statements.now pool.now)) }
+    requires { keeps ≡ true → IsWithin 0 (joined standing.old (pool_standing (told_by places.now) statements.now pool.now)) 65536 }
+    ensures { OnOk result (standing.new ≡ kept keeps standing.old (pool_standing (told_by places.now) statements.now pool.now)) }
 {
     for index in 0..pool.len() {
-        push_literal(alloc, places, statements, pool.literal(index), standing)?;
+        push_literal(
+            alloc,
+            places,
+            statements,
+            pool.literal(index),
+            keeps,
+            standing,
+        )?;
     }
     Ok(())
 }

@@ -1,22 +1,30 @@
-//! What the statements of a source make in the control section.
+//! The second pass over the statements of a source: their first fault, and what they make in the control section.
 
-ghost use Rattle.std.specs.Prelude.{◌≡◌, IfOk, OnOk};
+ghost use Rattle.std.specs.Prelude.{◌≡◌, false, IfOk, OnOk, reverse, Some, true};
 ghost use Rattle.cx_operands.specs.Bases.{none_in_use};
+ghost use Rattle.cx_operations.specs.declared.operations.Directive.TheVariants as directive;
 ghost use Rattle.cx_places.specs.Known.{is_control, role_in};
-ghost use Rattle.cx_second.specs.Statements.{placed_items};
+ghost use Rattle.cx_places.specs.Roles.{directive_role};
+ghost use Rattle.cx_second.specs.SecondFaults.{directive_fault, instruction_fault, items_fault, judged_after, judged_behind, operand_fault};
+ghost use Rattle.cx_second.specs.Statements.{operation_of, placed_items};
 ghost use Rattle.cx_second.specs.Whole.{pool_of, told_by};
 ghost use Rattle.cx_asm.specs.Laws.Standing.{IsWithin};
+ghost use Rattle.cx_asm.specs.Parts.Kept.{kept};
 ghost use Rattle.cx_asm.specs.Resolving.{instruction_standing, items_standing, joined, last_pool, pool_standing, role_standing, standing_from, statement_standing};
 
 use crate::constants::{push_items, push_pool};
 use crate::standing::Standing;
 use cx_ebcdic::Name8;
-use cx_operands::Bases;
-use cx_operations::Operation;
-use cx_places::{Places, Role};
-use cx_second::{Statement, control_name, instruction_of, pass_bases, placed_items, pool_of};
-use cx_terms::TermFault;
+use cx_operands::{Bases, copy_fault};
+use cx_operations::{Directive, Operation};
+use cx_places::{LineFault, Places, first_fault_behind};
+use cx_second::{
+    Statement, control_name, entry_of, instruction_of, literals_fault, pass_bases, placed_items,
+    pool_of,
+};
+use cx_terms::{FaultKind, TermFault, lower};
 use std::alloc::{AllocError, Global};
+use std::marker::Model;
 
 /// Whether a section is the control section.
 pub(crate) fn is_control(section: Option<Name8>, control: Option<Name8>) -> bool
@@ -28,133 +36,303 @@ pub(crate) fn is_control(section: Option<Name8>, control: Option<Name8>) -> bool
     }
 }
 
-/// Appends the instruction of a statement with this operation.
-fn push_instruction(
+/// Appends the instruction of a statement, if it is kept. The lowest fault of it and of the literals that it uses first is
+/// answered, if they have one.
+#[tactic(auto, using(crate::proofs::JoinLemmas::kept_nothing))]
+fn pass_instruction(
     alloc: Global,
     places: &Places<'_>,
-    bases: &Bases,
+    number: usize,
     statement: &Statement<'_>,
-    operation: Option<Operation>,
+    operation: Operation,
+    bases: &Bases,
+    keeps: bool,
     standing: &mut Standing,
-) -> Result<(), AllocError>
-    requires { IsWithin 0 (joined standing.old (instruction_standing (told_by places.now) bases.now statement.now operation)) 65536 }
-    ensures { OnOk result (standing.new ≡ joined standing.old (instruction_standing (told_by places.now) bases.now statement.now operation)) }
+) -> Result<Option<FaultKind>, AllocError>
+    requires { keeps ≡ true
+        → IsWithin 0 (joined standing.old (instruction_standing (told_by places.now) bases.now statement.now (Some operation))) 65536 }
+    ensures standing { OnOk result (standing.new
+        ≡ kept keeps standing.old (instruction_standing (told_by places.now) bases.now statement.now (Some operation))) }
+    ensures fault { IfOk result (λ fault. fault ≡ instruction_fault (told_by places.now) bases.now number statement.now operation) }
 {
-    let Some(operation) = operation else {
-        return Ok(());
-    };
+    let literals = literals_fault(alloc, places, number, statement)?;
     match instruction_of(alloc, places, bases, statement, operation) {
-        Ok(inst) => standing.push_code(statement.place().offset, inst),
-        Err(TermFault::Refused(_)) => Ok(()),
+        Ok(inst) => {
+            standing.push_code(statement.place().offset, inst, keeps)?;
+            Ok(literals)
+        }
+        Err(TermFault::Refused(fault)) => Ok(lower(Some(fault), literals)),
         Err(TermFault::Memory) => Err(AllocError),
     }
 }
 
-/// Appends what a DS or DC makes.
-fn push_storage(
+/// Appends what a DS or DC makes, if it is kept. Its lowest fault is answered, if it has one.
+fn pass_storage(
     alloc: Global,
     places: &Places<'_>,
     is_ds: bool,
     statement: &Statement<'_>,
+    keeps: bool,
     standing: &mut Standing,
-) -> Result<(), AllocError>
-    requires { IsWithin 0 (joined standing.old (items_standing (told_by places.now) is_ds statement.now (placed_items statement.now))) 65536 }
-    ensures { OnOk result (standing.new ≡ joined standing.old (items_standing (told_by places.now) is_ds statement.now (placed_items statement.now))) }
+) -> Result<Option<FaultKind>, AllocError>
+    requires { keeps ≡ true
+        → IsWithin 0 (joined standing.old (items_standing (told_by places.now) is_ds statement.now (placed_items statement.now))) 65536 }
+    ensures standing { OnOk result (standing.new
+        ≡ kept keeps standing.old (items_standing (told_by places.now) is_ds statement.now (placed_items statement.now))) }
+    ensures fault { IfOk result (λ fault. fault ≡ items_fault (told_by places.now) is_ds statement.now) }
 {
     let items = placed_items(alloc, statement)?;
-    push_items(alloc, places, is_ds, statement, items.as_slice(), standing)
+    push_items(
+        alloc,
+        places,
+        is_ds,
+        statement,
+        items.as_slice(),
+        keeps,
+        standing,
+    )
 }
 
-/// Appends the pool of an LTORG.
+/// Appends the pool of an LTORG, if it is kept.
+#[tactic(auto, using(crate::proofs::JoinLemmas::kept_nothing))]
 fn push_closed_pool(
     alloc: Global,
     places: &Places<'_>,
     statements: &[Statement<'_>],
     statement: &Statement<'_>,
+    keeps: bool,
     standing: &mut Standing,
 ) -> Result<(), AllocError>
-    requires { IsWithin 0 (joined standing.old (pool_standing (told_by places.now) statements.now (pool_of (told_by places.now) statement.now))) 65536 }
-    ensures { OnOk result (standing.new ≡ joined standing.old (pool_standing (told_by places.now) statements.now (pool_of (told_by places.now) statement.now))) }
+    requires { keeps ≡ true
+        → IsWithin 0 (joined standing.old (pool_standing (told_by places.now) statements.now (pool_of (told_by places.now) statement.now))) 65536 }
+    ensures { OnOk result (standing.new
+        ≡ kept keeps standing.old (pool_standing (told_by places.now) statements.now (pool_of (told_by places.now) statement.now))) }
 {
     match pool_of(places, statement) {
-        Some(pool) => push_pool(alloc, places, statements, pool, standing),
+        Some(pool) => push_pool(alloc, places, statements, pool, keeps, standing),
         None => Ok(()),
     }
 }
 
-/// Appends what a statement of a role makes.
-fn push_role(
+/// The fault of an END.
+fn end_fault(
+    alloc: Global,
+    places: &Places<'_>,
+    statement: &Statement<'_>,
+) -> Result<Option<FaultKind>, AllocError>
+    ensures { IfOk result (λ fault. fault ≡ directive_fault (told_by places.now) statement.now directive.End) }
+{
+    match entry_of(alloc, places, statement) {
+        Ok(_) => Ok(None),
+        Err(TermFault::Refused(fault)) => Ok(Some(fault)),
+        Err(TermFault::Memory) => Err(AllocError),
+    }
+}
+
+/// Appends what a directive makes, if it is kept. Its fault is answered, if it has one, USING and DROP apart.
+#[tactic(auto, using(crate::proofs::JoinLemmas::kept_nothing))]
+fn pass_directive(
     alloc: Global,
     places: &Places<'_>,
     statements: &[Statement<'_>],
-    bases: &Bases,
     statement: &Statement<'_>,
+    directive: Directive,
+    keeps: bool,
     standing: &mut Standing,
-) -> Result<(), AllocError>
-    requires { IsWithin 0 (joined standing.old (role_standing (told_by places.now) statements.now bases.now statement.now (role_in statement.now.stmt))) 65536 }
-    ensures { OnOk result (standing.new ≡ joined standing.old (role_standing (told_by places.now) statements.now bases.now statement.now (role_in statement.now.stmt))) }
+) -> Result<Option<FaultKind>, AllocError>
+    requires { keeps ≡ true → IsWithin 0
+        (joined standing.old (role_standing (told_by places.now) statements.now none_in_use statement.now (directive_role directive))) 65536 }
+    ensures standing { OnOk result (standing.new
+        ≡ kept keeps standing.old (role_standing (told_by places.now) statements.now none_in_use statement.now (directive_role directive))) }
+    ensures fault { IfOk result (λ fault. fault ≡ directive_fault (told_by places.now) statement.now directive) }
 {
-    match statement.role() {
-        Role::Instruction(_) => {
-            let operation = statement.operation();
-            push_instruction(alloc, places, bases, statement, operation, standing)
+    match directive {
+        Directive::Dc => pass_storage(alloc, places, false, statement, keeps, standing),
+        Directive::Ds => pass_storage(alloc, places, true, statement, keeps, standing),
+        Directive::Ltorg => {
+            push_closed_pool(alloc, places, statements, statement, keeps, standing)?;
+            Ok(None)
         }
-        Role::Storage { is_ds } => push_storage(alloc, places, is_ds, statement, standing),
-        Role::Pool => push_closed_pool(alloc, places, statements, statement, standing),
-        _ => Ok(()),
+        Directive::Copy => Ok(copy_fault(statement.stmt().operand.as_slice())),
+        Directive::End => end_fault(alloc, places, statement),
+        _ => Ok(None),
     }
 }
 
-/// Appends what a statement makes.
-#[tactic(auto, unfolding(crate::specs::Resolving::statement_standing))]
-fn push_statement(
+/// Appends what a statement of a number, from 0, makes, if it is kept. Its fault is answered, if it has one, those of USING and
+/// DROP apart.
+#[tactic(auto, using(crate::proofs::JoinLemmas::kept_nothing, crate::proofs::RoleLemmas::by_directive))]
+fn pass_operands(
     alloc: Global,
     places: &Places<'_>,
     statements: &[Statement<'_>],
-    bases: &Bases,
+    number: usize,
     statement: &Statement<'_>,
+    bases: &Bases,
+    keeps: bool,
     standing: &mut Standing,
-) -> Result<(), AllocError>
-    requires { IsWithin 0 (joined standing.old (statement_standing (told_by places.now) statements.now bases.now statement.now)) 65536 }
-    ensures { OnOk result (standing.new ≡ joined standing.old (statement_standing (told_by places.now) statements.now bases.now statement.now)) }
+) -> Result<Option<FaultKind>, AllocError>
+    requires { keeps ≡ true → IsWithin 0
+        (joined standing.old (role_standing (told_by places.now) statements.now bases.now statement.now (role_in statement.now.stmt))) 65536 }
+    ensures standing { OnOk result (standing.new
+        ≡ kept keeps standing.old (role_standing (told_by places.now) statements.now bases.now statement.now (role_in statement.now.stmt))) }
+    ensures fault { IfOk result (λ fault.
+        fault ≡ operand_fault (told_by places.now) bases.now number statement.now (operation_of statement.now)) }
 {
-    if !is_control(statement.place().section, control_name(places)) {
-        return Ok(());
+    match statement.operation() {
+        None => Ok(None),
+        Some(Operation::Directive(directive)) => {
+            pass_directive(
+                alloc, places, statements, statement, directive, keeps, standing,
+            )
+        }
+        Some(operation) => {
+            pass_instruction(
+                alloc, places, number, statement, operation, bases, keeps, standing,
+            )
+        }
     }
-    push_role(alloc, places, statements, bases, statement, standing)
 }
 
-/// Appends the literals that no LTORG has placed.
+/// Appends what a statement of a number, from 0, makes, if it is kept and the statement stands in the control section. Its fault
+/// is answered, if it has one, those of USING and DROP apart.
+#[tactic(auto, using(crate::proofs::JoinLemmas::kept_nothing), unfolding(crate::specs::Resolving::statement_standing))]
+fn pass_statement(
+    alloc: Global,
+    places: &Places<'_>,
+    statements: &[Statement<'_>],
+    number: usize,
+    statement: &Statement<'_>,
+    bases: &Bases,
+    keeps: bool,
+    standing: &mut Standing,
+) -> Result<Option<FaultKind>, AllocError>
+    requires { keeps ≡ true
+        → IsWithin 0 (joined standing.old (statement_standing (told_by places.now) statements.now bases.now statement.now)) 65536 }
+    ensures standing { OnOk result (standing.new
+        ≡ kept keeps standing.old (statement_standing (told_by places.now) statements.now bases.now statement.now)) }
+    ensures fault { IfOk result (λ fault.
+        fault ≡ operand_fault (told_by places.now) bases.now number statement.now (operation_of statement.now)) }
+{
+    if is_control(statement.place().section, control_name(places)) {
+        return pass_operands(
+            alloc, places, statements, number, statement, bases, keeps, standing,
+        );
+    }
+    pass_operands(
+        alloc, places, statements, number, statement, bases, false, standing,
+    )
+}
+
+/// Appends the literals that no LTORG has placed, if they are kept.
+#[tactic(auto, using(crate::proofs::JoinLemmas::kept_nothing))]
 fn push_last_pool(
     alloc: Global,
     places: &Places<'_>,
     statements: &[Statement<'_>],
+    keeps: bool,
     standing: &mut Standing,
 ) -> Result<(), AllocError>
-    requires { IsWithin 0 (joined standing.old (pool_standing (told_by places.now) statements.now (last_pool (told_by places.now)))) 65536 }
-    ensures { OnOk result (standing.new ≡ joined standing.old (pool_standing (told_by places.now) statements.now (last_pool (told_by places.now)))) }
+    requires { keeps ≡ true
+        → IsWithin 0 (joined standing.old (pool_standing (told_by places.now) statements.now (last_pool (told_by places.now)))) 65536 }
+    ensures { OnOk result (standing.new
+        ≡ kept keeps standing.old (pool_standing (told_by places.now) statements.now (last_pool (told_by places.now)))) }
 {
     match places.pools.as_slice().last() {
-        Some(pool) => push_pool(alloc, places, statements, pool, standing),
+        Some(pool) => push_pool(alloc, places, statements, pool, keeps, standing),
         None => Ok(()),
     }
 }
 
-/// What statements make in the control section, with the literals behind them.
-pub(crate) fn standing_of(
+/// What statements tell of the one behind them.
+#[derive(Drop)]
+struct Judging {
+    bases: Bases,
+    fault: Option<LineFault>,
+}
+
+impl Model for Judging {
+    ghost use Rattle.cx_second.specs.SecondFaults.{Judged, judged};
+
+    ghost Value = { Judged };
+
+    ghost view = { λ s. judged s.bases s.fault };
+}
+
+/// Goes past the statement of a number, from 0, and appends what it makes, if it is kept.
+#[tactic(auto, unfolding(cx_second::specs::SecondFaults::second_fault, cx_second::specs::SecondFaults::judged_after))]
+fn pass(
     alloc: Global,
     places: &Places<'_>,
     statements: &[Statement<'_>],
-) -> Result<Standing, AllocError>
-    requires { IsWithin 0 (standing_from (told_by places.now) statements.now none_in_use statements.now) 65536 }
-    ensures { IfOk result (λ made. made ≡ standing_from (told_by places.now) statements.now none_in_use statements.now) }
+    number: usize,
+    statement: &Statement<'_>,
+    keeps: bool,
+    judging: &mut Judging,
+    standing: &mut Standing,
+) -> Result<(), AllocError>
+    requires { keeps ≡ true
+        → IsWithin 0 (joined standing.old (statement_standing (told_by places.now) statements.now judging.old.bases statement.now)) 65536 }
+    ensures judged { OnOk result (judging.new ≡ judged_after (told_by places.now) number statement.now judging.old) }
+    ensures standing { OnOk result (standing.new
+        ≡ kept keeps standing.old (statement_standing (told_by places.now) statements.now judging.old.bases statement.now)) }
+{
+    let operands = pass_statement(
+        alloc,
+        places,
+        statements,
+        number,
+        statement,
+        &judging.bases,
+        keeps,
+        standing,
+    )?;
+    let using = pass_bases(alloc, places, &mut judging.bases, statement)?;
+    judging.fault = first_fault_behind(statement.line(), lower(operands, using), judging.fault);
+    Ok(())
+}
+
+/// What the second pass over statements finds.
+#[derive(Drop)]
+pub(crate) struct Found {
+    /// The first fault: that of the first faulty statement's line with the lowest number, if there is any.
+    pub(crate) first: Option<LineFault>,
+    /// What they make in the control section, with the literals behind them, where it is kept.
+    pub(crate) standing: Standing,
+}
+
+/// Goes over statements for the second time.
+pub(crate) fn second_pass(
+    alloc: Global,
+    places: &Places<'_>,
+    statements: &[Statement<'_>],
+    keeps: bool,
+) -> Result<Found, AllocError>
+    requires { keeps ≡ true → IsWithin 0 (standing_from (told_by places.now) statements.now none_in_use statements.now) 65536 }
+    ensures first { IfOk result (λ found. found.first ≡ (judged_behind (told_by places.now) (reverse statements.now)).fault) }
+    ensures standing { IfOk result (λ found.
+        keeps ≡ true → found.standing ≡ standing_from (told_by places.now) statements.now none_in_use statements.now) }
 {
     let mut standing = Standing::new(alloc);
-    let mut bases = Bases::new();
-    for statement in statements {
-        push_statement(alloc, places, statements, &bases, statement, &mut standing)?;
-        pass_bases(alloc, places, &mut bases, statement)?;
+    let mut judging = Judging {
+        bases: Bases::new(),
+        fault: None,
+    };
+    for (number, statement) in statements.iter().enumerate() {
+        pass(
+            alloc,
+            places,
+            statements,
+            number,
+            statement,
+            keeps,
+            &mut judging,
+            &mut standing,
+        )?;
     }
-    push_last_pool(alloc, places, statements, &mut standing)?;
-    Ok(standing)
+    push_last_pool(alloc, places, statements, keeps, &mut standing)?;
+    Ok(Found {
+        first: judging.fault,
+        standing,
+    })
 }

@@ -1,7 +1,8 @@
 //! What stands in the control section, in the making.
 
-ghost use Rattle.std.specs.Prelude.{◌≡◌, ◌++◌, ◌∷◌, [], IfOk, OnOk};
+ghost use Rattle.std.specs.Prelude.{◌≡◌, ◌++◌, ◌∷◌, [], IfOk, OnOk, true};
 ghost use Rattle.cx_asm.specs.Laws.Standing.{IsWithin, WordsApart};
+ghost use Rattle.cx_asm.specs.Parts.Kept.{kept};
 ghost use Rattle.cx_asm.specs.Resolving.{copies, data_line, joined, line as resolved_line, nothing, relocated, space_line, standing};
 ghost use Rattle.cx_code.specs.declared.disassembly.What.TheVariants.{Code};
 
@@ -77,17 +78,23 @@ impl Standing {
         self.lines.push(line)
     }
 
-    /// Appends the copies of a constant at an offset.
+    /// Appends the copies of a constant at an offset, if they are kept.
     pub(crate) fn push_data(
         &mut self,
         alloc: Global,
         at: u128,
         count: u32,
         made: &ConstantBytes,
+        keeps: bool,
     ) -> Result<(), AllocError>
-        requires { IsWithin 0 (joined self.old (standing (data_line at (copies count made.now.bytes)) (relocated at count made.now.is_relocated))) 65536 }
-        ensures { OnOk result (self.new ≡ joined self.old (standing (data_line at (copies count made.now.bytes)) (relocated at count made.now.is_relocated))) }
+        requires { keeps ≡ true
+            → IsWithin 0 (joined self.old (standing (data_line at (copies count made.now.bytes)) (relocated at count made.now.is_relocated))) 65536 }
+        ensures { OnOk result (self.new
+            ≡ kept keeps self.old (standing (data_line at (copies count made.now.bytes)) (relocated at count made.now.is_relocated))) }
     {
+        if !keeps {
+            return Ok(());
+        }
         push_relocated(&mut self.relocs, at, count, made.is_relocated())?;
         let bytes = copies(alloc, made.as_slice(), count)?;
         if bytes.is_empty() {
@@ -99,11 +106,14 @@ impl Standing {
         })
     }
 
-    /// Appends a space at an offset, where it has bytes.
-    pub(crate) fn push_space(&mut self, at: u128, size: u128) -> Result<(), AllocError>
-        requires { IsWithin 0 (joined self.old (standing (space_line at size) [])) 65536 }
-        ensures { OnOk result (self.new ≡ joined self.old (standing (space_line at size) [])) }
+    /// Appends a space at an offset, where it has bytes, if it is kept.
+    pub(crate) fn push_space(&mut self, at: u128, size: u128, keeps: bool) -> Result<(), AllocError>
+        requires { keeps ≡ true → IsWithin 0 (joined self.old (standing (space_line at size) [])) 65536 }
+        ensures { OnOk result (self.new ≡ kept keeps self.old (standing (space_line at size) [])) }
     {
+        if !keeps {
+            return Ok(());
+        }
         if size == 0 {
             return Ok(());
         }
@@ -113,11 +123,14 @@ impl Standing {
         })
     }
 
-    /// Appends an instruction at an offset.
-    pub(crate) fn push_code(&mut self, at: u128, inst: Inst) -> Result<(), AllocError>
-        requires { IsWithin 0 (joined self.old (standing (resolved_line at (Code inst) ∷ []) [])) 65536 }
-        ensures { OnOk result (self.new ≡ joined self.old (standing (resolved_line at (Code inst) ∷ []) [])) }
+    /// Appends an instruction at an offset, if it is kept.
+    pub(crate) fn push_code(&mut self, at: u128, inst: Inst, keeps: bool) -> Result<(), AllocError>
+        requires { keeps ≡ true → IsWithin 0 (joined self.old (standing (resolved_line at (Code inst) ∷ []) [])) 65536 }
+        ensures { OnOk result (self.new ≡ kept keeps self.old (standing (resolved_line at (Code inst) ∷ []) [])) }
     {
+        if !keeps {
+            return Ok(());
+        }
         self.push(Line {
             at: at as u32,
             what: What::Code(inst),

@@ -23,11 +23,3 @@ pub one_more : {X Y : Type 0} (f : Y → Option FaultKind) (g : X → Y) (fault 
 one_more f g fault xs d i all within e =
     let one = drop-cons xs i d within in
     rw (add-one, lower_in_turn) (rw one at e)
-
-pub one_item_more : {X : Type 0} (f : X → Option FaultKind) (fault : Option FaultKind) (xs : List X) (d : X) (i : ℕ) (all : Option FaultKind)
-    → i < length xs
-    → lower fault (lowest (map f (drop i xs))) ≡ all
-    → lower (lower fault (f (get_or xs i d))) (lowest (map f (drop (i + 1) xs))) ≡ all
-one_item_more f fault xs d i all within e =
-    let one = drop-cons xs i d within in
-    rw (add-one, lower_in_turn) (rw one at e)

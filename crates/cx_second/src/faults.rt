@@ -1,4 +1,4 @@
-//! What is wrong with a statement whose place stands.
+//! What the operands of a statement whose place stands make, and what is wrong with them.
 
 ghost use Rattle.std.specs.Prelude.{◌≡◌, IfOk, map, option_map, option_and_then};
 ghost use Rattle.std.specs.Result.{result_err};
@@ -7,22 +7,24 @@ ghost use Rattle.cx_terms.specs.Faults.{lower, lowest};
 ghost use Rattle.cx_operands.specs.Directives.{entry_in};
 ghost use Rattle.cx_operands.specs.Bases.{none_in_use};
 ghost use Rattle.cx_operands.specs.Forms.{resolved};
-ghost use Rattle.cx_second.specs.SecondFaults.{directive_fault, instruction_fault, item_fault, items_fault, literals_fault, operand_fault, part_fault, text_fault};
+ghost use Rattle.cx_second.specs.SecondFaults.{literals_fault, part_fault, text_fault};
 ghost use Rattle.cx_second.specs.Whole.{directive_context, instruction_context, item_made, told_by};
 
-use crate::statements::{Statement, StatementItem, placed_items};
+use crate::statements::Statement;
 use crate::whole::{control_name, counter_of, item_made, literal_of, pool_of};
 use cx_code::Inst;
-use cx_operands::{Bases, Context, copy_fault, read_entry, resolve};
-use cx_operations::{Directive, Operation};
-use cx_places::{Places, location_counter};
+use cx_operands::{Bases, Context, read_entry, resolve};
+use cx_operations::Operation;
+use cx_places::Places;
 use cx_pools::literal_text;
 use cx_source::{Mark, cut};
 use cx_terms::{FaultKind, TermFault, Value, lower};
 use std::alloc::{AllocError, Global};
 
-/// The fault of one copy of an item, if it has one.
-fn made_fault(
+/// The fault of one copy of an item, where the location counter stands at a place, if it has one.
+///
+/// An error comes only where a growth was refused.
+pub fn made_fault(
     alloc: Global,
     places: &Places<'_>,
     is_ds: bool,
@@ -94,8 +96,10 @@ fn parts_fault(
     Ok(fault)
 }
 
-/// The lowest fault of the literals that a statement uses first.
-fn literals_fault(
+/// The lowest fault of the literals that the statement of a number, from 0, uses first.
+///
+/// An error comes only where a growth was refused.
+pub fn literals_fault(
     alloc: Global,
     places: &Places<'_>,
     number: usize,
@@ -105,51 +109,6 @@ fn literals_fault(
 {
     let parts = cut(alloc, statement.stmt().operand.as_slice(), Mark::TopComma)?;
     parts_fault(alloc, places, number, statement, parts.as_slice())
-}
-
-/// The fault of an item of a DS or DC.
-fn item_fault(
-    alloc: Global,
-    places: &Places<'_>,
-    is_ds: bool,
-    statement: &Statement<'_>,
-    item: &StatementItem<'_>,
-) -> Result<Option<FaultKind>, AllocError>
-    ensures { IfOk result (λ fault. fault ≡ item_fault (told_by places.now) is_ds statement.now item.now) }
-{
-    let at = location_counter(statement.place().section, item.offset(), 1);
-    made_fault(alloc, places, is_ds, at, item.text())
-}
-
-/// The lowest fault of items.
-fn lowest_item_fault(
-    alloc: Global,
-    places: &Places<'_>,
-    is_ds: bool,
-    statement: &Statement<'_>,
-    items: &[StatementItem<'_>],
-) -> Result<Option<FaultKind>, AllocError>
-    ensures { IfOk result (λ fault. fault ≡ lowest (map (item_fault (told_by places.now) is_ds statement.now) items.now)) }
-{
-    let mut fault = None;
-    for item in items {
-        let other = item_fault(alloc, places, is_ds, statement, item)?;
-        fault = lower(fault, other);
-    }
-    Ok(fault)
-}
-
-/// The lowest fault of a DS or DC.
-fn items_fault(
-    alloc: Global,
-    places: &Places<'_>,
-    is_ds: bool,
-    statement: &Statement<'_>,
-) -> Result<Option<FaultKind>, AllocError>
-    ensures { IfOk result (λ fault. fault ≡ items_fault (told_by places.now) is_ds statement.now) }
-{
-    let items = placed_items(alloc, statement)?;
-    lowest_item_fault(alloc, places, is_ds, statement, items.as_slice())
 }
 
 /// The instruction of a statement with this operation, where these bases are in use.
@@ -174,25 +133,6 @@ pub fn instruction_of(
     )
 }
 
-/// The lowest fault of an instruction and of the literals that it uses first.
-fn instruction_fault(
-    alloc: Global,
-    places: &Places<'_>,
-    bases: &Bases,
-    number: usize,
-    statement: &Statement<'_>,
-    operation: Operation,
-) -> Result<Option<FaultKind>, AllocError>
-    ensures { IfOk result (λ fault. fault ≡ instruction_fault (told_by places.now) bases.now number statement.now operation) }
-{
-    let literals = literals_fault(alloc, places, number, statement)?;
-    match instruction_of(alloc, places, bases, statement, operation) {
-        Ok(_) => Ok(literals),
-        Err(TermFault::Refused(fault)) => Ok(lower(Some(fault), literals)),
-        Err(TermFault::Memory) => Err(AllocError),
-    }
-}
-
 /// The entry that an END writes.
 ///
 /// The faults are those of `read_entry`. Memory comes only where a growth was refused.
@@ -212,46 +152,4 @@ pub fn entry_of(
         control,
         statement.stmt().operand.as_slice(),
     )
-}
-
-/// The fault of a directive, USING and DROP apart.
-fn directive_fault(
-    alloc: Global,
-    places: &Places<'_>,
-    statement: &Statement<'_>,
-    directive: Directive,
-) -> Result<Option<FaultKind>, AllocError>
-    ensures { IfOk result (λ fault. fault ≡ directive_fault (told_by places.now) statement.now directive) }
-{
-    match directive {
-        Directive::Dc => items_fault(alloc, places, false, statement),
-        Directive::Ds => items_fault(alloc, places, true, statement),
-        Directive::Copy => Ok(copy_fault(statement.stmt().operand.as_slice())),
-        Directive::End => match entry_of(alloc, places, statement) {
-            Ok(_) => Ok(None),
-            Err(TermFault::Refused(fault)) => Ok(Some(fault)),
-            Err(TermFault::Memory) => Err(AllocError),
-        },
-        _ => Ok(None),
-    }
-}
-
-/// The fault of a statement, those of USING and DROP apart.
-pub(crate) fn operand_fault(
-    alloc: Global,
-    places: &Places<'_>,
-    bases: &Bases,
-    number: usize,
-    statement: &Statement<'_>,
-    operation: Option<Operation>,
-) -> Result<Option<FaultKind>, AllocError>
-    ensures { IfOk result (λ fault. fault ≡ operand_fault (told_by places.now) bases.now number statement.now operation) }
-{
-    match operation {
-        None => Ok(None),
-        Some(Operation::Directive(directive)) => {
-            directive_fault(alloc, places, statement, directive)
-        }
-        Some(operation) => { instruction_fault(alloc, places, bases, number, statement, operation) }
-    }
 }

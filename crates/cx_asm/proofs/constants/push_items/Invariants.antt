@@ -1,9 +1,17 @@
-use Rattle.std.proofs.Common.{◌≡◌, drop}
+use Rattle.std.proofs.Common.{◌≡◌, drop, map}
+use Rattle.cx_terms.specs.Faults.{lower, lowest}
+use Rattle.cx_second.specs.SecondFaults.{item_fault}
 use Rattle.cx_second.specs.Whole.{told_by}
-use Rattle.cx_asm.specs.Resolving.{items_standing, joined}
+use Rattle.cx_asm.specs.Parts.Kept.{kept}
+use Rattle.cx_asm.specs.Resolving.{items_standing}
 use Rattle.cx_asm.proofs.constants.push_items.Given as goal
 
 abbrev pub invariant-loop-item : goal.invariant-loop-item
-invariant-loop-item l =
-    joined l.standing (items_standing (told_by l.places) l.is_ds l.statement (drop l.item-index l.items))
-    ≡ joined l.initial.standing (items_standing (told_by l.places) l.is_ds l.statement l.items)
+invariant-loop-item l = record {
+  standing :
+      kept l.keeps l.standing (items_standing (told_by l.places) l.is_ds l.statement (drop l.item-index l.items))
+      ≡ kept l.keeps l.initial.standing (items_standing (told_by l.places) l.is_ds l.statement l.items);
+  fault :
+      lower l.fault (lowest (map (item_fault (told_by l.places) l.is_ds l.statement) (drop l.item-index l.items)))
+      ≡ lowest (map (item_fault (told_by l.places) l.is_ds l.statement) l.items);
+}

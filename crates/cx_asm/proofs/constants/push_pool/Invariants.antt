@@ -1,9 +1,10 @@
 use Rattle.std.proofs.Common.{◌≡◌, drop}
 use Rattle.cx_second.specs.Whole.{told_by}
-use Rattle.cx_asm.specs.Resolving.{joined, pool_standing}
+use Rattle.cx_asm.specs.Parts.Kept.{kept}
+use Rattle.cx_asm.specs.Resolving.{pool_standing}
 use Rattle.cx_asm.proofs.constants.push_pool.Given as goal
 
 abbrev pub invariant-loop-index : goal.invariant-loop-index
 invariant-loop-index l =
-    joined l.standing (pool_standing (told_by l.places) l.statements (drop l.index l.pool))
-    ≡ joined l.initial.standing (pool_standing (told_by l.places) l.statements l.pool)
+    kept l.keeps l.standing (pool_standing (told_by l.places) l.statements (drop l.index l.pool))
+    ≡ kept l.keeps l.initial.standing (pool_standing (told_by l.places) l.statements l.pool)
