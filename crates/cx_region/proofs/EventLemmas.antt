@@ -9,7 +9,6 @@ use Rattle.cx_region.specs.State.{RegionState}
 use Rattle.cx_region.specs.Attach.{KeyGrows, input_from}
 use Rattle.cx_region.specs.Defining.{program_fault, transaction_fault, terminal_fault}
 use Rattle.cx_region.specs.Events.{IsDone, MayTakeMemory}
-use Rattle.cx_region.specs.Turn.{TurnGrows}
 use Rattle.cx_region.specs.declared.replies.DefineFault.{DefineFault}
 use Rattle.cx_region.specs.declared.replies.DefineFault.TheVariants.{Duplicate, Full, Memory, NoProgram}
 use Rattle.cx_region.specs.declared.replies.Event.{Event}
@@ -50,10 +49,6 @@ terminal_memory old name r h e = none_due (terminal_fault old name) r (λ m. two
 pub key_memory : (old : RegionState) (name : List ℕ) (aid : Aid) (bytes : List ℕ) → KeyGrows old name (input_from aid bytes).bytes → MayTakeMemory old (event.Key name aid bytes)
 unfolding MayTakeMemory
 key_memory old name aid bytes h = h
-
-pub turn_memory : (old : RegionState) (name : List ℕ) → TurnGrows old name → MayTakeMemory old (event.Turn name)
-unfolding MayTakeMemory
-turn_memory old name h = h
 
 -- an event whose call was refused memory
 pub not_done : {A F : Type 0} (old new : RegionState) (e : Event) (r : Result A F) (fault : F) {refusal : AllocError} → r ≡ Err fault → MayTakeMemory old e → OnErr r (new ≡ old) → IsDone old e (Err refusal) new

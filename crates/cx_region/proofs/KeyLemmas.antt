@@ -1,6 +1,6 @@
 -- A key by what it asks for, and what it keeps.
 use Rattle.std.proofs.Common.{◌≡◌, ℕ, Option, Some, None, List, length, refl, sym, ◌∙◌, ap, subst}
-use Rattle.std.specs.Prelude.{IfErr, OnErr, MatchOption, Result, Ok, Err, ⊤}
+use Rattle.std.specs.Prelude.{IfErr, OnErr, IsSomeAnd, MatchOption, option_and_then, Result, Ok, Err, ⊤}
 use Rattle.std.specs.Option.{option_map_or}
 use Rattle.std.specs.Map.{lookup, set_value}
 use Rattle.cx_storage.specs.Storage.{Storage, IsSound as IsSoundStorage}
@@ -19,7 +19,7 @@ use Rattle.cx_region.specs.declared.replies.KeyReply.TheVariants as key
 use Rattle.cx_region.specs.State.{RegionState, TerminalState, shared_of}
 use Rattle.cx_region.specs.Names.{is_name4}
 use Rattle.cx_region.specs.Tables.{program_of, terminal_of, transaction_of, with_terminal}
-use Rattle.cx_region.specs.Attach.{ArePlaced, Attached, Attaches, Gives, HasNoPlaces, KeyGrows, Keyed, OnlyAnswers, StartGrows, Starts, TaskAreas, TerminalKeyGrows, TerminalKeyed, commarea_kept, eib_at_attach, filled, next_number, transaction_named, with_task, with_task_areas}
+use Rattle.cx_region.specs.Attach.{ArePlaced, Attached, Attaches, Gives, HasNoPlaces, KeyGrows, Keyed, OnlyAnswers, Starts, TaskAreas, TerminalKeyed, commarea_kept, eib_at_attach, filled, next_number, transaction_named, with_task, with_task_areas}
 use Rattle.cx_region.specs.Parts.Asking.{asked, asked_at, input_asked, level_of, start_asked, start_of, task_of_start}
 use Rattle.cx_region.specs.declared.attach.StartFault.{StartFault}
 use Rattle.cx_region.specs.Parts.Placing.{AreFaultsOf, IsReady}
@@ -73,8 +73,7 @@ keyed_given r new name input giving is =
 pub given_grows : (r : RegionState) (name bytes : List ℕ) → Giving r name → KeyGrows r name bytes
 unfolding KeyGrows
 given_grows r name bytes giving =
-    of_some _ (TerminalKeyGrows r bytes) (terminal_of r name) giving.terminal giving.there
-    (of_some _ (λ task. giving.terminal.input ≡ None) giving.terminal.task giving.task giving.live giving.none)
+    rw giving.there (of_some _ (λ task. giving.terminal.input ≡ None) giving.terminal.task giving.task giving.live giving.none)
 
 pub keyed_start : (r new : RegionState) (name : List ℕ) (input : Input) (start : Start) (starting : Starting r name input.bytes start) (reply : KeyReply)
     → Attaches r name starting.terminal input start.tran start.program start.loaded reply new → Keyed r name input reply new
@@ -90,11 +89,10 @@ keyed_start r new name input start starting reply h =
 pub start_grows : (r : RegionState) (name bytes : List ℕ) (start : Start) → Starting r name bytes start → (IsTaskPlace r.storage eib_len None → ⊥) → KeyGrows r name bytes
 unfolding KeyGrows
 start_grows r name bytes start starting h =
-    of_some _ (TerminalKeyGrows r bytes) (terminal_of r name) starting.terminal starting.there
+    rw starting.there
     (of_none _ (λ task. starting.terminal.input ≡ None) starting.terminal.task starting.idle
-    (subst (StartGrows r) starting.tran
-    (of_some _ (λ program. MatchOption (program_of r program) ⊥ (λ loaded. IsTaskPlace r.storage eib_len None → ⊥)) (transaction_of r start.tran) start.program starting.defined
-    (of_some _ (λ loaded. IsTaskPlace r.storage eib_len None → ⊥) (program_of r start.program) start.loaded starting.program h))))
+    (subst (λ (tran : List ℕ). IsSomeAnd (option_and_then (program_of r) (transaction_of r tran)) (λ loaded. IsTaskPlace r.storage eib_len None → ⊥)) starting.tran
+    (rw (starting.defined, starting.program) h)))
 
 pub no_places : (r : RegionState) (name bytes : List ℕ) (start : Start) (starting : Starting r name bytes start) → HasNoPlaces r.storage (system_owner start.slot) start.calen start.loaded.stg_len
     → HasNoPlaces r.storage (system_owner starting.terminal.slot) (length (commarea_kept starting.terminal.following)) start.loaded.stg_len

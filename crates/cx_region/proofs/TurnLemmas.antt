@@ -13,7 +13,9 @@ use Rattle.cx_state.specs.State.{SharedState, StationState, TaskState}
 use Rattle.cx_task.specs.Laws.HalfTurns.{HalfTurnsKeep}
 use Rattle.cx_region.specs.State.{RegionState, TerminalState, shared_of, terminal_with}
 use Rattle.cx_region.specs.Names.{is_name4}
-use Rattle.cx_region.specs.Turn.{TaskTurned, Turned, TurnGrows}
+use Rattle.cx_region.specs.Turn.{TaskTurned, Turned}
+use Rattle.cx_region.specs.declared.replies.Event.TheVariants as event
+use Rattle.cx_region.specs.Events.{MayTakeMemory}
 use Rattle.cx_region.specs.Parts.Turning.{GrowsAt, GrowsIn, HalfTurned, PartIdle, PartTurned, Terminals, TurnedAt, TurnedIn, TurnedNowhere, TurnedThere}
 use Rattle.cx_region.specs.Sound.{IsSound}
 use Rattle.cx_region.specs.Facts.SoundTurned.{sound_turned}
@@ -47,8 +49,8 @@ turned_whole r name reply shared terminals turned = by_terminal (lookup (is_name
     by_terminal None e nowhere = (nowhere.answer, same_parts r shared terminals nowhere.shared_stays nowhere.terminals_stay)
     by_terminal (Some t) e done = by_task t done.left e done.put_back t.task done.turned
 
-pub grows_whole : (r : RegionState) (name : List ℕ) → GrowsIn (shared_of r) r.terminals name → TurnGrows r name
-unfolding TurnGrows GrowsIn GrowsAt
+pub grows_whole : (r : RegionState) (name : List ℕ) → GrowsIn (shared_of r) r.terminals name → MayTakeMemory r (event.Turn name)
+unfolding MayTakeMemory GrowsIn GrowsAt
 grows_whole r name grows = grows
 
 -- ---- a task that is held, or dropped
@@ -80,6 +82,6 @@ turned_seen r v name (Ok reply) shared ts e turned = subst (λ (k : RegionState)
 turned_seen r v name (Err refused) shared ts e turned = tt
 
 pub grows_seen : {E : Type 0} (r v : RegionState) (name : List ℕ) (result : Result TurnReply E) → r ≡ v
-    → OnErr result (GrowsIn (shared_of r) r.terminals name) → OnErr result (TurnGrows v name)
+    → OnErr result (GrowsIn (shared_of r) r.terminals name) → OnErr result (MayTakeMemory v (event.Turn name))
 grows_seen r v name (Ok reply) e grows = tt
-grows_seen r v name (Err refused) e grows = subst (λ (k : RegionState). TurnGrows k name) e (grows_whole r name grows)
+grows_seen r v name (Err refused) e grows = subst (λ (k : RegionState). MayTakeMemory k (event.Turn name)) e (grows_whole r name grows)

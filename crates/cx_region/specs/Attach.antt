@@ -1,6 +1,6 @@
 -- A key of a terminal: a task is attached, or the input is held for the task that is there (Application Programmer's
 -- Reference Manual, SC33-0077, "Terminal Control", "EXEC Interface Block"). The rules are this product's own.
-use Rattle.std.specs.Prelude.{◌≡◌, ℕ, ◌+◌, ◌==◌, Bool, true, false, if◌then◌else◌, List, [], ◌∷◌, length, take, min, position, Option, Some, None, unwrap_or, MatchOption}
+use Rattle.std.specs.Prelude.{◌≡◌, ℕ, ◌+◌, ◌==◌, Bool, true, false, if◌then◌else◌, List, [], ◌∷◌, length, take, min, position, Option, Some, None, unwrap_or, IsSomeAnd, MatchOption, option_and_then}
 use Rattle.std.specs.Option.{option_map}
 use Rattle.std.specs.Int.{w16, to_be_bytes}
 use Rattle.cx_ebcdic.specs.declared.aids.Aid.{Aid}
@@ -181,15 +181,12 @@ Keyed old name input reply new =
     MatchOption (terminal_of old name) (OnlyAnswers key.NoSuchTerminal old reply new) (λ terminal. TerminalKeyed old name terminal input reply new)
 
 -- ---- memory
--- a task that starts may take memory where its transaction and its program are defined, and its EIB has a place
-abbrev pub StartGrows : RegionState → List ℕ → Type 0
-StartGrows region tran =
-    MatchOption (transaction_of region tran) ⊥ (λ program. MatchOption (program_of region program) ⊥ (λ loaded. IsTaskPlace region.storage eib_len None → ⊥))
-
--- a key may take memory only where it holds an input that none stands before, or starts a task
-abbrev pub TerminalKeyGrows : RegionState → List ℕ → TerminalState → Type 0
-TerminalKeyGrows region bytes terminal =
-    MatchOption terminal.task (StartGrows region (transaction_named terminal.following bytes)) (λ task. terminal.input ≡ None)
-
+-- a key may take memory only where it holds an input that none stands before, or starts a task: its transaction's program
+-- is defined, and its EIB has a place
 unfoldable pub KeyGrows : RegionState → List ℕ → List ℕ → Type 0
-KeyGrows region name bytes = MatchOption (terminal_of region name) ⊥ (TerminalKeyGrows region bytes)
+KeyGrows region name bytes =
+    IsSomeAnd (terminal_of region name) (λ terminal.
+    MatchOption terminal.task
+    (IsSomeAnd (option_and_then (program_of region) (transaction_of region (transaction_named terminal.following bytes)))
+    (λ loaded. IsTaskPlace region.storage eib_len None → ⊥))
+    (λ task. terminal.input ≡ None))

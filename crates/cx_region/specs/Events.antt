@@ -7,10 +7,12 @@ use Rattle.cx_region.specs.declared.replies.Event.TheVariants as event
 use Rattle.cx_region.specs.declared.replies.Reply.{Reply}
 use Rattle.cx_region.specs.declared.replies.Reply.TheVariants as reply
 use Rattle.cx_load.specs.Program.{IsProgramPlace}
+use Rattle.cx_task.specs.Turn.{Grows}
 use Rattle.cx_region.specs.State.{RegionState}
+use Rattle.cx_region.specs.Tables.{terminal_of}
 use Rattle.cx_region.specs.Defining.{DefinesProgram, DefinesTransaction, DefinesTerminal, program_fault, transaction_fault, terminal_fault, with_clock}
 use Rattle.cx_region.specs.Attach.{KeyGrows, Keyed, input_from}
-use Rattle.cx_region.specs.Turn.{TurnGrows, Turned}
+use Rattle.cx_region.specs.Turn.{Turned, reach_of}
 use Rattle.cx_region.specs.Alter.{Alters, IsAllowedChange}
 
 -- one event: its reply and the region after it
@@ -31,14 +33,15 @@ Run old (event ∷ events) (reply ∷ replies) new = (between : RegionState) × 
 Run old _ _ new = ⊥
 
 -- An event may take memory: a definition only where no refusal meets it, and a program only where storage has a place for
--- it; a key and a turn as theirs may; a clock and an alteration never.
+-- it; a key as said of keys, a turn where the terminal's task may take some; a clock and an alteration never.
 unfoldable pub MayTakeMemory : RegionState → Event → Type 0
 MayTakeMemory region (event.Program name image) = (program_fault region name ≡ None) × (IsProgramPlace region.storage (length image.text) None → ⊥)
 MayTakeMemory region (event.Transaction tran program) = transaction_fault region tran program ≡ None
 MayTakeMemory region (event.Terminal name) = terminal_fault region name ≡ None
 MayTakeMemory region (event.Clock time date) = ⊥
 MayTakeMemory region (event.Key name aid bytes) = KeyGrows region name (input_from aid bytes).bytes
-MayTakeMemory region (event.Turn name) = TurnGrows region name
+MayTakeMemory region (event.Turn name) =
+    IsSomeAnd (terminal_of region name) (λ terminal. IsSomeAnd terminal.task (λ task. Grows (reach_of region terminal task)))
 MayTakeMemory region (event.Alter name change) = ⊥
 
 -- What the one door for events promises: it is answered; or it was refused memory that it may take, and all is as before.

@@ -4,7 +4,7 @@ use Rattle.cx_state.specs.declared.replies.TurnReply.{TurnReply}
 use Rattle.cx_state.specs.declared.replies.TurnReply.TheVariants as turn
 use Rattle.cx_state.specs.Replies.{is_over}
 use Rattle.cx_state.specs.State.{Reach, TaskState, reach}
-use Rattle.cx_task.specs.Turn.{Grows, HalfTurn}
+use Rattle.cx_task.specs.Turn.{HalfTurn}
 use Rattle.cx_region.specs.State.{RegionState, TerminalState, shared_of, station_of, terminal_with}
 use Rattle.cx_region.specs.Tables.{terminal_of, with_terminal}
 
@@ -46,9 +46,3 @@ TerminalTurned old name terminal reply new =
 unfoldable pub Turned : RegionState → List ℕ → TurnReply → RegionState → Type 0
 Turned old name reply new =
     MatchOption (terminal_of old name) ((reply ≡ turn.NoSuchTerminal) × (new ≡ old)) (λ terminal. TerminalTurned old name terminal reply new)
-
--- ---- memory
--- a turn may take memory only where the terminal's task may take some
-unfoldable pub TurnGrows : RegionState → List ℕ → Type 0
-TurnGrows region name =
-    MatchOption (terminal_of region name) ⊥ (λ terminal. MatchOption terminal.task ⊥ (λ task. Grows (reach_of region terminal task)))

@@ -14,7 +14,7 @@ impl<S: Store + Drop> Region<S> {
     ///
     /// An error comes only where a growth was refused, no refusal is due, and the event may take memory. Then all is as
     /// before.
-    #[tactic(auto, using(crate::proofs::EventLemmas::program_memory, crate::proofs::EventLemmas::transaction_memory, crate::proofs::EventLemmas::terminal_memory, crate::proofs::EventLemmas::key_memory, crate::proofs::EventLemmas::turn_memory), unfolding(crate::specs::Events::Happens, crate::specs::Defining::DefinesTransaction, crate::specs::Defining::DefinesTerminal))]
+    #[tactic(auto, using(crate::proofs::EventLemmas::program_memory, crate::proofs::EventLemmas::transaction_memory, crate::proofs::EventLemmas::terminal_memory, crate::proofs::EventLemmas::key_memory), unfolding(crate::specs::Events::Happens, crate::specs::Defining::DefinesTransaction, crate::specs::Defining::DefinesTerminal))]
     pub fn happen(&mut self, event: &Event) -> Result<Reply, AllocError>
         requires { IsAllowed event.now }
         ensures done { IsDone self.old event.now result self.new }

@@ -7,7 +7,9 @@ ghost use Rattle.cx_service.specs.Resources.{AreSoundResources};
 ghost use Rattle.cx_rows.specs.Common.{AreSoundPrograms};
 ghost use Rattle.cx_region.specs.Parts.Turning.{GrowsAt, GrowsIn, HalfTurned, TurnedAt, TurnedIn};
 ghost use Rattle.cx_region.specs.State.{terminal_with};
-ghost use Rattle.cx_region.specs.Turn.{TurnGrows, Turned};
+ghost use Rattle.cx_region.specs.Turn.{Turned};
+ghost use Rattle.cx_region.specs.Events.{MayTakeMemory};
+ghost use Rattle.cx_region.specs.declared.replies.Event.TheVariants as event;
 ghost use Rattle.cx_region.specs.Sound.{IsSound};
 
 use crate::state::{Region, Terminal};
@@ -122,7 +124,7 @@ impl<S: Store + Drop> Region<S> {
     /// no refusal, wait or abend applies. Then all is as before.
     pub fn turn(&mut self, name: Name4) -> Result<TurnReply, AllocError>
         ensures turned { IfOk result (λ reply. Turned self.old name reply self.new) }
-        ensures grows { OnErr result (TurnGrows self.old name) }
+        ensures grows { OnErr result (MayTakeMemory self.old (event.Turn name)) }
         ensures err { OnErr result (self.new ≡ self.old) }
         ensures sound { IsSound self.new }
     {

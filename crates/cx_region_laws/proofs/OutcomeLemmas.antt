@@ -1,6 +1,6 @@
 -- Every event has an outcome, also one that was refused memory.
 use Rattle.std.proofs.Common.{◌≡◌, ℕ, zero, suc, ◌+◌, ◌%◌, ◌<◌, ◌≤◌, Bool, true, false, ◌&&◌, not, Option, Some, None, List, [], ◌∷◌, length, refl, sym, ◌∙◌, ap, subst, inl, inr, arith, ne_eqb, ◌==◌}
-use Rattle.std.specs.Prelude.{◌⊎◌, MatchOption, MatchBool, MatchResult, Result, Ok, Err}
+use Rattle.std.specs.Prelude.{◌⊎◌, IsSomeAnd, MatchOption, option_and_then, MatchBool, MatchResult, Result, Ok, Err}
 use Rattle.std.specs.List.{AllByRecursion}
 use Rattle.std.proofs.lemmas.Bool.{cases_Bool, true≢false}
 use Rattle.std.proofs.lemmas.Bool.Decides.{leb_tells}
@@ -31,8 +31,8 @@ use Rattle.cx_state.specs.declared.verdict.Verdict.TheVariants.{Refuses, Waits a
 use Rattle.cx_task.specs.declared.way.Way.{Way}
 use Rattle.cx_task.specs.declared.way.Way.TheVariants.{GoesOn, TakesLabel, Waits, Abends, Enters as WayEnters, Replaces as WayReplaces, LevelEnds as WayLevelEnds, TaskEnds as WayTaskEnds}
 use Rattle.cx_task.specs.Abends.{Abends as AbendsWithCode, AbendsAt, IsExit, abended, exit_taken, task_ended}
-use Rattle.cx_task.specs.Answers.{Answers, Does, MeetsWith, has_room, may_grow, meets_growing, way_at}
-use Rattle.cx_task.specs.Changes.{Grown, MadeBy, change_grows, finished, given, made_grows, report_of, reported}
+use Rattle.cx_task.specs.Answers.{Answers, Does, MeetsWith, has_room, may_grow, way_at}
+use Rattle.cx_task.specs.Changes.{Grown, MadeBy, change_grows, finished, given, report_of, reported}
 use Rattle.cx_call.specs.Inputs.{are_inputs_there}
 use Rattle.cx_task.specs.Performing.{Called, Commanded, list_of}
 use Rattle.cx_task.specs.Turn.{Grows, HalfTurn}
@@ -45,8 +45,8 @@ use Rattle.cx_region.specs.declared.replies.Reply.TheVariants as reply
 use Rattle.cx_region.specs.State.{RegionState, TerminalState}
 use Rattle.cx_region.specs.Tables.{program_of, terminal_of, transaction_of, with_terminal}
 use Rattle.cx_region.specs.Defining.{DefinesProgram, DefinesTerminal, DefinesTransaction, program_fault, with_new_terminal, with_program, with_transaction}
-use Rattle.cx_region.specs.Attach.{ArePlaced, Attaches, HasNoPlaces, IsCopyPlace, KeyGrows, Keyed, StartGrows, Starts, TaskAreas, TerminalKeyGrows, TerminalKeyed, attached, commarea_kept, input_from, transaction_named, with_eib_area, with_kept_area}
-use Rattle.cx_region.specs.Turn.{TurnGrows, Turned, after_half_turn, reach_of}
+use Rattle.cx_region.specs.Attach.{ArePlaced, Attaches, HasNoPlaces, IsCopyPlace, KeyGrows, Keyed, Starts, TaskAreas, TerminalKeyed, attached, commarea_kept, input_from, transaction_named, with_eib_area, with_kept_area}
+use Rattle.cx_region.specs.Turn.{Turned, after_half_turn, reach_of}
 use Rattle.cx_region.specs.Events.{Happens, MayTakeMemory}
 use Rattle.cx_region_laws.specs.Laws.Outcomes.{EventsHaveOutcomes, HalfTurnsHaveEnds, HasOutcome}
 use Rattle.cx_region_laws.specs.Laws.Sound.{IsChecked}
@@ -218,7 +218,7 @@ goes_somehow WayLevelEnds condition settled = (turn.Returned, returned settled, 
 goes_somehow WayTaskEnds condition settled = (turn.Ended, task_ended settled, (refl, refl))
 
 -- what a change that may take memory makes
-made_somehow : (it : Made) (before : Reach) → made_grows it ≡ true → (after : Reach) × MadeBy it before after
+made_somehow : (it : Made) (before : Reach) → change_grows (Makes it) ≡ true → (after : Reach) × MadeBy it before after
 unfolding MadeBy
 made_somehow (made.ItemLast name piece) before grows = (_, refl)
 made_somehow (made.ItemAt name n piece) before grows = (_, refl)
@@ -259,7 +259,7 @@ unfolding MeetsWith
 met_somehow call condition outputs change before room goes end = (end.0, end.1, rw (room, goes) end.2)
 
 answers_somehow : (verdict : Verdict) (call : Call) (before : Reach) → may_grow verdict call before ≡ true → Ended (Answers verdict call before)
-unfolding Answers may_grow meets_growing
+unfolding Answers may_grow
 answers_somehow (Refuses abend) call before grows = absurd (true≢false (sym grows))
 answers_somehow VerdictWaits call before grows = absurd (true≢false (sym grows))
 answers_somehow (Meets condition outputs change) call before grows =
@@ -269,14 +269,12 @@ answers_somehow (Meets condition outputs change) call before grows =
 pub half_turns_have_ends : HalfTurnsHaveEnds
 unfolding HalfTurn Commanded Called
 half_turns_have_ends before grows =
-    let due = grows.grows in
-    let calls = due.grows in
-    let end = answers_somehow calls.verdict due.call before calls.takes in
+    let end = answers_somehow grows.verdict grows.call before grows.takes in
     record {
       reply = end.0;
       after = end.1;
-      half_turn = by_true _ _ before.task.due grows.due (by_ok _ _ (call_of before.shared.storage (list_of before.task)) due.call due.reads
-          (by_true _ _ (are_inputs_there before.shared.storage due.call) calls.inputs (record { verdict = calls.verdict; judged = calls.judged; answers = end.2 })));
+      half_turn = by_true _ _ before.task.due grows.due (by_ok _ _ (call_of before.shared.storage (list_of before.task)) grows.call grows.reads
+          (by_true _ _ (are_inputs_there before.shared.storage grows.call) grows.inputs (record { verdict = grows.verdict; judged = grows.judged; answers = end.2 })));
     }
 
 -- ---- an event's
@@ -354,27 +352,34 @@ attaches_somehow old name terminal input tran program loaded =
     go (inl found) = (key.Attached, attached old name terminal input tran program loaded found.0, record { areas = found.0; placed = found.1; after = refl })
     go (inr none) = (key.NoStorage, old, (none, refl))
 
-starts_somehow : (old : RegionState) (name : List ℕ) (terminal : TerminalState) (input : Input) (tran : List ℕ) → StartGrows old tran
+starts_somehow : (old : RegionState) (name : List ℕ) (terminal : TerminalState) (input : Input) (tran : List ℕ)
+    → IsSomeAnd (option_and_then (program_of old) (transaction_of old tran)) (λ loaded. IsTaskPlace old.storage eib_len None → ⊥)
     → Answered (Starts old name terminal input tran)
 starts_somehow old name terminal input tran grows = by_transaction (transaction_of old tran) refl grows
   where
     by_program : (program : List ℕ) (found : Option Loaded) → program_of old program ≡ found → transaction_of old tran ≡ Some program
-        → MatchOption found ⊥ (λ loaded. IsTaskPlace old.storage eib_len None → ⊥) → Answered (Starts old name terminal input tran)
+        → IsSomeAnd found (λ loaded. IsTaskPlace old.storage eib_len None → ⊥) → Answered (Starts old name terminal input tran)
     by_program program None is named due = absurd due
     by_program program (Some loaded) is named due = rw (named, is) (attaches_somehow old name terminal input tran program loaded)
 
     by_transaction : (found : Option (List ℕ)) → transaction_of old tran ≡ found
-        → MatchOption found ⊥ (λ program. MatchOption (program_of old program) ⊥ (λ loaded. IsTaskPlace old.storage eib_len None → ⊥))
+        → IsSomeAnd (option_and_then (program_of old) found) (λ loaded. IsTaskPlace old.storage eib_len None → ⊥)
         → Answered (Starts old name terminal input tran)
     by_transaction None named due = absurd due
     by_transaction (Some program) named due = by_program program (program_of old program) refl named due
 
-terminal_keyed : (old : RegionState) (name : List ℕ) (input : Input) (terminal : TerminalState) → TerminalKeyGrows old input.bytes terminal
+-- what a key of a terminal needs to take memory
+abbrev TerminalGrows : RegionState → TerminalState → List ℕ → Option TaskState → Type 0
+TerminalGrows old terminal bytes task =
+    MatchOption task (IsSomeAnd (option_and_then (program_of old) (transaction_of old (transaction_named terminal.following bytes))) (λ loaded. IsTaskPlace old.storage eib_len None → ⊥))
+    (λ t. terminal.input ≡ None)
+
+terminal_keyed : (old : RegionState) (name : List ℕ) (input : Input) (terminal : TerminalState) → TerminalGrows old terminal input.bytes terminal.task
     → Answered (TerminalKeyed old name terminal input)
 terminal_keyed old name input terminal grows = go terminal.task refl grows
   where
     go : (task : Option TaskState) → terminal.task ≡ task
-        → MatchOption task (StartGrows old (transaction_named terminal.following input.bytes)) (λ t. terminal.input ≡ None)
+        → TerminalGrows old terminal input.bytes task
         → Answered (TerminalKeyed old name terminal input)
     go None is due =
         let end = starts_somehow old name terminal input (transaction_named terminal.following input.bytes) due in
@@ -386,7 +391,7 @@ keyed_somehow : (old : RegionState) (name : List ℕ) (input : Input) → KeyGro
 unfolding Keyed KeyGrows
 keyed_somehow old name input grows = go (terminal_of old name) refl grows
   where
-    go : (found : Option TerminalState) → terminal_of old name ≡ found → MatchOption found ⊥ (TerminalKeyGrows old input.bytes) → Answered (Keyed old name input)
+    go : (found : Option TerminalState) → terminal_of old name ≡ found → IsSomeAnd found (λ terminal. TerminalGrows old terminal input.bytes terminal.task) → Answered (Keyed old name input)
     go None is due = absurd due
     go (Some terminal) is due =
         let end = terminal_keyed old name input terminal due in
@@ -395,19 +400,20 @@ keyed_somehow old name input grows = go (terminal_of old name) refl grows
 abbrev TurnEnds : RegionState → List ℕ → Type 0
 TurnEnds old name = (reply : TurnReply) × (new : RegionState) × Turned old name reply new
 
-turned_somehow : (old : RegionState) (name : List ℕ) → TurnGrows old name → TurnEnds old name
-unfolding TurnGrows Turned
+turned_somehow : (old : RegionState) (name : List ℕ)
+    → IsSomeAnd (terminal_of old name) (λ terminal. IsSomeAnd terminal.task (λ task. Grows (reach_of old terminal task))) → TurnEnds old name
+unfolding Turned
 turned_somehow old name grows = go (terminal_of old name) refl grows
   where
     by_task : (terminal : TerminalState) (task : Option TaskState) → terminal.task ≡ task → terminal_of old name ≡ Some terminal
-        → MatchOption task ⊥ (λ t. Grows (reach_of old terminal t)) → TurnEnds old name
+        → IsSomeAnd task (λ t. Grows (reach_of old terminal t)) → TurnEnds old name
     by_task terminal None is found due = absurd due
     by_task terminal (Some task) is found due =
         let end = half_turns_have_ends (reach_of old terminal task) due in
         (end.reply, after_half_turn old name end.reply end.after, by_some _ _ (terminal_of old name) terminal found (by_some _ _ terminal.task task is (record { reached = end.after; half_turn = end.half_turn; after = refl })))
 
     go : (found : Option TerminalState) → terminal_of old name ≡ found
-        → MatchOption found ⊥ (λ terminal. MatchOption terminal.task ⊥ (λ task. Grows (reach_of old terminal task))) → TurnEnds old name
+        → IsSomeAnd found (λ terminal. IsSomeAnd terminal.task (λ task. Grows (reach_of old terminal task))) → TurnEnds old name
     go None found due = absurd due
     go (Some terminal) found due = by_task terminal terminal.task refl found due
 

@@ -53,10 +53,7 @@ Answers Waits call before reply after = LeavesAll before reply after
 Answers (Meets condition outputs change) call before reply after = MeetsWith call condition outputs change before reply after
 
 -- memory is taken only by a change that takes some, where no refusal and no wait applies
-unfoldable pub meets_growing : Call → Condition → List Output → Change → Reach → Bool
-meets_growing call condition outputs change r =
-    change_grows change && has_room call outputs change r && not (is_wait (way_at call condition change r))
-
 unfoldable pub may_grow : Verdict → Call → Reach → Bool
-may_grow (Meets condition outputs change) call r = meets_growing call condition outputs change r
+may_grow (Meets condition outputs change) call r =
+    change_grows change && has_room call outputs change r && not (is_wait (way_at call condition change r))
 may_grow _ call r = false

@@ -1,6 +1,6 @@
 -- What each change of a command does (Application Programmer's Reference Manual, SC33-0077, the section of each command).
 -- What is made is made before the outputs are written, and what is ended or freed after RESP's word.
-use Rattle.std.specs.Prelude.{◌≡◌, ℕ, Bool, true, false, List, [], ◌∷◌, replicate, Option, Some, None, unwrap_or}
+use Rattle.std.specs.Prelude.{◌≡◌, ℕ, Bool, true, false, List, [], ◌∷◌, replicate, Option, Some, None, is_some, unwrap_or}
 use Rattle.std.specs.Option.{option_map}
 use Rattle.cx_ebcdic.specs.Aids.{key_of}
 use Rattle.cx_command.specs.declared.commands.Command.{Command}
@@ -208,24 +208,12 @@ pub record Settles (call : Call) (condition : Condition) (outputs : List Output)
   pub settled : after ≡ finished change (reported call (report_of call condition change before) (given call outputs change made))
 
 -- ---- memory: the changes that take some
-abbrev pub has_bytes : Option Piece → Bool
-has_bytes None = false
-has_bytes (Some piece) = true
-
-abbrev pub made_grows : Made → Bool
-made_grows (made.ItemLast name piece) = true
-made_grows (made.ItemAt name n piece) = true
-made_grows (made.Enqueues resource) = true
-made_grows _ = false
-
-abbrev pub next_grows : Option Next → Bool
-next_grows None = false
-next_grows (Some next) = has_bytes next.commarea
-
 abbrev pub change_grows : Change → Bool
-change_grows (Makes made) = made_grows made
+change_grows (Makes (made.ItemLast name piece)) = true
+change_grows (Makes (made.ItemAt name n piece)) = true
+change_grows (Makes (made.Enqueues resource)) = true
 change_grows (Gets got) = true
 change_grows (Enters level) = true
 change_grows (Replaces copying level) = true
-change_grows (TaskEnds next) = next_grows next
+change_grows (TaskEnds (Some next)) = is_some next.commarea
 change_grows _ = false

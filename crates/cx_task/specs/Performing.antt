@@ -1,6 +1,6 @@
 -- The command that is due is performed (Application Programmer's Reference Manual, SC33-0077, "Argument Values"; the
 -- order of the tests is this product's own): its list is read as a call, its inputs are tested, its row judges it.
-use Rattle.std.specs.Prelude.{◌≡◌, ℕ, true, false, List, Ok, MatchBool, MatchResult, slice_index}
+use Rattle.std.specs.Prelude.{◌≡◌, ℕ, true, false, List, MatchBool, MatchResult, slice_index}
 use Rattle.cx_command.specs.declared.abends.Abend.TheVariants as abend
 use Rattle.cx_command.specs.Abends.{abend_code}
 use Rattle.cx_storage.specs.Address.{address_in}
@@ -13,7 +13,7 @@ use Rattle.cx_state.specs.declared.verdict.Verdict.{Verdict}
 use Rattle.cx_state.specs.State.{Reach, TaskState}
 use Rattle.cx_rows.specs.Judged.{Judged}
 use Rattle.cx_task.specs.Abends.{Abends}
-use Rattle.cx_task.specs.Answers.{Answers, may_grow}
+use Rattle.cx_task.specs.Answers.{Answers}
 
 -- the address of the argument list: bits 8 to 31 of R1
 abbrev pub list_of : TaskState → ℕ
@@ -40,15 +40,3 @@ Commanded before reply after =
     MatchResult (call_of before.shared.storage (list_of before.task))
     (λ call. Called call before reply after)
     (λ fault. Abends (fault_code fault) false before reply after)
-
--- ---- memory: it is taken only where the verdict's change takes some, and no refusal and no wait applies
-pub record CallGrows (call : Call) (before : Reach) : Type 0 where
-  pub inputs : are_inputs_there before.shared.storage call ≡ true
-  pub verdict : Verdict
-  pub judged : Judged call before verdict
-  pub takes : may_grow verdict call before ≡ true
-
-pub record DueGrows (before : Reach) : Type 0 where
-  pub call : Call
-  pub reads : call_of before.shared.storage (list_of before.task) ≡ Ok call
-  pub grows : CallGrows call before

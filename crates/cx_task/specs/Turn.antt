@@ -1,6 +1,6 @@
 -- A half-turn of a live task (this product's own): all instructions up to a command, an interruption or a limit, or the
 -- one command that is due.
-use Rattle.std.specs.Prelude.{◌≡◌, ℕ, true, false, MatchBool}
+use Rattle.std.specs.Prelude.{◌≡◌, ℕ, true, false, Ok, MatchBool}
 use Rattle.cx_exec.specs.declared.machine.Halt.{Halt}
 use Rattle.cx_exec.specs.declared.machine.Halt.TheVariants as halt
 use Rattle.cx_exec.specs.Machine.{Machine}
@@ -8,11 +8,16 @@ use Rattle.cx_exec.specs.Advance.{Advances}
 use Rattle.cx_program.specs.Levels.{with_current}
 use Rattle.cx_command.specs.declared.abends.Abend.TheVariants as abend
 use Rattle.cx_command.specs.Abends.{abend_code}
+use Rattle.cx_call.specs.Call.{Call, call_of}
+use Rattle.cx_call.specs.Inputs.{are_inputs_there}
 use Rattle.cx_state.specs.declared.replies.TurnReply.{TurnReply}
 use Rattle.cx_state.specs.declared.replies.TurnReply.TheVariants as turn
+use Rattle.cx_state.specs.declared.verdict.Verdict.{Verdict}
 use Rattle.cx_state.specs.State.{Reach, TaskState}
+use Rattle.cx_rows.specs.Judged.{Judged}
 use Rattle.cx_task.specs.Abends.{Abends}
-use Rattle.cx_task.specs.Performing.{Commanded, DueGrows}
+use Rattle.cx_task.specs.Answers.{may_grow}
+use Rattle.cx_task.specs.Performing.{Commanded, list_of}
 
 -- the most instructions of a half-turn
 abbrev pub most_steps : ℕ
@@ -61,4 +66,9 @@ HalfTurn before reply after = MatchBool before.task.due (Commanded before reply 
 -- A half-turn takes memory only where a command is due whose verdict takes some.
 pub record Grows (before : Reach) : Type 0 where
   pub due : before.task.due ≡ true
-  pub grows : DueGrows before
+  pub call : Call
+  pub reads : call_of before.shared.storage (list_of before.task) ≡ Ok call
+  pub inputs : are_inputs_there before.shared.storage call ≡ true
+  pub verdict : Verdict
+  pub judged : Judged call before verdict
+  pub takes : may_grow verdict call before ≡ true

@@ -2,7 +2,7 @@
 ghost use Rattle.std.specs.Prelude.{◌≡◌, ◌≢◌, true, IfOk, OnOk, OnErr};
 ghost use Rattle.cx_state.specs.State.{reach};
 ghost use Rattle.cx_state.specs.Verdicts.{Fits, FitsChange};
-ghost use Rattle.cx_task.specs.Answers.{Answers, LeavesAll, MeetsWith, has_room, may_grow, meets_growing, way_at};
+ghost use Rattle.cx_task.specs.Answers.{Answers, LeavesAll, MeetsWith, has_room, may_grow, way_at};
 ghost use Rattle.cx_task.specs.Changes.{Settles, change_grows};
 ghost use Rattle.cx_task.specs.Ways.{Goes, is_wait, way_of};
 
@@ -43,7 +43,7 @@ fn settle<S: Store + Drop>(
 }
 
 /// A condition is met.
-#[tactic(auto, unfolding(crate::specs::Answers::MeetsWith, crate::specs::Answers::meets_growing))]
+#[tactic(auto, unfolding(crate::specs::Answers::MeetsWith, crate::specs::Answers::may_grow))]
 fn meet<S: Store + Drop>(
     call: &Call,
     condition: Condition,
@@ -57,7 +57,7 @@ fn meet<S: Store + Drop>(
     requires fits { FitsChange change.now (reach shared.old station.old task.old) }
     ensures meets { IfOk result (λ reply. MeetsWith call.now condition outputs.now change.now (reach shared.old station.old task.old) reply (reach shared.new station.new task.new)) }
     ensures err { OnErr result (reach shared.new station.new task.new ≡ reach shared.old station.old task.old) }
-    ensures grows { OnErr result (meets_growing call.now condition outputs.now change.now (reach shared.old station.old task.old) ≡ true) }
+    ensures grows { OnErr result (may_grow (Verdict.Meets condition outputs.now change.now) call.now (reach shared.old station.old task.old) ≡ true) }
 {
     if !has_room(call, outputs, change, shared, station, task) {
         return Ok(abend(shared, station, task, Abend::Xarg.code(), false));
@@ -90,7 +90,7 @@ fn is_wait(way: &Way) -> bool
 ///
 /// An error comes only where a growth was refused, only where the verdict's change takes memory, and only where no
 /// output is missing from storage and the command doesn't wait; then all is as before.
-#[tactic(auto, unfolding(crate::specs::Answers::Answers, crate::specs::Answers::may_grow))]
+#[tactic(auto, unfolding(crate::specs::Answers::Answers))]
 pub fn answer<S: Store + Drop>(
     verdict: &Verdict,
     call: &Call,

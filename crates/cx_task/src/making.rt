@@ -1,5 +1,5 @@
 //! What a command makes before its outputs are written.
-ghost use Rattle.std.specs.Prelude.{◌≡◌, ◌<◌, ◌≤◌, ◌^◌, length, replicate, take, unwrap_or, [], false, true, IfOk, IsOk, OnOk, OnErr, None, Some, MatchOption, ⊤};
+ghost use Rattle.std.specs.Prelude.{◌≡◌, ◌<◌, ◌≤◌, ◌^◌, length, replicate, take, unwrap_or, is_some, [], false, true, IfOk, IsOk, OnOk, OnErr, None, Some, MatchOption, ⊤};
 ghost use Rattle.cx_program.specs.declared.entries.Entry.TheVariants as Entry;
 ghost use Rattle.cx_program.specs.Entries.{turned_off, turned_on};
 ghost use Rattle.cx_program.specs.Handles.{after_pop, after_push, put_entry, put_exit};
@@ -9,7 +9,7 @@ ghost use Rattle.cx_service.specs.Screen.{ShowsText};
 ghost use Rattle.cx_state.specs.Areas.{IsTaskPlace, bytes_in, copied_bytes, with_cap, with_copied, with_copy_area, with_filled, with_stg_area};
 ghost use Rattle.cx_state.specs.State.{reach, with_storage};
 ghost use Rattle.cx_state.specs.Verdicts.{FitsChange, FitsCopy, FitsGot, FitsLevel, FitsMade, FitsNext, FitsPiece, IsThere};
-ghost use Rattle.cx_task.specs.Changes.{Grown, MadeBy, change_grows, made_grows, bytes_or_none, entry_asked, has_bytes, handled, kept_next, next_grows, with_got, with_stg, with_handles, with_ignored, with_labels, with_replacement};
+ghost use Rattle.cx_task.specs.Changes.{Grown, MadeBy, change_grows, bytes_or_none, entry_asked, handled, kept_next, with_got, with_stg, with_handles, with_ignored, with_labels, with_replacement};
 ghost use Rattle.cx_task.specs.Parts.Making.{MatchItem, MatchPush, copied_len};
 
 use crate::areas::{MOST_BYTES, get_both, get_filled, get_stg, got_owner, put_cap};
@@ -180,7 +180,7 @@ fn make<S: Store + Drop>(
     requires { FitsMade made.now (reach shared.old station.old task.old) }
     ensures ok { OnOk result (MadeBy made.now (reach shared.old station.old task.old) (reach shared.new station.new task.new)) }
     ensures err { OnErr result (reach shared.new station.new task.new ≡ reach shared.old station.old task.old) }
-    ensures grows { OnErr result (made_grows made.now ≡ true) }
+    ensures grows { OnErr result (change_grows (Change.Makes made.now) ≡ true) }
 {
     match made {
         Made::ItemLast(name, piece) => {
@@ -324,7 +324,7 @@ fn kept_bytes<S: Store>(
     requires { FitsPiece commarea (S.storage store.now) }
     ensures bytes { IfOk result (λ bytes. bytes ≡ bytes_or_none (S.storage store.now) commarea) }
     ensures few { IfOk result (λ bytes. length bytes ≤ 32767) }
-    ensures grows { OnErr result (has_bytes commarea ≡ true) }
+    ensures grows { OnErr result (is_some commarea ≡ true) }
 {
     let Some(piece) = commarea else {
         return Ok(List::from_vec(Vec::new(alloc)));
@@ -345,7 +345,7 @@ fn keep_next<S: Store>(
 ) -> Result<Option<Following>, AllocError>
     requires { MatchOption next ⊤ (λ it. FitsPiece it.commarea (S.storage store.now)) }
     ensures kept { IfOk result (λ following. following ≡ kept_next (S.storage store.now) next) }
-    ensures grows { OnErr result (next_grows next ≡ true) }
+    ensures grows { OnErr result (change_grows (Change.TaskEnds next) ≡ true) }
 {
     let Some(next) = next else {
         return Ok(None);
@@ -366,7 +366,7 @@ fn leave_next<S: Store + Drop>(
     requires { MatchOption next ⊤ (λ it. FitsPiece it.commarea shared.now.storage) }
     ensures ok { OnOk result (station.new ≡ record station.old { following = kept_next shared.now.storage next }) }
     ensures err { OnErr result (station.new ≡ station.old) }
-    ensures grows { OnErr result (next_grows next ≡ true) }
+    ensures grows { OnErr result (change_grows (Change.TaskEnds next) ≡ true) }
 {
     let following = keep_next(shared.alloc, &shared.store, next)?;
     station.following = following;

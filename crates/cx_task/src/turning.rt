@@ -1,10 +1,11 @@
 //! One half-turn of a live task.
-ghost use Rattle.std.specs.Prelude.{◌≡◌, true, IfOk, OnErr};
+ghost use Rattle.std.specs.Prelude.{◌≡◌, true, Ok, IfOk, OnErr};
+ghost use Rattle.cx_call.specs.Call.{call_of};
 ghost use Rattle.cx_call.specs.Inputs.{are_inputs_there};
 ghost use Rattle.cx_rows.specs.Common.{AreSoundPrograms};
 ghost use Rattle.cx_rows.specs.Judged.{Judged};
 ghost use Rattle.cx_state.specs.State.{reach};
-ghost use Rattle.cx_task.specs.Performing.{CallGrows, Called, Commanded, DueGrows, Performs, fault_code, list_of};
+ghost use Rattle.cx_task.specs.Performing.{Called, Commanded, Performs, fault_code, list_of};
 ghost use Rattle.cx_task.specs.Turn.{Grows, HalfTurn, Halted, RunsOn, at_command_task};
 
 use crate::abending::abend;
@@ -89,7 +90,7 @@ fn perform_call<S: Store + Drop>(
     requires { AreSoundPrograms shared.old.programs }
     ensures called { IfOk result (λ reply. Called call.now (reach shared.old station.old task.old) reply (reach shared.new station.new task.new)) }
     ensures err { OnErr result (reach shared.new station.new task.new ≡ reach shared.old station.old task.old) }
-    ensures grows { OnErr result (CallGrows call.now (reach shared.old station.old task.old)) }
+    ensures grows { OnErr result (task.old.due ≡ true → call_of shared.old.storage (list_of task.old) ≡ Ok call.now → Grows (reach shared.old station.old task.old)) }
 {
     if !are_inputs_there(&shared.store, call) {
         return Ok(abend(shared, station, task, Abend::Xarg.code(), false));
@@ -109,7 +110,7 @@ fn perform<S: Store + Drop>(
     requires { AreSoundPrograms shared.old.programs }
     ensures commanded { IfOk result (λ reply. Commanded (reach shared.old station.old task.old) reply (reach shared.new station.new task.new)) }
     ensures err { OnErr result (reach shared.new station.new task.new ≡ reach shared.old station.old task.old) }
-    ensures grows { OnErr result (DueGrows (reach shared.old station.old task.old)) }
+    ensures grows { OnErr result (task.old.due ≡ true → Grows (reach shared.old station.old task.old)) }
 {
     let list = address_in(task.cpu.regs[1]);
     match read_call(&shared.store, list) {

@@ -1,6 +1,6 @@
 -- Which commands' changes take memory.
 use Rattle.std.proofs.Common.{◌≡◌, ℕ, Bool, true, false, List, [], ◌∷◌, Option, Some, None, refl, sym, ◌∙◌, ap, inl, inr}
-use Rattle.std.specs.Prelude.{◌&&◌, ◌||◌, not}
+use Rattle.std.specs.Prelude.{◌&&◌, ◌||◌, not, is_some}
 use Rattle.std.specs.Option.{option_map}
 use Rattle.std.proofs.lemmas.Bool.{cases_Bool, true≢false}
 use Rattle.cx_command.specs.declared.commands.Command.{Command}
@@ -27,9 +27,9 @@ use Rattle.cx_rows.specs.ReadqTs.{ReadqRow, Reads, ReadsItem, ReadsQueue, item_a
 use Rattle.cx_rows.specs.Return.{highest_return, next_of, return_row}
 use Rattle.cx_rows.specs.Suspend.{suspend_row}
 use Rattle.cx_rows.specs.Facts.FitsParts.{by_option, by_test}
-use Rattle.cx_task.specs.Answers.{has_room, may_grow, meets_growing, way_at}
+use Rattle.cx_task.specs.Answers.{has_room, may_grow, way_at}
 use Rattle.cx_task.specs.Ways.{is_wait}
-use Rattle.cx_task.specs.Changes.{change_grows, has_bytes}
+use Rattle.cx_task.specs.Changes.{change_grows}
 use Rattle.cx_task_laws.specs.Laws.Memory.{OnlyTheseTakeMemory, takes_memory}
 use Rattle.cx_task_laws.proofs.RowLemmas.{IsApart, deleteq_none, deq_none, freemain_none, never, passes, pop_none, push_none, receive_none, send_text_none, unless_none}
 
@@ -45,7 +45,7 @@ first_of true b e = refl
 first_of false b e = e
 
 may_takes : (v : Verdict) (call : Call) (r : Reach) → may_grow v call r ≡ true → takes v ≡ true
-unfolding may_grow meets_growing takes passes
+unfolding may_grow takes passes
 may_takes (Meets condition outputs change) call r e =
     first_of (change_grows change) (has_room call outputs change r) (first_of (change_grows change && has_room call outputs change r) (not (is_wait (way_at call condition change r))) e)
 may_takes Waits call r e = e
@@ -71,15 +71,15 @@ readq_takes call r v row e = elim (cases_Bool (has call option.Set)) [
         (λ _ is. never change_grows v (reads_into (measured r.shared.storage call) (reading_of r.shared.queues name n)) is refl e)
     by_fault f name n (Some fault) is = never change_grows v (unless (Some fault) (only Qiderr)) is (unless_none change_grows apart (Some fault) (only Qiderr) refl) e
 
-return_takes : (call : Call) (r : Reach) (v : Verdict) → v ≡ return_row r.shared.storage r.task.levels.callers call → takes v ≡ true → has_bytes (commarea_of r.shared.storage call) ≡ true
+return_takes : (call : Call) (r : Reach) (v : Verdict) → v ≡ return_row r.shared.storage r.task.levels.callers call → takes v ≡ true → is_some (commarea_of r.shared.storage call) ≡ true
 unfolding return_row next_of takes passes
 return_takes call r v is e = go r.task.levels.callers (sym (ap takes is) ∙ e)
   where
-    following : (o : Option (List ℕ)) → takes (does (TaskEnds (option_map (λ tran. record { tran = tran; commarea = commarea_of r.shared.storage call }) o))) ≡ true → has_bytes (commarea_of r.shared.storage call) ≡ true
+    following : (o : Option (List ℕ)) → takes (does (TaskEnds (option_map (λ tran. record { tran = tran; commarea = commarea_of r.shared.storage call }) o))) ≡ true → is_some (commarea_of r.shared.storage call) ≡ true
     following None e = absurd (true≢false (sym e))
     following (Some tran) e = e
 
-    highest : takes (highest_return r.shared.storage call) ≡ true → has_bytes (commarea_of r.shared.storage call) ≡ true
+    highest : takes (highest_return r.shared.storage call) ≡ true → is_some (commarea_of r.shared.storage call) ≡ true
     highest e = elim (cases_Bool (has call option.Commarea && not (has call option.Transid))) [
       | inl t ↦ absurd (true≢false (sym (rw t at e)))
       | inr f ↦ elim (cases_Bool (is_length_negative r.shared.storage call)) [
@@ -88,7 +88,7 @@ return_takes call r v is e = go r.task.levels.callers (sym (ap takes is) ∙ e)
       ]
     ]
 
-    go : (callers : List Level) → takes (return_row r.shared.storage callers call) ≡ true → has_bytes (commarea_of r.shared.storage call) ≡ true
+    go : (callers : List Level) → takes (return_row r.shared.storage callers call) ≡ true → is_some (commarea_of r.shared.storage call) ≡ true
     go [] e = highest e
     go (caller ∷ callers) e = elim (cases_Bool (has call option.Transid || has call option.Commarea)) [
       | inl t ↦ absurd (true≢false (sym (rw t at e)))
@@ -124,6 +124,4 @@ judged_takes call r v judged e = go call.command judged
 
 pub only_these_take_memory : OnlyTheseTakeMemory
 only_these_take_memory before grows =
-    let call = grows.grows.call in
-    let of = grows.grows.grows in
-    judged_takes call before of.verdict of.judged (may_takes of.verdict call before of.takes)
+    judged_takes grows.call before grows.verdict grows.judged (may_takes grows.verdict grows.call before grows.takes)

@@ -1,5 +1,5 @@
 -- A turn, by the parts that change; no public contract cites it.
-use Rattle.std.specs.Prelude.{◌≡◌, ℕ, List, Option, Some, None, MatchOption}
+use Rattle.std.specs.Prelude.{◌≡◌, ℕ, List, Option, Some, None, IsSomeAnd, MatchOption}
 use Rattle.std.specs.Map.{lookup, set_value}
 use Rattle.cx_state.specs.declared.replies.TurnReply.{TurnReply}
 use Rattle.cx_state.specs.declared.replies.TurnReply.TheVariants as turn
@@ -49,7 +49,7 @@ TurnedAt shared terminal reply after left =
     MatchOption terminal.task (PartIdle shared terminal reply after left) (λ task. PartTurned shared terminal task reply after left)
 
 unfoldable pub GrowsAt : SharedState → TerminalState → Type 0
-GrowsAt shared terminal = MatchOption terminal.task ⊥ (λ task. Grows (reach shared (station_of terminal) task))
+GrowsAt shared terminal = IsSomeAnd terminal.task (λ task. Grows (reach shared (station_of terminal) task))
 
 -- the terminal of a name is turned, where there is one
 pub record TurnedThere (shared : SharedState) (terminals : Terminals) (name : List ℕ) (terminal : TerminalState) (reply : TurnReply) (after : SharedState) (later : Terminals) : Type 0 where
@@ -68,4 +68,4 @@ TurnedIn shared terminals name reply after later =
     (λ terminal. TurnedThere shared terminals name terminal reply after later)
 
 unfoldable pub GrowsIn : SharedState → Terminals → List ℕ → Type 0
-GrowsIn shared terminals name = MatchOption (lookup (is_name4 name) terminals) ⊥ (GrowsAt shared)
+GrowsIn shared terminals name = IsSomeAnd (lookup (is_name4 name) terminals) (GrowsAt shared)

@@ -1,5 +1,5 @@
 -- Which half-turns may take memory (Application Programmer's Reference Manual, SC33-0077, the section of each command).
-use Rattle.std.specs.Prelude.{◌≡◌, Bool, true, false}
+use Rattle.std.specs.Prelude.{◌≡◌, Bool, true, false, is_some}
 use Rattle.cx_command.specs.declared.commands.Command.{Command}
 use Rattle.cx_command.specs.declared.commands.Command.TheVariants as command
 use Rattle.cx_command.specs.declared.options.OptionName.TheVariants.{Set}
@@ -7,7 +7,6 @@ use Rattle.cx_storage.specs.Storage.{Storage}
 use Rattle.cx_call.specs.Call.{Call}
 use Rattle.cx_state.specs.State.{Reach}
 use Rattle.cx_rows.specs.Common.{commarea_of, has}
-use Rattle.cx_task.specs.Changes.{has_bytes}
 use Rattle.cx_task.specs.Turn.{Grows}
 
 -- the commands that may take memory: those that get an area, keep data or begin a level
@@ -18,9 +17,9 @@ takes_memory command.WriteqTs call storage = true
 takes_memory command.Enq call storage = true
 takes_memory command.Link call storage = true
 takes_memory command.Xctl call storage = true
-takes_memory command.Return call storage = has_bytes (commarea_of storage call)
+takes_memory command.Return call storage = is_some (commarea_of storage call)
 takes_memory _ call storage = false
 
 -- where a half-turn may take memory, such a command is due
 abbrev pub OnlyTheseTakeMemory : Type 0
-OnlyTheseTakeMemory = (before : Reach) (grows : Grows before) → takes_memory grows.grows.call.command grows.grows.call before.shared.storage ≡ true
+OnlyTheseTakeMemory = (before : Reach) (grows : Grows before) → takes_memory grows.call.command grows.call before.shared.storage ≡ true
