@@ -1,10 +1,9 @@
 -- What each change of a command does (Application Programmer's Reference Manual, SC33-0077, the section of each command).
 -- What is made is made before the outputs are written, and what is ended or freed after RESP's word.
-use Rattle.std.specs.Prelude.{◌≡◌, ℕ, Bool, true, false, List, [], ◌∷◌, replicate, Option, Some, None, is_some, unwrap_or}
+use Rattle.std.specs.Prelude.{◌≡◌, ℕ, Bool, true, false, List, [], ◌∷◌, replicate, slice_get, Option, Some, None, is_some, unwrap_or}
 use Rattle.std.specs.Option.{option_map}
 use Rattle.cx_ebcdic.specs.Aids.{key_of}
-use Rattle.cx_command.specs.declared.commands.Command.{Command}
-use Rattle.cx_command.specs.declared.commands.Command.TheVariants as command
+use Rattle.cx_command.specs.declared.commands.Command.TheVariants.{Link}
 use Rattle.cx_command.specs.declared.conditions.Condition.{Condition}
 use Rattle.cx_command.specs.Commands.{row_of}
 use Rattle.cx_command.specs.Conditions.{entry_of}
@@ -12,7 +11,6 @@ use Rattle.cx_storage.specs.Storage.{Storage, starts_elsewhere, with_areas_kept}
 use Rattle.cx_program.specs.declared.entries.Entry.{Entry}
 use Rattle.cx_program.specs.declared.entries.Entry.TheVariants as entry
 use Rattle.cx_program.specs.declared.entries.Exit.TheVariants.{On}
-use Rattle.cx_program.specs.declared.level.Level.{Level}
 use Rattle.cx_program.specs.Entries.{turned_off, turned_on}
 use Rattle.cx_program.specs.Handles.{Handles, after_pop, after_push, put_entry, put_exit}
 use Rattle.cx_program.specs.Levels.{with_current}
@@ -148,37 +146,25 @@ unfoldable pub given : Call → List Output → Change → Reach → Reach
 given call outputs change r = with_storage r (put_out r.shared.storage call (handed_over change r) outputs)
 
 -- ---- the report in the EIB, and RESP's word
--- the command behind which the program goes on: RETURN's is the LINK to its level
-abbrev pub reporting : Change → Command → Command
-reporting LevelEnds own = command.Link
-reporting _ own = own
-
--- RECEIVE sets EIBAID to its input's key
-abbrev pub aid_of : Change → Option Input → Option ℕ
-aid_of (Ends TakesInput) input = option_map (λ held. (key_of held.aid).code) input
-aid_of _ input = None
-
--- the EIBCALEN of the nearest caller, where there is one
-abbrev pub calen_above : List Level → Option ℕ
-calen_above [] = None
-calen_above (caller ∷ callers) = Some caller.calen
-
--- the EIBCALEN of the level that goes on, where another does
-abbrev pub calen_of : Change → List Level → Option ℕ
-calen_of (Enters level) callers = Some (length_or_zero level.commarea)
-calen_of (Replaces copying level) callers = Some (length_or_zero level.commarea)
-calen_of LevelEnds callers = calen_above callers
-calen_of _ callers = None
+-- What a change adds to it: RECEIVE the key of its input; a level that begins the length of its COMMAREA; RETURN to a level,
+-- which goes on behind its LINK, that command and the EIBCALEN of the level.
+abbrev pub with_change : Change → Reach → Answer → Answer
+with_change (Ends TakesInput) r answer = record answer { aid = option_map (λ held. (key_of held.aid).code) r.station.input }
+with_change (Enters level) r answer = record answer { calen = Some (length_or_zero level.commarea) }
+with_change (Replaces copying level) r answer = record answer { calen = Some (length_or_zero level.commarea) }
+with_change LevelEnds r answer =
+    record answer { function = (row_of Link).function; calen = option_map (λ caller. caller.calen) (slice_get r.task.levels.callers 0) }
+with_change _ r answer = answer
 
 unfoldable pub report_of : Call → Condition → Change → Reach → Answer
 report_of call condition change r =
-    record {
-      function = (row_of (reporting change call.command)).function;
+    with_change change r (record {
+      function = (row_of call.command).function;
       condition = (entry_of condition).number;
       resource = resource_of r.shared.storage call;
-      aid = aid_of change r.station.input;
-      calen = calen_of change r.task.levels.callers;
-    }
+      aid = None;
+      calen = None;
+    })
 
 unfoldable pub reported : Call → Answer → Reach → Reach
 reported call answer r = with_storage r (answered r.shared.storage r.task.eib call answer)

@@ -1,5 +1,5 @@
 //! What a command writes, and what it ends afterwards.
-ghost use Rattle.std.specs.Prelude.{◌≡◌, ◌<◌, ◌^◌, [], IfSome, None, Some, option_map, unwrap_or};
+ghost use Rattle.std.specs.Prelude.{◌≡◌, ◌<◌, ◌^◌, [], IfSome, None, Some, option_map, slice_get, unwrap_or};
 ghost use Rattle.std.specs.Option.{option_map_or};
 ghost use Rattle.cx_ebcdic.specs.Aids.{key_of};
 ghost use Rattle.cx_command.specs.Commands.{row_of};
@@ -8,7 +8,7 @@ ghost use Rattle.cx_service.specs.Queues.{delete_fault, item_of, read_fault, wit
 ghost use Rattle.cx_service.specs.Resources.{dequeued};
 ghost use Rattle.cx_state.specs.State.{reach, with_storage};
 ghost use Rattle.cx_state.specs.Verdicts.{FitsChange, FitsEnded, handed_over};
-ghost use Rattle.cx_task.specs.Changes.{aid_of, calen_above, calen_of, ended, finished, given, read_for, report_of, reported, reporting, with_input, with_queues, with_resources};
+ghost use Rattle.cx_task.specs.Changes.{ended, finished, given, read_for, report_of, reported, with_change, with_input, with_queues, with_resources};
 ghost use Rattle.cx_task.specs.Parts.Making.{MatchEnded, MatchFinished, text_of};
 ghost use Rattle.cx_task.specs.Answers.{has_room};
 ghost use Rattle.cx_call.specs.Outputs.{put_out};
@@ -97,30 +97,10 @@ pub(crate) fn give<S: Store + Drop>(
     );
 }
 
-/// The command behind which the program goes on.
-fn reporting(change: &Change, own: Command) -> Command
-    ensures { result ≡ reporting change.now own }
-{
-    match change {
-        Change::LevelEnds => Command::Link,
-        _ => own,
-    }
-}
-
-/// The EIBAID that the command sets.
-fn aid_of(change: &Change, input: &Option<Input>) -> Option<u8>
-    ensures { result ≡ aid_of change.now input.now }
-{
-    match change {
-        Change::Ends(Ended::TakesInput) => input.as_ref().map(|held| held.aid.code()),
-        _ => None,
-    }
-}
-
 /// The EIBCALEN of the nearest caller, where there is one.
 #[tactic(auto, using(crate::proofs::CallerLemmas::calen_none, crate::proofs::CallerLemmas::calen_some, crate::proofs::CallerLemmas::calen_lost))]
 fn calen_above(levels: &LevelStack) -> Option<u16>
-    ensures { result ≡ calen_above levels.now.callers }
+    ensures { result ≡ option_map (λ caller. caller.calen) (slice_get levels.now.callers 0) }
 {
     let count = levels.len();
     if count < 2 {
@@ -129,18 +109,6 @@ fn calen_above(levels: &LevelStack) -> Option<u16>
     match levels.get(count - 2) {
         Some(caller) => Some(caller.calen),
         None => None,
-    }
-}
-
-/// The EIBCALEN that the command sets.
-fn calen_of(change: &Change, levels: &LevelStack) -> Option<u16>
-    ensures { result ≡ calen_of change.now levels.now.callers }
-{
-    match change {
-        Change::Enters(level) => Some(length_or_zero(level.commarea)),
-        Change::Replaces(_copying, level) => Some(length_or_zero(level.commarea)),
-        Change::LevelEnds => calen_above(levels),
-        _ => None,
     }
 }
 
@@ -156,12 +124,32 @@ pub(crate) fn report_of<S: Store + Drop>(
 ) -> Answer
     ensures { result ≡ report_of call.now condition change.now (reach shared.now station.now task.now) }
 {
-    Answer {
-        function: reporting(change, call.command()).function(),
+    let plain = Answer {
+        function: call.command().function(),
         condition: condition.number(),
         resource: resource(&shared.store, call),
-        aid: aid_of(change, &station.input),
-        calen: calen_of(change, &task.levels),
+        aid: None,
+        calen: None,
+    };
+    match change {
+        Change::Ends(Ended::TakesInput) => Answer {
+            aid: station.input.as_ref().map(|held| held.aid.code()),
+            ..plain
+        },
+        Change::Enters(level) => Answer {
+            calen: Some(length_or_zero(level.commarea)),
+            ..plain
+        },
+        Change::Replaces(_copying, level) => Answer {
+            calen: Some(length_or_zero(level.commarea)),
+            ..plain
+        },
+        Change::LevelEnds => Answer {
+            function: Command::Link.function(),
+            calen: calen_above(&task.levels),
+            ..plain
+        },
+        _ => plain,
     }
 }
 

@@ -1,5 +1,5 @@
 -- What a command leaves of the areas of others.
-use Rattle.std.proofs.Common.{◌≡◌, ℕ, suc, ◌+◌, ◌^◌, ◌<◌, Bool, true, false, Option, Some, None, List, [], ◌∷◌, length, slice_get, refl, sym, ap, subst, arith, inl, inr}
+use Rattle.std.proofs.Common.{◌≡◌, ℕ, suc, ◌+◌, ◌^◌, ◌<◌, Bool, true, false, Option, Some, None, List, [], ◌∷◌, length, slice_get, refl, sym, ◌∙◌, ap, subst, arith, inl, inr}
 use Rattle.std.specs.Prelude.{◌||◌, ◌⊎◌, Result, Ok, Err, MatchBool, MatchResult}
 use Rattle.std.specs.Option.{option_map}
 use Rattle.std.specs.List.{list_any}
@@ -12,6 +12,7 @@ use Rattle.cx_storage.specs.Address.{address_in}
 use Rattle.cx_storage.specs.Storage.{Storage, area_from, areas_of, byte_at, IsSound as IsSoundStorage}
 use Rattle.cx_service.specs.Queues.{AreSoundQueues}
 use Rattle.cx_call.specs.declared.call.CallFault.{CallFault}
+use Rattle.cx_call.specs.Answer.{resource_of}
 use Rattle.cx_call.specs.declared.outputs.Output.{Output}
 use Rattle.cx_call.specs.Call.{Call, call_of, resp_place}
 use Rattle.cx_call.specs.Inputs.{are_inputs_there}
@@ -99,6 +100,23 @@ finished_task (TaskEnds next) r = record { slot = refl; eib = refl; callers = re
 finished_task (AbendsWith code cancel) r = record { slot = refl; eib = refl; callers = refl; stg = refl }
 
 -- ---- all that a command does
+-- the report names the call's resource, whatever its change adds
+pub resource_told : (call : Call) (condition : Condition) (change : Change) (r : Reach) → (report_of call condition change r).resource ≡ resource_of r.shared.storage call
+unfolding report_of
+resource_told call condition Nothing r = refl
+resource_told call condition (Makes it) r = refl
+resource_told call condition (Ends TakesInput) r = refl
+resource_told call condition (Ends (ReadOf name n)) r = refl
+resource_told call condition (Ends (QueueGone name)) r = refl
+resource_told call condition (Ends (Dequeues resource)) r = refl
+resource_told call condition (Ends (Frees place)) r = refl
+resource_told call condition (Gets got) r = refl
+resource_told call condition (Enters level) r = refl
+resource_told call condition (Replaces copying level) r = refl
+resource_told call condition LevelEnds r = refl
+resource_told call condition (TaskEnds next) r = refl
+resource_told call condition (AbendsWith code cancel) r = refl
+
 -- the text that is handed over is that of the state which the command found
 pub text_same : (change : Change) (start made : Reach) → Grown change start made → handed_over change made ≡ handed_over change start
 unfolding Grown handed_over
@@ -126,7 +144,7 @@ still_clear slot start after same task clear =
 settled_leaves : (x : ℕ) (call : Call) (condition : Condition) (outputs : List Output) (change : Change) (start after : Reach) → IsSoundStorage start.shared.storage → AreLow call.places
     → IsClear start.station.slot start → FitsChange change start → Settles call condition outputs change start after
     → Settled x (writes_to x call (Meets condition outputs change) start) start after
-unfolding given reported report_of writes_to
+unfolding given reported writes_to
 settled_leaves x call condition outputs change start after ok low clear fits settles =
     let slot = start.station.slot in
     let made = settles.made in
@@ -144,7 +162,7 @@ settled_leaves x call condition outputs change start after ok low clear fits set
     let told_task = task_on start made told made_task (record { slot = refl; eib = refl; callers = refl; stg = refl }) in
     let told_clear = still_clear slot start told given_left.areas told_task clear in
     let own : Own slot told.shared.storage told.task.eib eib_len = record { ends = told_clear.low; clear = told_clear.eib_clear } in
-    let three : Left slot x writes told.shared.storage out.shared.storage = report_left slot x writes told.shared.storage told.task.eib call answer low own (λ bytes e. resource_fits start.shared.storage call bytes e) (λ no.
+    let three : Left slot x writes told.shared.storage out.shared.storage = report_left slot x writes told.shared.storage told.task.eib call answer low own (λ bytes e. resource_fits start.shared.storage call bytes (sym (resource_told call condition change start) ∙ e)) (λ no.
     (or_none (list_any (is_in_output x call (handed_over change start)) outputs) (is_among x (resp_place call) 4) no).1) in
     let out_left = left_on slot x writes start.shared.storage told.shared.storage out.shared.storage given_left three in
     let out_task = task_on start told out told_task (record { slot = refl; eib = refl; callers = refl; stg = refl }) in

@@ -45,7 +45,7 @@ use Rattle.cx_task.specs.Ways.{Goes, is_wait, on_its_way}
 use Rattle.cx_task_laws.specs.Laws.Bytes.{is_among, is_in_output}
 use Rattle.cx_task_laws.specs.Laws.Pointers.{OutputsStand, OutputsStay, PointersStand, ProgramsGoOn}
 use Rattle.cx_task_laws.proofs.ClearLemmas.{clear_of}
-use Rattle.cx_task_laws.proofs.CommandLemmas.{call_low, text_same}
+use Rattle.cx_task_laws.proofs.CommandLemmas.{call_low, resource_told, text_same}
 use Rattle.cx_task_laws.proofs.GrownLemmas.{grown_task}
 use Rattle.cx_task_laws.proofs.PlainLemmas.{AreShort, IsShort, judged_plain, keeps_areas}
 use Rattle.cx_task_laws.proofs.StandLemmas.{KeepsPresent, area_present, puts_stand, report_elsewhere, room_in, short_bytes, short_in, spans_kept, word_stands, write_present}
@@ -297,14 +297,14 @@ settled_byte : (call : Call) (condition : Condition) (outputs : List Output) (ch
     → start.task.eib < 2 ^ 24 → is_among x (Some start.task.eib) eib_len ≡ false → is_among x (resp_place call) 4 ≡ false
     → (settles : Settles call condition outputs change start after)
     → byte_at after.shared.storage x ≡ byte_at (put_out settles.made.shared.storage call (handed_over change start) outputs) x
-unfolding given reported report_of
+unfolding given reported
 settled_byte call condition outputs change start after x keeps places low off_eib off_resp settles =
     let made = settles.made in
     let answer = report_of call condition change start in
     let told = put_out made.shared.storage call (handed_over change made) outputs in
     let eib = (grown_task change start made settles.grown).eib in
     ap (λ (s : Storage). byte_at s x) (settled_storage call condition outputs change start after keeps settles)
-    ∙ report_elsewhere told made.task.eib call answer x places (subst (λ (n : ℕ). n < 2 ^ 24) (sym eib) low) (λ bytes e. resource_fits start.shared.storage call bytes e)
+    ∙ report_elsewhere told made.task.eib call answer x places (subst (λ (n : ℕ). n < 2 ^ 24) (sym eib) low) (λ bytes e. resource_fits start.shared.storage call bytes (sym (resource_told call condition change start) ∙ e))
     (subst (λ (n : ℕ). is_among x (Some n) eib_len ≡ false) (sym eib) off_eib) off_resp
     ∙ ap (λ (text : List ℕ). byte_at (put_out made.shared.storage call text outputs) x) (text_same change start made settles.grown)
 
