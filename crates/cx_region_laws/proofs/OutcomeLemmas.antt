@@ -32,7 +32,7 @@ use Rattle.cx_task.specs.declared.way.Way.{Way}
 use Rattle.cx_task.specs.declared.way.Way.TheVariants.{GoesOn, TakesLabel, Waits, Abends, Enters as WayEnters, Replaces as WayReplaces, LevelEnds as WayLevelEnds, TaskEnds as WayTaskEnds}
 use Rattle.cx_task.specs.Abends.{Abends as AbendsWithCode, AbendsAt, IsExit, abended, exit_taken, task_ended}
 use Rattle.cx_task.specs.Answers.{Answers, Does, MeetsWith, has_room, may_grow, way_at}
-use Rattle.cx_task.specs.Changes.{Grown, MadeBy, change_grows, finished, given, report_of, reported}
+use Rattle.cx_task.specs.Changes.{Grown, change_grows, finished, given, report_of, reported}
 use Rattle.cx_call.specs.Inputs.{are_inputs_there}
 use Rattle.cx_task.specs.Performing.{Called, Commanded, list_of}
 use Rattle.cx_task.specs.Turn.{Grows, HalfTurn}
@@ -218,8 +218,8 @@ goes_somehow WayLevelEnds condition settled = (turn.Returned, returned settled, 
 goes_somehow WayTaskEnds condition settled = (turn.Ended, task_ended settled, (refl, refl))
 
 -- what a change that may take memory makes
-made_somehow : (it : Made) (before : Reach) → change_grows (Makes it) ≡ true → (after : Reach) × MadeBy it before after
-unfolding MadeBy
+made_somehow : (it : Made) (before : Reach) → change_grows (Makes it) ≡ true → (after : Reach) × Grown (Makes it) before after
+unfolding Grown
 made_somehow (made.ItemLast name piece) before grows = (_, refl)
 made_somehow (made.ItemAt name n piece) before grows = (_, refl)
 made_somehow (made.Enqueues resource) before grows = (_, refl)

@@ -28,7 +28,7 @@ use Rattle.cx_state.specs.Areas.{IsAreaOf, entry_level, first_of_tasks, got_owne
 use Rattle.cx_state.specs.Facts.Areas.{area_put, none_there}
 use Rattle.cx_state.specs.State.{Reach, TaskState}
 use Rattle.cx_state.specs.Verdicts.{FitsChange, FitsCopy, FitsLevel, FitsMade, FitsRequest}
-use Rattle.cx_task.specs.Changes.{Grown, MadeBy, handled, with_got, with_ignored, with_labels, with_replacement, with_stg}
+use Rattle.cx_task.specs.Changes.{Grown, handled, with_got, with_ignored, with_labels, with_replacement, with_stg}
 use Rattle.cx_task.specs.Laws.HalfTurns.{others_areas}
 use Rattle.cx_task.specs.Sound.{IsSoundLevel, IsSoundTask}
 use Rattle.cx_task.proofs.MidLemmas.{Mid, begins}
@@ -116,8 +116,8 @@ pub record Grew (change : Change) (start mid : Reach) : Type 0 where
   pub held : Mid start mid
   pub stands : Standing change start.station.slot held.storage mid.task
 
-made_keeps : (it : Made) (start after : Reach) → FitsMade it start → Mid start start → MadeBy it start after → Mid start after
-unfolding MadeBy
+made_keeps : (it : Made) (start after : Reach) → FitsMade it start → Mid start start → Grown (Makes it) start after → Mid start after
+unfolding Grown
 made_keeps (made.ItemLast name piece) start after fits held grown =
     rw grown (record { slot = refl; programs = refl; resources = refl; storage = held.storage; sound = held.sound; same = held.same; others = held.others; task = held.task })
 made_keeps (made.ItemAt name n piece) start after fits held grown =

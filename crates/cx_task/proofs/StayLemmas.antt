@@ -28,7 +28,7 @@ use Rattle.cx_task.specs.declared.way.Way.{Way}
 use Rattle.cx_task.specs.declared.way.Way.TheVariants as way
 use Rattle.cx_task.specs.Abends.{Abends, AbendsAt}
 use Rattle.cx_task.specs.Answers.{Answers, Does, LeavesAll, MeetsWith, has_room, way_at}
-use Rattle.cx_task.specs.Changes.{Grown, MadeBy, Settles, finished, given, ended, read_for, reported}
+use Rattle.cx_task.specs.Changes.{Grown, Settles, finished, given, read_for, reported}
 use Rattle.cx_task.specs.Laws.HalfTurns.{HalfTurnStays, is_of_task}
 use Rattle.cx_task.specs.Performing.{Called, Commanded, Performs, fault_code, list_of}
 use Rattle.cx_task.specs.Turn.{HalfTurn, Halted, RunsOn}
@@ -84,8 +84,8 @@ goes_stay way.TaskEnds condition before settled after reply same goes =
     stays_at before after reply turn.Ended (same_at before _ after goes.1 (record { slot = same.slot; programs = same.programs })) goes.0 refl
 
 -- ---- what the command does
-made_same : (it : Made) (before after : Reach) → MadeBy it before after → Same before after
-unfolding MadeBy
+made_same : (it : Made) (before after : Reach) → Grown (Makes it) before after → Same before after
+unfolding Grown
 made_same (made.ItemLast name piece) before after grown = same_at before _ after grown (record { slot = refl; programs = refl })
 made_same (made.ItemAt name n piece) before after grown = same_at before _ after grown (record { slot = refl; programs = refl })
 made_same (made.Enqueues resource) before after grown = same_at before _ after grown (record { slot = refl; programs = refl })
@@ -104,7 +104,8 @@ grown_same LevelEnds before after grown = same_at before _ after grown (record {
 grown_same (TaskEnds next) before after grown = same_at before _ after grown (record { slot = refl; programs = refl })
 grown_same (AbendsWith code cancel) before after grown = same_at before _ after grown (record { slot = refl; programs = refl })
 
-ended_same : (it : Ended) (r : Reach) → Same r (ended it r)
+ended_same : (it : Ended) (r : Reach) → Same r (finished (Ends it) r)
+unfolding finished
 ended_same TakesInput r = record { slot = refl; programs = refl }
 ended_same (ReadOf name n) r = record { slot = refl; programs = refl }
 ended_same (QueueGone name) r = record { slot = refl; programs = refl }

@@ -29,7 +29,7 @@ use Rattle.cx_task.specs.declared.way.Way.{Way}
 use Rattle.cx_task.specs.declared.way.Way.TheVariants as way
 use Rattle.cx_task.specs.Abends.{Abends, AbendsAt, IsExit}
 use Rattle.cx_task.specs.Answers.{Answers, Does, LeavesAll, MeetsWith, has_room, way_at}
-use Rattle.cx_task.specs.Changes.{Grown, MadeBy, finished, given, report_of, reported, with_screen}
+use Rattle.cx_task.specs.Changes.{Grown, finished, given, report_of, reported, with_screen}
 use Rattle.cx_task.specs.Laws.HalfTurns.{HalfTurnsDecide}
 use Rattle.cx_task.specs.Performing.{Called, Commanded, Performs, fault_code, list_of}
 use Rattle.cx_task.specs.Turn.{HalfTurn, Halted, RunsOn, after_machine, machine_of, most_steps}
@@ -57,8 +57,8 @@ abends_decide code cancel before p q a b h k =
     by_exit None one two = told p q _ a b _ one two
     by_exit (Some index) one two = told p q _ a b _ one two
 
-made_decides : ShownOnce → (it : Made) (before a b : Reach) → MadeBy it before a → MadeBy it before b → a ≡ b
-unfolding MadeBy
+made_decides : ShownOnce → (it : Made) (before a b : Reach) → Grown (Makes it) before a → Grown (Makes it) before b → a ≡ b
+unfolding Grown
 made_decides shown (made.ItemLast name piece) before a b h k = h ∙ sym k
 made_decides shown (made.ItemAt name n piece) before a b h k = h ∙ sym k
 made_decides shown (made.Enqueues resource) before a b h k = h ∙ sym k

@@ -32,7 +32,7 @@ use Rattle.cx_state.specs.State.{Reach, TaskState}
 use Rattle.cx_state.specs.Verdicts.{Fits, FitsChange, FitsEnded, handed_over}
 use Rattle.cx_task.specs.Abends.{Abends}
 use Rattle.cx_task.specs.Answers.{Answers, Does, LeavesAll, MeetsWith, has_room, way_at}
-use Rattle.cx_task.specs.Changes.{Grown, Settles, ended, finished, given, read_for, report_of, reported}
+use Rattle.cx_task.specs.Changes.{Grown, Settles, finished, given, read_for, report_of, reported}
 use Rattle.cx_task.specs.Laws.HalfTurns.{HalfTurnKeeps}
 use Rattle.cx_task.specs.Sound.{IsSoundTask}
 use Rattle.cx_task.specs.Ways.{choice_for, is_normal, is_wait, way_by, way_chosen, way_of}
@@ -91,7 +91,8 @@ got_apart s slot start len place size there got is =
 got_freed : (s : Storage) (slot place size : ℕ) → IsSoundStorage s → area_at s place ≡ Some (area_from place size (got_owner slot)) → OwnStay slot s (with_areas_kept (starts_elsewhere place) s)
 got_freed s slot place size ok got start len there = free_keeps s place start _ ok there (got_apart s slot start len place size there got)
 
-ended_grew : (it : Ended) (start mid : Reach) → FitsEnded it start → areas_of mid.shared.storage ≡ areas_of start.shared.storage → Grew (Ends it) start mid → Grew (Ends it) start (ended it mid)
+ended_grew : (it : Ended) (start mid : Reach) → FitsEnded it start → areas_of mid.shared.storage ≡ areas_of start.shared.storage → Grew (Ends it) start mid → Grew (Ends it) start (finished (Ends it) mid)
+unfolding finished
 ended_grew TakesInput start mid fits areas grew =
     let held = grew.held in
     record { held = record { slot = held.slot; programs = held.programs; resources = held.resources; storage = held.storage; sound = held.sound; same = held.same; others = held.others; task = held.task }; stands = tt }

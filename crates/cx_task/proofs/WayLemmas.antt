@@ -20,13 +20,13 @@ use Rattle.cx_state.specs.State.{Reach}
 use Rattle.cx_state.specs.Verdicts.{FitsChange}
 use Rattle.cx_task.specs.declared.way.Way.{Way}
 use Rattle.cx_task.specs.declared.way.Way.TheVariants as way
-use Rattle.cx_task.specs.Changes.{Grown, MadeBy, Settles, ended, finished, given, read_for, reported}
+use Rattle.cx_task.specs.Changes.{Grown, Settles, finished, given, read_for, reported}
 use Rattle.cx_task.specs.Parts.Making.{MatchWay}
 use Rattle.cx_task.specs.Ways.{is_normal, way_by, way_chosen, way_of, choice_for}
 
 -- no command changes the callers before the task goes its way
-made_callers : (it : Made) (before after : Reach) → MadeBy it before after → after.task.levels.callers ≡ before.task.levels.callers
-unfolding MadeBy
+made_callers : (it : Made) (before after : Reach) → Grown (Makes it) before after → after.task.levels.callers ≡ before.task.levels.callers
+unfolding Grown
 made_callers (made.ItemLast name piece) before after grown = rw grown refl
 made_callers (made.ItemAt name n piece) before after grown = rw grown refl
 made_callers (made.Enqueues resource) before after grown = rw grown refl
@@ -45,7 +45,8 @@ grown_callers LevelEnds before after grown = rw grown refl
 grown_callers (TaskEnds next) before after grown = rw grown refl
 grown_callers (AbendsWith code cancel) before after grown = rw grown refl
 
-ended_task : (it : Ended) (r : Reach) → (ended it r).task ≡ r.task
+ended_task : (it : Ended) (r : Reach) → (finished (Ends it) r).task ≡ r.task
+unfolding finished
 ended_task TakesInput r = refl
 ended_task (ReadOf name n) r = refl
 ended_task (QueueGone name) r = refl

@@ -27,12 +27,10 @@ use Rattle.cx_call.specs.Outputs.{put_out}
 use Rattle.cx_state.specs.declared.verdict.Change.{Change}
 use Rattle.cx_state.specs.declared.verdict.Change.TheVariants.{Makes, Ends, Gets, Enters, Replaces, LevelEnds, TaskEnds}
 use Rattle.cx_state.specs.declared.verdict.Copying.{Copying}
-use Rattle.cx_state.specs.declared.verdict.Ended.{Ended}
 use Rattle.cx_state.specs.declared.verdict.Ended.TheVariants.{TakesInput, ReadOf, QueueGone, Dequeues, Frees}
 use Rattle.cx_state.specs.declared.verdict.Fill.{Fill}
 use Rattle.cx_state.specs.declared.verdict.Fill.TheVariants.{Byte, Item}
 use Rattle.cx_state.specs.declared.verdict.Got.{Got}
-use Rattle.cx_state.specs.declared.verdict.Made.{Made}
 use Rattle.cx_state.specs.declared.verdict.Made.TheVariants as made
 use Rattle.cx_state.specs.declared.verdict.NewLevel.{NewLevel}
 use Rattle.cx_state.specs.declared.verdict.Next.{Next}
@@ -92,17 +90,6 @@ pub record Shown (piece : Piece) (erase : Bool) (before after : Reach) : Type 0 
   pub text : ShowsText before.station.screen (bytes_in before.shared.storage piece) erase after.station.screen
   pub others : after ≡ with_screen before after.station.screen
 
-unfoldable pub MadeBy : Made → Reach → Reach → Type 0
-MadeBy (made.ItemLast name piece) before after =
-    after ≡ with_queues before (with_item before.shared.queues name (bytes_in before.shared.storage piece))
-MadeBy (made.ItemAt name n piece) before after =
-    after ≡ with_queues before (with_item_at before.shared.queues name n (bytes_in before.shared.storage piece))
-MadeBy (made.Enqueues resource) before after =
-    after ≡ with_resources before (enqueued before.shared.resources before.station.slot resource)
-MadeBy (made.Shows piece erase) before after = Shown piece erase before after
-MadeBy (made.Handles request) before after =
-    after ≡ record before { task = with_handles before.task (handled request before.task.levels.current.handles) }
-
 -- what an area is filled with
 abbrev pub fill_bytes : Fill → ℕ → Queues → List ℕ
 fill_bytes (Byte b) len queues = replicate len b
@@ -132,7 +119,15 @@ with_replacement storage slot copying level =
 
 -- what is made
 unfoldable pub Grown : Change → Reach → Reach → Type 0
-Grown (Makes made) before after = MadeBy made before after
+Grown (Makes (made.ItemLast name piece)) before after =
+    after ≡ with_queues before (with_item before.shared.queues name (bytes_in before.shared.storage piece))
+Grown (Makes (made.ItemAt name n piece)) before after =
+    after ≡ with_queues before (with_item_at before.shared.queues name n (bytes_in before.shared.storage piece))
+Grown (Makes (made.Enqueues resource)) before after =
+    after ≡ with_resources before (enqueued before.shared.resources before.station.slot resource)
+Grown (Makes (made.Shows piece erase)) before after = Shown piece erase before after
+Grown (Makes (made.Handles request)) before after =
+    after ≡ record before { task = with_handles before.task (handled request before.task.levels.current.handles) }
 Grown (Gets got) before after =
     after ≡ with_storage before (with_got before.shared.storage before.shared.queues before.station.slot got)
 Grown (Enters level) before after = after ≡ with_storage before (with_stg before.shared.storage before.station.slot level)
@@ -170,20 +165,17 @@ unfoldable pub reported : Call → Answer → Reach → Reach
 reported call answer r = with_storage r (answered r.shared.storage r.task.eib call answer)
 
 -- ---- ended: after RESP's word
-abbrev pub ended : Ended → Reach → Reach
-ended TakesInput r = with_input r None
-ended (ReadOf name n) r = with_queues r (with_last_read r.shared.queues name n)
-ended (QueueGone name) r = with_queues r (without_queue r.shared.queues name)
-ended (Dequeues resource) r = with_resources r (dequeued r.shared.resources r.station.slot resource)
-ended (Frees place) r = with_storage r (with_areas_kept (starts_elsewhere place) r.shared.storage)
-
 -- an item that fills an area is the one last read
 abbrev pub read_for : Fill → Reach → Reach
 read_for (Byte b) r = r
 read_for (Item name n) r = with_queues r (with_last_read r.shared.queues name n)
 
 unfoldable pub finished : Change → Reach → Reach
-finished (Ends e) r = ended e r
+finished (Ends TakesInput) r = with_input r None
+finished (Ends (ReadOf name n)) r = with_queues r (with_last_read r.shared.queues name n)
+finished (Ends (QueueGone name)) r = with_queues r (without_queue r.shared.queues name)
+finished (Ends (Dequeues resource)) r = with_resources r (dequeued r.shared.resources r.station.slot resource)
+finished (Ends (Frees place)) r = with_storage r (with_areas_kept (starts_elsewhere place) r.shared.storage)
 finished (Gets got) r = read_for got.fill r
 finished _ r = r
 

@@ -1,6 +1,6 @@
 -- The command that is due is performed (Application Programmer's Reference Manual, SC33-0077, "Argument Values"; the
 -- order of the tests is this product's own): its list is read as a call, its inputs are tested, its row judges it.
-use Rattle.std.specs.Prelude.{◌≡◌, ℕ, true, false, List, MatchBool, MatchResult, slice_index}
+use Rattle.std.specs.Prelude.{◌≡◌, ℕ, false, List, MatchBool, MatchResult, slice_index}
 use Rattle.cx_command.specs.declared.abends.Abend.TheVariants as abend
 use Rattle.cx_command.specs.Abends.{abend_code}
 use Rattle.cx_storage.specs.Address.{address_in}

@@ -8,7 +8,7 @@ ghost use Rattle.cx_service.specs.Queues.{delete_fault, item_of, read_fault, wit
 ghost use Rattle.cx_service.specs.Resources.{dequeued};
 ghost use Rattle.cx_state.specs.State.{reach, with_storage};
 ghost use Rattle.cx_state.specs.Verdicts.{FitsChange, FitsEnded, handed_over};
-ghost use Rattle.cx_task.specs.Changes.{ended, finished, given, read_for, report_of, reported, with_change, with_input, with_queues, with_resources};
+ghost use Rattle.cx_task.specs.Changes.{finished, given, read_for, report_of, reported, with_change, with_input, with_queues, with_resources};
 ghost use Rattle.cx_task.specs.Parts.Making.{MatchEnded, MatchFinished, text_of};
 ghost use Rattle.cx_task.specs.Answers.{has_room};
 ghost use Rattle.cx_call.specs.Outputs.{put_out};
@@ -176,9 +176,10 @@ fn delete(queues: &mut Queues, name: Name8)
 }
 
 /// What a command ends.
+#[tactic(auto, unfolding(crate::specs::Changes::finished))]
 fn end<S: Store + Drop>(it: &Ended, shared: &mut Shared<S>, station: &mut Station, task: &Task)
     requires { MatchEnded it.now shared.old.queues }
-    ensures { reach shared.new station.new task.now ≡ ended it.now (reach shared.old station.old task.now) }
+    ensures { reach shared.new station.new task.now ≡ finished (Change.Ends it.now) (reach shared.old station.old task.now) }
 {
     match it {
         Ended::TakesInput => station.input = None,

@@ -9,7 +9,7 @@ ghost use Rattle.cx_service.specs.Screen.{ShowsText};
 ghost use Rattle.cx_state.specs.Areas.{IsTaskPlace, bytes_in, copied_bytes, with_cap, with_copied, with_copy_area, with_filled, with_stg_area};
 ghost use Rattle.cx_state.specs.State.{reach, with_storage};
 ghost use Rattle.cx_state.specs.Verdicts.{FitsChange, FitsCopy, FitsGot, FitsLevel, FitsMade, FitsNext, FitsPiece, IsThere};
-ghost use Rattle.cx_task.specs.Changes.{Grown, MadeBy, change_grows, bytes_or_none, entry_asked, handled, kept_next, with_got, with_stg, with_handles, with_ignored, with_labels, with_replacement};
+ghost use Rattle.cx_task.specs.Changes.{Grown, change_grows, bytes_or_none, entry_asked, handled, kept_next, with_got, with_stg, with_handles, with_ignored, with_labels, with_replacement};
 ghost use Rattle.cx_task.specs.Parts.Making.{MatchItem, MatchPush, copied_len};
 
 use crate::areas::{MOST_BYTES, get_both, get_filled, get_stg, got_owner, put_cap};
@@ -170,7 +170,7 @@ fn handle_current(task: &mut Task, request: &Request)
 /// What a command makes.
 ///
 /// An error comes only where a growth was refused; then all is as before.
-#[tactic(auto, unfolding(crate::specs::Changes::MadeBy))]
+#[tactic(auto, unfolding(crate::specs::Changes::Grown))]
 fn make<S: Store + Drop>(
     made: &Made,
     shared: &mut Shared<S>,
@@ -178,7 +178,7 @@ fn make<S: Store + Drop>(
     task: &mut Task,
 ) -> Result<(), AllocError>
     requires { FitsMade made.now (reach shared.old station.old task.old) }
-    ensures ok { OnOk result (MadeBy made.now (reach shared.old station.old task.old) (reach shared.new station.new task.new)) }
+    ensures ok { OnOk result (Grown (Change.Makes made.now) (reach shared.old station.old task.old) (reach shared.new station.new task.new)) }
     ensures err { OnErr result (reach shared.new station.new task.new ≡ reach shared.old station.old task.old) }
     ensures grows { OnErr result (change_grows (Change.Makes made.now) ≡ true) }
 {

@@ -33,7 +33,7 @@ use Rattle.cx_state.specs.State.{Reach}
 use Rattle.cx_state.specs.Verdicts.{Fits, FitsChange, FitsEnded, handed_over}
 use Rattle.cx_task.specs.Abends.{Abends}
 use Rattle.cx_task.specs.Answers.{Answers, Does, LeavesAll, MeetsWith, has_room, way_at}
-use Rattle.cx_task.specs.Changes.{Grown, Settles, ended, finished, given, read_for, report_of, reported}
+use Rattle.cx_task.specs.Changes.{Grown, Settles, finished, given, read_for, report_of, reported}
 use Rattle.cx_task.specs.Performing.{Called, Commanded, Performs, fault_code, list_of}
 use Rattle.cx_task.specs.Sound.{IsSoundTask}
 use Rattle.cx_task.specs.Turn.{HalfTurn, RunsOn}
@@ -48,7 +48,8 @@ use Rattle.cx_task_laws.proofs.EndedLemmas.{IsClear, abends_others, goes_others}
 -- ---- what ends after the report
 ended_others : (it : Ended) (start mid : Reach) → IsSoundStorage start.shared.storage → FitsEnded it start
     → areas_of (others_storage start.station.slot mid.shared.storage) ≡ areas_of (others_storage start.station.slot start.shared.storage)
-    → others_storage start.station.slot (ended it mid).shared.storage ≡ others_storage start.station.slot mid.shared.storage
+    → others_storage start.station.slot (finished (Ends it) mid).shared.storage ≡ others_storage start.station.slot mid.shared.storage
+unfolding finished
 ended_others TakesInput start mid ok fits same = refl
 ended_others (ReadOf name n) start mid ok fits same = refl
 ended_others (QueueGone name) start mid ok fits same = refl
@@ -76,7 +77,8 @@ finished_others LevelEnds start mid ok fits same = refl
 finished_others (TaskEnds next) start mid ok fits same = refl
 finished_others (AbendsWith code cancel) start mid ok fits same = refl
 
-ended_task : (it : Ended) (r : Reach) → SameTask r (ended it r)
+ended_task : (it : Ended) (r : Reach) → SameTask r (finished (Ends it) r)
+unfolding finished
 ended_task TakesInput r = record { slot = refl; eib = refl; callers = refl; stg = refl }
 ended_task (ReadOf name n) r = record { slot = refl; eib = refl; callers = refl; stg = refl }
 ended_task (QueueGone name) r = record { slot = refl; eib = refl; callers = refl; stg = refl }

@@ -20,7 +20,7 @@ use Rattle.cx_state.specs.declared.verdict.NewLevel.{NewLevel}
 use Rattle.cx_state.specs.Areas.{IsTaskPlace, address_or_zero, bytes_in, copied_bytes, got_owner, system_owner, with_cap, with_copied, with_copy_area, with_filled, with_stg_area}
 use Rattle.cx_state.specs.State.{Reach}
 use Rattle.cx_state.specs.Verdicts.{FitsChange, FitsCopy, FitsFill, FitsLevel}
-use Rattle.cx_task.specs.Changes.{Grown, MadeBy, fill_bytes, with_got, with_replacement, with_stg}
+use Rattle.cx_task.specs.Changes.{Grown, fill_bytes, with_got, with_replacement, with_stg}
 use Rattle.cx_task_laws.specs.Laws.Bytes.{others_storage}
 use Rattle.cx_task_laws.proofs.OthersLemmas.{Uncovered, own_put, own_write}
 use Rattle.cx_task_laws.proofs.ClearLemmas.{placed_ends, placed_uncovered}
@@ -124,8 +124,8 @@ replaced_others slot s copying level copy fits =
 at_storage : (slot : ℕ) (made to : Reach) → made ≡ to → others_storage slot made.shared.storage ≡ others_storage slot to.shared.storage
 at_storage slot made to e = ap (λ (r : Reach). others_storage slot r.shared.storage) e
 
-made_others : (it : Made) (slot : ℕ) (before made : Reach) → MadeBy it before made → others_storage slot made.shared.storage ≡ others_storage slot before.shared.storage
-unfolding MadeBy
+made_others : (it : Made) (slot : ℕ) (before made : Reach) → Grown (Makes it) before made → others_storage slot made.shared.storage ≡ others_storage slot before.shared.storage
+unfolding Grown
 made_others (made.ItemLast name piece) slot before after grown = at_storage slot after _ grown
 made_others (made.ItemAt name n piece) slot before after grown = at_storage slot after _ grown
 made_others (made.Enqueues resource) slot before after grown = at_storage slot after _ grown
@@ -169,8 +169,8 @@ pub task_on : (before between after : Reach) → SameTask before between → Sam
 task_on before between after one two =
     record { slot = two.slot ∙ one.slot; eib = two.eib ∙ one.eib; callers = two.callers ∙ one.callers; stg = two.stg ∙ one.stg }
 
-made_task : (it : Made) (before after : Reach) → MadeBy it before after → SameTask before after
-unfolding MadeBy
+made_task : (it : Made) (before after : Reach) → Grown (Makes it) before after → SameTask before after
+unfolding Grown
 made_task (made.ItemLast name piece) before after grown = task_at before _ after grown (record { slot = refl; eib = refl; callers = refl; stg = refl })
 made_task (made.ItemAt name n piece) before after grown = task_at before _ after grown (record { slot = refl; eib = refl; callers = refl; stg = refl })
 made_task (made.Enqueues resource) before after grown = task_at before _ after grown (record { slot = refl; eib = refl; callers = refl; stg = refl })

@@ -32,8 +32,7 @@ use Rattle.cx_rows.specs.Handling.{handle_row, ignore_row, pop_row, push_row}
 use Rattle.cx_rows.specs.Judged.{Judged, JudgedBy}
 use Rattle.cx_rows.specs.Return.{return_row}
 use Rattle.cx_rows.specs.Suspend.{suspend_row}
-use Rattle.cx_task.specs.Changes.{Grown, MadeBy, Settles, finished, given, read_for, reported}
-use Rattle.cx_task.specs.Changes.{ended as ended_by}
+use Rattle.cx_task.specs.Changes.{Grown, Settles, finished, given, read_for, reported}
 use Rattle.cx_task.specs.Ways.{is_normal}
 use Rattle.cx_task_laws.proofs.RowLemmas.{IsApart, IsOfNoOther, deleteq_none, deq_none, enq_none, freemain_none, getmain_none, link_none, passes, readq_none, receive_none, send_text_none, writeq_none, xctl_none}
 
@@ -130,7 +129,8 @@ judged_well call r v judged = go call.command judged
     go command.SendText is = row_none v _ is (send_text_none is_request apart r.shared.storage call)
 
 -- ---- levels
-ended_levels : (it : Ended) (r : Reach) → (ended_by it r).task.levels ≡ r.task.levels
+ended_levels : (it : Ended) (r : Reach) → (finished (Ends it) r).task.levels ≡ r.task.levels
+unfolding finished
 ended_levels ended.TakesInput r = refl
 ended_levels (ended.ReadOf name n) r = refl
 ended_levels (ended.QueueGone name) r = refl
@@ -156,8 +156,8 @@ finished_levels (AbendsWith code cancel) r = refl
 levels_at : (before after to : Reach) → after ≡ to → to.task.levels ≡ before.task.levels → after.task.levels ≡ before.task.levels
 levels_at before after to e same = ap (λ (r : Reach). r.task.levels) e ∙ same
 
-made_levels : (it : Made) (before after : Reach) → is_request (Makes it) ≡ false → MadeBy it before after → after.task.levels ≡ before.task.levels
-unfolding MadeBy is_request
+made_levels : (it : Made) (before after : Reach) → is_request (Makes it) ≡ false → Grown (Makes it) before after → after.task.levels ≡ before.task.levels
+unfolding Grown is_request
 made_levels (made.ItemLast name piece) before after unasked grown = levels_at before after _ grown refl
 made_levels (made.ItemAt name n piece) before after unasked grown = levels_at before after _ grown refl
 made_levels (made.Enqueues resource) before after unasked grown = levels_at before after _ grown refl

@@ -38,7 +38,7 @@ use Rattle.cx_task.specs.declared.way.Way.{Way}
 use Rattle.cx_task.specs.declared.way.Way.TheVariants as way
 use Rattle.cx_task.specs.Abends.{Abends, AbendsAt}
 use Rattle.cx_task.specs.Answers.{Answers, Does, LeavesAll, MeetsWith, has_room, way_at}
-use Rattle.cx_task.specs.Changes.{Grown, MadeBy, Settles, ended, fill_bytes, finished, given, read_for, report_of, reported, with_got}
+use Rattle.cx_task.specs.Changes.{Grown, Settles, fill_bytes, finished, given, read_for, report_of, reported, with_got}
 use Rattle.cx_task.specs.Performing.{Called, Commanded, Performs, fault_code, list_of}
 use Rattle.cx_task.specs.Turn.{HalfTurn, Halted, RunsOn}
 use Rattle.cx_task.specs.Ways.{Goes, is_wait, on_its_way}
@@ -55,8 +55,8 @@ use Rattle.cx_task_laws.proofs.WrittenLemmas.{AreLow, resource_fits}
 abbrev program_of : Reach → List ℕ × ℕ
 program_of r = (r.task.regs, r.task.cc)
 
-made_program : (it : Made) (before after : Reach) → MadeBy it before after → program_of after ≡ program_of before
-unfolding MadeBy
+made_program : (it : Made) (before after : Reach) → Grown (Makes it) before after → program_of after ≡ program_of before
+unfolding Grown
 made_program (made.ItemLast name piece) before after grown = ap program_of grown
 made_program (made.ItemAt name n piece) before after grown = ap program_of grown
 made_program (made.Enqueues resource) before after grown = ap program_of grown
@@ -75,7 +75,8 @@ grown_program LevelEnds before after grown = ap program_of grown
 grown_program (TaskEnds next) before after grown = ap program_of grown
 grown_program (AbendsWith code cancel) before after grown = ap program_of grown
 
-ended_program : (it : Ended) (r : Reach) → program_of (ended it r) ≡ program_of r
+ended_program : (it : Ended) (r : Reach) → program_of (finished (Ends it) r) ≡ program_of r
+unfolding finished
 ended_program TakesInput r = refl
 ended_program (ReadOf name n) r = refl
 ended_program (QueueGone name) r = refl
@@ -114,8 +115,8 @@ got_present before s place len bytes x there =
 same_present : (before after to : Reach) → after ≡ to → KeepsPresent before.shared.storage to.shared.storage → KeepsPresent before.shared.storage after.shared.storage
 same_present before after to e keeps = subst (λ (r : Reach). KeepsPresent before.shared.storage r.shared.storage) (sym e) keeps
 
-made_present : (it : Made) (before after : Reach) → MadeBy it before after → KeepsPresent before.shared.storage after.shared.storage
-unfolding MadeBy
+made_present : (it : Made) (before after : Reach) → Grown (Makes it) before after → KeepsPresent before.shared.storage after.shared.storage
+unfolding Grown
 made_present (made.ItemLast name piece) before after grown = same_present before after _ grown (λ x e. e)
 made_present (made.ItemAt name n piece) before after grown = same_present before after _ grown (λ x e. e)
 made_present (made.Enqueues resource) before after grown = same_present before after _ grown (λ x e. e)
@@ -135,7 +136,8 @@ grown_present LevelEnds before after keeps grown = cc
 grown_present (TaskEnds next) before after keeps grown = cc
 grown_present (AbendsWith code cancel) before after keeps grown = cc
 
-ended_storage : (it : Ended) (r : Reach) → keeps_areas (Ends it) ≡ true → (ended it r).shared.storage ≡ r.shared.storage
+ended_storage : (it : Ended) (r : Reach) → keeps_areas (Ends it) ≡ true → (finished (Ends it) r).shared.storage ≡ r.shared.storage
+unfolding finished
 ended_storage TakesInput r keeps = refl
 ended_storage (ReadOf name n) r keeps = refl
 ended_storage (QueueGone name) r keeps = refl
