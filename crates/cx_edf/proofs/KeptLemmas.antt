@@ -1,8 +1,11 @@
 -- What is kept of a terminal's displays after one event.
-use Rattle.std.proofs.Common.{◌≡◌, ℕ, Bool, true, false, List, [], ◌∷◌, ◌++◌, Option, Some, None, refl, sym, ap, ◌∙◌, subst, ⊎_elim, is_some}
-use Rattle.std.specs.Prelude.{MatchBool, if◌then◌else◌}
+use Rattle.std.proofs.Common.{◌≡◌, ℕ, Bool, true, false, List, [], ◌∷◌, ◌++◌, map, Option, Some, None, refl, sym, ap, ◌∙◌, subst, is_some}
+use Rattle.std.specs.Prelude.{if◌then◌else◌, length, not, unwrap_or}
+use Rattle.std.proofs.lemmas.Bool.{true≢false}
+use Rattle.std.specs.List.{cons_option, filter_map}
 use Rattle.std.specs.Option.{option_and_then, option_map_or}
-use Rattle.std.proofs.lemmas.Bool.{cases_Bool}
+use Rattle.std.proofs.lemmas.List.{append-nil}
+use Rattle.std.proofs.lemmas.Option.{none-some}
 use Rattle.circular_buffer.specs.Buffer.{keep_last}
 use Rattle.cx_display.specs.declared.displays.Display.{Display}
 use Rattle.cx_display.specs.declared.stops.Kind.{Kind}
@@ -12,235 +15,220 @@ use Rattle.cx_ebcdic.specs.declared.aids.Aid.TheVariants as aid
 use Rattle.cx_region.specs.State.{RegionState}
 use Rattle.cx_region.specs.Tables.{terminal_of}
 use Rattle.cx_region.specs.Names.{is_name4}
-use Rattle.cx_region.specs.declared.changes.AlterReply.{AlterReply}
 use Rattle.cx_region.specs.declared.changes.AlterReply.TheVariants as alter
 use Rattle.cx_region.specs.declared.changes.Change.{Change}
 use Rattle.cx_region.specs.declared.changes.Change.TheVariants as change
-use Rattle.cx_region_laws.specs.Facts.Alterations.{alter_reply}
+use Rattle.cx_region.specs.declared.replies.Event.{Event}
 use Rattle.cx_region.specs.declared.replies.Event.TheVariants as event
 use Rattle.cx_region.specs.declared.replies.Reply.{Reply}
 use Rattle.cx_region.specs.declared.replies.Reply.TheVariants as reply
 use Rattle.cx_state.specs.declared.replies.TurnReply.{TurnReply}
 use Rattle.cx_edf.specs.declared.answers.EdfEvent.{EdfEvent}
 use Rattle.cx_edf.specs.declared.answers.EdfEvent.TheVariants as edf_event
+use Rattle.cx_edf.specs.declared.answers.EdfReply.TheVariants as edf
 use Rattle.cx_edf.specs.declared.answers.Answer.{Answer}
 use Rattle.cx_edf.specs.declared.answers.Answer.TheVariants as answer
-use Rattle.cx_edf.specs.Sessions.{SessionState, Sessions, after_change, after_key, after_reply, fresh_session, operators_end, session_in, stop_of, stopped, takes_in, with_session}
+use Rattle.cx_edf.specs.declared.modes.Mode.TheVariants as mode
+use Rattle.cx_edf.specs.declared.modes.PageName.TheVariants as page
+use Rattle.cx_edf.specs.Sessions.{SessionState, Sessions, after_change, after_key, after_reply, fresh_session, older, operators_end, session_in, stop_of_turn, stopped, turned_to, with_session}
+use Rattle.cx_edf.specs.Stops.{stops_named}
 use Rattle.cx_edf.specs.State.{EdfState, ends_by_key, holds, refuses, session_at, stopped_at}
-use Rattle.cx_edf.specs.Steps.{EdfHappens, Owned, Through, Passed, off_reply, on_reply, sessions_after, sessions_after_alter, sessions_after_key, sessions_after_turn}
-use Rattle.cx_edf.specs.Runs.{IsKept, and_ended, and_taken, displays_after, ends_session}
+use Rattle.cx_edf.specs.Steps.{Done, Door, EdfHappens, Keeps, Passes, changed, door_of, sessions_after}
+use Rattle.cx_edf.specs.Erasure.{is_refused, left_in, left_of}
+use Rattle.cx_edf.specs.Runs.{IsKept, displays_after, stop_taken}
+use Rattle.cx_edf.proofs.DoorLemmas.{Fits, by_test, by_tests, fits}
 use Rattle.cx_edf.proofs.LookupLemmas.{at_other, at_same, same_name}
 use Rattle.cx_edf.proofs.KeepLemmas.{keep_one_more}
-use Rattle.cx_edf.proofs.EndLemmas.{ended_reply}
+use Rattle.cx_edf.proofs.StepLemmas.{told_reply}
 
--- where the sessions stay
-stays : (old new : Sessions) (q : List ℕ) (all : List Display) → new ≡ old → IsKept (session_in old q) all → IsKept (session_in new q) all
-stays old new q all same kept = subst (λ (s : Sessions). IsKept (session_in s q) all) (sym same) kept
+-- a session that there is has kept the last ten
+abbrev Had : Option SessionState → List Display → Type 0
+Had o all = (s : SessionState) → o ≡ Some s → s.displays ≡ keep_last 10 all
 
--- Where one session is set: what is kept of it, and of the others.
-set_one : (old : Sessions) (name q : List ℕ) (to : Option SessionState) (all more : List Display)
-    → (IsKept (session_in old name) all → IsKept to more) → IsKept (session_in old q) all
-    → IsKept (session_in (with_session old name to) q) (if is_name4 name q then more else all)
-set_one old name q to all more step kept = ⊎_elim
-    (λ yes.
-    let e : name ≡ q = same_name name q yes in
-    rw yes (subst (λ (x : List ℕ). IsKept (session_in (with_session old name to) x) more) e
-    (subst (λ (s : Option SessionState). IsKept s more) (sym (at_same old name to))
-    (step (subst (λ (x : List ℕ). IsKept (session_in old x) all) (sym e) kept)))))
-    (λ no. rw no (subst (λ (s : Option SessionState). IsKept s all) (sym (at_other old name q to no)) kept))
-    (cases_Bool (is_name4 name q))
+had : (o : Option SessionState) (all : List Display) → IsKept o all → Had o all
+had None all kept s is = absurd (none-some s is)
+had (Some t) all kept s is = subst (λ (x : SessionState). x.displays ≡ keep_last 10 all) (let e : t ≡ s = cc in e) kept
 
-same_either : {X : Type 0} (b : Bool) (x : X) → (if b then x else x) ≡ x
-same_either true x = refl
-same_either false x = refl
+had_kept : (o : Option SessionState) (all : List Display) → Had o all → IsKept o (if is_some o then all else [])
+had_kept None all h = refl
+had_kept (Some s) all h = h s refl
 
-set_alike : (old : Sessions) (name q : List ℕ) (to : Option SessionState) (all : List Display)
-    → (IsKept (session_in old name) all → IsKept to all) → IsKept (session_in old q) all → IsKept (session_in (with_session old name to) q) all
-set_alike old name q to all step kept =
-    subst (λ (ds : List Display). IsKept (session_in (with_session old name to) q) ds) (same_either (is_name4 name q) all) (set_one old name q to all all step kept)
+-- one session set
+had_set : (old : Sessions) (name q : List ℕ) (to : Option SessionState) (all : List Display)
+    → (is_name4 name q ≡ true → Had to all) → (is_name4 name q ≡ false → Had (session_in old q) all) → Had (session_in (with_session old name to) q) all
+had_set old name q to all here there = go (is_name4 name q) refl
+  where
+    go : (b : Bool) → is_name4 name q ≡ b → Had (session_in (with_session old name to) q) all
+    go true is =
+        subst (λ (x : List ℕ). Had (session_in (with_session old name to) x) all) (same_name name q is)
+        (subst (λ (o : Option SessionState). Had o all) (sym (at_same old name to)) (here is))
+    go false is = subst (λ (o : Option SessionState). Had o all) (sym (at_other old name q to is)) (there is)
 
--- ---- EDF ON and EDF OFF
-begins : (before : Option SessionState) (all : List Display) → is_some before ≡ false → IsKept before all → IsKept (Some fresh_session) all
-begins None all none kept = rw kept refl
-begins (Some s) all none kept = cc
+-- one session changed
+had_changed : (old : Sessions) (name q : List ℕ) (to : SessionState → Option SessionState) (all : List Display)
+    → ((s : SessionState) → is_name4 name q ≡ true → session_in old q ≡ Some s → Had (to s) all) → (is_name4 name q ≡ false → Had (session_in old q) all)
+    → Had (session_in (changed old name to) q) all
+had_changed old name q to all here there = by_session (session_in old name) refl
+  where
+    found : (o : Option SessionState) → session_in old name ≡ o → is_name4 name q ≡ true → session_in old q ≡ o
+    found o is same = subst (λ (x : List ℕ). session_in old x ≡ o) (same_name name q same) is
 
-on_kept : (known on : Bool) (old : Sessions) (name q : List ℕ) (all : List Display) → is_some (session_in old name) ≡ on → IsKept (session_in old q) all
-    → IsKept (session_in (sessions_after (on_reply known on) old name) q) all
-on_kept true true old name q all is kept = kept
-on_kept true false old name q all is kept = set_alike old name q (Some fresh_session) all (begins (session_in old name) all is) kept
-on_kept false on old name q all is kept = kept
+    nowhere : (b : Bool) → session_in old name ≡ None → is_name4 name q ≡ b → Had (session_in old q) all
+    nowhere true is same = λ s here_too. absurd (none-some s (sym (found None is same) ∙ here_too))
+    nowhere false is same = there same
 
-off_kept : (known on : Bool) (old new : EdfState) (name q : List ℕ) (all : List Display) → IsKept (session_at old q) all
-    → IsKept (session_in (sessions_after (off_reply known on) old.sessions name) q) (displays_after old (edf_event.Off name) (answer.Edf (off_reply known on)) new q all)
-unfolding displays_after
-off_kept true true old new name q all kept = set_one old.sessions name q None all [] (λ k. refl) kept
-off_kept true false old new name q all kept = kept
-off_kept false on old new name q all kept = kept
+    by_session : (o : Option SessionState) → session_in old name ≡ o → Had (session_in (option_map_or (λ s. with_session old name (to s)) o old) q) all
+    by_session None is = nowhere (is_name4 name q) is refl
+    by_session (Some s) is = had_set old name q (to s) all (λ same. here s same (found (Some s) is same)) there
 
--- ---- keys
-none_left : (b : Bool) (all : List Display) → all ≡ [] → (if b then [] else all) ≡ []
-none_left true all kept = refl
-none_left false all kept = kept
+-- a session that keeps its displays
+had_alike : (s : SessionState) (to : Option SessionState) (all : List Display) → ((t : SessionState) → to ≡ Some t → t.displays ≡ s.displays) → s.displays ≡ keep_last 10 all → Had to all
+had_alike s to all same kept t is = same t is ∙ kept
 
-key_step : (s : SessionState) (a : Aid) (bytes : List ℕ) (all : List Display) → s.displays ≡ keep_last 10 all → IsKept (after_key s a bytes) (if ends_session a then [] else all)
+-- ---- EDF's own
+alike : (a t : SessionState) → Some a ≡ Some t → t.displays ≡ a.displays
+alike a t is = ap (λ (x : SessionState). x.displays) (let e : t ≡ a = cc in e)
+
+key_alike : (s : SessionState) (a : Aid) (bytes : List ℕ) (t : SessionState) → after_key s a bytes ≡ Some t → t.displays ≡ s.displays
 unfolding after_key
-key_step s aid.Enter bytes all kept = kept
-key_step s aid.Clear bytes all kept = kept
-key_step s aid.Pa1 bytes all kept = kept
-key_step s aid.Pa2 bytes all kept = kept
-key_step s aid.Pf1 bytes all kept = kept
-key_step s aid.Pf2 bytes all kept = kept
-key_step s aid.Pf3 bytes all kept = refl
-key_step s aid.Pf4 bytes all kept = kept
-key_step s aid.Pf5 bytes all kept = kept
-key_step s aid.Pf6 bytes all kept = kept
-key_step s aid.Pf7 bytes all kept = kept
-key_step s aid.Pf8 bytes all kept = kept
-key_step s aid.Pf9 bytes all kept = kept
-key_step s aid.Pf10 bytes all kept = kept
-key_step s aid.Pf11 bytes all kept = kept
-key_step s aid.Pf12 bytes all kept = kept
+key_alike s aid.Pf3 bytes t is = absurd (none-some t is)
+key_alike s aid.Enter bytes t is = alike (record s { mode = mode.Free }) t is
+key_alike s aid.Pf4 bytes t is = alike (record s { mode = mode.Suppressed }) t is
+key_alike s aid.Pf5 bytes t is = alike (record s { view = record s.view { page = turned_to page.Storage s.view.page } }) t is
+key_alike s aid.Pf6 bytes t is = alike (record s { view = record s.view { page = turned_to page.User s.view.page } }) t is
+key_alike s aid.Pf9 bytes t is = alike (record s { stops = unwrap_or (stops_named bytes) s.stops }) t is
+key_alike s aid.Pf10 bytes t is = alike (record s { view = older s.view (length s.displays) }) t is
+key_alike s _ bytes t is = alike s t is
 
-key_at : (before : Option SessionState) (a : Aid) (bytes : List ℕ) (all : List Display) → IsKept before all
-    → IsKept (option_and_then (λ s. after_key s a bytes) before) (if ends_session a then [] else all)
-key_at None a bytes all kept = none_left (ends_session a) all kept
-key_at (Some s) a bytes all kept = key_step s a bytes all kept
+-- what EDF keeps
+Keeping : EdfState → List ℕ → List Display → Door → Type 0
+Keeping old q all (Keeps own sessions) = Had (session_in sessions q) all
+Keeping old q all (Passes x own) = Unit {0}
 
-key_kept : (old : Sessions) (name q : List ℕ) (a : Aid) (bytes : List ℕ) (all : List Display) → IsKept (session_in old q) all
-    → IsKept (session_in (sessions_after_key old name a bytes) q) (if is_name4 name q then (if ends_session a then [] else all) else all)
-key_kept old name q a bytes all kept =
-    set_one old name q (option_and_then (λ s. after_key s a bytes) (session_in old name)) all (if ends_session a then [] else all) (key_at (session_in old name) a bytes all) kept
+fresh_had : (old : Sessions) (name q : List ℕ) (all : List Display) → is_some (session_in old name) ≡ false → IsKept (session_in old q) all
+    → Had (session_in (with_session old name (Some fresh_session)) q) all
+fresh_had old name q all off kept = had_set old name q (Some fresh_session) all
+    (λ same. go (session_in old q) (subst (λ (x : List ℕ). is_some (session_in old x) ≡ false) (same_name name q same) off) kept)
+    (λ other. had (session_in old q) all kept)
+  where
+    go : (o : Option SessionState) → is_some o ≡ false → IsKept o all → Had (Some fresh_session) all
+    go None none none_kept = λ s is. (let e : fresh_session ≡ s = cc in subst (λ (x : SessionState). x.displays ≡ keep_last 10 all) e (rw none_kept refl))
+    go (Some t) none some_kept = absurd (true≢false none)
 
--- ---- turns
-taken_step : (b : Bool) (s : SessionState) (stop : Kind) (display : Display) (all : List Display) → s.displays ≡ keep_last 10 all
-    → IsKept (Some (if b then stopped s stop display else s)) (if b then all ++ display ∷ [] else all)
-taken_step true s stop display all kept = ap (λ ds. keep_last 10 (ds ++ display ∷ [])) kept ∙ keep_one_more 10 all display
-taken_step false s stop display all kept = kept
+keeping : (old : EdfState) (e : EdfEvent) (q : List ℕ) (all : List Display) → IsKept (session_at old q) all → Keeping old q all (door_of old e)
+unfolding door_of Keeping
+keeping old (edf_event.On name) q all kept =
+    by_tests (Keeping old q all) (not (is_some (terminal_of old.region name))) (is_some (session_at old name))
+    (Keeps (answer.Edf edf.NoSuchTerminal) old.sessions) (Keeps (answer.Edf edf.AlreadyOn) old.sessions) (Keeps (answer.Edf edf.Started) (with_session old.sessions name (Some fresh_session)))
+    (λ _. had (session_at old q) all kept) (λ _ _. had (session_at old q) all kept) (λ _ off. fresh_had old.sessions name q all off kept)
+keeping old (edf_event.Off name) q all kept =
+    by_tests (Keeping old q all) (not (is_some (terminal_of old.region name))) (is_some (session_at old name))
+    (Keeps (answer.Edf edf.NoSuchTerminal) old.sessions) (Keeps (answer.Edf edf.Closed) (with_session old.sessions name None)) (Keeps (answer.Edf edf.NotOn) old.sessions)
+    (λ _. had (session_at old q) all kept)
+    (λ _ _. had_set old.sessions name q None all (λ _ s is. absurd (none-some s is)) (λ _. had (session_at old q) all kept))
+    (λ _ _. had (session_at old q) all kept)
+keeping old (edf_event.Plain (event.Key name a bytes)) q all kept =
+    by_tests (Keeping old q all) (ends_by_key old name a) (stopped_at old name)
+    (Passes (event.Alter name change.Abend) (Some answer.ToEdf)) (Keeps answer.ToEdf (changed old.sessions name (λ session. after_key session a bytes))) (Passes (event.Key name a bytes) None)
+    (λ _. tt)
+    (λ _ _. had_changed old.sessions name q (λ s. after_key s a bytes) all
+    (λ s _ there. had_alike s (after_key s a bytes) all (key_alike s a bytes) (had (session_at old q) all kept s there)) (λ _. had (session_at old q) all kept))
+    (λ _ _. tt)
+keeping old (edf_event.Plain (event.Turn name)) q all kept =
+    by_test (Keeping old q all) (holds old name) (Keeps answer.Held old.sessions) (Passes (event.Turn name) None) (λ _. had (session_at old q) all kept) (λ _. tt)
+keeping old (edf_event.Plain (event.Alter name c)) q all kept =
+    by_test (Keeping old q all) (refuses old name) (Keeps answer.NotStopped old.sessions) (Passes (event.Alter name c) None) (λ _. had (session_at old q) all kept) (λ _. tt)
+keeping old (edf_event.Plain (event.Program name image)) q all kept = tt
+keeping old (edf_event.Plain (event.Transaction tran program)) q all kept = tt
+keeping old (edf_event.Plain (event.Terminal name)) q all kept = tt
+keeping old (edf_event.Plain (event.Clock time date)) q all kept = tt
 
-turn_step : (s : SessionState) (r : TurnReply) (at : Option Kind) (region : RegionState) (name : List ℕ) (all : List Display) → stop_of r ≡ at → s.displays ≡ keep_last 10 all
-    → IsKept (Some (after_reply s r (display_of region name))) (and_taken all (Some s) at region name)
+-- ---- what the region does
+taken : EdfState → RegionState → List ℕ → List (Event × Reply) → List Display
+taken old region q left = map (display_of region q) (filter_map (λ (p : Event × Reply). stop_taken old q p.0 p.1) left)
+
+-- a session stopped
+had_stopped : (s : SessionState) (stop : Kind) (display : Display) (all : List Display) → s.displays ≡ keep_last 10 all → Had (Some (stopped s stop display)) (all ++ display ∷ [])
+had_stopped s stop display all kept t is =
+    subst (λ (x : SessionState). x.displays ≡ keep_last 10 (all ++ display ∷ [])) (let e : stopped s stop display ≡ t = cc in e)
+    (ap (λ ds. keep_last 10 (ds ++ display ∷ [])) kept ∙ keep_one_more 10 all display)
+
+none_more : (o : Option SessionState) (all : List Display) → Had o all → Had o (all ++ [])
+none_more o all h = subst (Had o) (sym (append-nil all)) h
+
+had_replied : (s : SessionState) (r : TurnReply) (region : RegionState) (name q : List ℕ) (all : List Display) → name ≡ q → s.displays ≡ keep_last 10 all
+    → Had (Some (after_reply s r (display_of region name))) (all ++ map (display_of region q) (cons_option (stop_of_turn s r) []))
 unfolding after_reply
-turn_step s r None region name all is kept = rw is kept
-turn_step s r (Some stop) region name all is kept = rw is (taken_step (takes_in s.mode s.stops stop) s stop (display_of region name stop) all kept)
+had_replied s r region name q all same kept = subst (λ (x : List ℕ). Had (Some (after_reply s r (display_of region x))) (all ++ map (display_of region q) (cons_option (stop_of_turn s r) []))) (sym same) (go (stop_of_turn s r))
+  where
+    go : (o : Option Kind) → Had (Some (option_map_or (λ stop. stopped s stop (display_of region q stop)) o s)) (all ++ map (display_of region q) (cons_option o []))
+    go None = none_more (Some s) all (had (Some s) all kept)
+    go (Some stop) = had_stopped s stop (display_of region q stop) all kept
 
-taken_nothing : (all : List Display) (at : Option Kind) (region : RegionState) (name : List ℕ) → and_taken all None at region name ≡ all
-taken_nothing all None region name = refl
-taken_nothing all (Some stop) region name = refl
+-- the list of one stop, by the name and the session
+turn_stops : (old : EdfState) (name q : List ℕ) (r : TurnReply) (s : SessionState) → is_name4 name q ≡ true → session_at old q ≡ Some s
+    → cons_option (stop_taken old q (event.Turn name) (reply.Turn r)) [] ≡ cons_option (stop_of_turn s r) []
+turn_stops old name q r s is there =
+    ap (λ (b : Bool). cons_option (if b then option_and_then (λ x. stop_of_turn x r) (session_at old q) else None) []) is
+    ∙ ap (λ (o : Option SessionState). cons_option (option_and_then (λ x. stop_of_turn x r) o) []) there
 
--- by the session that the terminal has
-turn_at : (before : Option SessionState) (old : Sessions) (name q : List ℕ) (r : TurnReply) (region : RegionState) (all : List Display) → session_in old name ≡ before
-    → IsKept (session_in old q) all
-    → IsKept (session_in (option_map_or (λ s. with_session old name (Some (after_reply s r (display_of region name)))) before old) q) (if is_name4 name q then and_taken all before (stop_of r) region name else all)
-turn_at None old name q r region all is kept =
-    rw (taken_nothing all (stop_of r) region name, same_either (is_name4 name q) all) kept
-turn_at (Some s) old name q r region all is kept =
-    set_one old name q (Some (after_reply s r (display_of region name))) all (and_taken all (Some s) (stop_of r) region name)
-    (λ k. turn_step s r (stop_of r) region name all refl (subst (λ (o : Option SessionState). IsKept o all) is k)) kept
+turn_elsewhere : (old : EdfState) (name q : List ℕ) (r : TurnReply) → is_name4 name q ≡ false → cons_option (stop_taken old q (event.Turn name) (reply.Turn r)) [] ≡ []
+turn_elsewhere old name q r is = ap (λ (b : Bool). cons_option (if b then option_and_then (λ x. stop_of_turn x r) (session_at old q) else None) []) is
 
--- ---- alterations
-change_step : (s : SessionState) (c : Change) (region : RegionState) (name : List ℕ) (all : List Display) → s.displays ≡ keep_last 10 all
-    → IsKept (Some (after_change s c (display_of region name))) (and_ended all (Some s) c region name)
+end_stops : (b c : Bool) → b ≡ c → cons_option (if b then Some operators_end else None) [] ≡ cons_option (if c then Some operators_end else None) []
+end_stops b c is = ap (λ (d : Bool). cons_option (if d then Some operators_end else None) []) is
+
+had_altered : (s : SessionState) (c : Change) (region : RegionState) (name q : List ℕ) (all : List Display) → name ≡ q → s.displays ≡ keep_last 10 all
+    → (old : EdfState) → is_name4 name q ≡ true
+    → Had (Some (after_change s c (display_of region name))) (all ++ map (display_of region q) (cons_option (stop_taken old q (event.Alter name c) (reply.Alter alter.Altered)) []))
 unfolding after_change
-change_step s (change.Register r v) region name all kept = kept
-change_step s (change.Byte a v) region name all kept = kept
-change_step s change.Nop region name all kept = kept
-change_step s change.Abend region name all kept = ap (λ ds. keep_last 10 (ds ++ display_of region name operators_end ∷ [])) kept ∙ keep_one_more 10 all (display_of region name operators_end)
+had_altered s change.Abend region name q all same kept old is =
+    subst (λ (ks : List Kind). Had (Some (stopped s operators_end (display_of region name operators_end))) (all ++ map (display_of region q) ks)) (sym (end_stops (is_name4 name q) true is))
+    (subst (λ (x : List ℕ). Had (Some (stopped s operators_end (display_of region x operators_end))) (all ++ display_of region q operators_end ∷ [])) (sym same)
+    (had_stopped s operators_end (display_of region q operators_end) all kept))
+had_altered s change.Nop region name q all same kept old is =
+    none_more (Some (record s { mode = mode.Free })) all (λ t e. alike (record s { mode = mode.Free }) t e ∙ kept)
+had_altered s (change.Register r v) region name q all same kept old is = none_more (Some s) all (had (Some s) all kept)
+had_altered s (change.Byte a v) region name q all same kept old is = none_more (Some s) all (had (Some s) all kept)
 
-ended_nothing : (all : List Display) (c : Change) (region : RegionState) (name : List ℕ) → and_ended all None c region name ≡ all
-ended_nothing all (change.Register r v) region name = refl
-ended_nothing all (change.Byte a v) region name = refl
-ended_nothing all change.Nop region name = refl
-ended_nothing all change.Abend region name = refl
+alter_elsewhere : (c : Change) (old : EdfState) (name q : List ℕ) → is_name4 name q ≡ false → cons_option (stop_taken old q (event.Alter name c) (reply.Alter alter.Altered)) [] ≡ []
+alter_elsewhere change.Abend old name q is = end_stops (is_name4 name q) false is
+alter_elsewhere change.Nop old name q is = refl
+alter_elsewhere (change.Register r v) old name q is = refl
+alter_elsewhere (change.Byte a v) old name q is = refl
 
-change_at : (before : Option SessionState) (old : Sessions) (name q : List ℕ) (c : Change) (region : RegionState) (all : List Display) → session_in old name ≡ before
-    → IsKept (session_in old q) all
-    → IsKept (session_in (option_map_or (λ s. with_session old name (Some (after_change s c (display_of region name)))) before old) q) (if is_name4 name q then and_ended all before c region name else all)
-change_at None old name q c region all is kept =
-    rw (ended_nothing all c region name, same_either (is_name4 name q) all) kept
-change_at (Some s) old name q c region all is kept =
-    set_one old name q (Some (after_change s c (display_of region name))) all (and_ended all (Some s) c region name)
-    (λ k. change_step s c region name all (subst (λ (o : Option SessionState). IsKept o all) is k)) kept
+passing : (old : EdfState) (x : Event) (r : Reply) (region : RegionState) (q : List ℕ) (all : List Display) → IsKept (session_at old q) all
+    → Had (session_in (sessions_after old.sessions x r region) q) (all ++ taken old region q (if is_refused x r then [] else (x, r) ∷ []))
+unfolding taken
+passing old (event.Turn name) (reply.Turn r) region q all kept =
+    had_changed old.sessions name q (λ s. Some (after_reply s r (display_of region name))) (all ++ map (display_of region q) (cons_option (stop_taken old q (event.Turn name) (reply.Turn r)) []))
+    (λ s is there. subst (λ (ks : List Kind). Had (Some (after_reply s r (display_of region name))) (all ++ map (display_of region q) ks)) (sym (turn_stops old name q r s is there))
+    (had_replied s r region name q all (same_name name q is) (had (session_at old q) all kept s there)))
+    (λ is. subst (λ (ks : List Kind). Had (session_at old q) (all ++ map (display_of region q) ks)) (sym (turn_elsewhere old name q r is)) (none_more (session_at old q) all (had (session_at old q) all kept)))
+passing old (event.Turn name) _ region q all kept = none_more (session_at old q) all (had (session_at old q) all kept)
+passing old (event.Alter name c) (reply.Alter alter.Altered) region q all kept =
+    had_changed old.sessions name q (λ s. Some (after_change s c (display_of region name)))
+    (all ++ map (display_of region q) (cons_option (stop_taken old q (event.Alter name c) (reply.Alter alter.Altered)) []))
+    (λ s is there. had_altered s c region name q all (same_name name q is) (had (session_at old q) all kept s there) old is)
+    (λ is. subst (λ (ks : List Kind). Had (session_at old q) (all ++ map (display_of region q) ks)) (sym (alter_elsewhere c old name q is)) (none_more (session_at old q) all (had (session_at old q) all kept)))
+passing old (event.Alter name c) (reply.Alter _) region q all kept = none_more (session_at old q) all (had (session_at old q) all kept)
+passing old (event.Alter name c) _ region q all kept = none_more (session_at old q) all (had (session_at old q) all kept)
+passing old _ r region q all kept = none_more (session_at old q) all (had (session_at old q) all kept)
 
--- ---- one event
--- the sessions after an event, and its answer, put in place
-put : (old new : EdfState) (e : EdfEvent) (given own : Answer) (sessions : Sessions) (q : List ℕ) (all : List Display) → new.sessions ≡ sessions → given ≡ own
-    → IsKept (session_in sessions q) (displays_after old e own new q all) → IsKept (session_at new q) (displays_after old e given new q all)
-put old new e given own sessions q all same is kept =
-    subst (λ (g : Answer). IsKept (session_at new q) (displays_after old e g new q all)) (sym is)
-    (subst (λ (s : Sessions). IsKept (session_in s q) (displays_after old e own new q all)) (sym same) kept)
-
--- PF12's alteration was done
-ended_kept : (old new : EdfState) (name q : List ℕ) (all : List Display) (r : Reply) → r ≡ reply.Alter alter.Altered → IsKept (session_at old q) all
-    → IsKept (session_in (sessions_after_alter old.sessions name change.Abend r new.region) q) (if is_name4 name q then and_ended all (session_at old name) change.Abend new.region name else all)
-ended_kept old new name q all r is kept =
-    subst (λ (x : Reply). IsKept (session_in (sessions_after_alter old.sessions name change.Abend x new.region) q) (if is_name4 name q then and_ended all (session_at old name) change.Abend new.region name else all)) (sym is)
-    (change_at (session_at old name) old.sessions name q change.Abend new.region all refl kept)
-
-by_key : (ends stopped : Bool) (old new : EdfState) (name q : List ℕ) (a : Aid) (bytes : List ℕ) (given : Answer) (all : List Display) → ends_by_key old name a ≡ ends → IsKept (session_at old q) all
-    → MatchBool ends (Passed old (event.Alter name change.Abend) (λ _. answer.ToEdf) (sessions_after_alter old.sessions name change.Abend) given new)
-    (MatchBool stopped (Owned old answer.ToEdf (sessions_after_key old.sessions name a bytes) given new) (Through old (event.Key name a bytes) given new))
-    → IsKept (session_at new q) (displays_after old (edf_event.Plain (event.Key name a bytes)) given new q all)
-unfolding displays_after
-by_key true stopped old new name q a bytes given all ends kept row =
-    put old new (edf_event.Plain (event.Key name a bytes)) given answer.ToEdf _ q all row.table row.answers
-    (rw ends (ended_kept old new name q all row.reply (ended_reply old name a row.reply new.region ends row.happens) kept))
-by_key false true old new name q a bytes given all ends kept row =
-    put old new (edf_event.Plain (event.Key name a bytes)) given answer.ToEdf (sessions_after_key old.sessions name a bytes) q all row.table row.answers (rw ends (key_kept old.sessions name q a bytes all kept))
-by_key false false old new name q a bytes given all ends kept row =
-    put old new (edf_event.Plain (event.Key name a bytes)) given (answer.Region row.reply) old.sessions q all row.table row.answers kept
-
-alter_kept : (r : AlterReply) (old new : EdfState) (name q : List ℕ) (c : Change) (all : List Display) → IsKept (session_at old q) all
-    → IsKept (session_in (sessions_after_alter old.sessions name c (reply.Alter r) new.region) q) (displays_after old (edf_event.Plain (event.Alter name c)) (answer.Region (reply.Alter r)) new q all)
-unfolding displays_after
-alter_kept alter.Altered old new name q c all kept = change_at (session_at old name) old.sessions name q c new.region all refl kept
-alter_kept alter.NoSuchTerminal old new name q c all kept = kept
-alter_kept alter.NoTask old new name q c all kept = kept
-alter_kept alter.NotDue old new name q c all kept = kept
-alter_kept alter.NoByte old new name q c all kept = kept
-
-by_alter : (b : Bool) (old new : EdfState) (name q : List ℕ) (c : Change) (given : Answer) (all : List Display) → IsKept (session_at old q) all
-    → MatchBool b (Owned old answer.NotStopped old.sessions given new) (Passed old (event.Alter name c) answer.Region (sessions_after_alter old.sessions name c) given new)
-    → IsKept (session_at new q) (displays_after old (edf_event.Plain (event.Alter name c)) given new q all)
-unfolding displays_after
-by_alter true old new name q c given all kept row = put old new (edf_event.Plain (event.Alter name c)) given answer.NotStopped old.sessions q all row.table row.answers kept
-by_alter false old new name q c given all kept row =
-    let told = alter_reply old.region name c row.reply new.region row.happens in
-    put old new (edf_event.Plain (event.Alter name c)) given (answer.Region (reply.Alter told.0)) (sessions_after_alter old.sessions name c (reply.Alter told.0) new.region) q all
-    (row.table ∙ ap (λ r. sessions_after_alter old.sessions name c r new.region) told.1) (row.answers ∙ ap (λ r. answer.Region r) told.1)
-    (alter_kept told.0 old new name q c all kept)
-
-turn_kept : (r : Reply) (old new : EdfState) (name q : List ℕ) (all : List Display) → IsKept (session_at old q) all
-    → IsKept (session_in (sessions_after_turn old.sessions name r new.region) q) (displays_after old (edf_event.Plain (event.Turn name)) (answer.Region r) new q all)
-unfolding displays_after
-turn_kept (reply.Turn r) old new name q all kept = turn_at (session_at old name) old.sessions name q r new.region all refl kept
-turn_kept (reply.Key r) old new name q all kept = kept
-turn_kept (reply.Program r) old new name q all kept = kept
-turn_kept (reply.Transaction r) old new name q all kept = kept
-turn_kept (reply.Terminal r) old new name q all kept = kept
-turn_kept reply.Clock old new name q all kept = kept
-turn_kept (reply.Alter r) old new name q all kept = kept
-
-by_turn : (b : Bool) (old new : EdfState) (name q : List ℕ) (given : Answer) (all : List Display) → IsKept (session_at old q) all
-    → MatchBool b (Owned old answer.Held old.sessions given new) (Passed old (event.Turn name) answer.Region (sessions_after_turn old.sessions name) given new)
-    → IsKept (session_at new q) (displays_after old (edf_event.Plain (event.Turn name)) given new q all)
-unfolding displays_after
-by_turn true old new name q given all kept row = put old new (edf_event.Plain (event.Turn name)) given answer.Held old.sessions q all row.table row.answers kept
-by_turn false old new name q given all kept row =
-    put old new (edf_event.Plain (event.Turn name)) given (answer.Region row.reply) (sessions_after_turn old.sessions name row.reply new.region) q all row.table row.answers
-    (turn_kept row.reply old new name q all kept)
+-- ---- both
+after_door : (old : EdfState) (e : EdfEvent) (door : Door) (given : Answer) (new : EdfState) (q : List ℕ) (all : List Display) → Fits old e door → Keeping old q all door → Done old door given new
+    → IsKept (session_at old q) all → Had (session_at new q) (all ++ taken old new.region q (left_in door given))
+unfolding Keeping taken
+after_door old e (Keeps own sessions) given new q all fit keeps row kept =
+    none_more (session_at new q) all (subst (λ (s : EdfState). Had (session_at s q) all) (sym row.1) keeps)
+after_door old e (Passes x own) given new q all fit keeps row kept =
+    subst (λ (r : Reply). Had (session_at new q) (all ++ taken old new.region q (if is_refused x r then [] else (x, r) ∷ []))) (sym (told_reply old e x own given new fit row))
+    (subst (λ (s : Sessions). Had (session_in s q) (all ++ taken old new.region q (if is_refused x row.reply then [] else (x, row.reply) ∷ []))) (sym row.table)
+    (passing old x row.reply new.region q all kept))
 
 pub kept_after : (old : EdfState) (e : EdfEvent) (given : Answer) (new : EdfState) (q : List ℕ) (all : List Display) → EdfHappens old e given new → IsKept (session_at old q) all
     → IsKept (session_at new q) (displays_after old e given new q all)
-unfolding EdfHappens displays_after
-kept_after old (edf_event.On name) given new q all row kept =
-    stays _ new.sessions q all row.table (on_kept (is_some (terminal_of old.region name)) (is_some (session_at old name)) old.sessions name q all refl kept)
-kept_after old (edf_event.Off name) given new q all row kept =
-    put old new (edf_event.Off name) given _ _ q all row.table row.answers
-    (off_kept (is_some (terminal_of old.region name)) (is_some (session_at old name)) old new name q all kept)
-kept_after old (edf_event.Plain (event.Key name a bytes)) given new q all row kept = by_key (ends_by_key old name a) (stopped_at old name) old new name q a bytes given all refl kept row
-kept_after old (edf_event.Plain (event.Turn name)) given new q all row kept = by_turn (holds old name) old new name q given all kept row
-kept_after old (edf_event.Plain (event.Program name image)) given new q all row kept = stays old.sessions new.sessions q all row.table kept
-kept_after old (edf_event.Plain (event.Transaction tran program)) given new q all row kept = stays old.sessions new.sessions q all row.table kept
-kept_after old (edf_event.Plain (event.Terminal name)) given new q all row kept = stays old.sessions new.sessions q all row.table kept
-kept_after old (edf_event.Plain (event.Clock time date)) given new q all row kept = stays old.sessions new.sessions q all row.table kept
-kept_after old (edf_event.Plain (event.Alter name c)) given new q all row kept = by_alter (refuses old name) old new name q c given all kept row
+unfolding EdfHappens displays_after left_of taken
+kept_after old e given new q all row kept =
+    had_kept (session_at new q) (all ++ taken old new.region q (left_in (door_of old e) given))
+    (after_door old e (door_of old e) given new q all (fits old e) (keeping old e q all kept) row kept)

@@ -1,6 +1,6 @@
 -- The laws of events and runs under EDF.
-use Rattle.std.proofs.Common.{◌≡◌, ℕ, Bool, true, false, List, [], ◌∷◌, map, Option, Some, None, refl, sym, ap, ◌∙◌, subst}
-use Rattle.std.specs.Prelude.{MatchBool, MatchOption, ◌&&◌, ◌||◌, ◌==◌, ◌++◌, not, length, if◌then◌else◌, is_some}
+use Rattle.std.proofs.Common.{◌≡◌, ℕ, Bool, true, false, List, [], ◌∷◌, ◌++◌, map, Option, Some, None, refl, sym, ap, ◌∙◌, subst}
+use Rattle.std.specs.Prelude.{MatchOption, ◌&&◌, ◌||◌, ◌==◌, not, length, unwrap_or, if◌then◌else◌, is_some}
 use Rattle.std.specs.List.{AllByRecursion}
 use Rattle.std.specs.Option.{option_and_then, option_map_or}
 use Rattle.std.proofs.lemmas.Bool.{true≢false}
@@ -26,66 +26,32 @@ use Rattle.cx_edf.specs.declared.answers.Answer.{Answer}
 use Rattle.cx_edf.specs.declared.answers.Answer.TheVariants as answer
 use Rattle.cx_edf.specs.declared.modes.Mode.{Mode}
 use Rattle.cx_edf.specs.declared.modes.Mode.TheVariants as mode
-use Rattle.cx_edf.specs.Sessions.{Sessions, is_stopped, is_stopped_in, stop_of, takes_in}
-use Rattle.cx_edf.specs.State.{EdfState, ends_by_key, holds, refuses, stopped_at}
-use Rattle.cx_edf.specs.Steps.{EdfHappens, Owned, Passed, Through, sessions_after_alter, sessions_after_key, sessions_after_turn}
-use Rattle.cx_edf.specs.Erasure.{asked_by, is_own, is_refused, left_of, plain_reply, told, told_of}
+use Rattle.cx_edf.specs.Sessions.{Sessions, after_key, is_stopped, is_stopped_in, stop_of, takes_in}
+use Rattle.cx_edf.specs.State.{EdfState, ends_by_key, holds, stopped_at}
+use Rattle.cx_edf.specs.Steps.{Done, Door, EdfHappens, Keeps, Passed, Passes, changed, door_of, sessions_after}
+use Rattle.cx_edf.specs.Erasure.{answers_itself, is_own, is_refused, left_in, left_of, reply_in, told}
 use Rattle.cx_edf.specs.Runs.{Trace, last_state}
-use Rattle.cx_edf.specs.Laws.Edf.{EdfEventsDecide, EdfRunsDecide, ErasedEvents, ErasedEventsLeaveTheRegion, OffIsTheRegion, OwnEventsHaveOwnAnswers, PlainRunsAgree, StopsAreMissedUnderSuppression, ToldAreThoseGiven, ends_task, given_by, given_in, is_alteration, is_edfs}
+use Rattle.cx_edf.specs.Laws.Edf.{EdfEventsDecide, EdfRunsDecide, ErasedEvents, ErasedEventsLeaveTheRegion, OffIsTheRegion, OtherEventsArePassed, OwnEventsHaveOwnAnswers, PlainRunsAgree, StopsAreMissedUnderSuppression, ToldAreThoseGiven, ends_task, given_by, given_in, is_alteration, is_edfs, is_refusal}
 use Rattle.cx_edf.proofs.EndLemmas.{ends_stopped}
-use Rattle.cx_edf.proofs.StepLemmas.{left_runs}
+use Rattle.cx_edf.proofs.DoorLemmas.{Fits, by_test, by_tests, fits}
+use Rattle.cx_edf.proofs.StepLemmas.{left_runs, told_reply}
 
 -- ---- one outcome
 same_state : (a b : EdfState) → a.region ≡ b.region → a.sessions ≡ b.sessions → a ≡ b
 same_state a b regions sessions = λ i. record { region = regions i; sessions = sessions i }
 
-owned_decides : (old : EdfState) (own : Answer) (sessions : Sessions) (given other : Answer) (new later : EdfState)
-    → Owned old own sessions given new → Owned old own sessions other later → (given ≡ other) × (new ≡ later)
-owned_decides old own sessions given other new later h k = (h.answers ∙ sym k.answers, same_state new later (h.region ∙ sym k.region) (h.table ∙ sym k.table))
-
-passed_decides : EventsDecide → (old : EdfState) (e : Event) (answer_of : Reply → Answer) (after : Reply → RegionState → Sessions) (given other : Answer) (new later : EdfState)
-    → Passed old e answer_of after given new → Passed old e answer_of after other later → (given ≡ other) × (new ≡ later)
-passed_decides decide old e answer_of after given other new later h k =
+done_decides : EventsDecide → (old : EdfState) (door : Door) (given other : Answer) (new later : EdfState)
+    → Done old door given new → Done old door other later → (given ≡ other) × (new ≡ later)
+done_decides decide old (Keeps own sessions) given other new later h k = (h.0 ∙ sym k.0, h.1 ∙ sym k.1)
+done_decides decide old (Passes e own) given other new later h k =
     let same = decide old.region e h.reply k.reply new.region later.region h.happens k.happens in (
-      h.answers ∙ ap answer_of same.0 ∙ sym k.answers,
-      same_state new later same.1 (h.table ∙ (λ i. after (same.0 i) (same.1 i)) ∙ sym k.table),
+      h.answers ∙ ap (λ r. unwrap_or own (answer.Region r)) same.0 ∙ sym k.answers,
+      same_state new later same.1 (h.table ∙ (λ i. sessions_after old.sessions e (same.0 i) (same.1 i)) ∙ sym k.table),
     )
-
-through_decides : EventsDecide → (old : EdfState) (e : Event) (given other : Answer) (new later : EdfState)
-    → Through old e given new → Through old e other later → (given ≡ other) × (new ≡ later)
-through_decides decide old e given other new later h k =
-    let same = decide old.region e h.reply k.reply new.region later.region h.happens k.happens in
-    (h.answers ∙ ap (λ r. answer.Region r) same.0 ∙ sym k.answers, same_state new later same.1 (h.table ∙ sym k.table))
-
-key_decides : EventsDecide → (ends stopped : Bool) (old : EdfState) (asked e : Event) (own : Answer) (sessions : Sessions) (after : Reply → RegionState → Sessions) (given other : Answer) (new later : EdfState)
-    → MatchBool ends (Passed old asked (λ _. own) after given new) (MatchBool stopped (Owned old own sessions given new) (Through old e given new))
-    → MatchBool ends (Passed old asked (λ _. own) after other later) (MatchBool stopped (Owned old own sessions other later) (Through old e other later))
-    → (given ≡ other) × (new ≡ later)
-key_decides decide true stopped old asked e own sessions after given other new later h k = passed_decides decide old asked (λ _. own) after given other new later h k
-key_decides decide false true old asked e own sessions after given other new later h k = owned_decides old own sessions given other new later h k
-key_decides decide false false old asked e own sessions after given other new later h k = through_decides decide old e given other new later h k
-
-turn_decides : EventsDecide → (b : Bool) (old : EdfState) (e : Event) (own : Answer) (sessions : Sessions) (after : Reply → RegionState → Sessions) (given other : Answer) (new later : EdfState)
-    → MatchBool b (Owned old own sessions given new) (Passed old e answer.Region after given new) → MatchBool b (Owned old own sessions other later) (Passed old e answer.Region after other later)
-    → (given ≡ other) × (new ≡ later)
-turn_decides decide true old e own sessions after given other new later h k = owned_decides old own sessions given other new later h k
-turn_decides decide false old e own sessions after given other new later h k = passed_decides decide old e answer.Region after given other new later h k
 
 pub edf_events_decide : EventsDecide → EdfEventsDecide
 unfolding EdfHappens
-edf_events_decide decide old (edf_event.On name) g o new later h k = owned_decides old _ _ g o new later h k
-edf_events_decide decide old (edf_event.Off name) g o new later h k = owned_decides old _ _ g o new later h k
-edf_events_decide decide old (edf_event.Plain (event.Key name aid bytes)) g o new later h k =
-    key_decides decide (ends_by_key old name aid) (stopped_at old name) old (event.Alter name change.Abend) (event.Key name aid bytes) answer.ToEdf (sessions_after_key old.sessions name aid bytes)
-    (sessions_after_alter old.sessions name change.Abend) g o new later h k
-edf_events_decide decide old (edf_event.Plain (event.Alter name c)) g o new later h k =
-    turn_decides decide (refuses old name) old (event.Alter name c) answer.NotStopped old.sessions (sessions_after_alter old.sessions name c) g o new later h k
-edf_events_decide decide old (edf_event.Plain (event.Turn name)) g o new later h k =
-    turn_decides decide (holds old name) old (event.Turn name) answer.Held old.sessions (sessions_after_turn old.sessions name) g o new later h k
-edf_events_decide decide old (edf_event.Plain (event.Program name image)) g o new later h k = through_decides decide old (event.Program name image) g o new later h k
-edf_events_decide decide old (edf_event.Plain (event.Transaction tran program)) g o new later h k = through_decides decide old (event.Transaction tran program) g o new later h k
-edf_events_decide decide old (edf_event.Plain (event.Terminal name)) g o new later h k = through_decides decide old (event.Terminal name) g o new later h k
-edf_events_decide decide old (edf_event.Plain (event.Clock time date)) g o new later h k = through_decides decide old (event.Clock time date) g o new later h k
+edf_events_decide decide old e given other new later h k = done_decides decide old (door_of old e) given other new later h k
 
 traces_decide : EdfEventsDecide → (old : EdfState) (events : List EdfEvent) (answers others : List Answer) (states more : List EdfState)
     → Trace old events answers states → Trace old events others more → (answers ≡ others) × (states ≡ more)
@@ -113,76 +79,58 @@ edf_runs_decide decide old events answers others new later h k =
 pub a_plain_run_agrees : RunsDecide → PlainRunsAgree
 a_plain_run_agrees decide old events answers new run replies after plain = decide old.region _ replies _ after new.region plain run.left
 
-key_own : (ends stopped : Bool) (old : EdfState) (asked e : Event) (sessions : Sessions) (after : Reply → RegionState → Sessions) (given : Answer) (new : EdfState) → (ends ≡ true → stopped ≡ true)
-    → MatchBool ends (Passed old asked (λ _. answer.ToEdf) after given new) (MatchBool stopped (Owned old answer.ToEdf sessions given new) (Through old e given new)) → stopped ≡ is_edfs given
-key_own true stopped old asked e sessions after given new at row = at refl ∙ ap is_edfs (sym row.answers)
-key_own false true old asked e sessions after given new at row = ap is_edfs (sym row.answers)
-key_own false false old asked e sessions after given new at row = ap is_edfs (sym row.answers)
-
-turn_own : (b : Bool) (old : EdfState) (e : Event) (own : Answer) (sessions : Sessions) (after : Reply → RegionState → Sessions) (given : Answer) (new : EdfState) → is_edfs own ≡ true
-    → MatchBool b (Owned old own sessions given new) (Passed old e answer.Region after given new) → b ≡ is_edfs given
-turn_own true old e own sessions after given new is row = sym is ∙ ap is_edfs (sym row.answers)
-turn_own false old e own sessions after given new is row = ap is_edfs (sym row.answers)
+own_answer : (old : EdfState) (e : EdfEvent) (door : Door) (given : Answer) (new : EdfState) → Fits old e door → Done old door given new → answers_itself door ≡ is_edfs given
+unfolding Fits
+own_answer old e (Keeps own sessions) given new fit row = sym fit.0 ∙ ap is_edfs (sym row.0)
+own_answer old e (Passes x None) given new fit row = ap is_edfs (sym row.answers)
+own_answer old e (Passes x (Some own)) given new fit row = ap is_edfs (sym (row.answers ∙ fit.1.own_answer))
 
 pub own_answers : OwnEventsHaveOwnAnswers
 unfolding EdfHappens is_own
-own_answers old (edf_event.On name) given new row = ap is_edfs (sym row.answers)
-own_answers old (edf_event.Off name) given new row = ap is_edfs (sym row.answers)
-own_answers old (edf_event.Plain (event.Key name aid bytes)) given new row =
-    key_own (ends_by_key old name aid) (stopped_at old name) old (event.Alter name change.Abend) (event.Key name aid bytes) _ _ given new (ends_stopped old name aid) row
-own_answers old (edf_event.Plain (event.Turn name)) given new row = turn_own (holds old name) old (event.Turn name) answer.Held _ _ given new refl row
-own_answers old (edf_event.Plain (event.Alter name c)) given new row = turn_own (refuses old name) old (event.Alter name c) answer.NotStopped _ _ given new refl row
-own_answers old (edf_event.Plain (event.Program name image)) given new row = ap is_edfs (sym row.answers)
-own_answers old (edf_event.Plain (event.Transaction tran program)) given new row = ap is_edfs (sym row.answers)
-own_answers old (edf_event.Plain (event.Terminal name)) given new row = ap is_edfs (sym row.answers)
-own_answers old (edf_event.Plain (event.Clock time date)) given new row = ap is_edfs (sym row.answers)
+own_answers old e given new row = own_answer old e (door_of old e) given new (fits old e) row
 
--- what is told, by whether the answer is EDF's own, a PF12 ends the task, and an alteration is refused
-by_own : (own ends refused : Bool) (given : Answer) → (ends ≡ true → own ≡ true) → own ≡ is_edfs given
-    → (if own then map (λ _. reply.Alter alter.Altered) (if ends then event.Alter [] change.Abend ∷ [] else []) else if refused then [] else plain_reply given)
-    ≡ (if ends then reply.Alter alter.Altered ∷ [] else if refused then [] else plain_reply given)
-by_own true true refused given at is = refl
-by_own true false true given at is = refl
-by_own true false false (answer.Region r) at is = cc
-by_own true false false answer.ToEdf at is = refl
-by_own true false false answer.Held at is = refl
-by_own true false false answer.NotStopped at is = refl
-by_own true false false (answer.Edf r) at is = refl
-by_own false true refused given at is = let never : false ≡ true = at refl in cc
-by_own false false refused given at is = refl
+-- EDF's own answer refuses no alteration of the region's
+never_refused : (e : EdfEvent) (given : Answer) → is_edfs given ≡ true → is_refusal e given ≡ false
+never_refused (edf_event.Plain e) (answer.Region r) own = absurd (true≢false (sym own))
+never_refused (edf_event.Plain e) _ own = refl
+never_refused (edf_event.On name) given own = refl
+never_refused (edf_event.Off name) given own = refl
 
-asked_told : (old : EdfState) (e : EdfEvent) → map (λ _. reply.Alter alter.Altered) (asked_by old e) ≡ map (λ _. reply.Alter alter.Altered) (if ends_task old e then event.Alter [] change.Abend ∷ [] else [])
-asked_told old (edf_event.On name) = refl
-asked_told old (edf_event.Off name) = refl
-asked_told old (edf_event.Plain (event.Key name aid bytes)) = go (ends_by_key old name aid)
+-- what is told, and whether anything is left
+record IsLeft (old : EdfState) (e : EdfEvent) (given : Answer) (left : List (Event × Reply)) : Type 0 where
+  pub told : map (λ (p : Event × Reply). p.1) left ≡ given_by old e given
+  pub none : (length left == 0) ≡ ((is_edfs given && not (ends_task old e)) || is_refusal e given)
+
+kept : (old : EdfState) (e : EdfEvent) (given : Answer) → is_edfs given ≡ true → ends_task old e ≡ false → IsLeft old e given []
+kept old e given own ends = record { told = rw (ends, own) refl; none = rw (own, ends) refl }
+
+ended : (old : EdfState) (e : EdfEvent) (given : Answer) (x : Event) → is_edfs given ≡ true → ends_task old e ≡ true → IsLeft old e given ((x, reply.Alter alter.Altered) ∷ [])
+ended old e given x own ends = record { told = rw ends refl; none = rw (own, ends, never_refused e given own) refl }
+
+passed : (old : EdfState) (x : Event) (r : Reply) → ends_task old (edf_event.Plain x) ≡ false
+    → IsLeft old (edf_event.Plain x) (answer.Region r) (if is_refused x r then [] else (x, r) ∷ [])
+passed old x r ends = go (is_refused x r) refl
   where
-    go : (b : Bool) → map (λ _. reply.Alter alter.Altered) (if b then event.Alter name change.Abend ∷ [] else []) ≡ map (λ _. reply.Alter alter.Altered) (if b then event.Alter [] change.Abend ∷ [] else [])
-    go true = refl
-    go false = refl
-asked_told old (edf_event.Plain (event.Turn name)) = refl
-asked_told old (edf_event.Plain (event.Alter name c)) = refl
-asked_told old (edf_event.Plain (event.Program name image)) = refl
-asked_told old (edf_event.Plain (event.Transaction tran program)) = refl
-asked_told old (edf_event.Plain (event.Terminal name)) = refl
-asked_told old (edf_event.Plain (event.Clock time date)) = refl
+    go : (b : Bool) → is_refused x r ≡ b → IsLeft old (edf_event.Plain x) (answer.Region r) (if b then [] else (x, r) ∷ [])
+    go true is = record { told = rw (ends, is) refl; none = rw is refl }
+    go false is = record { told = rw (ends, is) refl; none = rw is refl }
 
-ends_own : (old : EdfState) (e : EdfEvent) → ends_task old e ≡ true → is_own old e ≡ true
-unfolding is_own
-ends_own old (edf_event.On name) ends = refl
-ends_own old (edf_event.Off name) ends = refl
-ends_own old (edf_event.Plain (event.Key name aid bytes)) ends = ends_stopped old name aid ends
-ends_own old (edf_event.Plain (event.Turn name)) ends = absurd (true≢false (sym ends))
-ends_own old (edf_event.Plain (event.Alter name c)) ends = absurd (true≢false (sym ends))
-ends_own old (edf_event.Plain (event.Program name image)) ends = absurd (true≢false (sym ends))
-ends_own old (edf_event.Plain (event.Transaction tran program)) ends = absurd (true≢false (sym ends))
-ends_own old (edf_event.Plain (event.Terminal name)) ends = absurd (true≢false (sym ends))
-ends_own old (edf_event.Plain (event.Clock time date)) ends = absurd (true≢false (sym ends))
+left_by : (old : EdfState) (e : EdfEvent) (door : Door) (given : Answer) (new : EdfState) → Fits old e door → Done old door given new → IsLeft old e given (left_in door given)
+unfolding Fits
+left_by old e (Keeps own sessions) given new fit row = kept old e given (ap is_edfs row.0 ∙ fit.0) fit.1
+left_by old e (Passes x None) given new fit row =
+    subst (λ (a : Answer). IsLeft old e a (left_in (Passes x None) a)) (sym row.answers)
+    (subst (λ (y : EdfEvent). IsLeft old y (answer.Region row.reply) (left_in (Passes x None) (answer.Region row.reply))) (sym fit.0)
+    (passed old x row.reply (subst (λ (y : EdfEvent). ends_task old y ≡ false) fit.0 fit.1)))
+left_by old e (Passes x (Some own)) given new fit row =
+    let is : given ≡ answer.ToEdf = row.answers ∙ fit.1.own_answer in
+    subst (λ (a : Answer). IsLeft old e a (left_in (Passes x (Some own)) a)) (sym is)
+    (subst (λ (y : Event). IsLeft old e answer.ToEdf (left_in (Passes y (Some own)) answer.ToEdf)) (sym fit.1.abend)
+    (ended old e answer.ToEdf (event.Alter fit.1.name change.Abend) refl fit.0))
 
-told_one : (old : EdfState) (e : EdfEvent) (given : Answer) (new : EdfState) → EdfHappens old e given new → told_of old e given ≡ given_by old e given
-unfolding told_of
-told_one old e given new row =
-    ap (λ asked. if is_own old e then asked else if is_refused e given then [] else plain_reply given) (asked_told old e)
-    ∙ by_own (is_own old e) (ends_task old e) (is_refused e given) given (ends_own old e) (own_answers old e given new row)
+left_is : (old : EdfState) (e : EdfEvent) (given : Answer) (new : EdfState) → EdfHappens old e given new → IsLeft old e given (left_of old e given)
+unfolding EdfHappens left_of
+left_is old e given new row = left_by old e (door_of old e) given new (fits old e) row
 
 told_trace : (old : EdfState) (events : List EdfEvent) (answers : List Answer) (states : List EdfState) → Trace old events answers states
     → told old events answers states ≡ given_in old events answers states
@@ -192,41 +140,14 @@ told_trace old [] [] (s ∷ ss) trace = absurd trace
 told_trace old [] (g ∷ gs) ss trace = absurd trace
 told_trace old (e ∷ es) [] ss trace = absurd trace
 told_trace old (e ∷ es) (g ∷ gs) [] trace = absurd trace
-told_trace old (e ∷ es) (g ∷ gs) (s ∷ ss) trace = λ i. told_one old e g s trace.0 i ++ told_trace s es gs ss trace.1 i
+told_trace old (e ∷ es) (g ∷ gs) (s ∷ ss) trace = λ i. (left_is old e g s trace.0).told i ++ told_trace s es gs ss trace.1 i
 
 pub told_are_those_given : ToldAreThoseGiven
 told_are_those_given old events answers new run = told_trace old events answers run.states run.trace
 
 -- ---- what is erased
 pub erased_events : ErasedEvents
-unfolding left_of is_own
-erased_events old e given new row = subst (λ (b : Bool). (length (left_of old e given) == 0) ≡ ((b && not (ends_task old e)) || is_refused e given)) (own_answers old e given new row) (by_event e)
-  where
-    plain : (own : Bool) (x : Event) → (length (if own then [] else x ∷ []) == 0) ≡ ((own && true) || false)
-    plain true x = refl
-    plain false x = refl
-
-    altered : (own refused : Bool) (x : Event) → (length (if own then [] else if refused then [] else x ∷ []) == 0) ≡ ((own && true) || refused)
-    altered true refused x = refl
-    altered false true x = refl
-    altered false false x = refl
-
-    keyed : (ends own : Bool) (asked x : Event) → (ends ≡ true → own ≡ true) → (length (if own then (if ends then asked ∷ [] else []) else x ∷ []) == 0) ≡ ((own && not ends) || false)
-    keyed true true asked x at = refl
-    keyed true false asked x at = let never : false ≡ true = at refl in cc
-    keyed false true asked x at = refl
-    keyed false false asked x at = refl
-
-    by_event : (x : EdfEvent) → (length (left_of old x given) == 0) ≡ ((is_own old x && not (ends_task old x)) || is_refused x given)
-    by_event (edf_event.On name) = refl
-    by_event (edf_event.Off name) = refl
-    by_event (edf_event.Plain (event.Key name aid bytes)) = keyed (ends_by_key old name aid) (stopped_at old name) (event.Alter name change.Abend) (event.Key name aid bytes) (ends_stopped old name aid)
-    by_event (edf_event.Plain (event.Turn name)) = plain (holds old name) (event.Turn name)
-    by_event (edf_event.Plain (event.Alter name c)) = altered (refuses old name) (is_refused (edf_event.Plain (event.Alter name c)) given) (event.Alter name c)
-    by_event (edf_event.Plain (event.Program name image)) = refl
-    by_event (edf_event.Plain (event.Transaction tran program)) = refl
-    by_event (edf_event.Plain (event.Terminal name)) = refl
-    by_event (edf_event.Plain (event.Clock time date)) = refl
+erased_events old e given new row = (left_is old e given new row).none
 
 nothing_runs : (old : RegionState) (replies : List Reply) (new : RegionState) → Run old [] replies new → new ≡ old
 unfolding Run
@@ -235,7 +156,8 @@ nothing_runs old (r ∷ rs) new run = absurd run
 
 pub erased_leave : ErasedEventsLeaveTheRegion
 erased_leave old e given new row none =
-    nothing_runs old.region (told_of old e given) new.region (subst (λ (es : List Event). Run old.region es (told_of old e given) new.region) none (left_runs old e given new row))
+    nothing_runs old.region (map (λ (p : Event × Reply). p.1) (left_of old e given)) new.region
+    (subst (λ (ps : List (Event × Reply)). Run old.region (map (λ (p : Event × Reply). p.0) ps) (map (λ (p : Event × Reply). p.1) (left_of old e given)) new.region) none (left_runs old e given new row))
 
 -- ---- no stop is missed
 turn_without_task : (r : RegionState) (name : List ℕ) (given : TurnReply) (new : RegionState) (stop : Kind) → Turned r name given new → is_some (task_of r name) ≡ false → stop_of given ≡ Some stop → ⊥
@@ -254,15 +176,15 @@ turn_without_task r name given new stop h idle stops = by_terminal (terminal_of 
     by_terminal (Some t) h idle = by_task t t.task h idle
 
 pub stops_are_missed : StopsAreMissedUnderSuppression
-unfolding EdfHappens Happens
+unfolding EdfHappens door_of Happens
 stops_are_missed old name r new session stop row there stops missed = by_mode session.mode refl missed
   where
     of_region : (x : Reply) → answer.Region (reply.Turn r) ≡ answer.Region x → Happens old.region (event.Turn name) x new.region → Turned old.region name r new.region
     of_region x same happens = subst (λ (y : Reply). Happens old.region (event.Turn name) y new.region) (sym (let e : reply.Turn r ≡ x = cc in e)) happens
 
     held : (live : Bool) → is_some (task_of old.region name) ≡ live
-        → MatchBool live (Owned old answer.Held old.sessions (answer.Region (reply.Turn r)) new) (Passed old (event.Turn name) answer.Region (sessions_after_turn old.sessions name) (answer.Region (reply.Turn r)) new) → ⊥
-    held true is row = let never : answer.Region (reply.Turn r) ≡ answer.Held = row.answers in cc
+        → Done old (if live then Keeps answer.Held old.sessions else Passes (event.Turn name) None) (answer.Region (reply.Turn r)) new → ⊥
+    held true is row = let never : answer.Region (reply.Turn r) ≡ answer.Held = row.0 in cc
     held false is row = turn_without_task old.region name r new.region stop (of_region row.reply row.answers row.happens) is stops
 
     stopped : (k : Kind) → session.mode ≡ mode.Stopped k → stopped_at old name ≡ true
@@ -273,6 +195,19 @@ stops_are_missed old name r new session stop row there stops missed = by_mode se
     by_mode (mode.Stopped k) is missed = absurd (held (is_some (task_of old.region name)) refl (rw (stopped k is) at row))
     by_mode mode.Suppressed is missed = refl
 
+-- ---- what is passed
+passed_as_it_is : (old : EdfState) (e : Event) (door : Door) → Fits old (edf_event.Plain e) door → answers_itself door ≡ false → door ≡ Passes e None
+unfolding Fits
+passed_as_it_is old e (Keeps own sessions) fit none = absurd (true≢false none)
+passed_as_it_is old e (Passes x None) fit none =
+    let is : edf_event.Plain e ≡ edf_event.Plain x = fit.0 in
+    ap (λ (y : Event). Passes y None) (let same : x ≡ e = cc in same)
+passed_as_it_is old e (Passes x (Some own)) fit none = absurd (true≢false none)
+
+pub others_are_passed : OtherEventsArePassed
+unfolding is_own
+others_are_passed old e none = passed_as_it_is old e (door_of old (edf_event.Plain e)) (fits old (edf_event.Plain e)) none
+
 -- ---- Off everywhere
 record Plainly (old : EdfState) (e : Event) (given : Answer) (new : EdfState) : Type 0 where
   pub reply : Reply
@@ -280,30 +215,11 @@ record Plainly (old : EdfState) (e : Event) (given : Answer) (new : EdfState) : 
   pub off : new.sessions ≡ []
   pub answers : given ≡ answer.Region reply
 
-by_through : (old : EdfState) (e : Event) (given : Answer) (new : EdfState) → old.sessions ≡ [] → Through old e given new → Plainly old e given new
-by_through old e given new off row = record { reply = row.reply; happens = row.happens; off = row.table ∙ off; answers = row.answers }
-
-key_plainly : (ends stopped : Bool) (old : EdfState) (asked e : Event) (own : Answer) (sessions : Sessions) (after : Reply → RegionState → Sessions) (given : Answer) (new : EdfState)
-    → (ends ≡ true → stopped ≡ true) → stopped ≡ false → old.sessions ≡ []
-    → MatchBool ends (Passed old asked (λ _. own) after given new) (MatchBool stopped (Owned old own sessions given new) (Through old e given new)) → Plainly old e given new
-key_plainly true stopped old asked e own sessions after given new at never off row = absurd (true≢false (sym (at refl) ∙ never))
-key_plainly false true old asked e own sessions after given new at never off row = cc
-key_plainly false false old asked e own sessions after given new at never off row = by_through old e given new off row
-
-none_after : (sessions : Sessions) (name : List ℕ) (r : Reply) (region : RegionState) → sessions ≡ [] → sessions_after_turn sessions name r region ≡ []
-none_after sessions name (reply.Turn r) region off = rw off refl
-none_after sessions name (reply.Key r) region off = off
-none_after sessions name (reply.Program r) region off = off
-none_after sessions name (reply.Transaction r) region off = off
-none_after sessions name (reply.Terminal r) region off = off
-none_after sessions name reply.Clock region off = off
-none_after sessions name (reply.Alter r) region off = off
-
-turn_plainly : (b : Bool) (old : EdfState) (name : List ℕ) (own : Answer) (sessions : Sessions) (given : Answer) (new : EdfState) → b ≡ false → old.sessions ≡ []
-    → MatchBool b (Owned old own sessions given new) (Passed old (event.Turn name) answer.Region (sessions_after_turn old.sessions name) given new) → Plainly old (event.Turn name) given new
-turn_plainly true old name own sessions given new never off row = cc
-turn_plainly false old name own sessions given new never off row =
-    record { reply = row.reply; happens = row.happens; off = row.table ∙ none_after old.sessions name row.reply new.region off; answers = row.answers }
+none_after : (sessions : Sessions) (e : Event) (r : Reply) (region : RegionState) → sessions ≡ [] → is_alteration e ≡ false → sessions_after sessions e r region ≡ []
+none_after sessions (event.Turn name) (reply.Turn r) region off plain = rw off refl
+none_after sessions (event.Turn name) _ region off plain = off
+none_after sessions (event.Alter name c) r region off plain = absurd (true≢false plain)
+none_after sessions _ r region off plain = off
 
 not_stopped : (old : EdfState) (name : List ℕ) → old.sessions ≡ [] → stopped_at old name ≡ false
 not_stopped old name off = ap (λ s. is_stopped_in s name) off
@@ -311,16 +227,23 @@ not_stopped old name off = ap (λ s. is_stopped_in s name) off
 not_held : (old : EdfState) (name : List ℕ) → old.sessions ≡ [] → holds old name ≡ false
 not_held old name off = ap (λ b. b && is_some (task_of old.region name)) (not_stopped old name off)
 
+-- no event of the region is EDF's own then, but an alteration
+none_own : (old : EdfState) (e : Event) → old.sessions ≡ [] → is_alteration e ≡ false → is_own old (edf_event.Plain e) ≡ false
+unfolding is_own door_of
+none_own old (event.Key name aid bytes) off plain =
+    by_tests (λ door. answers_itself door ≡ false) (ends_by_key old name aid) (stopped_at old name)
+    (Passes (event.Alter name change.Abend) (Some answer.ToEdf)) (Keeps answer.ToEdf (changed old.sessions name (λ session. after_key session aid bytes))) (Passes (event.Key name aid bytes) None)
+    (λ ends. absurd (true≢false (sym (ends_stopped old name aid ends) ∙ not_stopped old name off))) (λ _ stopped. absurd (true≢false (sym stopped ∙ not_stopped old name off))) (λ _ _. refl)
+none_own old (event.Turn name) off plain =
+    by_test (λ door. answers_itself door ≡ false) (holds old name) (Keeps answer.Held old.sessions) (Passes (event.Turn name) None) (λ held. absurd (true≢false (sym held ∙ not_held old name off))) (λ _. refl)
+none_own old (event.Alter name c) off plain = absurd (true≢false plain)
+none_own old _ off plain = refl
+
 plainly : (old : EdfState) (e : Event) (given : Answer) (new : EdfState) → old.sessions ≡ [] → is_alteration e ≡ false → EdfHappens old (edf_event.Plain e) given new → Plainly old e given new
 unfolding EdfHappens
-plainly old (event.Key name aid bytes) given new off plain row =
-    key_plainly (ends_by_key old name aid) (stopped_at old name) old (event.Alter name change.Abend) (event.Key name aid bytes) answer.ToEdf _ _ given new (ends_stopped old name aid) (not_stopped old name off) off row
-plainly old (event.Turn name) given new off plain row = turn_plainly (holds old name) old name _ _ given new (not_held old name off) off row
-plainly old (event.Alter name c) given new off plain row = absurd (true≢false plain)
-plainly old (event.Program name image) given new off plain row = by_through old (event.Program name image) given new off row
-plainly old (event.Transaction tran program) given new off plain row = by_through old (event.Transaction tran program) given new off row
-plainly old (event.Terminal name) given new off plain row = by_through old (event.Terminal name) given new off row
-plainly old (event.Clock time date) given new off plain row = by_through old (event.Clock time date) given new off row
+plainly old e given new off plain row =
+    let passed : Passed old e None given new = subst (λ (door : Door). Done old door given new) (others_are_passed old e (none_own old e off plain)) row in
+    record { reply = passed.reply; happens = passed.happens; off = passed.table ∙ none_after old.sessions e passed.reply new.region off plain; answers = passed.answers }
 
 off_trace : (old : EdfState) (events : List Event) (answers : List Answer) (states : List EdfState) → old.sessions ≡ [] → AllByRecursion (λ e. is_alteration e ≡ false) events
     → Trace old (map (λ e. edf_event.Plain e) events) answers states

@@ -2,6 +2,7 @@ pub mod TableLemmas
 pub mod LookupLemmas
 pub mod KeepLemmas
 pub mod EndLemmas
+pub mod DoorLemmas
 pub mod StepLemmas
 pub mod KeptLemmas
 pub mod TraceLemmas

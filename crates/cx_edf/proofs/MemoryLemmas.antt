@@ -1,57 +1,45 @@
 -- What always holds of the region is kept under EDF, and what comes after an event that was refused memory.
-use Rattle.std.proofs.Common.{◌≡◌, Bool, true, false, List, [], ◌∷◌, ◌++◌, refl, sym, ◌∙◌, subst}
-use Rattle.std.specs.Prelude.{MatchBool, Result, Ok, Err, IfOk, drop, take}
+use Rattle.std.proofs.Common.{◌≡◌, List, [], ◌∷◌, ◌++◌, Some, None, refl, sym, ◌∙◌, subst}
+use Rattle.std.specs.Prelude.{⊤, Result, Ok, Err, IfOk, drop, take}
 use Rattle.std.specs.declared.alloc.AllocError.{AllocError}
 use Rattle.std.proofs.lemmas.List.{take-append-drop}
-use Rattle.cx_region.specs.State.{RegionState}
 use Rattle.cx_region.specs.Events.{IsAllowed}
 use Rattle.cx_region.specs.Sound.{IsSound}
-use Rattle.cx_region.specs.declared.changes.Change.TheVariants as change
 use Rattle.cx_region.specs.declared.replies.Event.{Event}
-use Rattle.cx_region.specs.declared.replies.Event.TheVariants as event
-use Rattle.cx_region.specs.declared.replies.Reply.{Reply}
 use Rattle.cx_region_laws.specs.Laws.Sound.{ArePartsSound, IsChecked, SoundIsKept}
 use Rattle.cx_edf.specs.declared.answers.EdfEvent.{EdfEvent}
-use Rattle.cx_edf.specs.declared.answers.EdfEvent.TheVariants as edf_event
 use Rattle.cx_edf.specs.declared.answers.Answer.{Answer}
-use Rattle.cx_edf.specs.Sessions.{Sessions}
-use Rattle.cx_edf.specs.State.{EdfState, ends_by_key, holds, refuses, stopped_at}
-use Rattle.cx_edf.specs.Steps.{EdfHappens, Owned, Passed, Through}
-use Rattle.cx_edf.specs.Runs.{EdfRun, IsDoneEdf, Trace, last_state}
+use Rattle.cx_edf.specs.State.{EdfState}
+use Rattle.cx_edf.specs.Steps.{Done, Door, EdfHappens, Keeps, Passes, door_of}
+use Rattle.cx_edf.specs.Runs.{EdfRun, IsAllowedEdf, IsDoneEdf, Trace, last_state}
 use Rattle.cx_edf.specs.Laws.Edf.{EdfEventsDecide}
-use Rattle.cx_edf.specs.Laws.Memory.{EdfSoundIsKept, RefusedEdfEventsAreNone, StoppedEdfRunsGoOn}
+use Rattle.cx_edf.specs.Laws.Memory.{EdfSoundIsKept, IsCheckedEdf, RefusedEdfEventsAreNone, StoppedEdfRunsGoOn}
+use Rattle.cx_edf.proofs.DoorLemmas.{Fits, fits}
 use Rattle.cx_edf.proofs.TraceLemmas.{run_of_trace}
 
 -- ---- soundness
-owned_kept : (old new : EdfState) (own given : Answer) (sessions : Sessions) → IsSound old.region → Owned old own sessions given new → IsSound new.region
-owned_kept old new own given sessions ok h = subst IsSound (sym h.region) ok
+-- what is passed is allowed, and its image checked, where the event's are
+pub Allows : Door → Type 0
+Allows (Keeps own sessions) = ⊤
+Allows (Passes x own) = IsAllowed x × IsChecked x
 
-passed_kept : SoundIsKept → (old new : EdfState) (e : Event) (answer_of : Reply → Answer) (after : Reply → RegionState → Sessions) (given : Answer) → IsSound old.region → IsAllowed e → IsChecked e
-    → ArePartsSound new.region → Passed old e answer_of after given new → IsSound new.region
-passed_kept law old new e answer_of after given ok allowed checked parts h = law old.region new.region e h.reply ok allowed checked h.happens parts
+allows : (old : EdfState) (e : EdfEvent) (door : Door) → Fits old e door → IsAllowedEdf e → IsCheckedEdf e → Allows door
+unfolding Fits Allows
+allows old e (Keeps own sessions) fit allowed checked = tt
+allows old e (Passes x None) fit allowed checked =
+    (subst IsAllowedEdf fit.0 allowed, subst IsCheckedEdf fit.0 checked)
+allows old e (Passes x (Some own)) fit allowed checked =
+    subst (λ (y : Event). IsAllowed y × IsChecked y) (sym fit.1.abend) (tt, tt)
 
-through_kept : SoundIsKept → (old new : EdfState) (e : Event) (given : Answer) → IsSound old.region → IsAllowed e → IsChecked e → ArePartsSound new.region → Through old e given new → IsSound new.region
-through_kept law old new e given ok allowed checked parts h = law old.region new.region e h.reply ok allowed checked h.happens parts
-
-either : (b : Bool) (P Q G : Type 0) → (P → G) → (Q → G) → MatchBool b P Q → G
-either true P Q G f g h = f h
-either false P Q G f g h = g h
+kept_by : SoundIsKept → (old new : EdfState) (door : Door) (given : Answer) → IsSound old.region → Allows door → ArePartsSound new.region → Done old door given new → IsSound new.region
+unfolding Allows
+kept_by law old new (Keeps own sessions) given ok allowed parts h = subst (λ (s : EdfState). IsSound s.region) (sym h.1) ok
+kept_by law old new (Passes x own) given ok allowed parts h = law old.region new.region x h.reply ok allowed.0 allowed.1 h.happens parts
 
 pub sound_is_kept : SoundIsKept → EdfSoundIsKept
 unfolding EdfHappens
-sound_is_kept law old new (edf_event.On name) given ok allowed checked h parts = owned_kept old new _ given _ ok h
-sound_is_kept law old new (edf_event.Off name) given ok allowed checked h parts = owned_kept old new _ given _ ok h
-sound_is_kept law old new (edf_event.Plain (event.Key name aid bytes)) given ok allowed checked h parts =
-    either (ends_by_key old name aid) _ _ (IsSound new.region) (passed_kept law old new (event.Alter name change.Abend) _ _ given ok tt tt parts)
-    (either (stopped_at old name) _ _ (IsSound new.region) (owned_kept old new _ given _ ok) (through_kept law old new (event.Key name aid bytes) given ok allowed tt parts)) h
-sound_is_kept law old new (edf_event.Plain (event.Turn name)) given ok allowed checked h parts =
-    either (holds old name) _ _ (IsSound new.region) (owned_kept old new _ given _ ok) (passed_kept law old new (event.Turn name) _ _ given ok tt tt parts) h
-sound_is_kept law old new (edf_event.Plain (event.Alter name c)) given ok allowed checked h parts =
-    either (refuses old name) _ _ (IsSound new.region) (owned_kept old new _ given _ ok) (passed_kept law old new (event.Alter name c) _ _ given ok allowed tt parts) h
-sound_is_kept law old new (edf_event.Plain (event.Program name image)) given ok allowed checked h parts = through_kept law old new (event.Program name image) given ok allowed checked parts h
-sound_is_kept law old new (edf_event.Plain (event.Transaction tran program)) given ok allowed checked h parts = through_kept law old new (event.Transaction tran program) given ok allowed checked parts h
-sound_is_kept law old new (edf_event.Plain (event.Terminal name)) given ok allowed checked h parts = through_kept law old new (event.Terminal name) given ok allowed checked parts h
-sound_is_kept law old new (edf_event.Plain (event.Clock time date)) given ok allowed checked h parts = through_kept law old new (event.Clock time date) given ok allowed checked parts h
+sound_is_kept law old new e given ok allowed checked h parts =
+    kept_by law old new (door_of old e) given ok (allows old e (door_of old e) (fits old e) allowed checked) parts h
 
 -- ---- one event
 same_answer : EdfEventsDecide → (old new after : EdfState) (e : EdfEvent) (result : Result Answer AllocError) (other : Answer) → IfOk result (λ given. EdfHappens old e given new)

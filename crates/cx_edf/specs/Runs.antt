@@ -1,30 +1,30 @@
 -- Runs under EDF (own).
-use Rattle.std.specs.Prelude.{◌≡◌, ℕ, ◌<◌, ◌⊎◌, ⊤, Bool, true, false, List, [], ◌∷◌, ◌++◌, Option, Some, None, IsSomeAnd, length, take, slice_get, Result, IfOk, OnErr, if◌then◌else◌}
-use Rattle.std.specs.List.{AllByRecursion}
+use Rattle.std.specs.Prelude.{◌≡◌, ℕ, ◌<◌, ◌⊎◌, ⊤, List, [], ◌∷◌, ◌++◌, Option, Some, None, IsSomeAnd, is_some, length, map, take, slice_get, Result, IfOk, OnErr, if◌then◌else◌}
+use Rattle.std.specs.List.{AllByRecursion, filter_map}
+use Rattle.std.specs.Option.{option_and_then}
 use Rattle.std.specs.declared.alloc.AllocError.{AllocError}
 use Rattle.circular_buffer.specs.Buffer.{keep_last}
 use Rattle.cx_display.specs.declared.displays.Display.{Display}
 use Rattle.cx_display.specs.declared.stops.Kind.{Kind}
 use Rattle.cx_display.specs.Displays.{display_of}
-use Rattle.cx_ebcdic.specs.declared.aids.Aid.{Aid}
-use Rattle.cx_ebcdic.specs.declared.aids.Aid.TheVariants as aid
 use Rattle.cx_region.specs.Names.{is_name4}
 use Rattle.cx_region.specs.State.{RegionState}
 use Rattle.cx_region.specs.Events.{IsAllowed, MayTakeMemory, Run}
 use Rattle.cx_region.specs.declared.changes.AlterReply.TheVariants as alter
-use Rattle.cx_region.specs.declared.changes.Change.{Change}
 use Rattle.cx_region.specs.declared.changes.Change.TheVariants as change
+use Rattle.cx_region.specs.declared.replies.Event.{Event}
 use Rattle.cx_region.specs.declared.replies.Event.TheVariants as event
+use Rattle.cx_region.specs.declared.replies.Reply.{Reply}
 use Rattle.cx_region.specs.declared.replies.Reply.TheVariants as reply
 use Rattle.cx_edf.specs.declared.answers.EdfEvent.{EdfEvent}
 use Rattle.cx_edf.specs.declared.answers.EdfEvent.TheVariants as edf_event
 use Rattle.cx_edf.specs.declared.answers.EdfReply.TheVariants as edf
 use Rattle.cx_edf.specs.declared.answers.Answer.{Answer}
 use Rattle.cx_edf.specs.declared.answers.Answer.TheVariants as answer
-use Rattle.cx_edf.specs.Sessions.{SessionState, operators_end, stop_of, takes_in}
-use Rattle.cx_edf.specs.State.{EdfState, ends_by_key, session_at}
-use Rattle.cx_edf.specs.Steps.{EdfHappens, reply_to_on}
-use Rattle.cx_edf.specs.Erasure.{erased, is_own, told}
+use Rattle.cx_edf.specs.Sessions.{SessionState, operators_end, stop_of_turn}
+use Rattle.cx_edf.specs.State.{EdfState, session_at}
+use Rattle.cx_edf.specs.Steps.{Door, EdfHappens, Keeps, Passes, door_of}
+use Rattle.cx_edf.specs.Erasure.{erased, left_of, told}
 
 -- ---- states
 -- events one after another, with their answers and the state after each
@@ -39,34 +39,19 @@ last_state old [] = old
 last_state old (new ∷ states) = last_state new states
 
 -- ---- displays
--- the displays of a terminal's session and one that is taken where its mode takes the stop
-abbrev pub and_taken : List Display → Option SessionState → Option Kind → RegionState → List ℕ → List Display
-and_taken all (Some session) (Some stop) region name =
-    if takes_in session.mode session.stops stop then all ++ display_of region name stop ∷ [] else all
-and_taken all _ _ region name = all
+-- the stop at which a terminal's session takes a display of what the region did and replied: that of a turn where its mode
+-- takes it, and the end by an alteration whatever its mode is
+abbrev pub stop_taken : EdfState → List ℕ → Event → Reply → Option Kind
+stop_taken old q (event.Turn name) (reply.Turn r) =
+    if is_name4 name q then option_and_then (λ session. stop_of_turn session r) (session_at old q) else None
+stop_taken old q (event.Alter name change.Abend) (reply.Alter alter.Altered) = if is_name4 name q then Some operators_end else None
+stop_taken old q _ _ = None
 
--- the key that ends a session
-abbrev pub ends_session : Aid → Bool
-ends_session aid.Pf3 = true
-ends_session other = false
-
--- the displays of a terminal's session and one that is taken where an alteration ended the task
-abbrev pub and_ended : List Display → Option SessionState → Change → RegionState → List ℕ → List Display
-and_ended all (Some session) change.Abend region name = all ++ display_of region name operators_end ∷ []
-and_ended all _ _ region name = all
-
--- All displays of a terminal's session so far, after one more event: a turn that stops, and an alteration that ends the
--- task, take one of the region right after it, and so does PF12 that ends the task; PF3 that is EDF's, and EDF OFF, end the
--- session.
+-- All displays of a terminal's session so far, after one more event: it takes one of the region right after the event. There
+-- are none where the terminal has no session.
 unfoldable pub displays_after : EdfState → EdfEvent → Answer → EdfState → List ℕ → List Display → List Display
-displays_after old (edf_event.Plain (event.Turn name)) (answer.Region (reply.Turn r)) new q all =
-    if is_name4 name q then and_taken all (session_at old name) (stop_of r) new.region name else all
-displays_after old (edf_event.Plain (event.Key name a bytes)) answer.ToEdf new q all =
-    if is_name4 name q then (if ends_by_key old name a then and_ended all (session_at old name) change.Abend new.region name else if ends_session a then [] else all) else all
-displays_after old (edf_event.Plain (event.Alter name change)) (answer.Region (reply.Alter alter.Altered)) new q all =
-    if is_name4 name q then and_ended all (session_at old name) change new.region name else all
-displays_after old (edf_event.Off name) (answer.Edf edf.Closed) new q all = if is_name4 name q then [] else all
-displays_after old e given new q all = all
+displays_after old e given new q all = if is_some (session_at new q)
+    then all ++ map (display_of new.region q) (filter_map (λ p. stop_taken old q p.0 p.1) (left_of old e given)) else []
 
 -- the same after each of some events
 unfoldable pub history : EdfState → List EdfEvent → List Answer → List EdfState → List ℕ → List Display → List Display
@@ -90,12 +75,14 @@ pub record EdfRun (old : EdfState) (events : List EdfEvent) (answers : List Answ
   pub left_so_far : (n : ℕ) → Run old.region (erased old (take n events) (take n answers) (take n states)) (told old (take n events) (take n answers) (take n states)) (last_state old (take n states)).region
   pub displays : (q : List ℕ) (all : List Display) → IsKept (session_at old q) all → IsKept (session_at new q) (history old events answers states q all)
 
--- An event may take memory: EDF ON only where it begins a session, and an event of the region as the region's, unless it
--- is EDF's own.
+-- EDF ON may take memory where it begins a session, and what is passed to the region as the region may.
+abbrev pub MayTake : RegionState → Door → Type 0
+MayTake region (Keeps (answer.Edf edf.Started) sessions) = ⊤
+MayTake region (Keeps own sessions) = ⊥
+MayTake region (Passes event own) = MayTakeMemory region event
+
 unfoldable pub MayTakeEdf : EdfState → EdfEvent → Type 0
-MayTakeEdf old (edf_event.On name) = reply_to_on old name ≡ edf.Started
-MayTakeEdf old (edf_event.Off name) = ⊥
-MayTakeEdf old (edf_event.Plain e) = (is_own old (edf_event.Plain e) ≡ false) × MayTakeMemory old.region e
+MayTakeEdf old e = MayTake old.region (door_of old e)
 
 -- What the one door for events promises: it is answered; or it was refused memory that it may take, and all is as before.
 pub record IsDoneEdf (old : EdfState) (e : EdfEvent) (result : Result Answer AllocError) (new : EdfState) : Type 0 where

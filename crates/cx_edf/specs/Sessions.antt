@@ -1,7 +1,7 @@
 -- EDF sessions: modes, keys, stops and displays (Application Programmer's Reference Manual, SC33-0077, "Execution
 -- (Command-Level) Diagnostic Facility"; suppression, keys and texts are this product's own).
 use Rattle.std.specs.Prelude.{ℕ, ◌+◌, ◌-◌, ◌<◌, slice_get, ⊤, Bool, true, false, nat_lt, not, List, [], ◌∷◌, ◌++◌, length, Option, Some, None, unwrap_or, if◌then◌else◌}
-use Rattle.std.specs.Option.{option_map, option_map_or}
+use Rattle.std.specs.Option.{option_and_then, option_map, option_map_or}
 use Rattle.std.specs.List.{filter}
 use Rattle.std.specs.Map.{lookup}
 use Rattle.indexmap.specs.IndexMap.{insert_entry}
@@ -82,13 +82,15 @@ abbrev pub stopped : SessionState → Kind → Display → SessionState
 stopped session stop display =
     record session { mode = mode.Stopped stop; view = newest; displays = keep_last 10 (session.displays ++ display ∷ []) }
 
--- a session at a stop, which it takes or doesn't
-abbrev pub at_stop : SessionState → (Kind → Display) → Kind → SessionState
-at_stop session display_at stop = if takes_in session.mode session.stops stop then stopped session stop (display_at stop) else session
+-- where a session stops at a turn's reply: at a stop that its mode takes
+abbrev pub stop_of_turn : SessionState → TurnReply → Option Kind
+stop_of_turn session reply =
+    option_and_then (λ stop. if takes_in session.mode session.stops stop then Some stop else None) (stop_of reply)
 
 -- a session after a turn's reply, where this is the display that a stop of each kind takes
 unfoldable pub after_reply : SessionState → TurnReply → (Kind → Display) → SessionState
-after_reply session reply display_at = option_map_or (at_stop session display_at) (stop_of reply) session
+after_reply session reply display_at =
+    option_map_or (λ stop. stopped session stop (display_at stop)) (stop_of_turn session reply) session
 
 -- ---- alterations
 -- the stop of a task that the operator ended

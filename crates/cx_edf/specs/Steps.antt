@@ -1,13 +1,11 @@
 -- One event under EDF (own).
-use Rattle.std.specs.Prelude.{◌≡◌, ℕ, Bool, List, Some, None, is_some, if◌then◌else◌, MatchBool}
-use Rattle.std.specs.Option.{option_and_then, option_map_or}
+use Rattle.std.specs.Prelude.{◌≡◌, ℕ, List, Option, Some, None, is_some, not, unwrap_or, if◌then◌else◌}
+use Rattle.std.specs.Option.{option_map_or}
 use Rattle.cx_display.specs.Displays.{display_of}
-use Rattle.cx_ebcdic.specs.declared.aids.Aid.{Aid}
 use Rattle.cx_region.specs.State.{RegionState}
 use Rattle.cx_region.specs.Tables.{terminal_of}
 use Rattle.cx_region.specs.Events.{Happens}
 use Rattle.cx_region.specs.declared.changes.AlterReply.TheVariants as alter
-use Rattle.cx_region.specs.declared.changes.Change.{Change}
 use Rattle.cx_region.specs.declared.changes.Change.TheVariants as change
 use Rattle.cx_region.specs.declared.replies.Event.{Event}
 use Rattle.cx_region.specs.declared.replies.Event.TheVariants as event
@@ -15,96 +13,62 @@ use Rattle.cx_region.specs.declared.replies.Reply.{Reply}
 use Rattle.cx_region.specs.declared.replies.Reply.TheVariants as reply
 use Rattle.cx_edf.specs.declared.answers.EdfEvent.{EdfEvent}
 use Rattle.cx_edf.specs.declared.answers.EdfEvent.TheVariants as edf_event
-use Rattle.cx_edf.specs.declared.answers.EdfReply.{EdfReply}
 use Rattle.cx_edf.specs.declared.answers.EdfReply.TheVariants as edf
 use Rattle.cx_edf.specs.declared.answers.Answer.{Answer}
 use Rattle.cx_edf.specs.declared.answers.Answer.TheVariants as answer
-use Rattle.cx_edf.specs.Sessions.{Sessions, after_change, after_key, after_reply, fresh_session, session_in, with_session}
+use Rattle.cx_edf.specs.Sessions.{SessionState, Sessions, after_change, after_key, after_reply, fresh_session, session_in, with_session}
 use Rattle.cx_edf.specs.State.{EdfState, ends_by_key, holds, refuses, session_at, stopped_at}
 
--- ---- the forms of a row
--- EDF answers itself: the region stays, and the sessions become these
-pub record Owned (old : EdfState) (own : Answer) (sessions : Sessions) (given : Answer) (new : EdfState) : Type 0 where
-  pub region : new.region ≡ old.region
-  pub table : new.sessions ≡ sessions
-  pub answers : given ≡ own
+-- What EDF does with an event. It keeps it: it answers so, and the sessions become these. Or it passes an event to the
+-- region, and answers so, or what the region replies where it has no answer of its own.
+pub data Door : Type 0 where
+  Keeps : Answer → Sessions → Door
+  Passes : Event → Option Answer → Door
 
--- the region's event and reply; the sessions stay
-pub record Through (old : EdfState) (event : Event) (given : Answer) (new : EdfState) : Type 0 where
+-- the sessions with a terminal's changed so, or ended, where it has one
+abbrev pub changed : Sessions → List ℕ → (SessionState → Option SessionState) → Sessions
+changed sessions name change = option_map_or (λ session. with_session sessions name (change session)) (session_in sessions name) sessions
+
+-- What EDF does with each event. It keeps EDF ON and EDF OFF, a key met in Stopped, a turn met in Stopped with a live task,
+-- and an alteration met in another mode. PF12 that ends a task is passed as the alteration that does so.
+unfoldable pub door_of : EdfState → EdfEvent → Door
+door_of old (edf_event.On name) =
+    if not (is_some (terminal_of old.region name)) then Keeps (answer.Edf edf.NoSuchTerminal) old.sessions
+    else if is_some (session_at old name) then Keeps (answer.Edf edf.AlreadyOn) old.sessions
+    else Keeps (answer.Edf edf.Started) (with_session old.sessions name (Some fresh_session))
+door_of old (edf_event.Off name) =
+    if not (is_some (terminal_of old.region name)) then Keeps (answer.Edf edf.NoSuchTerminal) old.sessions
+    else if is_some (session_at old name) then Keeps (answer.Edf edf.Closed) (with_session old.sessions name None)
+    else Keeps (answer.Edf edf.NotOn) old.sessions
+door_of old (edf_event.Plain (event.Key name aid bytes)) =
+    if ends_by_key old name aid then Passes (event.Alter name change.Abend) (Some answer.ToEdf)
+    else if stopped_at old name then Keeps answer.ToEdf (changed old.sessions name (λ session. after_key session aid bytes))
+    else Passes (event.Key name aid bytes) None
+door_of old (edf_event.Plain (event.Turn name)) =
+    if holds old name then Keeps answer.Held old.sessions else Passes (event.Turn name) None
+door_of old (edf_event.Plain (event.Alter name change)) =
+    if refuses old name then Keeps answer.NotStopped old.sessions else Passes (event.Alter name change) None
+door_of old (edf_event.Plain e) = Passes e None
+
+-- the sessions after what the region did and replied, with displays of the region right after it
+abbrev pub sessions_after : Sessions → Event → Reply → RegionState → Sessions
+sessions_after sessions (event.Turn name) (reply.Turn r) region =
+    changed sessions name (λ session. Some (after_reply session r (display_of region name)))
+sessions_after sessions (event.Alter name change) (reply.Alter alter.Altered) region =
+    changed sessions name (λ session. Some (after_change session change (display_of region name)))
+sessions_after sessions _ _ region = sessions
+
+-- the region's event, an answer of EDF's own or the region's reply, and the sessions after it
+pub record Passed (old : EdfState) (event : Event) (own : Option Answer) (given : Answer) (new : EdfState) : Type 0 where
   pub reply : Reply
   pub happens : Happens old.region event reply new.region
-  pub table : new.sessions ≡ old.sessions
-  pub answers : given ≡ answer.Region reply
+  pub table : new.sessions ≡ sessions_after old.sessions event reply new.region
+  pub answers : given ≡ unwrap_or own (answer.Region reply)
 
--- the region's event, an answer made of its reply, and sessions made of its reply and the region afterwards
-pub record Passed (old : EdfState) (event : Event) (answer_of : Reply → Answer) (sessions_of : Reply → RegionState → Sessions) (given : Answer) (new : EdfState) : Type 0 where
-  pub reply : Reply
-  pub happens : Happens old.region event reply new.region
-  pub table : new.sessions ≡ sessions_of reply new.region
-  pub answers : given ≡ answer_of reply
+abbrev pub Done : EdfState → Door → Answer → EdfState → Type 0
+Done old (Keeps own sessions) given new = (given ≡ own) × (new ≡ record old { sessions = sessions })
+Done old (Passes event own) given new = Passed old event own given new
 
--- ---- EDF ON and EDF OFF
--- what they are answered, where there is the terminal, and its session
-abbrev pub on_reply : Bool → Bool → EdfReply
-on_reply known on = if known then (if on then edf.AlreadyOn else edf.Started) else edf.NoSuchTerminal
-
-abbrev pub off_reply : Bool → Bool → EdfReply
-off_reply known on = if known then (if on then edf.Closed else edf.NotOn) else edf.NoSuchTerminal
-
-abbrev pub reply_to_on : EdfState → List ℕ → EdfReply
-reply_to_on old name = on_reply (is_some (terminal_of old.region name)) (is_some (session_at old name))
-
-abbrev pub reply_to_off : EdfState → List ℕ → EdfReply
-reply_to_off old name = off_reply (is_some (terminal_of old.region name)) (is_some (session_at old name))
-
--- the sessions after such an answer
-abbrev pub sessions_after : EdfReply → Sessions → List ℕ → Sessions
-sessions_after edf.Started sessions name = with_session sessions name (Some fresh_session)
-sessions_after edf.Closed sessions name = with_session sessions name None
-sessions_after edf.AlreadyOn sessions name = sessions
-sessions_after edf.NotOn sessions name = sessions
-sessions_after edf.NoSuchTerminal sessions name = sessions
-
--- ---- keys and turns
--- the sessions after a key in Stopped
-abbrev pub sessions_after_key : Sessions → List ℕ → Aid → List ℕ → Sessions
-sessions_after_key sessions name aid bytes =
-    with_session sessions name (option_and_then (λ session. after_key session aid bytes) (session_in sessions name))
-
--- the sessions after a turn: where it stops, with the display of the region right after it
-abbrev pub sessions_after_turn : Sessions → List ℕ → Reply → RegionState → Sessions
-sessions_after_turn sessions name (reply.Turn r) region =
-    option_map_or (λ session. with_session sessions name (Some (after_reply session r (display_of region name)))) (session_in sessions name) sessions
-sessions_after_turn sessions name _ region = sessions
-
--- the sessions after an alteration that was done, with the display of the region right after it
-abbrev pub sessions_after_change : Sessions → List ℕ → Change → RegionState → Sessions
-sessions_after_change sessions name change region =
-    option_map_or (λ session. with_session sessions name (Some (after_change session change (display_of region name)))) (session_in sessions name) sessions
-
--- the sessions after an alteration's reply
-abbrev pub sessions_after_alter : Sessions → List ℕ → Change → Reply → RegionState → Sessions
-sessions_after_alter sessions name change (reply.Alter alter.Altered) region = sessions_after_change sessions name change region
-sessions_after_alter sessions name change _ region = sessions
-
--- ---- one event: its answer, and the state after it
+-- one event: its answer, and the state after it
 unfoldable pub EdfHappens : EdfState → EdfEvent → Answer → EdfState → Type 0
-EdfHappens old (edf_event.On name) given new =
-    Owned old (answer.Edf (reply_to_on old name)) (sessions_after (reply_to_on old name) old.sessions name) given new
-EdfHappens old (edf_event.Off name) given new =
-    Owned old (answer.Edf (reply_to_off old name)) (sessions_after (reply_to_off old name) old.sessions name) given new
-EdfHappens old (edf_event.Plain (event.Key name aid bytes)) given new =
-    MatchBool (ends_by_key old name aid)
-    (Passed old (event.Alter name change.Abend) (λ _. answer.ToEdf) (sessions_after_alter old.sessions name change.Abend) given new)
-    (MatchBool (stopped_at old name)
-    (Owned old answer.ToEdf (sessions_after_key old.sessions name aid bytes) given new)
-    (Through old (event.Key name aid bytes) given new))
-EdfHappens old (edf_event.Plain (event.Turn name)) given new =
-    MatchBool (holds old name)
-    (Owned old answer.Held old.sessions given new)
-    (Passed old (event.Turn name) answer.Region (sessions_after_turn old.sessions name) given new)
-EdfHappens old (edf_event.Plain (event.Alter name change)) given new =
-    MatchBool (refuses old name)
-    (Owned old answer.NotStopped old.sessions given new)
-    (Passed old (event.Alter name change) answer.Region (sessions_after_alter old.sessions name change) given new)
-EdfHappens old (edf_event.Plain e) given new = Through old e given new
+EdfHappens old e given new = Done old (door_of old e) given new

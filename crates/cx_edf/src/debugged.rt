@@ -1,9 +1,9 @@
 //! A region under EDF.
-ghost use Rattle.std.specs.Prelude.{◌≡◌, ◌≢◌, ◌≤◌, [], false, true, length, is_some, None, Ok, Err, IfOk, IfErr, IsErrOf, IsOk, IsSomeAnd, MatchOption, OnErr, option_map};
+ghost use Rattle.std.specs.Prelude.{◌≡◌, ◌≢◌, ◌≤◌, [], false, true, length, is_some, None, Some, Ok, Err, IfOk, IfErr, IsErrOf, IsOk, IsSomeAnd, MatchOption, OnErr, option_map};
 ghost use Rattle.std.specs.Option.{option_and_then, option_copied};
 ghost use Rattle.cx_storage.specs.Storage.{byte_at};
 ghost use Rattle.cx_region.specs.Alter.{IsAllowedChange};
-ghost use Rattle.cx_region.specs.Events.{IsAllowed, MayTakeMemory};
+ghost use Rattle.cx_region.specs.Events.{Happens, IsAllowed, MayTakeMemory};
 ghost use Rattle.cx_region.specs.Looking.{Shows};
 ghost use Rattle.cx_region.specs.Sound.{IsSound};
 ghost use Rattle.cx_region.specs.Tables.{task_of, terminal_of};
@@ -11,17 +11,18 @@ ghost use Rattle.cx_region.specs.declared.changes.Change.TheVariants as change;
 ghost use Rattle.cx_region.specs.declared.replies.Event.TheVariants as event;
 ghost use Rattle.cx_region.specs.declared.replies.Reply.TheVariants as reply;
 ghost use Rattle.cx_edf.specs.Answers.{alter_answer, key_answer, turn_answer};
+ghost use Rattle.cx_edf.specs.Erasure.{reply_in};
 ghost use Rattle.cx_edf.specs.Runs.{MayTakeEdf};
 ghost use Rattle.cx_edf.specs.Sessions.{nth_back, shown_of};
 ghost use Rattle.cx_edf.specs.State.{ends_by_key, holds, session_at, stopped_at};
-ghost use Rattle.cx_edf.specs.Steps.{EdfHappens, Passed, Through, sessions_after_alter};
+ghost use Rattle.cx_edf.specs.Steps.{EdfHappens, Passed};
 ghost use Rattle.cx_edf.specs.declared.answers.EdfEvent.TheVariants as edf_event;
 ghost use Rattle.cx_edf.specs.declared.answers.Answer.TheVariants as answer;
 
 use crate::answers::{AlterAnswer, Answer, EdfReply, KeyAnswer, TurnAnswer};
 use crate::modes::View;
 use crate::sessions::Session;
-use crate::{below, table};
+use crate::table;
 use cx_display::Display;
 use cx_ebcdic::{Aid, Name4, Name8};
 use cx_load::{CheckedImage, Loaded};
@@ -73,7 +74,7 @@ impl<S: Store + Drop> Debugged<S> {
     /// `Change::Abend`; without a task it has no effect, and neither has any other key.
     ///
     /// An error comes only where the region's key was refused a growth. Then all is as before.
-    #[tactic(auto, unfolding(crate::specs::Steps::EdfHappens, crate::specs::Runs::MayTakeEdf, crate::specs::Erasure::is_own))]
+    #[tactic(auto, unfolding(crate::specs::Steps::EdfHappens, crate::specs::Steps::door_of, crate::specs::Runs::MayTakeEdf, cx_region::specs::Events::Happens, cx_region::specs::Events::MayTakeMemory))]
     pub fn key(&mut self, name: Name4, aid: Aid, bytes: &[u8]) -> Result<KeyAnswer, AllocError>
         requires { length bytes.now ≤ 1920 }
         ensures happens { IfOk result (λ given. EdfHappens self.old (edf_event.Plain (event.Key name aid bytes.now)) (key_answer given) self.new) }
@@ -90,7 +91,7 @@ impl<S: Store + Drop> Debugged<S> {
             table::key(&mut self.sessions, name, aid, bytes);
             return Ok(KeyAnswer::ToEdf);
         }
-        let reply = below::key(&mut self.region, name, aid, bytes)?;
+        let reply = self.region.key(name, aid, bytes)?;
         Ok(KeyAnswer::Region(reply))
     }
 
@@ -99,18 +100,24 @@ impl<S: Store + Drop> Debugged<S> {
         ensures { result ≡ ends_by_key self.now name aid }
     {
         match aid {
-            Aid::Pf12 => table::is_stopped(&self.sessions, name)
-                && below::has_task(&self.region, name),
+            Aid::Pf12 => self.holds(name),
             _ => false,
         }
     }
 
+    /// Whether the turns of a terminal are held: it is in Stopped, with a live task.
+    fn holds(&self, name: Name4) -> bool
+        ensures { result ≡ holds self.now name }
+    {
+        table::is_stopped(&self.sessions, name) && self.region.task(name).is_some()
+    }
+
     /// Ends the task of a terminal by an abend that no exit takes.
     fn end_task(&mut self, name: Name4)
-        ensures ended { Passed self.old (event.Alter name change.Abend) (λ _. answer.ToEdf) (sessions_after_alter self.old.sessions name change.Abend) answer.ToEdf self.new }
+        ensures ended { Passed self.old (event.Alter name change.Abend) (Some answer.ToEdf) answer.ToEdf self.new }
         ensures sound { IsSound self.new.region }
     {
-        let reply = below::alter(&mut self.region, name, Change::Abend);
+        let reply = self.region.alter(name, Change::Abend);
         table::alter(&mut self.sessions, &self.region, name, Change::Abend, reply);
     }
 
@@ -121,16 +128,16 @@ impl<S: Store + Drop> Debugged<S> {
     ///
     /// It is refused by the first that applies of: no such terminal, not stopped, no task, no command due for `Change::Nop`,
     /// no byte at the address for `Change::Byte` (from 2^24 on there is none). Then all is as before. It takes no memory.
-    #[tactic(auto, unfolding(crate::specs::Steps::EdfHappens))]
+    #[tactic(auto, unfolding(crate::specs::Steps::EdfHappens, crate::specs::Steps::door_of, cx_region::specs::Events::Happens))]
     pub fn alter(&mut self, name: Name4, change: Change) -> AlterAnswer
         requires { IsAllowedChange change }
         ensures happens { EdfHappens self.old (edf_event.Plain (event.Alter name change)) (alter_answer result) self.new }
         ensures sound { IsSound self.new.region }
     {
-        if below::has_terminal(&self.region, name) && !table::is_stopped(&self.sessions, name) {
+        if self.region.screen(name).is_some() && !table::is_stopped(&self.sessions, name) {
             return AlterAnswer::NotStopped;
         }
-        let reply = below::alter(&mut self.region, name, change);
+        let reply = self.region.alter(name, change);
         table::alter(&mut self.sessions, &self.region, name, change, reply);
         AlterAnswer::Region(reply)
     }
@@ -139,7 +146,7 @@ impl<S: Store + Drop> Debugged<S> {
     /// its reply is a stop that the mode takes, the terminal is stopped, with a display of the region as it is then.
     ///
     /// An error comes only where the region's turn was refused a growth. Then all is as before.
-    #[tactic(auto, unfolding(crate::specs::Steps::EdfHappens, crate::specs::Runs::MayTakeEdf, crate::specs::Erasure::is_own))]
+    #[tactic(auto, unfolding(crate::specs::Steps::EdfHappens, crate::specs::Steps::door_of, crate::specs::Runs::MayTakeEdf, cx_region::specs::Events::Happens, cx_region::specs::Events::MayTakeMemory))]
     pub fn turn(&mut self, name: Name4) -> Result<TurnAnswer, AllocError>
         ensures happens { IfOk result (λ given. EdfHappens self.old (edf_event.Plain (event.Turn name)) (turn_answer given) self.new) }
         ensures memory { OnErr result (MayTakeEdf self.old (edf_event.Plain (event.Turn name))) }
@@ -147,10 +154,10 @@ impl<S: Store + Drop> Debugged<S> {
         ensures err { OnErr result (self.new ≡ self.old) }
         ensures sound { IsSound self.new.region }
     {
-        if table::is_stopped(&self.sessions, name) && below::has_task(&self.region, name) {
+        if self.holds(name) {
             return Ok(TurnAnswer::Held);
         }
-        let reply = below::turn(&mut self.region, name)?;
+        let reply = self.region.turn(name)?;
         table::note(&mut self.sessions, &self.region, name, &reply);
         Ok(TurnAnswer::Region(reply))
     }
@@ -159,7 +166,7 @@ impl<S: Store + Drop> Debugged<S> {
     /// Else it is answered NoSuchTerminal or AlreadyOn.
     ///
     /// An error comes only where memory for the session was refused. Then all is as before.
-    #[tactic(auto, unfolding(crate::specs::Steps::EdfHappens, crate::specs::Runs::MayTakeEdf, crate::specs::Erasure::is_own))]
+    #[tactic(auto, unfolding(crate::specs::Steps::EdfHappens, crate::specs::Steps::door_of, crate::specs::Runs::MayTakeEdf))]
     pub fn edf_on(&mut self, name: Name4) -> Result<EdfReply, AllocError>
         ensures happens { IfOk result (λ given. EdfHappens self.old (edf_event.On name) (answer.Edf given) self.new) }
         ensures memory { OnErr result (MayTakeEdf self.old (edf_event.On name)) }
@@ -178,7 +185,7 @@ impl<S: Store + Drop> Debugged<S> {
 
     /// Ends the session of a terminal, in any mode, and drops its displays. Where there is none it is answered
     /// NoSuchTerminal or NotOn. It takes no memory.
-    #[tactic(auto, unfolding(crate::specs::Steps::EdfHappens, crate::specs::Runs::MayTakeEdf, crate::specs::Erasure::is_own))]
+    #[tactic(auto, unfolding(crate::specs::Steps::EdfHappens, crate::specs::Steps::door_of))]
     pub fn edf_off(&mut self, name: Name4) -> EdfReply
         ensures happens { EdfHappens self.old (edf_event.Off name) (answer.Edf result) self.new }
         ensures sound { IsSound self.new.region }
@@ -194,10 +201,11 @@ impl<S: Store + Drop> Debugged<S> {
     }
 
     /// Does an event of the region that EDF never takes: a definition, or the clock.
-    #[tactic(auto, unfolding(crate::specs::Steps::EdfHappens))]
     pub(crate) fn pass(&mut self, event: &Event) -> Result<Answer, AllocError>
         requires { IsAllowed event.now }
-        ensures passed { IfOk result (λ given. Through self.old event.now given self.new) }
+        ensures happens { IfOk result (λ given. Happens self.old.region event.now (reply_in given) self.new.region) }
+        ensures answers { IfOk result (λ given. given ≡ answer.Region (reply_in given)) }
+        ensures sessions { self.new.sessions ≡ self.old.sessions }
         ensures memory { OnErr result (MayTakeMemory self.old.region event.now) }
         ensures err { OnErr result (self.new ≡ self.old) }
         ensures sound { IsSound self.new.region }
@@ -209,7 +217,7 @@ impl<S: Store + Drop> Debugged<S> {
     /// Loads a program and defines it by its name, as the region does.
     ///
     /// The faults are the region's, and so is when each comes. Then all is as before.
-    #[tactic(auto, unfolding(crate::specs::Steps::EdfHappens))]
+    #[tactic(auto, unfolding(crate::specs::Steps::EdfHappens, crate::specs::Steps::door_of, cx_region::specs::Events::Happens, cx_region::specs::Events::MayTakeMemory))]
     pub fn define_program(
         &mut self,
         name: Name8,
@@ -222,13 +230,13 @@ impl<S: Store + Drop> Debugged<S> {
         ensures err { OnErr result (self.new ≡ self.old) }
         ensures sound { IsSound self.new.region }
     {
-        below::program(&mut self.region, name, image)
+        self.region.define_program(name, image)
     }
 
     /// Defines a transaction by its name and that of its program, as the region does.
     ///
     /// The faults are the region's, and so is when each comes. Then all is as before.
-    #[tactic(auto, unfolding(crate::specs::Steps::EdfHappens))]
+    #[tactic(auto, unfolding(crate::specs::Steps::EdfHappens, crate::specs::Steps::door_of, cx_region::specs::Events::Happens, cx_region::specs::Events::MayTakeMemory, cx_region::specs::Defining::DefinesTransaction, cx_region::specs::Defining::transaction_fault))]
     pub fn define_transaction(&mut self, name: Name4, program: Name8) -> Result<(), DefineFault>
         ensures defined { IfOk result (λ done. EdfHappens self.old (edf_event.Plain (event.Transaction name program)) (answer.Region (reply.Transaction (Ok done))) self.new) }
         ensures refused { IfErr result (λ fault. fault ≢ DefineFault.Memory
@@ -237,13 +245,13 @@ impl<S: Store + Drop> Debugged<S> {
         ensures err { OnErr result (self.new ≡ self.old) }
         ensures sound { IsSound self.new.region }
     {
-        below::transaction(&mut self.region, name, program)
+        self.region.define_transaction(name, program)
     }
 
     /// Defines a terminal by its name, as the region does: EDF is Off there.
     ///
     /// The faults are the region's, and so is when each comes. Then all is as before.
-    #[tactic(auto, unfolding(crate::specs::Steps::EdfHappens))]
+    #[tactic(auto, unfolding(crate::specs::Steps::EdfHappens, crate::specs::Steps::door_of, cx_region::specs::Events::Happens, cx_region::specs::Events::MayTakeMemory, cx_region::specs::Defining::DefinesTerminal, cx_region::specs::Defining::terminal_fault))]
     pub fn define_terminal(&mut self, name: Name4) -> Result<(), DefineFault>
         ensures defined { IfOk result (λ done. EdfHappens self.old (edf_event.Plain (event.Terminal name)) (answer.Region (reply.Terminal (Ok done))) self.new) }
         ensures refused { IfErr result (λ fault. fault ≢ DefineFault.Memory
@@ -252,19 +260,19 @@ impl<S: Store + Drop> Debugged<S> {
         ensures err { OnErr result (self.new ≡ self.old) }
         ensures sound { IsSound self.new.region }
     {
-        below::terminal(&mut self.region, name)
+        self.region.define_terminal(name)
     }
 
     /// Sets the clock, for the tasks attached later: the time as hhmmss (at most 999,999) and the date as yyddd (at most
     /// 99,999). It takes no memory.
-    #[tactic(auto, unfolding(crate::specs::Steps::EdfHappens))]
+    #[tactic(auto, unfolding(crate::specs::Steps::EdfHappens, crate::specs::Steps::door_of, cx_region::specs::Events::Happens))]
     pub fn set_clock(&mut self, time: u32, date: u32)
         requires time { time ≤ 999999 }
         requires date { date ≤ 99999 }
         ensures happens { EdfHappens self.old (edf_event.Plain (event.Clock time date)) (answer.Region reply.Clock) self.new }
         ensures sound { IsSound self.new.region }
     {
-        below::clock(&mut self.region, time, date);
+        self.region.set_clock(time, date);
     }
 
     /// The screen of a terminal; None where there is no such terminal. It takes no memory.

@@ -1,5 +1,5 @@
 //! What holds of every event under EDF, and of every run of them.
-ghost use Rattle.cx_edf.specs.Laws.Edf.{EdfEventsDecide, EdfRunsDecide, ErasedEvents, ErasedEventsLeaveTheRegion, EventsAreSteps, OffIsTheRegion, OtherSessionsStay, OwnEventsHaveOwnAnswers, PlainRunsAgree, SessionsAreSet, StopsAreMissedUnderSuppression, ToldAreThoseGiven, TracesAreRuns};
+ghost use Rattle.cx_edf.specs.Laws.Edf.{EdfEventsDecide, EdfRunsDecide, ErasedEvents, ErasedEventsLeaveTheRegion, EventsAreSteps, OffIsTheRegion, OtherEventsArePassed, OtherSessionsStay, OwnEventsHaveOwnAnswers, PlainRunsAgree, SessionsAreSet, StopsAreMissedUnderSuppression, ToldAreThoseGiven, TracesAreRuns};
 ghost use Rattle.cx_edf.specs.Laws.Memory.{EdfSoundIsKept, RefusedEdfEventsAreNone, StoppedEdfRunsGoOn};
 ghost use Rattle.cx_edf.specs.Laws.Outcomes.{EdfEventsHaveOutcomes};
 
@@ -37,12 +37,13 @@ pub fn a_plain_run_agrees()
 
 /// Nothing is left of an event for that run exactly where its answer is EDF's own (EDF ON and EDF OFF, a key in Stopped, a
 /// turn that is held, an alteration that isn't in Stopped) and it is no PF12 that ends a task, or where it is a refused
-/// alteration. Such an event leaves the region as it was.
-#[tactic(auto, using(crate::proofs::LawLemmas::own_answers, crate::proofs::LawLemmas::erased_events, crate::proofs::LawLemmas::erased_leave))]
+/// alteration. Such an event leaves the region as it was. An event of the region that isn't EDF's own is passed as it is.
+#[tactic(auto, using(crate::proofs::LawLemmas::own_answers, crate::proofs::LawLemmas::erased_events, crate::proofs::LawLemmas::erased_leave, crate::proofs::LawLemmas::others_are_passed))]
 pub fn what_is_erased_changes_nothing()
     ensures answers { OwnEventsHaveOwnAnswers }
     ensures erased { ErasedEvents }
     ensures region { ErasedEventsLeaveTheRegion }
+    ensures passed { OtherEventsArePassed }
 {}
 
 /// Of the stops of turns, only those are not taken that a terminal in Suppressed meets and that its stop conditions don't

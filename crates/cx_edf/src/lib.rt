@@ -2,7 +2,6 @@
 #![tactic(auto)]
 
 mod answers;
-mod below;
 mod debugged;
 pub mod edf_laws;
 mod modes;

@@ -49,7 +49,6 @@ impl<S: Store + Drop> Debugged<S> {
     ///
     /// An error comes only where a growth was refused, no refusal is due, and the event may take memory. Then all is as
     /// before.
-    #[tactic(auto, unfolding(crate::specs::Steps::EdfHappens, crate::specs::Runs::MayTakeEdf, crate::specs::Erasure::is_own))]
     pub fn happen(&mut self, event: &EdfEvent) -> Result<Answer, AllocError>
         requires { IsAllowedEdf event.now }
         ensures done { IsDoneEdf self.old event.now result self.new }
@@ -69,7 +68,7 @@ impl<S: Store + Drop> Debugged<S> {
     }
 
     /// Does one event of the region.
-    #[tactic(auto, unfolding(crate::specs::Steps::EdfHappens, crate::specs::Runs::MayTakeEdf, crate::specs::Erasure::is_own))]
+    #[tactic(auto, unfolding(crate::specs::Steps::EdfHappens, crate::specs::Steps::door_of, crate::specs::Runs::MayTakeEdf))]
     fn plain(&mut self, event: &Event) -> Result<Answer, AllocError>
         requires { IsAllowed event.now }
         ensures happens { IfOk result (λ given. EdfHappens self.old (edf_event.Plain event.now) given self.new) }

@@ -6,8 +6,9 @@ ghost use Rattle.std.specs.Map.{keys_of};
 ghost use Rattle.indexmap.specs.IndexMap.{insert_entry};
 ghost use Rattle.cx_display.specs.Displays.{display_of};
 ghost use Rattle.cx_region.specs.Names.{is_name4};
-ghost use Rattle.cx_edf.specs.Sessions.{SessionState, after_key, fresh_session, is_stopped, is_stopped_in, session_in, with_session};
-ghost use Rattle.cx_edf.specs.Steps.{sessions_after_alter, sessions_after_change, sessions_after_key, sessions_after_turn};
+ghost use Rattle.cx_edf.specs.Sessions.{SessionState, after_change, after_key, fresh_session, is_stopped, is_stopped_in, session_in, with_session};
+ghost use Rattle.cx_edf.specs.Steps.{changed, sessions_after};
+ghost use Rattle.cx_region.specs.declared.replies.Event.TheVariants as event;
 ghost use Rattle.cx_region.specs.declared.replies.Reply.TheVariants as reply;
 
 use crate::sessions::Session;
@@ -46,7 +47,7 @@ pub(crate) fn end(sessions: &mut IndexMap<Name4, Session>, name: Name4)
 fn press(sessions: &mut IndexMap<Name4, Session>, name: Name4, aid: Aid, bytes: &[u8])
     requires { (session : SessionState) → session_in sessions.old.entries name ≡ Some session → IsTrue (is_stopped session.mode) }
     ensures { aid ≢ Aid.Pf3 → (session : SessionState) → session_in sessions.old.entries name ≡ Some session
-        → sessions.new.entries ≡ sessions_after_key sessions.old.entries name aid bytes.now }
+        → sessions.new.entries ≡ changed sessions.old.entries name (λ session. after_key session aid bytes.now) }
 {
     let Some(session) = sessions.get_mut(&name) else {
         return;
@@ -65,10 +66,10 @@ pub(crate) fn is_stopped(sessions: &IndexMap<Name4, Session>, name: Name4) -> bo
 }
 
 /// A key of a terminal in Stopped.
-#[tactic(auto, unfolding(crate::specs::Sessions::after_key))]
+#[tactic(auto, using(crate::proofs::TableLemmas::ended_there), unfolding(crate::specs::Sessions::after_key))]
 pub(crate) fn key(sessions: &mut IndexMap<Name4, Session>, name: Name4, aid: Aid, bytes: &[u8])
     requires { IsTrue (is_stopped_in sessions.old.entries name) }
-    ensures { sessions.new.entries ≡ sessions_after_key sessions.old.entries name aid bytes.now }
+    ensures { sessions.new.entries ≡ changed sessions.old.entries name (λ session. after_key session aid bytes.now) }
 {
     match aid {
         Aid::Pf3 => end(sessions, name),
@@ -83,7 +84,7 @@ pub(crate) fn note<S: Store + Drop>(
     name: Name4,
     turn: &TurnReply,
 )
-    ensures { sessions.new.entries ≡ sessions_after_turn sessions.old.entries name (reply.Turn turn.now) region.now }
+    ensures { sessions.new.entries ≡ sessions_after sessions.old.entries (event.Turn name) (reply.Turn turn.now) region.now }
 {
     let Some(session) = sessions.get_mut(&name) else {
         return;
@@ -100,7 +101,7 @@ pub(crate) fn alter<S: Store + Drop>(
     change: Change,
     given: AlterReply,
 )
-    ensures { sessions.new.entries ≡ sessions_after_alter sessions.old.entries name change (reply.Alter given) region.now }
+    ensures { sessions.new.entries ≡ sessions_after sessions.old.entries (event.Alter name change) (reply.Alter given) region.now }
 {
     match given {
         AlterReply::Altered => altered(sessions, region, name, change),
@@ -115,7 +116,7 @@ fn altered<S: Store + Drop>(
     name: Name4,
     change: Change,
 )
-    ensures { sessions.new.entries ≡ sessions_after_change sessions.old.entries name change region.now }
+    ensures { sessions.new.entries ≡ changed sessions.old.entries name (λ session. Some (after_change session change (display_of region.now name))) }
 {
     let Some(session) = sessions.get_mut(&name) else {
         return;

@@ -1,6 +1,6 @@
 -- Watching changes nothing.
 use Rattle.std.proofs.Common.{◌≡◌, ℕ, zero, suc, Bool, true, false, List, [], ◌∷◌, ◌++◌, map, take, Option, Some, None, refl, sym, ◌∙◌, ap, subst}
-use Rattle.std.specs.Prelude.{if◌then◌else◌}
+use Rattle.std.specs.Prelude.{if◌then◌else◌, is_some, not}
 use Rattle.std.specs.List.{AllByRecursion}
 use Rattle.std.proofs.lemmas.List.{map-append}
 use Rattle.cx_code.specs.declared.image.Image.{Image}
@@ -13,22 +13,25 @@ use Rattle.cx_region.specs.declared.replies.Event.TheVariants as event
 use Rattle.cx_region.specs.declared.replies.Reply.{Reply}
 use Rattle.cx_region.specs.declared.replies.Reply.TheVariants as reply
 use Rattle.cx_region.specs.State.{RegionState}
+use Rattle.cx_region.specs.Tables.{terminal_of}
 use Rattle.cx_region.specs.Events.{Run}
 use Rattle.cx_region_laws.specs.Laws.Regions.{RunsDecide}
 use Rattle.cx_edf.specs.declared.answers.Answer.{Answer}
 use Rattle.cx_edf.specs.declared.answers.Answer.TheVariants as answer
 use Rattle.cx_edf.specs.declared.answers.EdfEvent.{EdfEvent}
 use Rattle.cx_edf.specs.declared.answers.EdfEvent.TheVariants as edf_event
-use Rattle.cx_edf.specs.State.{EdfState}
-use Rattle.cx_edf.specs.Erasure.{erased, is_own, is_refused, left_of, told, told_of}
+use Rattle.cx_edf.specs.Sessions.{Sessions}
+use Rattle.cx_edf.specs.State.{EdfState, session_at}
+use Rattle.cx_edf.specs.Steps.{Door, EdfHappens, Keeps, door_of}
+use Rattle.cx_edf.specs.Erasure.{erased, is_own, is_refused, left_in, left_of, told}
 use Rattle.cx_edf.specs.Runs.{EdfRun, Trace, last_state}
-use Rattle.cx_edf.specs.Laws.Edf.{OffIsTheRegion, OwnEventsHaveOwnAnswers, ends_task, is_alteration, is_edfs}
+use Rattle.cx_edf.specs.Laws.Edf.{ErasedEvents, OffIsTheRegion, OtherEventsArePassed, OwnEventsHaveOwnAnswers, ends_task, is_alteration}
 use Rattle.cx_actions.specs.Effects.{ByFault, Checks, Finds, Performs}
 use Rattle.cx_actions.specs.declared.actions.Action.TheVariants as action
 use Rattle.cx_script.specs.Laws.Events.{program_event}
 use Rattle.cx_headline.specs.Laws.Runs.{OfEachRun, state_behind}
 use Rattle.cx_headline.specs.Laws.Watching.{AltersNothing, IsAsUnwatched, ShowingChangesNothing, answered_in, answered_of, left_behind, told_behind}
-use Rattle.cx_headline.proofs.RowLemmas.{asked_none}
+use Rattle.cx_headline.proofs.RowLemmas.{left_none}
 
 abbrev events_in : List (Event × Reply) → List Event
 events_in answered = map (λ (p : Event × Reply). p.0) answered
@@ -37,51 +40,64 @@ abbrev replies_in : List (Event × Reply) → List Reply
 replies_in answered = map (λ (p : Event × Reply). p.1) answered
 
 -- ---- of one event
-own_left : (old : EdfState) (e : EdfEvent) (given : Answer) → is_own old e ≡ true → ends_task old e ≡ false → (left_of old e given ≡ []) × (told_of old e given ≡ [])
-unfolding left_of told_of
-own_left old e given own ends = rw (own, asked_none old e ends) (refl, refl)
-
-on_own : (old : EdfState) (name : List ℕ) → (is_own old (edf_event.On name) ≡ true) × (is_own old (edf_event.Off name) ≡ true)
-unfolding is_own
-on_own old name = (refl, refl)
-
 region_left : (e : Event) (r : Reply) → (r ≡ reply.Alter alter.Altered → ⊥)
-    → ((if is_refused (edf_event.Plain e) (answer.Region r) then [] else e ∷ []) ≡ events_in (answered_of (edf_event.Plain e) (answer.Region r)))
-    × ((if is_refused (edf_event.Plain e) (answer.Region r) then [] else r ∷ []) ≡ replies_in (answered_of (edf_event.Plain e) (answer.Region r)))
+    → (if is_refused e r then [] else (e, r) ∷ []) ≡ answered_of (edf_event.Plain e) (answer.Region r)
 region_left (event.Alter name c) (reply.Alter alter.Altered) never = absurd (never refl)
-region_left (event.Alter name c) (reply.Alter _) never = (refl, refl)
-region_left (event.Alter name c) _ never = (refl, refl)
-region_left _ r never = (refl, refl)
+region_left (event.Alter name c) (reply.Alter _) never = refl
+region_left (event.Alter name c) _ never = refl
+region_left _ r never = refl
 
-left_answered : (old : EdfState) (e : EdfEvent) (given : Answer) → is_own old e ≡ is_edfs given → ends_task old e ≡ false → (given ≡ answer.Region (reply.Alter alter.Altered) → ⊥)
-    → (left_of old e given ≡ events_in (answered_of e given)) × (told_of old e given ≡ replies_in (answered_of e given))
-unfolding left_of told_of
-left_answered old (edf_event.On name) given own ends never = own_left old (edf_event.On name) given (on_own old name).0 ends
-left_answered old (edf_event.Off name) given own ends never = own_left old (edf_event.Off name) given (on_own old name).1 ends
-left_answered old (edf_event.Plain e) (answer.Region r) own ends never = rw own (region_left e r (λ is. never (ap (λ x. answer.Region x) is)))
-left_answered old (edf_event.Plain e) answer.ToEdf own ends never = own_left old (edf_event.Plain e) answer.ToEdf own ends
-left_answered old (edf_event.Plain e) answer.Held own ends never = own_left old (edf_event.Plain e) answer.Held own ends
-left_answered old (edf_event.Plain e) answer.NotStopped own ends never = own_left old (edf_event.Plain e) answer.NotStopped own ends
-left_answered old (edf_event.Plain e) (answer.Edf r) own ends never = own_left old (edf_event.Plain e) (answer.Edf r) own ends
+left_passed : OtherEventsArePassed → (old : EdfState) (e : Event) (r : Reply) → is_own old (edf_event.Plain e) ≡ false → (r ≡ reply.Alter alter.Altered → ⊥)
+    → left_of old (edf_event.Plain e) (answer.Region r) ≡ answered_of (edf_event.Plain e) (answer.Region r)
+unfolding left_of
+left_passed law old e r own never = ap (λ (door : Door). left_in door (answer.Region r)) (law old e own) ∙ region_left e r never
+
+-- nothing is left of EDF ON and EDF OFF
+left_neither : (b c : Bool) (mine yours theirs : Answer) (one two three : Sessions) (given : Answer) → left_in (if b then Keeps mine one else if c then Keeps yours two else Keeps theirs three) given ≡ []
+left_neither true c mine yours theirs one two three given = refl
+left_neither false true mine yours theirs one two three given = refl
+left_neither false false mine yours theirs one two three given = refl
+
+left_switched : (old : EdfState) (name : List ℕ) (given : Answer) → (left_of old (edf_event.On name) given ≡ []) × (left_of old (edf_event.Off name) given ≡ [])
+unfolding left_of door_of
+left_switched old name given = (
+  left_neither (not (is_some (terminal_of old.region name))) (is_some (session_at old name)) _ _ _ _ _ _ given,
+  left_neither (not (is_some (terminal_of old.region name))) (is_some (session_at old name)) _ _ _ _ _ _ given,
+)
+
+left_answered : OwnEventsHaveOwnAnswers → ErasedEvents → OtherEventsArePassed → (old : EdfState) (e : EdfEvent) (given : Answer) (new : EdfState) → EdfHappens old e given new → ends_task old e ≡ false
+    → (given ≡ answer.Region (reply.Alter alter.Altered) → ⊥) → left_of old e given ≡ answered_of e given
+left_answered answers erases law old (edf_event.On name) given new h ends never = (left_switched old name given).0
+left_answered answers erases law old (edf_event.Off name) given new h ends never = (left_switched old name given).1
+left_answered answers erases law old (edf_event.Plain e) (answer.Region r) new h ends never =
+    left_passed law old e r (answers old (edf_event.Plain e) (answer.Region r) new h) (λ is. never (ap (λ x. answer.Region x) is))
+left_answered answers erases law old (edf_event.Plain e) answer.ToEdf new h ends never =
+    left_none answers erases old (edf_event.Plain e) answer.ToEdf new h (answers old (edf_event.Plain e) answer.ToEdf new h) ends
+left_answered answers erases law old (edf_event.Plain e) answer.Held new h ends never =
+    left_none answers erases old (edf_event.Plain e) answer.Held new h (answers old (edf_event.Plain e) answer.Held new h) ends
+left_answered answers erases law old (edf_event.Plain e) answer.NotStopped new h ends never =
+    left_none answers erases old (edf_event.Plain e) answer.NotStopped new h (answers old (edf_event.Plain e) answer.NotStopped new h) ends
+left_answered answers erases law old (edf_event.Plain e) (answer.Edf r) new h ends never =
+    left_none answers erases old (edf_event.Plain e) (answer.Edf r) new h (answers old (edf_event.Plain e) (answer.Edf r) new h) ends
 
 -- ---- of a trace's front
-left_of_front : OwnEventsHaveOwnAnswers → (old : EdfState) (events : List EdfEvent) (answers : List Answer) (states : List EdfState) (n : ℕ) → Trace old events answers states
+left_of_front : OwnEventsHaveOwnAnswers → ErasedEvents → OtherEventsArePassed → (old : EdfState) (events : List EdfEvent) (answers : List Answer) (states : List EdfState) (n : ℕ) → Trace old events answers states
     → AltersNothing old events answers states
     → (left_behind old events answers states n ≡ events_in (answered_in (take n events) (take n answers)))
     × (told_behind old events answers states n ≡ replies_in (answered_in (take n events) (take n answers)))
 unfolding Trace erased told answered_in last_state
-left_of_front law old es gs ss zero trace still = (refl, refl)
-left_of_front law old [] [] [] (suc n) trace still = (refl, refl)
-left_of_front law old [] [] (s ∷ ss) (suc n) trace still = absurd trace
-left_of_front law old [] (g ∷ gs) ss (suc n) trace still = absurd trace
-left_of_front law old (e ∷ es) [] ss (suc n) trace still = absurd trace
-left_of_front law old (e ∷ es) (g ∷ gs) [] (suc n) trace still = absurd trace
-left_of_front law old (e ∷ es) (g ∷ gs) (s ∷ ss) (suc n) trace still =
+left_of_front answers_own erases law old es gs ss zero trace still = (refl, refl)
+left_of_front answers_own erases law old [] [] [] (suc n) trace still = (refl, refl)
+left_of_front answers_own erases law old [] [] (s ∷ ss) (suc n) trace still = absurd trace
+left_of_front answers_own erases law old [] (g ∷ gs) ss (suc n) trace still = absurd trace
+left_of_front answers_own erases law old (e ∷ es) [] ss (suc n) trace still = absurd trace
+left_of_front answers_own erases law old (e ∷ es) (g ∷ gs) [] (suc n) trace still = absurd trace
+left_of_front answers_own erases law old (e ∷ es) (g ∷ gs) (s ∷ ss) (suc n) trace still =
     let here = still zero e refl in
-    let one = left_answered old e g (law old e g s trace.0) here.0 (λ is. here.1 (ap Some is)) in
-    let rest = left_of_front law s es gs ss n trace.1 (λ m x is. still (suc m) x is) in
+    let one : left_of old e g ≡ answered_of e g = left_answered answers_own erases law old e g s trace.0 here.0 (λ is. here.1 (ap Some is)) in
+    let rest = left_of_front answers_own erases law s es gs ss n trace.1 (λ m x is. still (suc m) x is) in
     let more = answered_in (take n es) (take n gs) in
-    ((λ i. one.0 i ++ rest.0 i) ∙ sym (map-append (λ (p : Event × Reply). p.0) (answered_of e g) more), (λ i. one.1 i ++ rest.1 i) ∙ sym (map-append (λ (p : Event × Reply). p.1) (answered_of e g) more))
+    ((λ i. events_in (one i) ++ rest.0 i) ∙ sym (map-append (λ (p : Event × Reply). p.0) (answered_of e g) more), (λ i. replies_in (one i) ++ rest.1 i) ∙ sym (map-append (λ (p : Event × Reply). p.1) (answered_of e g) more))
 
 -- ---- with EDF Off
 one_more : (b : Bool) (e : Event) (r : Reply) (rest : List (Event × Reply)) → is_alteration e ≡ b → AllByRecursion (λ x. is_alteration x ≡ false) (events_in rest)
@@ -106,13 +122,13 @@ off_same decide law old left replies region all plain others after run =
     (off.2 ∙ ap (map (λ r. answer.Region r)) same.0, same.1)
 
 -- ---- the same states
-pub same_states : RunsDecide → OwnEventsHaveOwnAnswers → OffIsTheRegion → OfEachRun IsAsUnwatched
-same_states decide own off old events answers new run =
+pub same_states : RunsDecide → OwnEventsHaveOwnAnswers → ErasedEvents → OtherEventsArePassed → OffIsTheRegion → OfEachRun IsAsUnwatched
+same_states decide own erased_law law off old events answers new run =
     record {
       plain = run.left_so_far;
       only = λ n replies after h. decide old.region (left_behind old events answers run.states n) replies (told_behind old events answers run.states n) after (state_behind old run.states n).region h (run.left_so_far n);
       unaltered = λ still n.
-          let left = left_of_front own old events answers run.states n run.trace still in
+          let left = left_of_front own erased_law law old events answers run.states n run.trace still in
           let all = subst (λ (es : List Event). AllByRecursion (λ e. is_alteration e ≡ false) es) (sym left.0) (no_alterations (take n events) (take n answers)) in
           record {
             events_left = left.0;

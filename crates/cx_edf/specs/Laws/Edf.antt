@@ -1,5 +1,5 @@
 -- What follows from the definitions of events and runs under EDF.
-use Rattle.std.specs.Prelude.{◌≡◌, ℕ, Bool, true, false, not, ◌&&◌, ◌||◌, ◌==◌, List, [], ◌∷◌, ◌++◌, length, map, Option, Some, if◌then◌else◌}
+use Rattle.std.specs.Prelude.{◌≡◌, ℕ, Bool, true, false, not, ◌&&◌, ◌||◌, ◌==◌, List, [], ◌∷◌, ◌++◌, length, map, Option, None, Some, if◌then◌else◌}
 use Rattle.std.specs.List.{AllByRecursion}
 use Rattle.cx_region.specs.State.{RegionState}
 use Rattle.cx_region.specs.Names.{is_name4}
@@ -18,8 +18,8 @@ use Rattle.cx_edf.specs.declared.answers.Answer.{Answer}
 use Rattle.cx_edf.specs.declared.answers.Answer.TheVariants as answer
 use Rattle.cx_edf.specs.Sessions.{SessionState, Sessions, session_in, stop_of, takes_in, with_session}
 use Rattle.cx_edf.specs.State.{EdfState, ends_by_key, session_at}
-use Rattle.cx_edf.specs.Steps.{EdfHappens}
-use Rattle.cx_edf.specs.Erasure.{erased, is_own, is_refused, left_of, plain_reply, told}
+use Rattle.cx_edf.specs.Steps.{EdfHappens, Passes, door_of}
+use Rattle.cx_edf.specs.Erasure.{erased, is_own, is_refused, left_of, reply_in, told}
 use Rattle.cx_edf.specs.Runs.{EdfRun, Trace, last_state}
 
 -- ---- single events are a run
@@ -57,10 +57,24 @@ abbrev pub ends_task : EdfState → EdfEvent → Bool
 ends_task old (edf_event.Plain (event.Key name aid bytes)) = ends_by_key old name aid
 ends_task old e = false
 
+-- whether an answer is EDF's own
+abbrev pub is_edfs : Answer → Bool
+is_edfs (answer.Region r) = false
+is_edfs answer.ToEdf = true
+is_edfs answer.Held = true
+is_edfs answer.NotStopped = true
+is_edfs (answer.Edf r) = true
+
+-- an alteration that the region refused
+abbrev pub is_refusal : EdfEvent → Answer → Bool
+is_refusal (edf_event.Plain e) (answer.Region r) = is_refused e r
+is_refusal e given = false
+
 -- The replies given under EDF: without EDF's own answers and those of refused alterations, and with Altered for a PF12 that
 -- ends a task.
 abbrev pub given_by : EdfState → EdfEvent → Answer → List Reply
-given_by old e given = if ends_task old e then reply.Alter alter.Altered ∷ [] else if is_refused e given then [] else plain_reply given
+given_by old e given =
+    if ends_task old e then reply.Alter alter.Altered ∷ [] else if is_edfs given || is_refusal e given then [] else reply_in given ∷ []
 
 unfoldable pub given_in : EdfState → List EdfEvent → List Answer → List EdfState → List Reply
 given_in old (e ∷ events) (given ∷ answers) (new ∷ states) = given_by old e given ++ given_in new events answers states
@@ -71,14 +85,6 @@ abbrev pub ToldAreThoseGiven : Type 0
 ToldAreThoseGiven = (old : EdfState) (events : List EdfEvent) (answers : List Answer) (new : EdfState) (run : EdfRun old events answers new)
     → told old events answers run.states ≡ given_in old events answers run.states
 
--- whether an answer is EDF's own
-abbrev pub is_edfs : Answer → Bool
-is_edfs (answer.Region r) = false
-is_edfs answer.ToEdf = true
-is_edfs answer.Held = true
-is_edfs answer.NotStopped = true
-is_edfs (answer.Edf r) = true
-
 -- an event is EDF's own exactly where its answer is
 abbrev pub OwnEventsHaveOwnAnswers : Type 0
 OwnEventsHaveOwnAnswers = (old : EdfState) (e : EdfEvent) (given : Answer) (new : EdfState) → EdfHappens old e given new → is_own old e ≡ is_edfs given
@@ -87,7 +93,7 @@ OwnEventsHaveOwnAnswers = (old : EdfState) (e : EdfEvent) (given : Answer) (new 
 -- alteration.
 abbrev pub ErasedEvents : Type 0
 ErasedEvents = (old : EdfState) (e : EdfEvent) (given : Answer) (new : EdfState) → EdfHappens old e given new
-    → (length (left_of old e given) == 0) ≡ ((is_edfs given && not (ends_task old e)) || is_refused e given)
+    → (length (left_of old e given) == 0) ≡ ((is_edfs given && not (ends_task old e)) || is_refusal e given)
 
 -- and then the region stays
 abbrev pub ErasedEventsLeaveTheRegion : Type 0
@@ -99,6 +105,11 @@ abbrev pub StopsAreMissedUnderSuppression : Type 0
 StopsAreMissedUnderSuppression = (old : EdfState) (name : List ℕ) (r : TurnReply) (new : EdfState) (session : SessionState) (stop : Kind)
     → EdfHappens old (edf_event.Plain (event.Turn name)) (answer.Region (reply.Turn r)) new → session_at old name ≡ Some session → stop_of r ≡ Some stop
     → takes_in session.mode session.stops stop ≡ false → session.mode ≡ mode.Suppressed
+
+-- ---- what is passed
+-- an event of the region that isn't EDF's own is passed as it is, and answered by the region's reply
+abbrev pub OtherEventsArePassed : Type 0
+OtherEventsArePassed = (old : EdfState) (e : Event) → is_own old (edf_event.Plain e) ≡ false → door_of old (edf_event.Plain e) ≡ Passes e None
 
 -- ---- Off everywhere
 -- an operator alters through EDF alone
