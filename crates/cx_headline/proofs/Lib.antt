@@ -4,3 +4,6 @@ mod WatchLemmas
 mod EntryLemmas
 mod SourceLemmas
 mod DueLemmas
+mod OptionLemmas
+mod LoadLemmas
+mod PointerLemmas

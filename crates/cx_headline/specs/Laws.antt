@@ -5,3 +5,4 @@ pub mod Sources
 pub mod Watching
 pub mod Entries
 pub mod Due
+pub mod Pointers

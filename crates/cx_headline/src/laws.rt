@@ -4,6 +4,7 @@
 ghost use Rattle.cx_asm_laws.specs.Laws.Back.{ComesBack};
 ghost use Rattle.cx_headline.specs.Laws.Due.{AlwaysKeepsWhatIsDue, EventsKeepWhatIsDue, KeepsWhatIsDue, RunsKeepWhatIsDue, StillKeepsWhatIsDue};
 ghost use Rattle.cx_headline.specs.Laws.Entries.{EntriesHoldTheirBases, TasksBeginSo};
+ghost use Rattle.cx_headline.specs.Laws.Pointers.{PointersAreGiven};
 ghost use Rattle.cx_headline.specs.Laws.Rows.{EachIsItsRow};
 ghost use Rattle.cx_headline.specs.Laws.Runs.{OfEachRun, OfEachScript};
 ghost use Rattle.cx_headline.specs.Laws.Sources.{BlocksComeBack};
@@ -67,4 +68,23 @@ pub fn what_is_due_is_kept()
     cx_task_laws::laws::half_turns_leave_callers();
     cx_region_laws::laws::an_alteration_keeps_to_its_task();
     cx_script::laws::a_script_runs_its_events();
+}
+
+/// A pointer that a command gives comes back to its program, from the EXEC statement on: where the statement's instructions have
+/// come to the command, and a half-turn has performed it, the program goes on at the pointer's load, and that load gives the
+/// register named in SET or CWA the very pointer that the command wrote, and leaves all else. So it is of each EXEC statement
+/// of an accepted translation that is loaded, if the register is an operand by itself; the load's four bytes are as loaded
+/// still; DFHEITP's base register held its base at the statement, and is none of 1, 14 and 15, which the call sets; and no
+/// output behind the pointer, the EIB or RESP's word has one of the pointer's four addresses.
+pub fn a_pointer_comes_back()
+    ensures { PointersAreGiven }
+{
+    cx_command::laws::arguments_are_found_by_name();
+    cx_arrival::laws::made_are_counted();
+    cx_command_arrival::laws::instructions_stand_one_behind_the_other();
+    cx_command_arrival::laws::calls_are_instructions();
+    cx_command_arrival::laws::calls_are_made();
+    cx_command_arrival::laws::a_statement_is_one();
+    cx_command_arrival::laws::pointers_come_back();
+    cx_task_laws::laws::a_pointer_stays();
 }

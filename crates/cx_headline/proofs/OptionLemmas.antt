@@ -1,0 +1,244 @@
+-- What a command reads for an option is the argument that was handed over for it, and one option at most has a pointer.
+use Rattle.std.proofs.Common.{◌≡◌, ℕ, Bool, true, false, cond, not, ◌&&◌, ◌||◌, List, [], ◌∷◌, ◌++◌, length, Option, Some, None, refl, sym, subst, ◌∙◌, ap, bit_or}
+use Rattle.std.specs.Prelude.{fold, is_some, slice_get}
+use Rattle.std.specs.List.{AllByRecursion, filter, list_all, list_any}
+use Rattle.std.specs.Str.{bytes_eq}
+use Rattle.std.proofs.lemmas.Bool.{and_parts}
+use Rattle.std.proofs.lemmas.Slice.Eq.{bytes_eq-Decides}
+use Rattle.cx_command.specs.declared.commands.Command.{Command}
+use Rattle.cx_command.specs.declared.options.CommandOption.{CommandOption}
+use Rattle.cx_command.specs.declared.options.Mark.{Mark}
+use Rattle.cx_command.specs.declared.options.Mark.TheVariants as mark
+use Rattle.cx_command.specs.Arguments.{arguments_in, is_argument, takes_argument}
+use Rattle.cx_command.specs.Commands.{row_of}
+use Rattle.cx_command.specs.Facts.Commands.{each_command}
+use Rattle.cx_command.specs.Legal.{has_bit, lists_conditions}
+use Rattle.cx_command.specs.Options.{option_name}
+use Rattle.cx_translate.specs.declared.due.Due.{Due}
+use Rattle.cx_translate.specs.declared.due.Due.TheVariants.{Nothing, Name, Value, Label}
+use Rattle.cx_translate.specs.declared.faults.TransFault.{TransFault}
+use Rattle.cx_translate.specs.declared.faults.TransFault.TheVariants.{BadArgument, UnknownOption}
+use Rattle.cx_translate.specs.declared.words.Argument.{Argument}
+use Rattle.cx_translate.specs.declared.words.Argument.TheVariants.{Absent, Given, Bad}
+use Rattle.cx_translate.specs.declared.words.Word.{Word}
+use Rattle.cx_translate.specs.Call.{argument_of, operand_by, operands_of, pointer_by, pointers_of, text_in}
+use Rattle.cx_translate.specs.Due.{common_due, condition_due, due_of, option_called, suits}
+use Rattle.cx_translate.specs.Refusals.{conditions_in, fault_in, first_byte, has_argument, has_unknown, has_wrong, is_given, is_wrong, with_option}
+
+-- ---- the bits of an option byte
+abbrev agree : Bool → Bool → Bool
+agree a b = cond a b (not b)
+
+agree_is : (a b : Bool) → agree a b ≡ true → a ≡ b
+agree_is true true e = refl
+agree_is true false e = absurd (cc)
+agree_is false true e = absurd (cc)
+agree_is false false e = refl
+
+-- the byte with the bits of these options, whichever of them are given, tells which are given of all that were seen
+abbrev tells : List CommandOption → ℕ → List (CommandOption × Bool) → Bool
+tells [] byte seen = list_all (λ (p : CommandOption × Bool). agree (has_bit byte (p.0).bit) p.1) seen
+tells (o ∷ rest) byte seen = tells rest (bit_or byte o.bit) ((o, true) ∷ seen) && tells rest byte ((o, false) ∷ seen)
+
+all_tell : (c : Command) → tells (row_of c).options 0 [] ≡ true
+unfolding has_bit
+all_tell = each_command (λ c. tells (row_of c).options 0 []) refl
+
+abbrev HasIts : List Word → ℕ → CommandOption → Type 0
+HasIts words byte o = has_bit byte o.bit ≡ is_given words (option_name o.name)
+
+record Told (words : List Word) (byte : ℕ) (options : List CommandOption) (seen : List (CommandOption × Bool)) : Type 0 where
+  own : AllByRecursion (HasIts words byte) options
+  others : list_all (λ (p : CommandOption × Bool). agree (has_bit byte (p.0).bit) p.1) seen ≡ true
+
+told : (words : List Word) (options : List CommandOption) (byte : ℕ) (seen : List (CommandOption × Bool)) → tells options byte seen ≡ true
+    → Told words (fold (with_option words) byte options) options seen
+told words [] byte seen h = record { own = tt; others = h }
+told words (o ∷ rest) byte seen h =
+    let p = and_parts (tells rest (bit_or byte o.bit) ((o, true) ∷ seen)) (tells rest byte ((o, false) ∷ seen)) h in
+    by_given (is_given words (option_name o.name)) refl (told words rest (bit_or byte o.bit) ((o, true) ∷ seen) p.0) (told words rest byte ((o, false) ∷ seen) p.1)
+  where
+    more : (g : Bool) (now : ℕ) → is_given words (option_name o.name) ≡ g → Told words now rest ((o, g) ∷ seen) → Told words now (o ∷ rest) seen
+    more g now e t =
+        let p = and_parts (agree (has_bit now o.bit) g) (list_all (λ (p : CommandOption × Bool). agree (has_bit now (p.0).bit) p.1) seen) t.others in
+        record { own = (agree_is (has_bit now o.bit) g p.0 ∙ sym e, t.own); others = p.1 }
+
+    by_given : (g : Bool) → is_given words (option_name o.name) ≡ g → Told words (fold (with_option words) (bit_or byte o.bit) rest) rest ((o, true) ∷ seen)
+        → Told words (fold (with_option words) byte rest) rest ((o, false) ∷ seen) → Told words (fold (with_option words) (with_option words byte o) rest) (o ∷ rest) seen
+    by_given true e given other = rw e (more true _ e given)
+    by_given false e given other = rw e (more false _ e other)
+
+-- ---- an option's argument
+-- what is due with an option agrees with its mark
+abbrev fits : Option Due → Mark → Bool
+fits (Some Nothing) mark = not (takes_argument mark)
+fits (Some (Name n)) mark = takes_argument mark
+fits (Some Value) mark = takes_argument mark
+fits due mark = false
+
+all_fit : (c : Command) → list_all (λ o. fits (due_of c (option_name o.name)) o.mark) (row_of c).options ≡ true
+unfolding due_of option_called common_due condition_due
+all_fit = each_command (λ c. list_all (λ o. fits (due_of c (option_name o.name)) o.mark) (row_of c).options) refl
+
+not_true : (b : Bool) → not b ≡ true → false ≡ b
+not_true true e = absurd (cc)
+not_true false e = refl
+
+suited : (d : Due) (a : Argument) (m : Mark) → fits (Some d) m ≡ true → not (suits d a) ≡ false → is_some (text_in a) ≡ takes_argument m
+unfolding suits
+suited Nothing Absent m f s = not_true (takes_argument m) f
+suited Nothing (Given text) m f s = absurd (cc)
+suited Nothing Bad m f s = absurd (cc)
+suited (Name n) Absent m f s = absurd (cc)
+suited (Name n) (Given text) m f s = sym f
+suited (Name n) Bad m f s = absurd (cc)
+suited Value Absent m f s = absurd (cc)
+suited Value (Given text) m f s = sym f
+suited Value Bad m f s = absurd (cc)
+suited Label a m f s = absurd (cc)
+
+right_by : (d : Option Due) (a : Argument) (m : Mark) → fits d m ≡ true → is_wrong d a ≡ false → is_some (text_in a) ≡ takes_argument m
+right_by None a m f w = absurd (cc)
+right_by (Some d) a m f w = suited d a m f w
+
+-- a name has an argument where it is given, and one is due
+argued : (c : Command) (words : List Word) (name : List ℕ) (m : Mark) → fits (due_of c name) m ≡ true → has_wrong c words ≡ false
+    → is_some (argument_of words name) ≡ (is_given words name && takes_argument m)
+unfolding has_wrong is_given
+argued c [] name m f w = refl
+argued c (word ∷ rest) name m f w =
+    go (bytes_eq word.name name) refl (is_wrong (due_of c word.name) word.argument) refl w (λ v. argued c rest name m f v)
+  where
+    go : (b : Bool) → bytes_eq word.name name ≡ b → (a : Bool) → is_wrong (due_of c word.name) word.argument ≡ a
+        → (a || list_any (λ v. is_wrong (due_of c v.name) v.argument) rest) ≡ false
+        → (list_any (λ v. is_wrong (due_of c v.name) v.argument) rest ≡ false → is_some (argument_of rest name) ≡ (list_any (λ v. bytes_eq v.name name) rest && takes_argument m))
+        → is_some (cond b (text_in word.argument) (argument_of rest name)) ≡ ((b || list_any (λ v. bytes_eq v.name name) rest) && takes_argument m)
+    go b e true d v more = absurd (cc)
+    go true e false d v more =
+        let same : word.name ≡ name = (bytes_eq-Decides word.name name).0 e in
+        right_by (due_of c word.name) word.argument m (rw same f) d
+    go false e false d v more = more v
+
+-- a command reads an argument for an option where one was handed over
+abbrev IsRead : List Word → ℕ → CommandOption → Type 0
+IsRead words first o = is_argument first o ≡ is_some (argument_of words (option_name o.name))
+
+are_read : (c : Command) (words : List Word) (first : ℕ) (options : List CommandOption) → has_wrong c words ≡ false
+    → list_all (λ o. fits (due_of c (option_name o.name)) o.mark) options ≡ true → AllByRecursion (HasIts words first) options → AllByRecursion (IsRead words first) options
+are_read c words first [] right fit own = tt
+are_read c words first (o ∷ rest) right fit own =
+    let p = and_parts (fits (due_of c (option_name o.name)) o.mark) (list_all (λ o. fits (due_of c (option_name o.name)) o.mark) rest) fit in
+    (ap (λ b. b && takes_argument o.mark) own.0 ∙ sym (argued c words (option_name o.name) o.mark p.0 right), are_read c words first rest right p.1 own.1)
+
+-- at the place of the argument that was handed over
+at_its_place : (words : List Word) (first : ℕ) (before : List CommandOption) (option : CommandOption) (behind : List CommandOption) (text : List ℕ)
+    → AllByRecursion (IsRead words first) (before ++ option ∷ behind) → argument_of words (option_name option.name) ≡ Some text
+    → slice_get (filter (is_argument first) (before ++ option ∷ behind)) (length (operands_of before words)) ≡ Some option
+at_its_place words first [] option behind text read given =
+    let there : is_argument first option ≡ true = read.0 ∙ ap is_some given in
+    rw there refl
+at_its_place words first (o ∷ before) option behind text read given =
+    by_argument (argument_of words (option_name o.name)) (is_argument first o) read.0 (at_its_place words first before option behind text read.1 given)
+  where
+    rest : List CommandOption
+    rest = filter (is_argument first) (before ++ option ∷ behind)
+
+    by_argument : (a : Option (List ℕ)) (b : Bool) → b ≡ is_some a → slice_get rest (length (operands_of before words)) ≡ Some option
+        → slice_get (cond b (o ∷ rest) rest) (length (operand_by o.mark a ++ operands_of before words)) ≡ Some option
+    by_argument None b e more = rw e more
+    by_argument (Some t) b e more = rw e more
+
+-- a command that lists conditions has no options
+abbrev has_none : List CommandOption → Bool
+has_none [] = true
+has_none (o ∷ rest) = false
+
+all_without : (c : Command) → (not (lists_conditions c) || has_none (row_of c).options) ≡ true
+all_without = each_command (λ c. not (lists_conditions c) || has_none (row_of c).options) refl
+
+right : (line : ℕ) (c : Command) (cics named words : List Word) → fault_in line c cics named words ≡ None → has_wrong c words ≡ false
+unfolding fault_in
+right line c cics named words none =
+    third (has_unknown c words) (has_argument cics) (has_argument named) (has_wrong c words) (UnknownOption line) (BadArgument line) _ none
+  where
+    third : (a b c d : Bool) (f g : TransFault) (o : Option TransFault) → cond a (Some f) (cond (b || c || d) (Some g) o) ≡ None → d ≡ false
+    third true b c d f g o p = absurd (cc)
+    third false true c d f g o p = absurd (cc)
+    third false false true d f g o p = absurd (cc)
+    third false false false true f g o p = absurd (cc)
+    third false false false false f g o p = refl
+
+-- Of an accepted statement an option's argument is, among those that the command reads, where it is among those handed over.
+pub option_is_read : (line : ℕ) (c : Command) (cics named words : List Word) (before : List CommandOption) (option : CommandOption) (behind : List CommandOption) (text : List ℕ)
+    → fault_in line c cics named words ≡ None → (row_of c).options ≡ before ++ option ∷ behind → argument_of words (option_name option.name) ≡ Some text
+    → slice_get (arguments_in (row_of c).options (first_byte c words)) (length (operands_of before words)) ≡ Some option
+unfolding first_byte arguments_in
+option_is_read line c cics named words before option behind text none split given = by_list (lists_conditions c) refl (all_without c)
+  where
+    byte : ℕ
+    byte = fold (with_option words) 0 (row_of c).options
+
+    empty : {P : Type 0} (k b : List CommandOption) → k ≡ b ++ option ∷ behind → has_none k ≡ true → P
+    empty [] [] e z = cc
+    empty [] (x ∷ b) e z = cc
+    empty (x ∷ k) b e z = absurd (cc)
+
+    by_list : (b : Bool) → lists_conditions c ≡ b → (not b || has_none (row_of c).options) ≡ true
+        → slice_get (filter (is_argument (cond (lists_conditions c) (conditions_in words) byte)) (row_of c).options) (length (operands_of before words)) ≡ Some option
+    by_list true e z = empty (row_of c).options before split z
+    by_list false e z =
+        let its = are_read c words byte (row_of c).options (right line c cics named words none) (all_fit c) (told words (row_of c).options 0 [] (all_tell c)).own in
+        let there = at_its_place words byte before option behind text (subst (AllByRecursion (IsRead words byte)) split its) given in
+        rw e (subst (λ (k : List CommandOption). slice_get (filter (is_argument byte) k) (length (operands_of before words)) ≡ Some option) (sym split) there)
+
+-- ---- one pointer
+abbrev is_pointer : Mark → Bool
+is_pointer mark.Pointer = true
+is_pointer _ = false
+
+-- none behind the first
+abbrev is_one : List CommandOption → Bool
+is_one [] = true
+is_one (o ∷ rest) = cond (is_pointer o.mark) (list_all (λ p. not (is_pointer p.mark)) rest) (is_one rest)
+
+all_one : (c : Command) → is_one (row_of c).options ≡ true
+all_one = each_command (λ c. is_one (row_of c).options) refl
+
+no_pointer : (m : Mark) (a : Option (List ℕ)) → is_pointer m ≡ false → pointer_by m a ≡ []
+no_pointer mark.Pointer a e = absurd (cc)
+no_pointer mark.Flag a e = refl
+no_pointer mark.Address a e = refl
+no_pointer mark.BytesRead a e = refl
+no_pointer mark.BytesWritten a e = refl
+no_pointer mark.BytesOrAddress a e = refl
+no_pointer mark.Byte a e = refl
+no_pointer mark.Name4 a e = refl
+no_pointer mark.Name8 a e = refl
+no_pointer mark.Halfword a e = refl
+no_pointer mark.HalfwordBothWays a e = refl
+no_pointer mark.HalfwordBothWaysWithoutSet a e = refl
+no_pointer mark.HalfwordOut a e = refl
+no_pointer mark.HalfwordOutWithoutRewrite a e = refl
+
+all_of : (before : List CommandOption) (option : CommandOption) (behind : List CommandOption)
+    → list_all (λ p. not (is_pointer p.mark)) (before ++ option ∷ behind) ≡ true → is_pointer option.mark ≡ false
+all_of [] option behind h = sym (not_true (is_pointer option.mark) (and_parts (not (is_pointer option.mark)) (list_all (λ p. not (is_pointer p.mark)) behind) h).0)
+all_of (o ∷ before) option behind h = all_of before option behind (and_parts (not (is_pointer o.mark)) (list_all (λ p. not (is_pointer p.mark)) (before ++ option ∷ behind)) h).1
+
+none_before : (words : List Word) (before : List CommandOption) (option : CommandOption) (behind : List CommandOption) → is_one (before ++ option ∷ behind) ≡ true
+    → is_pointer option.mark ≡ true → pointers_of before words ≡ []
+none_before words [] option behind one is = refl
+none_before words (o ∷ before) option behind one is = by_mark (is_pointer o.mark) refl one (λ h. none_before words before option behind h is)
+  where
+    by_mark : (b : Bool) → is_pointer o.mark ≡ b
+        → cond b (list_all (λ p. not (is_pointer p.mark)) (before ++ option ∷ behind)) (is_one (before ++ option ∷ behind)) ≡ true
+        → (is_one (before ++ option ∷ behind) ≡ true → pointers_of before words ≡ [])
+        → pointer_by o.mark (argument_of words (option_name o.name)) ++ pointers_of before words ≡ []
+    by_mark true e h more = let no = all_of before option behind h in absurd (cc)
+    by_mark false e h more = rw (no_pointer o.mark (argument_of words (option_name o.name)) e) (more h)
+
+-- Before a command's pointer there is no other.
+pub no_pointer_before : (c : Command) (words : List Word) (before : List CommandOption) (option : CommandOption) (behind : List CommandOption)
+    → (row_of c).options ≡ before ++ option ∷ behind → option.mark ≡ mark.Pointer → pointers_of before words ≡ []
+no_pointer_before c words before option behind split marked =
+    none_before words before option behind (subst (λ (k : List CommandOption). is_one k ≡ true) split (all_one c)) (ap is_pointer marked)
