@@ -200,6 +200,89 @@ def antt_text(text):
     return filled_lines(re.sub(r"(?m)^\s*--(\s.*)?$", "", text))
 
 
+def functions_at(text):
+    """Returns the functions of a source: the place of each from its attributes on, and its name with its type's or trait's names."""
+    tokens, at, found, closing, owner = tokens_of(text)[0], 0, [], None, ()
+    while at < len(tokens):
+        word = tokens[at][0]
+        if at == closing:
+            owner, closing = (), None
+        if word == "macro_rules":
+            at = block_end(tokens, next_block(tokens, at))
+        elif word in ("impl", "trait") and closing is None:
+            end = header_end(tokens, at)
+            head = [it[0] for it in tokens[at + 1 : end]]
+            owner = tuple(sorted({head[0]} if word == "trait" else impl_head(head)[0]))
+            closing, at = block_end(tokens, end) - 1, end + 1
+        elif word == "fn" and re.match(r"[^\W\d]", tokens[at + 1][0]):
+            end = clauses_at(tokens, at)[1]
+            found.append((tokens[function_start(tokens, at)][1], tokens[end - 1][2], (*owner, tokens[at + 1][0])))
+            at = end
+        else:
+            at += 1
+    return found
+
+
+def function_start(tokens, at):
+    """Returns the index at which the function begins whose `fn` is at this index: at its attributes."""
+    while at and tokens[at - 1][0] in ("const", "unsafe", "final", "async"):
+        at -= 1
+    if [it[0] for it in tokens[max(at - 4, 0) : at]] == ["pub", "(", "crate", ")"]:
+        at -= 4
+    elif at and tokens[at - 1][0] == "pub":
+        at -= 1
+    return item_start(tokens, at)
+
+
+def has_gained(path, old, new, of_source):
+    """Tells whether a file of a crate, as `of_source` reads a source of it, is the old one but for functions or definitions that it has
+    more. Who may call a function is no matter."""
+    if not path.endswith(".rt"):
+        return definitions_have_gained(antt_text(old), antt_text(new))
+    old, new = of_source(old), of_source(new)
+    try:
+        before = {it[2] for it in functions_at(old)}
+        more = [it[:2] for it in functions_at(new) if it[2] not in before]
+        return told_of(old) == told_of(without(new, more))
+    except (Unclear, IndexError):
+        return old == new
+
+
+def told_of(source):
+    """Returns a source without what no verdict rests on: imports that nothing cites, a function's visibility, layout."""
+    source = re.sub(r"\bpub(?:\(crate\))? (?=(?:const )?fn\b)", "", without_unused(source))
+    return filled_lines(re.sub(r"(?<=::){(\w+)}", r"\1", source))
+
+
+DEFINED = re.compile(r"(?:(?:abbrev|unfoldable|pub|record|data) )*([^\W\d][\w'-]*)")
+
+
+def definitions_in(text):
+    """Returns the parts of a file of definitions: each with the name that it defines, or None: an import, say. An `unfolding` belongs to
+    what follows it."""
+    found, waiting = [], ""
+    for part in re.split(r"(?m)^(?=[^\s)\]}])", text):
+        if part.startswith("unfolding"):
+            waiting += part
+            continue
+        name = None if re.match(r"(?:pub )?(?:use|mod|open|import)\b", part) else DEFINED.match(part)
+        found.append((name and name[1], waiting + part))
+        waiting = ""
+    return [*found, (None, waiting)]
+
+
+def definitions_have_gained(old, new):
+    before = {name for name, _ in definitions_in(old)}
+    left = [text for name, text in definitions_in(new) if name in before]
+    imports = lambda parts: {(use[2].strip(), it.strip()) for text in parts for use in IMPORT.finditer(text) for it in (use[3] or " ").split(",") if it}
+    rest = lambda parts: filled_lines("".join(IMPORT.sub("", it) for it in parts))
+    parts = [text for _, text in definitions_in(old)]
+    return rest(parts) == rest(left) and imports(parts) <= imports(left)
+
+
+IMPORT = re.compile(r"(?m)^([ \t]*use )([^{\n]+)(?:\{([^}]*)\})?\n?")
+
+
 def header_end(tokens, at):
     """Returns the index of the brace or semicolon that ends an item's head."""
     while tokens[at][0] not in ("{", ";") or tokens[at - 1][0] in ("<", ",", "=") and tokens[at][0] == "{":
