@@ -275,6 +275,14 @@ impl<S: Store + Drop> Debugged<S> {
         self.region.set_clock(time, date);
     }
 
+    /// The region. It takes no memory.
+    pub fn region(&self) -> &Region<S>
+        ensures region { result.now ≡ self.now.region }
+        ensures sound { IsSound self.now.region }
+    {
+        &self.region
+    }
+
     /// The screen of a terminal; None where there is no such terminal. It takes no memory.
     pub fn screen(&self, name: Name4) -> Option<&Screen>
         ensures { option_copied result ≡ option_map (λ terminal. terminal.screen) (terminal_of self.now.region name) }

@@ -88,7 +88,7 @@ impl Default for Entries {
 impl Entries {
     /// A condition's entry.
     #[tactic(auto, unfolding(crate::specs::Entries::entry_for))]
-    pub(crate) fn entry_for(&self, condition: Condition) -> Entry
+    pub fn entry_for(&self, condition: Condition) -> Entry
         ensures { result ≡ entry_for self.now condition }
     {
         self.of[condition.place()]

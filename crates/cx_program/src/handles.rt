@@ -96,6 +96,13 @@ impl HandleTable {
         self.active.exit.label_on()
     }
 
+    /// What is asked for now: the entry of each condition, and the exit, on or off.
+    pub fn active(&self) -> &Handling
+        ensures { result.now ≡ self.now.active }
+    {
+        &self.active
+    }
+
     /// How many PUSH HANDLEs keep something, 0 to 16.
     pub fn pushed(&self) -> usize
         ensures value { result ≡ length self.now.kept }

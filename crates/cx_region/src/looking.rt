@@ -4,17 +4,19 @@ ghost use Rattle.std.specs.Option.{option_copied};
 ghost use Rattle.cx_command.specs.declared.commands.Command.{Command as TheCommand};
 ghost use Rattle.cx_command.specs.Commands.{row_of};
 ghost use Rattle.cx_storage.specs.Storage.{byte_at};
+ghost use Rattle.cx_region.specs.State.{shared_of, station_of};
 ghost use Rattle.cx_region.specs.Tables.{task_of, terminal_of};
 ghost use Rattle.cx_region.specs.Looking.{Shows};
 
 use crate::replies::TaskInfo;
 use crate::state::{Region, Terminal};
 use cx_command::Command;
-use cx_ebcdic::Name4;
+use cx_ebcdic::{Name4, Name8};
 use cx_exec::Cpu;
 use cx_service::Screen;
-use cx_state::Task;
+use cx_state::{Shared, Station, Task};
 use cx_storage::Store;
+use indexmap::IndexMap;
 
 /// What is shown of a task.
 fn info_of(task: &Task) -> TaskInfo
@@ -48,6 +50,20 @@ impl Terminal {
         Some(info_of(task))
     }
 
+    /// The terminal without its task.
+    pub fn station(&self) -> &Station
+        ensures { result.now ≡ station_of self.now }
+    {
+        &self.station
+    }
+
+    /// Its live task; None where it has none.
+    pub fn task(&self) -> Option<&Task>
+        ensures { option_copied result ≡ self.now.task }
+    {
+        self.task.as_ref()
+    }
+
     /// The screen.
     fn screen(&self) -> &Screen
         ensures { result.now ≡ self.now.screen }
@@ -57,6 +73,27 @@ impl Terminal {
 }
 
 impl<S: Store + Drop> Region<S> {
+    /// What tasks share: storage, programs, queues, enqueued resources.
+    pub fn shared(&self) -> &Shared<S>
+        ensures { result.now ≡ shared_of self.now }
+    {
+        &self.shared
+    }
+
+    /// The transactions, each with its program's name, the first defined first.
+    pub fn transactions(&self) -> &IndexMap<Name4, Name8>
+        ensures { result.now.entries ≡ self.now.transactions }
+    {
+        &self.transactions
+    }
+
+    /// The terminals with their names, the first defined first.
+    pub fn terminals(&self) -> &IndexMap<Name4, Terminal>
+        ensures { result.now.entries ≡ self.now.terminals }
+    {
+        &self.terminals
+    }
+
     /// The screen of a terminal; None where there is no such terminal.
     pub fn screen(&self, name: Name4) -> Option<&Screen>
         ensures { option_copied result ≡ option_map (λ terminal. terminal.screen) (terminal_of self.now name) }

@@ -44,6 +44,14 @@ impl Enqueues {
         Ok(Enqueues { resources })
     }
 
+    /// All resources that are owned with their holds, the first enqueued upon first.
+    pub fn all(&self) -> &IndexMap<ResourceName, Hold>
+        ensures resources { result.now.entries ≡ self.now }
+        ensures sound { AreSoundResources self.now }
+    {
+        &self.resources
+    }
+
     /// Who holds a resource; None where it is free.
     pub fn hold(&self, name: &ResourceName) -> Option<Hold>
         ensures hold { result ≡ hold_of self.now name.now }

@@ -54,21 +54,21 @@ impl Queue {
     }
 
     /// The number of its items.
-    fn count(&self) -> usize
+    pub fn count(&self) -> usize
         ensures { result ≡ length self.now.items }
     {
         self.items.len()
     }
 
-    /// The number of the item last read.
-    fn last_read(&self) -> usize
+    /// The number of the item last read, counted from 1; 0 where none was.
+    pub fn last_read(&self) -> usize
         ensures { result ≡ self.now.last_read }
     {
         self.last_read
     }
 
-    /// Item number n, counted from 1.
-    fn item(&self, n: usize) -> Option<&Item>
+    /// Item number n, counted from 1; None where there is no such item.
+    pub fn item(&self, n: usize) -> Option<&Item>
         ensures { option_copied result ≡ numbered n self.now }
     {
         if n == 0 {
@@ -77,8 +77,8 @@ impl Queue {
         self.items.get(n - 1)
     }
 
-    /// The bytes of its items together.
-    fn size(&self) -> usize
+    /// How many bytes its items have together.
+    pub fn size(&self) -> usize
         requires { size_of self.now < 2 ^ 64 }
         ensures { result ≡ size_of self.now }
     {
@@ -147,6 +147,14 @@ impl Queues {
             queues,
             item_bytes: 0,
         })
+    }
+
+    /// All queues with their names, the first made first.
+    pub fn all(&self) -> &IndexMap<Name8, Queue>
+        ensures queues { result.now.entries ≡ self.now }
+        ensures sound { AreSoundQueues self.now }
+    {
+        &self.queues
     }
 
     /// The number of a queue's items; None where there is no such queue.

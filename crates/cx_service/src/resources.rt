@@ -45,6 +45,13 @@ impl NameBytes {
             len: bytes.len(),
         }
     }
+
+    /// The bytes.
+    pub fn as_slice(&self) -> &[u8]
+        ensures { result.now ≡ self.now }
+    {
+        &self.bytes[..self.len]
+    }
 }
 
 /// The name of a resource: bytes, or an address. The two are never the same.
