@@ -1,9 +1,9 @@
 -- Where an area stands in the table.
 use Rattle.std.proofs.Common.{◌≡◌, ◌≢◌, ℕ, zero, suc, ◌+◌, ◌<◌, ◌≤◌, ◌==◌, true, false, refl, ap, ◌∙◌, arith, inl, inr, List, [], ◌∷◌, length, slice_get, Option, Some, None, nat_lt, if◌then◌else◌, get_or}
-use Rattle.std.proofs.lemmas.Bool.{cases_Bool, cases_eq, eq-eqb, ne_eqb, lt-ltb, ltb-true, ltb-false}
+use Rattle.std.proofs.lemmas.Bool.{cases_Bool, cases_eq, eq-eqb, ne_eqb, cases_lt, lt-ltb, le-ltb, le-leb, lt-leb, ltb-true, ltb-false}
 use Rattle.std.specs.List.{AllByRecursion, AllWithin}
 use Rattle.std.specs.Option.{option_and_then}
-use Rattle.cx_storage.specs.Storage.{Storage, area_at, IsSound}
+use Rattle.cx_storage.specs.Storage.{Storage, area_at, next_area, IsSound}
 use Rattle.cx_storage.specs.Facts.Sound.{IsSound-head, IsSound-tail, IsSound-apart}
 use Rattle.cx_storage.specs.declared.areas.Area.{Area}
 use Rattle.cx_pages.specs.declared.page.Page.{Page}
@@ -83,3 +83,15 @@ area_elsewhere areas pages start i area shown at e ne = area_spot areas pages st
 
 pub area_past : (areas : List Area) (pages : List Page) (start i : ℕ) → IsShown areas pages → i ≡ spot start areas → slice_get areas i ≡ None → area_at (storage_of areas pages) start ≡ None
 area_past areas pages start i shown at e = area_spot areas pages start (shown_sound areas pages shown) ∙ rw (← at, e) refl
+
+-- the area at the spot of an address is the first that starts there or above
+next_spot : (areas : List Area) (pages : List Page) (from : ℕ) → next_area (storage_of areas pages) from ≡ slice_get areas (spot from areas)
+unfolding next_area storage_of
+next_spot [] pages from = refl
+next_spot (area ∷ areas) pages from = elim (cases_lt area.start from) [
+  | inl below ↦ rw (lt-ltb area.start from below, lt-leb from area.start below) (next_spot areas pages from)
+  | inr above ↦ rw (le-ltb area.start from above, le-leb from area.start above) refl
+]
+
+pub next_at : (areas : List Area) (pages : List Page) (from i : ℕ) → i ≡ spot from areas → next_area (storage_of areas pages) from ≡ slice_get areas i
+next_at areas pages from i at = next_spot areas pages from ∙ rw (← at) refl

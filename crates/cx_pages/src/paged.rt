@@ -10,7 +10,7 @@ use crate::store::{
     byte_of, free_area_of, free_slot_of, get_of, has_span_of, place_of, read_of, set_of, slice_of,
     write_of,
 };
-use crate::table::area_of;
+use crate::table::{area_of, next_of};
 use cx_storage::{Area, Owner, Store};
 use std::alloc::{AllocError, Global};
 
@@ -74,6 +74,10 @@ impl Store for PagedStore {
 
     fn area_at(&self, start: u32) -> Option<Area> {
         area_of(&self.areas, &self.pages, start)
+    }
+
+    fn next_area(&self, from: u32) -> Option<Area> {
+        next_of(&self.areas, &self.pages, from)
     }
 
     fn place(&self, first: u32, last: u32, len: u32) -> Option<u32> {

@@ -1,7 +1,7 @@
 //! The table of areas, in the order of their starts.
 
 ghost use Rattle.std.specs.Prelude.{◌≡◌, ℕ, ◌≤◌, length, nat_lt, vec_len};
-ghost use Rattle.cx_storage.specs.Storage.{area_at};
+ghost use Rattle.cx_storage.specs.Storage.{area_at, next_area};
 ghost use Rattle.cx_pages.specs.Parts.Shown.{spot, IsShown};
 ghost use Rattle.cx_pages.specs.Pages.{storage_of};
 
@@ -34,4 +34,17 @@ pub(crate) fn area_of(areas: &Vec<Area>, pages: &Vec<Page>, start: u32) -> Optio
         }
     }
     None
+}
+
+/// The first area that starts at an address or above.
+pub(crate) fn next_of(areas: &Vec<Area>, pages: &Vec<Page>, from: u32) -> Option<Area>
+    requires { IsShown areas.now.items pages.now.items }
+    ensures { result ≡ next_area (storage_of areas.now.items pages.now.items) from }
+{
+    let i = spot_of(areas, pages, from);
+    if i < areas.len() {
+        Some(areas[i])
+    } else {
+        None
+    }
 }

@@ -143,6 +143,34 @@ pub(crate) fn a_span_goes_on_at_address_0<S: Store>(store: &mut S) -> Result<boo
     )
 }
 
+/// Where the first area starts that starts at an address or above.
+fn next<S: Store>(store: &S, from: u32) -> Option<u32> {
+    store.next_area(from).map(|area| area.start)
+}
+
+/// Areas are found by any address at or below their start, up to the last one; none begins again at address 0.
+pub(crate) fn finds_the_next_area<S: Store>(store: &mut S) -> Result<bool, AllocError> {
+    let none = next(store, 0).is_none();
+    get(store, 0x1000, LAST, 17, TASK)?;
+    get(store, 0x1000, LAST, 16, OTHER)?;
+    get(store, 0xFF_FFF0, LAST, 16, TASK)?;
+    let other = Area {
+        start: 0x1020,
+        len: 16,
+        owner: OTHER,
+    };
+    let all = next(store, 0) == Some(0x1000)
+        && next(store, 0x1000) == Some(0x1000)
+        && store.next_area(0x1001) == Some(other)
+        && next(store, 0x1020) == Some(0x1020)
+        && next(store, 0x1021) == Some(0xFF_FFF0)
+        && next(store, 0xFF_FFF0) == Some(0xFF_FFF0)
+        && next(store, 0xFF_FFF1).is_none()
+        && next(store, 0x100_0000).is_none()
+        && next(store, u32::MAX).is_none();
+    Ok(none && all && store.free_area(0x1020) && next(store, 0x1001) == Some(0xFF_FFF0))
+}
+
 /// The byte that is written at an address.
 fn pattern(a: u32) -> u8 {
     (a % 251) as u8

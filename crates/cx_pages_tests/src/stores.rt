@@ -27,6 +27,13 @@ fn finds_no_place(rt: HostRuntime) -> Result<(), Fail> {
 }
 
 #[test]
+fn finds_the_next_area(rt: HostRuntime) -> Result<(), Fail> {
+    assert!(rt; rows::finds_the_next_area(&mut FlatStore::new(rt.alloc()))?);
+    assert!(rt; rows::finds_the_next_area(&mut PagedStore::new(rt.alloc()))?);
+    Ok(())
+}
+
+#[test]
 fn a_span_goes_on_at_address_0(rt: HostRuntime) -> Result<(), Fail> {
     assert!(rt; rows::a_span_goes_on_at_address_0(&mut FlatStore::new(rt.alloc()))?);
     assert!(rt; rows::a_span_goes_on_at_address_0(&mut PagedStore::new(rt.alloc()))?);

@@ -1,16 +1,16 @@
 -- What the laws of areas say beyond the facts.
 use Rattle.std.proofs.Common.{refl, inl, inr, arith, get_or}
-use Rattle.std.proofs.lemmas.Bool.{cases_Bool}
+use Rattle.std.proofs.lemmas.Bool.{cases_Bool, eq-eqb, ne_eqb, leb-true, leb-false}
 use Rattle.std.proofs.lemmas.Option.{slice_get-get_or}
 use Rattle.std.specs.List.{AllByRecursion, filter}
 use Rattle.std.specs.Option.{option_map_or}
-use Rattle.std.specs.Prelude.{◌≡◌, ℕ, zero, suc, ◌-◌, ◌<◌, ◌≤◌, Bool, false, cond, ◌∷◌, length, Some, None, is_some, nat_lt, []}
+use Rattle.std.specs.Prelude.{◌≡◌, ℕ, zero, suc, ◌-◌, ◌<◌, ◌≤◌, Bool, false, cond, ◌∷◌, length, Option, Some, None, is_some, nat_le, nat_lt, []}
 use Rattle.cx_storage.specs.Facts.Areas.{byte_before}
 use Rattle.cx_storage.specs.Facts.Sound.{covers_cases, IsSound-head, IsSound-tail, IsSound-apart, All-filter}
 use Rattle.cx_storage.specs.Storage.{area_from}
-use Rattle.cx_storage.specs.Laws.Areas.{kept_only}
+use Rattle.cx_storage.specs.Laws.Areas.{kept_only, IsNextArea}
 use Rattle.cx_storage.specs.Place.{Misses, CanPlace}
-use Rattle.cx_storage.specs.Storage.{Held, Storage, end_of, covers, byte_at, holder, zeros, put_held, with_area, with_areas_kept, IsWhole, IsSound}
+use Rattle.cx_storage.specs.Storage.{Held, Storage, end_of, covers, byte_at, area_at, next_area, holder, zeros, put_held, with_area, with_areas_kept, IsWhole, IsSound}
 use Rattle.cx_storage.specs.declared.areas.Area.{Area}
 use Rattle.cx_storage.specs.declared.areas.Owner.{Owner}
 
@@ -112,3 +112,33 @@ pub area_whole : (s : Storage) (i : ℕ) (d : Held) → IsSound s → i < length
 area_whole [] i d ok within = absurd (omega arith)
 area_whole (h ∷ hs) zero d ok within = IsSound-head h hs ok
 area_whole (h ∷ hs) (suc i) d ok within = area_whole hs i d (IsSound-tail h hs ok) (omega arith)
+
+-- the next area: an area that starts below an address isn't one of those that start there or above
+area_behind : (s : Storage) (e x : ℕ) → AllByRecursion (λ later. e ≤ later.area.start) s → x < e → area_at s x ≡ None
+unfolding area_at
+area_behind [] e x apart below = refl
+area_behind (h ∷ hs) e x apart below = rw (ne_eqb h.area.start x (λ d. absurd (omega (arith, apart.0)))) (area_behind hs e x apart.1 below)
+
+next_behind : (h : Held) (hs : Storage) (from : ℕ) (r : Option Area) → h.area.start < from → IsNextArea hs from r → IsNextArea (h ∷ hs) from r
+unfolding area_at
+next_behind h hs from None below next = λ start low. rw (ne_eqb h.area.start start (λ d. absurd (omega arith))) (next start low)
+next_behind h hs from (Some area) below next =
+    let above = next.1 in (
+      rw (ne_eqb h.area.start area.start (λ d. absurd (omega arith))) next.0,
+      above,
+      λ start low high. rw (ne_eqb h.area.start start (λ d. absurd (omega arith))) (next.2 start low high),
+    )
+
+pub next_area_is_least : (s : Storage) (from : ℕ) → IsSound s → IsNextArea s from (next_area s from)
+unfolding next_area area_at
+next_area_is_least [] from ok = λ start low. refl
+next_area_is_least (h ∷ hs) from ok = elim (cases_Bool (nat_le from h.area.start)) [
+  | inl e ↦
+      let here = leb-true from h.area.start e in
+      rw e (
+        rw (eq-eqb h.area.start h.area.start refl) refl,
+        here,
+        λ start low high. rw (ne_eqb h.area.start start (λ d. absurd (omega arith))) (area_behind hs (end_of h.area) start (IsSound-apart h hs ok) (omega arith)),
+      )
+  | inr e ↦ rw e (next_behind h hs from (next_area hs from) (leb-false from h.area.start e) (next_area_is_least hs from (IsSound-tail h hs ok)))
+]

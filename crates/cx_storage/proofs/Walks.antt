@@ -9,7 +9,7 @@ use Rattle.std.proofs.lemmas.List.{at_drop_more, drop_all, drop_more}
 use Rattle.std.proofs.lemmas.Option.{slice_get-get_or}
 use Rattle.std.specs.Option.{option_map}
 use Rattle.std.proofs.lemmas.Bool.{cases_Bool, le-leb, lt-leb, lt-ltb, le-ltb, false≢true, leb-true, leb-false, cases_lt, and_parts, and_right, or_cases}
-use Rattle.cx_storage.specs.Storage.{Held, Storage, end_of, covers, byte_at, span, put_byte, with_byte, area_at, put_held, with_area, zeros, in_one_area, IsWhole, IsSound}
+use Rattle.cx_storage.specs.Storage.{Held, Storage, end_of, covers, byte_at, span, put_byte, with_byte, area_at, next_area, put_held, with_area, zeros, in_one_area, IsWhole, IsSound}
 use Rattle.cx_storage.specs.Place.{Misses, CanPlace, IsLeastPlace}
 use Rattle.cx_storage.specs.Facts.Sound.{All-weaker, IsSound-tail, IsSound-head, IsSound-apart, covers_cases, covers_from}
 use Rattle.std.specs.Int.{next_multiple_of}
@@ -48,6 +48,23 @@ area_found s i a h l e c =
 pub area_end : (s : Storage) (i a : ℕ) → length s ≤ i → area_at (drop i s) a ≡ None
 unfolding area_at
 area_end s i a l = rw (drop_all i s l) refl
+
+-- a search for the first area that starts at an address or above
+pub next_skip : (s : Storage) (i from : ℕ) (h : Held) → i < length s → h ≡ get_or s i h → h.area.start < from → next_area (drop (i + 1) s) from ≡ next_area (drop i s) from
+unfolding next_area
+next_skip s i from h l e c =
+    let e' = sym e in
+    sym (at_drop_more (λ t. next_area t from) s i h l ∙ rw (e', lt-leb from h.area.start c) refl)
+
+pub next_found : (s : Storage) (i from : ℕ) (h : Held) → i < length s → h ≡ get_or s i h → from ≤ h.area.start → next_area (drop i s) from ≡ Some h.area
+unfolding next_area
+next_found s i from h l e c =
+    let e' = sym e in
+    at_drop_more (λ t. next_area t from) s i h l ∙ rw (e', le-leb from h.area.start c) refl
+
+pub next_end : (s : Storage) (i from : ℕ) → length s ≤ i → next_area (drop i s) from ≡ None
+unfolding next_area
+next_end s i from l = rw (drop_all i s l) refl
 
 -- the addresses of an area aren't covered by one before it or behind it
 covers-behind : (h : Held) (hs : Storage) (a v : ℕ) → a < end_of h.area → AllByRecursion (λ later. end_of h.area ≤ later.area.start) hs → with_byte hs a v ≡ hs

@@ -57,6 +57,11 @@ unfoldable pub area_at : Storage → ℕ → Option Area
 area_at [] a = None
 area_at (h ∷ hs) a = if h.area.start == a then Some h.area else area_at hs a
 
+-- the first area, in the order of their starts, that starts at the address from or above, where one does
+unfoldable pub next_area : Storage → ℕ → Option Area
+next_area [] from = None
+next_area (h ∷ hs) from = if nat_le from h.area.start then Some h.area else next_area hs from
+
 -- the area that has the address x, where one does
 unfoldable pub holder : Storage → ℕ → Option Area
 holder [] x = None

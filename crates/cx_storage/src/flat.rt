@@ -1,7 +1,7 @@
 //! `FlatStore`: a list of areas, each with a list of its bytes.
 
 ghost use Rattle.std.specs.Prelude.{◌≡◌, ℕ, ◌+◌, ◌-◌, ◌^◌, ◌<◌, ◌≤◌, [], length, vec_len, slice_get, slice_range, MatchOption, IfSome, OnSome, IsSome, IfOk, OnOk, OnErr, is_some};
-ghost use Rattle.cx_storage.specs.Storage.{byte_at, area_at, span, with_byte, put_held, with_area, with_areas_kept, starts_elsewhere, is_of_other_slot, IsTogether, IsSound};
+ghost use Rattle.cx_storage.specs.Storage.{byte_at, area_at, next_area, span, with_byte, put_held, with_area, with_areas_kept, starts_elsewhere, is_of_other_slot, IsTogether, IsSound};
 ghost use Rattle.cx_storage.specs.Place.{IsLeastPlace};
 ghost use Rattle.cx_storage.specs.Facts.Sound.{IsSound-prop};
 ghost use Rattle.cx_storage.specs.Parts.Flat.{walk, spot};
@@ -116,6 +116,20 @@ fn area_in(blocks: &Vec<Block>, start: u32) -> Option<Area>
     for block in blocks {
         let area = block.area();
         if area.start == start {
+            return Some(area);
+        }
+    }
+    None
+}
+
+/// The first area that starts at an address or above.
+#[tactic(auto, using(crate::proofs::Walks::next_skip, crate::proofs::Walks::next_found, crate::proofs::Walks::next_end))]
+fn next_in(blocks: &Vec<Block>, from: u32) -> Option<Area>
+    ensures { result ≡ next_area blocks.now.items from }
+{
+    for block in blocks {
+        let area = block.area();
+        if from <= area.start {
             return Some(area);
         }
     }
@@ -284,6 +298,10 @@ impl Store for FlatStore {
 
     fn area_at(&self, start: u32) -> Option<Area> {
         area_in(&self.blocks, start)
+    }
+
+    fn next_area(&self, from: u32) -> Option<Area> {
+        next_in(&self.blocks, from)
     }
 
     fn place(&self, first: u32, last: u32, len: u32) -> Option<u32> {

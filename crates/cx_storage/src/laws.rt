@@ -1,6 +1,6 @@
 //! The laws of storage, on functions that do nothing: each promises a statement of `specs/Laws.antt`.
 
-ghost use Rattle.cx_storage.specs.Laws.Areas.{AreasApart, PresentInAreas, SameStorage, FreshArea, AreasFreed, AreaIsPresent};
+ghost use Rattle.cx_storage.specs.Laws.Areas.{AreasApart, PresentInAreas, SameStorage, FreshArea, AreasFreed, AreaIsPresent, NextArea};
 ghost use Rattle.cx_storage.specs.Laws.Spans.{SpanIsBytes, TogetherIsPresent, AreaIsTogether};
 ghost use Rattle.cx_storage.specs.Laws.Writes.{ByteAfterSet, ByteAfterWrite, NothingWritten, SpanAfterWrite, SpanAside, WriteKeepsAreas, SetKeepsAreas, OthersStay};
 ghost use Rattle.cx_storage.specs.Laws.Places.{PlaceIsFree, PlaceDecides};
@@ -38,6 +38,11 @@ pub fn span_is_bytes()
 /// An area that starts at an address is whole, and each span inside it is present.
 pub fn area_is_present()
     ensures { AreaIsPresent }
+{}
+
+/// The next area is the one with the least start that isn't below an address.
+pub fn next_area_is_least()
+    ensures { NextArea }
 {}
 
 /// Bytes that stand together are present, and bytes of one area and one block stand together.

@@ -12,7 +12,7 @@ use std::alloc::AllocError;
 /// list of areas is this product's own: a byte is present exactly where an area has its address, no two
 /// areas meet, and each has an owner. No call but `get_area` takes memory.
 pub trait Store {
-    ghost use Rattle.cx_storage.specs.Storage.{Storage, byte_at, span, with_byte, written, area_at, with_area, with_areas_kept, starts_elsewhere, is_of_other_slot, IsTogether, IsSound};
+    ghost use Rattle.cx_storage.specs.Storage.{Storage, byte_at, span, with_byte, written, area_at, next_area, with_area, with_areas_kept, starts_elsewhere, is_of_other_slot, IsTogether, IsSound};
     ghost use Rattle.cx_storage.specs.Place.{IsLeastPlace};
 
     ghost storage: { Self → Storage };
@@ -102,6 +102,11 @@ pub trait Store {
     fn area_at(&self, start: u32) -> Option<Area>
         requires { start < 2 ^ 24 }
         ensures { result ≡ area_at (storage self.now) start };
+
+    /// The area with the least start that isn't below the address `from`; None where no area starts there or
+    /// above.
+    fn next_area(&self, from: u32) -> Option<Area>
+        ensures { result ≡ next_area (storage self.now) from };
 
     /// The least multiple of 16 at which `len` bytes (at least 1) stand in the range from `first` to
     /// `last` (below 2^24) and meet no area; None where there is none.

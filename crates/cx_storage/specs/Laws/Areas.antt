@@ -4,7 +4,7 @@ use Rattle.std.specs.List.{list_any}
 use Rattle.std.specs.Option.{option_map_or, option_and_then}
 use Rattle.std.specs.Prelude.{◌≡◌, ℕ, ◌<◌, ◌≤◌, Bool, false, length, Option, Some, None, is_some, ◌==◌, if◌then◌else◌, ◌^◌, ◌+◌}
 use Rattle.cx_storage.specs.Place.{CanPlace}
-use Rattle.cx_storage.specs.Storage.{Held, Storage, end_of, covers, byte_at, area_at, holder, areas_of, with_area, with_areas_kept, IsWhole, IsSound, area_from, span}
+use Rattle.cx_storage.specs.Storage.{Held, Storage, end_of, covers, byte_at, area_at, next_area, holder, areas_of, with_area, with_areas_kept, IsWhole, IsSound, area_from, span}
 use Rattle.cx_storage.specs.declared.areas.Area.{Area}
 use Rattle.cx_storage.specs.declared.areas.Owner.{Owner}
 
@@ -49,3 +49,12 @@ pub record IsPresentArea (s : Storage) (start : ℕ) (area : Area) : Type 0 wher
 
 abbrev pub AreaIsPresent : Type 0
 AreaIsPresent = (s : Storage) (start : ℕ) (area : Area) → IsSound s → area_at s start ≡ Some area → IsPresentArea s start area
+
+-- the next area is one of storage that starts at the address from or above, and none that starts there starts below it; None
+-- where no area starts there
+abbrev pub IsNextArea : Storage → ℕ → Option Area → Type 0
+IsNextArea s from None = (start : ℕ) → from ≤ start → area_at s start ≡ None
+IsNextArea s from (Some area) = (area_at s area.start ≡ Some area) × (from ≤ area.start) × ((start : ℕ) → from ≤ start → start < area.start → area_at s start ≡ None)
+
+abbrev pub NextArea : Type 0
+NextArea = (s : Storage) (from : ℕ) → IsSound s → IsNextArea s from (next_area s from)
