@@ -2,7 +2,7 @@
 use Rattle.std.proofs.Common.{◌≡◌, ◌≢◌, ℕ, zero, suc, ◌+◌, ◌-◌, ◌*◌, ◌/◌, ◌%◌, ◌<◌, ◌≤◌, ◌==◌, true, false, refl, sym, ap, ◌∙◌, arith, inl, inr, List, [], ◌∷◌, ◌++◌, length, slice_set, slice_get, Option, Some, None, nat_le, nat_lt, ◌&&◌, if◌then◌else◌, get_or, min, ◌⊎◌}
 use Rattle.std.specs.Prelude.{IfSome}
 use Rattle.std.proofs.lemmas.Option.{slice_get_read}
-use Rattle.std.proofs.lemmas.Bool.{cases_Bool, cases_eq, eq-eqb, ne_eqb, le-ltb, lt-ltb, le-leb, lt-leb, cases_lt, and_from}
+use Rattle.std.proofs.lemmas.Bool.{cases_Bool, cases_eq, eq-eqb, ne_eqb, le-ltb, lt-ltb, le-leb, lt-leb, cases_lt}
 use Rattle.cx_pages.specs.declared.page.Page.{Page}
 use Rattle.cx_pages.specs.Parts.Frame.{HasAll, Skips}
 use Rattle.cx_pages.specs.Parts.Page.{is_made}
@@ -86,25 +86,39 @@ there_push ps p x none = elim (cases_lt (x / 4096) (length ps)) [
 at_index : (ps : List Page) (i : ℕ) (p : Page) → i < length ps → p ≡ get_or ps i p → slice_get ps i ≡ Some p
 at_index ps i p h e = slice_get_read ps (length ps) i p refl h e
 
--- a granule set, as the rule F says of its places
-pub granule_set : (ps : List Page) (g : ℕ) (p q : Page) (F : ℕ → Option ℕ) → g / 256 < length ps → p ≡ get_or ps (g / 256) p
-    → ((j : ℕ) → found q j ≡ (if j / 16 == g % 256 then F (j % 16) else found p j))
-    → (x : ℕ) → there (slice_set ps (g / 256) q) x ≡ (if x / 16 == g then F (x % 16) else there ps x)
-granule_set ps g p q F h e each x = there_set ps (g / 256) q x h ∙ elim (cases_eq (x / 4096) (g / 256)) [
-  | inl same ↦
-      let inner : x % 4096 % 16 ≡ x % 16 = omega arith in
-      rw (eq-eqb (x / 4096) (g / 256) same, each (x % 4096), inner) (elim (cases_eq (x / 16) g) [
-        | inl here ↦ rw (eq-eqb (x % 4096 / 16) (g % 256) (omega arith), eq-eqb (x / 16) g here) refl
-        | inr other ↦ rw (ne_eqb (x % 4096 / 16) (g % 256) (λ d. other (omega arith)), ne_eqb (x / 16) g other) (sym (there_at ps (g / 256) p x (at_index ps (g / 256) p h e) same))
-      ])
-  | inr ne ↦ rw (ne_eqb (x / 4096) (g / 256) ne, ne_eqb (x / 16) g (λ d. ne (omega arith))) refl
+-- the granules of one page are those of no other
+outside : (g end x : ℕ) → g < end → (end - 1) / 256 ≡ g / 256 → x / 4096 ≢ g / 256 → (nat_le g (x / 16) && nat_lt (x / 16) end) ≡ false
+outside g end x some together ne = elim (cases_lt (x / 16) g) [
+  | inl before ↦ rw (lt-leb g (x / 16) before) refl
+  | inr from ↦ rw (le-leb g (x / 16) from, le-ltb (x / 16) end (omega (arith, from, some, together, ne))) refl
 ]
 
--- one beyond the pages
-pub granule_past : (ps : List Page) (g : ℕ) → length ps ≤ g / 256 → (x : ℕ) → there ps x ≡ (if x / 16 == g then None else there ps x)
-granule_past ps g h x = elim (cases_eq (x / 16) g) [
-  | inl e ↦ rw (eq-eqb (x / 16) g e) (there_past ps x (omega arith))
-  | inr ne ↦ rw (ne_eqb (x / 16) g ne) refl
+-- granules of one page set, as the rule F says of their addresses and G of their places
+pub granules_set : (ps : List Page) (g end : ℕ) (p q : Page) (F G : ℕ → Option ℕ) → g < end → (end - 1) / 256 ≡ g / 256 → g / 256 < length ps → p ≡ get_or ps (g / 256) p
+    → ((x : ℕ) → x / 4096 ≡ g / 256 → G (x % 4096) ≡ F x)
+    → ((j : ℕ) → found q j ≡ (if nat_le (g % 256) (j / 16) && nat_lt (j / 16) (g % 256 + (end - g)) then G j else found p j))
+    → (x : ℕ) → there (slice_set ps (g / 256) q) x ≡ (if nat_le g (x / 16) && nat_lt (x / 16) end then F x else there ps x)
+granules_set ps g end p q F G some together h e rule each x = there_set ps (g / 256) q x h ∙ elim (cases_eq (x / 4096) (g / 256)) [
+  | inl same ↦
+      let old = there_at ps (g / 256) p x (at_index ps (g / 256) p h e) same in
+      rw (eq-eqb (x / 4096) (g / 256) same, each (x % 4096), rule x same, old) (elim (cases_lt (x / 16) g) [
+        | inl before ↦ rw (lt-leb g (x / 16) before, lt-leb (g % 256) (x % 4096 / 16) (omega (arith, before, same))) refl
+        | inr from ↦ elim (cases_lt (x / 16) end) [
+          | inl inside ↦
+              rw (le-leb g (x / 16) from, le-leb (g % 256) (x % 4096 / 16) (omega (arith, from, same)), lt-ltb (x / 16) end inside, lt-ltb (x % 4096 / 16) (g % 256 + (end - g)) (omega (arith, from, same, inside))) refl
+          | inr past ↦
+              rw (le-leb g (x / 16) from, le-leb (g % 256) (x % 4096 / 16) (omega (arith, from, same)), le-ltb (x / 16) end past, le-ltb (x % 4096 / 16) (g % 256 + (end - g)) (omega (arith, from, same, past))) refl
+        ]
+      ])
+  | inr ne ↦ rw (ne_eqb (x / 4096) (g / 256) ne, outside g end x some together ne) refl
+]
+
+-- those beyond the pages
+pub granules_past : (ps : List Page) (g end : ℕ) → g < end → (end - 1) / 256 ≡ g / 256 → length ps ≤ g / 256 → (x : ℕ)
+    → there ps x ≡ (if nat_le g (x / 16) && nat_lt (x / 16) end then None else there ps x)
+granules_past ps g end some together h x = elim (cases_eq (x / 4096) (g / 256)) [
+  | inl same ↦ let gone = there_past ps x (omega (arith, same, h)) in rw gone (elim (cases_Bool (nat_le g (x / 16) && nat_lt (x / 16) end)) [ inl e ↦ rw e refl | inr e ↦ rw e refl ])
+  | inr ne ↦ rw (outside g end x some together ne) refl
 ]
 
 pub has_set_same : (ps : List Page) (i : ℕ) (p q : Page) → i < length ps → p ≡ get_or ps i p → is_made q ≡ is_made p → (j : ℕ) → has_page (slice_set ps i q) j ≡ has_page ps j
@@ -150,27 +164,22 @@ made_more ps first i q h made before j low high = has_set ps i q j h ∙ elim (c
   | inr ne ↦ rw (ne_eqb j i ne) (before j low (omega arith))
 ]
 
--- the granules of a span, one more
-granules_more : (start g x : ℕ) → start % 16 ≡ 0 → start / 16 ≤ g → nat_le start x && nat_lt (x / 16) (g + 1) ≡ (if x / 16 == g then true else (nat_le start x && nat_lt (x / 16) g))
-granules_more start g x even low = elim (cases_eq (x / 16) g) [
-  | inl e ↦ rw (eq-eqb (x / 16) g e) (and_from _ _ (le-leb start x (omega arith)) (lt-ltb (x / 16) (g + 1) (omega arith)))
-  | inr ne ↦ rw (ne_eqb (x / 16) g ne) (elim (cases_lt (x / 16) g) [
-    | inl lt ↦ rw (lt-ltb (x / 16) (g + 1) (omega arith), lt-ltb (x / 16) g lt) refl
-    | inr ge ↦ rw (le-ltb (x / 16) (g + 1) (omega arith), le-ltb (x / 16) g ge) refl
-  ])
-]
-
 -- what the rule F gives in the granules from start to before g
 unfoldable pub ruled : ℕ → ℕ → (ℕ → Option ℕ) → (ℕ → Option ℕ) → ℕ → Option ℕ
 ruled start g F old x = if nat_le start x && nat_lt (x / 16) g then F x else old x
 
-pub ruled_more : (start g : ℕ) (F old at new : ℕ → Option ℕ) (x : ℕ) → start % 16 ≡ 0 → start / 16 ≤ g → at x ≡ ruled start g F old x
-    → new x ≡ (if x / 16 == g then F x else at x) → new x ≡ ruled start (g + 1) F old x
+pub ruled_more : (start g next : ℕ) (F old at new : ℕ → Option ℕ) (x : ℕ) → start % 16 ≡ 0 → start / 16 ≤ g → g ≤ next → at x ≡ ruled start g F old x
+    → new x ≡ (if nat_le g (x / 16) && nat_lt (x / 16) next then F x else at x) → new x ≡ ruled start next F old x
 unfolding ruled
-ruled_more start g F old at new x even low before step = step ∙ rw (granules_more start g x even low) (elim (cases_eq (x / 16) g) [
-  | inl e ↦ rw (eq-eqb (x / 16) g e) refl
-  | inr ne ↦ rw (ne_eqb (x / 16) g ne) before
-])
+ruled_more start g next F old at new x even low more before step = step ∙ elim (cases_lt (x / 16) g) [
+  | inl lt ↦ rw (before, lt-leb g (x / 16) lt, lt-ltb (x / 16) g lt, lt-ltb (x / 16) next (omega (arith, lt, more))) refl
+  | inr ge ↦
+      let from : start ≤ x = omega (arith, even, low, ge) in
+      elim (cases_lt (x / 16) next) [
+        | inl inside ↦ rw (le-leb g (x / 16) ge, lt-ltb (x / 16) next inside, le-leb start x from) refl
+        | inr past ↦ rw (before, le-leb g (x / 16) ge, le-ltb (x / 16) next past, le-leb start x from, le-ltb (x / 16) g ge) refl
+      ]
+]
 
 pub ruled_none : (start g : ℕ) (F old : ℕ → Option ℕ) (x : ℕ) → start % 16 ≡ 0 → g ≤ start / 16 → ruled start g F old x ≡ old x
 unfolding ruled
@@ -179,15 +188,22 @@ ruled_none start g F old x even low = elim (cases_lt x start) [
   | inr ge ↦ rw (le-ltb (x / 16) g (omega arith)) (elim (cases_Bool (nat_le start x)) [ inl e ↦ rw e refl | inr e ↦ rw e refl ])
 ]
 
--- a granule made, of which the bytes before the end are present
-pub zero_step : (g end count x : ℕ) (o : Option ℕ) → count ≡ min (end - g * 16) 16
-    → (if x / 16 == g then (if nat_lt (x % 16) count then Some 0 else None) else o) ≡ (if x / 16 == g then (if nat_lt x end then Some 0 else None) else o)
-zero_step g end count x o e = elim (cases_eq (x / 16) g) [
-  | inl here ↦ rw (eq-eqb (x / 16) g here) (elim (cases_lt x end) [
-    | inl lt ↦ rw (lt-ltb x end lt, lt-ltb (x % 16) count (omega arith)) refl
-    | inr ge ↦ rw (le-ltb x end ge, le-ltb (x % 16) count (omega arith)) refl
-  ])
-  | inr ne ↦ rw (ne_eqb (x / 16) g ne) refl
+-- a place before another is at an address before another
+pub place_before : (x to i limit : ℕ) → x / 4096 ≡ i → limit ≡ to - i * 4096 → nat_lt (x % 4096) limit ≡ nat_lt x to
+place_before x to i limit page e = elim (cases_lt x to) [
+  | inl lt ↦ rw (lt-ltb x to lt) (lt-ltb (x % 4096) limit (omega (arith, lt, page, e)))
+  | inr ge ↦ rw (le-ltb x to ge) (le-ltb (x % 4096) limit (omega (arith, ge, page, e)))
+]
+
+-- granules made, of which the bytes before the end are present
+pub zero_step : (g next end to x : ℕ) (o : Option ℕ) → to ≡ min end (16 * next)
+    → (if nat_le g (x / 16) && nat_lt (x / 16) next then (if nat_lt x to then Some 0 else None) else o) ≡ (if nat_le g (x / 16) && nat_lt (x / 16) next then (if nat_lt x end then Some 0 else None) else o)
+zero_step g next end to x o e = elim (cases_lt (x / 16) next) [
+  | inl lt ↦ elim (cases_lt x end) [
+    | inl before ↦ rw (lt-ltb x end before, lt-ltb x to (omega (arith, e, before, lt))) refl
+    | inr past ↦ rw (le-ltb x end past, le-ltb x to (omega (arith, e, past))) refl
+  ]
+  | inr ge ↦ rw (le-ltb (x / 16) next ge) (elim (cases_Bool (nat_le g (x / 16))) [ inl k ↦ rw k refl | inr k ↦ rw k refl ])
 ]
 
 -- what one fact of a value gives
@@ -254,3 +270,13 @@ skips_in ps i need tail p h e skips = record {
       let same = rw place at here in
       sym same ∙ all j low near high);
 }
+
+-- a granule of a page, by its address
+pub granule_at : (ps : List Page) (g j k : ℕ) (p : Page) → g / 256 < length ps → p ≡ get_or ps (g / 256) p → j ≡ g - g % 256 + k → k < 256 → there ps (j * 16) ≡ found p (k * 16)
+granule_at ps g j k p h e at small =
+    let page : j * 16 / 4096 ≡ g / 256 = omega (arith, at, small) in
+    let place : j * 16 % 4096 ≡ k * 16 = omega (arith, at, small) in
+    there_at ps (g / 256) p (j * 16) (at_index ps (g / 256) p h e) page ∙ rw place refl
+
+pub granule_past : (ps : List Page) (g j : ℕ) → length ps ≤ g / 256 → g ≤ j → there ps (j * 16) ≡ None
+granule_past ps g j h low = there_past ps (j * 16) (omega (arith, h, low))

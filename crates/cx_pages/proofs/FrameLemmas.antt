@@ -1,6 +1,6 @@
 -- What a frame has.
-use Rattle.std.proofs.Common.{Option, Some, None, List, max, ◌≢◌, ◌≡◌, ℕ, zero, suc, ◌+◌, ◌-◌, ◌*◌, ◌/◌, ◌%◌, ◌<◌, ◌≤◌, min, true, false, refl, arith, inl, inr, replicate, length, slice_index, slice_get, is_some, lt-ltb, le-ltb}
-use Rattle.std.proofs.lemmas.Bool.{cases_lt}
+use Rattle.std.proofs.Common.{[], ◌∷◌, Option, Some, None, List, max, ◌≢◌, ◌≡◌, ℕ, zero, suc, ◌+◌, ◌-◌, ◌*◌, ◌/◌, ◌%◌, ◌<◌, ◌≤◌, min, true, false, refl, arith, inl, inr, replicate, length, slice_index, slice_get, is_some, nat_le, nat_lt, lt-ltb, le-ltb, ◌&&◌, ◌⊎◌}
+use Rattle.std.proofs.lemmas.Bool.{cases_lt, le-leb, lt-leb}
 use Rattle.std.proofs.lemmas.Option.{slice_get-get_or}
 use Rattle.cx_pages.specs.Parts.Frame.{HasAll, Skips}
 use Rattle.cx_pages.specs.Pages.{seen}
@@ -11,6 +11,21 @@ pub zero_index : (n k : ℕ) → slice_index (replicate {A = ℕ} n 0) k ≡ 0
 zero_index zero k = refl
 zero_index (suc n) zero = refl
 zero_index (suc n) (suc k) = zero_index n k
+
+pub index_past : (counts : List ℕ) (k : ℕ) → length counts ≤ k → slice_index counts k ≡ 0
+index_past [] k h = refl
+index_past (n ∷ ns) zero h = absurd (omega arith)
+index_past (n ∷ ns) (suc k) h = index_past ns k (omega arith)
+
+-- the places of a range that was gone over to its end
+pub range_end : (from to k j : ℕ) → to ≤ k → (k ≤ to) ⊎ (k ≤ from) → (nat_le from j && nat_lt j k) ≡ (nat_le from j && nat_lt j to)
+range_end from to k j past end = elim (cases_lt j from) [
+  | inl before ↦ rw (lt-leb from j before) refl
+  | inr low ↦ elim end [
+    | inl done ↦ let same : k ≡ to = omega (arith, past, done) in rw same refl
+    | inr none ↦ rw (le-leb from j low, le-ltb j k (omega (arith, none, low)), le-ltb j to (omega (arith, none, past, low))) refl
+  ]
+]
 
 -- a place is present exactly where its granule counts it
 pub seen_some : (frame : Frame) (k : ℕ) → k < length frame.bytes → k % 16 < slice_index frame.counts (k / 16) → is_some (seen frame k) ≡ true
@@ -27,6 +42,22 @@ seen_counted frame k h = elim (cases_lt (k % 16) (slice_index frame.counts (k / 
 pub seen_byte : (frame : Frame) (k : ℕ) → is_some (seen frame k) ≡ true → seen frame k ≡ slice_get frame.bytes k
 unfolding seen
 seen_byte frame k h = let lt = seen_counted frame k h in rw (lt-ltb _ _ lt) refl
+
+-- a granule has a byte exactly where its first one is counted
+pub granule_taken : (frame : Frame) (g : ℕ) → length frame.bytes ≡ 4096 → length frame.counts ≡ 256 → 0 < slice_index frame.counts g → is_some (seen frame (g * 16)) ≡ true
+granule_taken frame g whole all some = elim (cases_lt g 256) [
+  | inl within ↦
+      let place : g * 16 / 16 ≡ g = omega arith in
+      let front : g * 16 % 16 ≡ 0 = omega arith in
+      seen_some frame (g * 16) (omega (arith, whole, within)) (rw (place, front) some)
+  | inr past ↦ let none = index_past frame.counts g (omega (arith, all, past)) in absurd (omega (arith, none, some))
+]
+
+pub granule_free : (frame : Frame) (g : ℕ) → slice_index frame.counts g ≡ 0 → seen frame (g * 16) ≡ None
+unfolding seen
+granule_free frame g none =
+    let place : g * 16 / 16 ≡ g = omega arith in
+    rw (place, none, le-ltb (g * 16 % 16) 0 (omega arith)) refl
 
 -- bytes are present where all granules before the last are full, and the last counts the last byte
 pub has_all : (frame : Frame) (from to : ℕ) → to ≤ length frame.bytes → from < to

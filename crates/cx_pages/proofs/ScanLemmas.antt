@@ -52,25 +52,27 @@ scan_start s first last len = record {
   none = λ b can. let even = can.0 in let low = can.1 in omega (arith, even, low);
 }
 
-pub scan_free : (areas : List Area) (pages : List Page) (first last len from g : ℕ) → IsShown areas pages → IsScanned (storage_of areas pages) first last len from g → g < from + (len + 15) / 16
-    → there pages (g * 16) ≡ None → IsScanned (storage_of areas pages) first last len from (g + 1)
-scan_free areas pages first last len from g shown scan more gone = record {
+pub scan_free : (areas : List Area) (pages : List Page) (first last len from g next : ℕ) → IsShown areas pages → IsScanned (storage_of areas pages) first last len from g → g ≤ next → next ≤ from + (len + 15) / 16
+    → ((j : ℕ) → g ≤ j → j < next → there pages (j * 16) ≡ None) → IsScanned (storage_of areas pages) first last len from next
+scan_free areas pages first last len from g next shown scan more most gone = record {
   above = scan.above;
-  order = omega (arith, scan.order);
-  short = omega (arith, more);
+  order = omega (arith, scan.order, more);
+  short = most;
   free = λ x low high. elim (cases_lt x (g * 16)) [
     | inl before ↦ scan.free x low before
-    | inr here ↦
-        let front : x / 16 * 16 ≡ g * 16 = omega arith in
-        front_absent areas pages x (shown_sound areas pages shown) (shown_aligned areas pages shown) (rw front (sym (shown_byte areas pages (g * 16) shown) ∙ gone))
+    | inr here ↦ front_absent areas pages x (shown_sound areas pages shown) (shown_aligned areas pages shown) (sym (shown_byte areas pages (x / 16 * 16) shown) ∙ gone (x / 16) (omega (arith, here)) (omega (arith, high)))
   ];
   none = scan.none;
 }
 
-pub scan_taken : (areas : List Area) (pages : List Page) (first last len from g : ℕ) → IsShown areas pages → PlaceIsFree → 0 < len → IsScanned (storage_of areas pages) first last len from g → g < from + (len + 15) / 16
-    → is_some (there pages (g * 16)) ≡ true → IsScanned (storage_of areas pages) first last len (g + 1) (g + 1)
-scan_taken areas pages first last len from g shown law some scan more taken = record {
-  above = omega (arith, scan.above, scan.order);
+taken_absent : (o : Option ℕ) → is_some o ≡ true → o ≡ None → ⊥
+taken_absent None e gone = cc
+taken_absent (Some x) e gone = cc
+
+pub scan_taken : (areas : List Area) (pages : List Page) (first last len from g next : ℕ) → IsShown areas pages → PlaceIsFree → 0 < len → IsScanned (storage_of areas pages) first last len from g → g < from + (len + 15) / 16 → g < next
+    → ((j : ℕ) → g ≤ j → j < next → is_some (there pages (j * 16)) ≡ true) → IsScanned (storage_of areas pages) first last len next next
+scan_taken areas pages first last len from g next shown law some scan more on taken = record {
+  above = omega (arith, scan.above, scan.order, on);
   order = omega arith;
   short = omega arith;
   free = λ x low high. absurd (omega arith);
@@ -78,12 +80,16 @@ scan_taken areas pages first last len from g shown law some scan more taken = re
       let parts = (law (storage_of areas pages) first last len b (shown_sound areas pages shown) some).0 can in
       let low = scan.none b can in
       let even = parts.0 in
-      elim (cases_lt b (g * 16 + 1)) [
-        | inr behind ↦ omega (arith, behind, even)
-        | inl before ↦
-            let within : g * 16 < b + len = omega (arith, low, more) in
-            let gone : there pages (g * 16) ≡ None = shown_byte areas pages (g * 16) shown ∙ parts.3 (g * 16) (omega (arith, before)) within in
-            absurd (let none = rw gone at taken in cc)
+      elim (cases_lt b (next * 16)) [
+        | inr behind ↦ behind
+        | inl before ↦ elim (cases_lt b (g * 16)) [
+          | inl front ↦
+              let within : g * 16 < b + len = omega (arith, low, more) in
+              absurd (taken_absent _ (taken g (omega arith) on) (shown_byte areas pages (g * 16) shown ∙ parts.3 (g * 16) (omega (arith, front)) within))
+          | inr inside ↦
+              let place : b / 16 * 16 ≡ b = omega (arith, even) in
+              absurd (taken_absent _ (rw place at (taken (b / 16) (omega (arith, inside)) (omega (arith, before)))) (shown_byte areas pages b shown ∙ parts.3 b (omega arith) (omega (arith, some))))
+        ]
       ];
 }
 

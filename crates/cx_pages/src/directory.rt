@@ -1,6 +1,6 @@
 //! The directory: the pages, by their addresses divided by 4,096.
 
-ghost use Rattle.std.specs.Prelude.{◌≡◌, ◌≢◌, ℕ, ◌+◌, ◌-◌, ◌*◌, ◌/◌, ◌%◌, ◌<◌, ◌≤◌, ◌^◌, ◌==◌, ◌⊎◌, true, false, length, Some, None, is_some, nat_lt, slice_get, if◌then◌else◌, IsSome, IfSome, OnSome, OnOk};
+ghost use Rattle.std.specs.Prelude.{◌≡◌, ◌≢◌, ℕ, ◌+◌, ◌-◌, ◌*◌, ◌/◌, ◌%◌, ◌<◌, ◌≤◌, ◌^◌, ◌==◌, ◌&&◌, ◌⊎◌, true, false, length, Some, None, is_some, nat_le, nat_lt, slice_get, if◌then◌else◌, IsSome, IfSome, OnSome, OnOk};
 ghost use Rattle.std.specs.Option.{option_map};
 ghost use Rattle.cx_pages.specs.Parts.Frame.{HasAll, Skips};
 ghost use Rattle.cx_pages.specs.Parts.Directory.{has_page, in_granules};
@@ -36,17 +36,23 @@ pub(crate) fn set_in(pages: &mut Vec<Page>, a: u32, value: u8) -> bool
     }
 }
 
-/// Makes the granule `g` zero, of which the first `count` bytes are present then, where its page is made.
+/// Makes of the granules from `g` to before `end`, all of one page, the bytes before the address `to` zero and present,
+/// and the others absent, where the page is made.
 #[tactic(auto, unfolding(crate::specs::Pages::there, crate::specs::Parts::Directory::has_page))]
-pub(crate) fn mark_in(pages: &mut Vec<Page>, g: usize, count: u8)
-    ensures made { has_page pages.old.items (g / 256) ≡ true → (x : ℕ) → there pages.new.items x ≡ (if x / 16 == g then (if nat_lt (x % 16) count then Some 0 else None) else there pages.old.items x) }
-    ensures gone { count ≡ 0 → (x : ℕ) → there pages.new.items x ≡ (if x / 16 == g then None else there pages.old.items x) }
+pub(crate) fn mark_in(pages: &mut Vec<Page>, g: usize, end: usize, to: usize)
+    requires order { g < end }
+    requires together { (end - 1) / 256 ≡ g / 256 }
+    requires low { end ≤ 2 ^ 20 }
+    requires few { to ≤ 16 * end }
+    ensures made { has_page pages.old.items (g / 256) ≡ true → (x : ℕ) → there pages.new.items x ≡ (if nat_le g (x / 16) && nat_lt (x / 16) end then (if nat_lt x to then Some 0 else None) else there pages.old.items x) }
+    ensures gone { to ≡ 0 → (x : ℕ) → there pages.new.items x ≡ (if nat_le g (x / 16) && nat_lt (x / 16) end then None else there pages.old.items x) }
     ensures pages { (i : ℕ) → has_page pages.new.items i ≡ has_page pages.old.items i }
 {
     let i = g / 256;
     if i < pages.len() {
         let page = &mut pages[i];
-        page.mark(g % 256, count);
+        let first = g % 256;
+        page.mark(first, first + (end - g), to.saturating_sub(i * 4096));
     }
 }
 
@@ -135,10 +141,13 @@ pub(crate) fn zero_in(pages: &mut Vec<Page>, start: usize, end: usize)
     requires made { (i : ℕ) → start / 4096 ≤ i → i ≤ (end - 1) / 4096 → has_page pages.old.items i ≡ true }
     ensures { (x : ℕ) → there pages.new.items x ≡ (if in_granules start end x then (if nat_lt x end then Some 0 else None) else there pages.old.items x) }
 {
-    for g in start / 16..(end + 15) / 16 {
-        mark_in(pages, g, (end - g * 16).min(16) as u8);
+    let last = (end + 15) / 16;
+    let mut g = start / 16;
+    while g < last {
+        let next = last.min(g / 256 * 256 + 256);
+        mark_in(pages, g, next, end.min(16 * next));
+        g = next;
     }
-    sum_in(pages, start / 4096, (end - 1) / 4096 + 1);
 }
 
 /// Makes the bytes of the granules from `start` (a multiple of 16) to before `end` absent.
@@ -148,8 +157,12 @@ pub(crate) fn clear_in(pages: &mut Vec<Page>, start: usize, end: usize)
     requires low { end ≤ 2 ^ 24 }
     ensures { (x : ℕ) → there pages.new.items x ≡ (if in_granules start end x then None else there pages.old.items x) }
 {
-    for g in start / 16..(end + 15) / 16 {
-        mark_in(pages, g, 0);
+    let last = (end + 15) / 16;
+    let mut g = start / 16;
+    while g < last {
+        let next = last.min(g / 256 * 256 + 256);
+        mark_in(pages, g, next, 0);
+        g = next;
     }
 }
 
@@ -163,6 +176,41 @@ pub(crate) fn sum_in(pages: &mut Vec<Page>, first: usize, end: usize)
             let page = &mut pages[i];
             page.sum_up();
         }
+    }
+}
+
+/// The first granule from `g` to before `end`, all of one page, that has a byte, or `end`.
+pub(crate) fn free_in(pages: &Vec<Page>, g: usize, end: usize) -> usize
+    requires order { g < end }
+    requires together { (end - 1) / 256 ≡ g / 256 }
+    ensures order { g ≤ result }
+    ensures within { result ≤ end }
+    ensures free { (j : ℕ) → g ≤ j → j < result → there pages.now.items (j * 16) ≡ None }
+    ensures taken { result < end → is_some (there pages.now.items (result * 16)) ≡ true }
+{
+    let i = g / 256;
+    if i < pages.len() {
+        let first = g % 256;
+        g - first + pages[i].free_to(first, first + (end - g))
+    } else {
+        end
+    }
+}
+
+/// The granule behind a row of granules from `g` on, each of which has a byte; that `g` has one is known.
+pub(crate) fn used_in(pages: &Vec<Page>, g: usize) -> usize
+    requires low { g < 2 ^ 32 }
+    requires taken { is_some (there pages.now.items (g * 16)) ≡ true }
+    ensures order { g < result }
+    ensures near { result ≤ g + 256 }
+    ensures taken { (j : ℕ) → g ≤ j → j < result → is_some (there pages.now.items (j * 16)) ≡ true }
+{
+    let i = g / 256;
+    if i < pages.len() {
+        let first = g % 256;
+        g - first + pages[i].used_to(first)
+    } else {
+        g + 1
     }
 }
 

@@ -1,23 +1,25 @@
 //! Frames: the 4,096 bytes of a page, in granules of 16 bytes. Areas start at multiples
 //! of 16, so the bytes of a granule that are present are its first ones, and their number says which.
 
-ghost use Rattle.std.specs.Prelude.{◌≡◌, ℕ, ◌+◌, ◌-◌, ◌*◌, ◌/◌, ◌%◌, ◌<◌, ◌≤◌, ◌==◌, ◌&&◌, ◌⊎◌, true, false, length, Some, None, is_some, nat_le, nat_lt, slice_get, slice_index, slice_range, if◌then◌else◌, MatchOption, IsSome, IfSome};
+ghost use Rattle.std.specs.Prelude.{◌≡◌, ℕ, ◌+◌, ◌-◌, ◌*◌, ◌/◌, ◌%◌, ◌<◌, ◌≤◌, ◌==◌, ◌&&◌, ◌⊎◌, true, false, length, Some, None, is_some, nat_le, nat_lt, slice_get, slice_index, slice_range, min, max, if◌then◌else◌, MatchOption, IsSome, IfSome};
 ghost use Rattle.std.specs.Option.{option_map};
-ghost use Rattle.cx_pages.specs.Facts.Reach.{ReachesAre-prop};
-ghost use Rattle.cx_pages.specs.Facts.Runs.{RunsAre-prop};
-ghost use Rattle.cx_pages.specs.Parts.Reach.{IsFlat, Reaches, ReachesAre};
-ghost use Rattle.cx_pages.specs.Parts.Runs.{IsRuns, RunsAre};
+ghost use Rattle.cx_pages.specs.Facts.Reach.{Reaches-prop};
+ghost use Rattle.cx_pages.specs.Facts.Runs.{AllFree-prop, RunsAre-prop};
+ghost use Rattle.cx_pages.specs.Parts.Reach.{Reaches};
+ghost use Rattle.cx_pages.specs.Parts.Runs.{AllFree, IsRuns, RunsAre};
 
-/// The bytes of a page that was made, for each granule how many bytes from its first one on are present in a row, and the
-/// runs of free granules, where they were looked for since a granule changed. Until then at most 16 bytes are
-/// counted, those of the granule itself; from then on also those of the next ones, at most 255 in all.
+/// The bytes of a page that was made, for each granule how many bytes from its first one on are present in a row, at
+/// most 255 in all, a granule from which on none has a byte, and the runs of free granules, where they were looked for
+/// since a granule changed.
 #[derive(Drop)]
 pub struct Frame {
     bytes: [u8; 4096],
     counts: [u8; 256],
+    top: u16,
     runs: Option<Runs>,
+    ghost topped: { AllFree counts top 256 } by { AllFree-prop counts top },
     ghost summed: { RunsAre runs counts } by { RunsAre-prop runs counts },
-    ghost reached: { ReachesAre runs counts } by { ReachesAre-prop runs counts },
+    ghost reached: { Reaches counts } by { Reaches-prop counts },
 }
 
 /// The runs of granules of which no byte is present: how many granules the longest has, and how many stand
@@ -28,48 +30,80 @@ pub struct Runs {
     pub tail: u16,
 }
 
-/// The runs of the granules that are counted as zero. Behind each full granule also the bytes of the next ones that are
-/// present in a row with it are counted from then on, at most 255 in all.
-fn summed(counts: &mut [u8; 256]) -> Runs
-    requires { IsFlat counts.old }
-    ensures runs { IsRuns counts.new result.longest result.tail }
-    ensures reach { Reaches counts.new }
-    ensures same { (g d : ℕ) → d < 16 → nat_lt d (slice_index counts.new g) ≡ nat_lt d (slice_index counts.old g) }
+/// The runs of the granules that are counted as zero.
+fn summed(counts: &[u8; 256]) -> Runs
+    ensures { IsRuns counts.now result.longest result.tail }
 {
     let mut longest: u16 = 0;
     let mut run: u16 = 0;
-    let mut row: u16 = 0;
     for k in 0..256 {
         run = if counts[k] == 0 { run + 1 } else { 0 };
         longest = longest.max(run);
-        let g = 255 - k;
-        if counts[g] < 16 {
-            row = counts[g] as u16;
-        } else {
-            row += 16;
-            counts[g] = row.min(255) as u8;
-        }
     }
     Runs { longest, tail: run }
 }
 
-/// Counts the bytes of each granule alone.
-fn flatten(counts: &mut [u8; 256])
-    ensures flat { IsFlat counts.new }
-    ensures size { length counts.new ≡ 256 }
-    ensures same { (g d : ℕ) → d < 16 → nat_lt d (slice_index counts.new g) ≡ nat_lt d (slice_index counts.old g) }
+/// Ends each row that goes on past the granule `g` there.
+fn cut(counts: &mut [u8; 256], g: usize)
+    requires within { g ≤ 256 }
+    requires reached { Reaches counts.old }
+    ensures { (h : ℕ) → slice_index counts.new h ≡ (if nat_lt h g then min (slice_index counts.old h) (16 * (g - h)) else slice_index counts.old h) }
 {
-    for g in 0..256 {
-        counts[g] = counts[g].min(16);
+    // A row has at most 255 bytes.
+    for h in g.saturating_sub(15)..g {
+        counts[h] = counts[h].min((16 * (g - h)) as u8);
     }
 }
 
-/// Makes the 16 bytes from `from` on zero.
-fn zero_granule(bytes: &mut [u8], from: usize)
-    requires { from + 16 ≤ length bytes.old }
-    ensures { (j : ℕ) → slice_get bytes.new j ≡ (if nat_le from j && nat_lt j (from + 16) then Some 0 else slice_get bytes.old j) }
+/// Makes the counts from `from` to before `to` a number.
+fn fill(counts: &mut [u8; 256], from: usize, to: usize, number: u8)
+    requires order { from ≤ to }
+    requires within { to ≤ 256 }
+    ensures { (h : ℕ) → slice_index counts.new h ≡ (if nat_le from h && nat_lt h to then number else slice_index counts.old h) }
 {
-    for k in from..from + 16 {
+    for g in from..to {
+        counts[g] = number;
+    }
+}
+
+/// Counts for each granule from `first` to before `end` the bytes up to the place `to`, at most 255.
+fn count(counts: &mut [u8; 256], first: usize, end: usize, to: usize)
+    requires order { first ≤ end }
+    requires within { end ≤ 256 }
+    requires few { to ≤ 16 * end }
+    ensures { (h : ℕ) → slice_index counts.new h ≡ (if nat_le first h && nat_lt h end then min (to - 16 * h) 255 else slice_index counts.old h) }
+{
+    // Most granules have a row of 255 bytes, or none at all.
+    let long = (to / 16).saturating_sub(15).max(first).min(end);
+    let none = ((to + 15) / 16).max(long).min(end);
+    fill(counts, first, long, 255);
+    for g in long..none {
+        counts[g] = to.saturating_sub(16 * g).min(255) as u8;
+    }
+    fill(counts, none, end, 0);
+}
+
+/// A granule from which on none has a byte, after those from `first` to before `end` were used or freed, where there
+/// was one before.
+fn top_after(top: u16, first: u16, end: u16, used: bool) -> u16
+    ensures used { used ≡ true → result ≡ max top end }
+    ensures freed { used ≡ false → result ≡ (if nat_le top end then min top first else top) }
+{
+    if used {
+        top.max(end)
+    } else if top <= end {
+        top.min(first)
+    } else {
+        top
+    }
+}
+
+/// Makes the bytes from `from` to before `to` zero.
+fn zero_bytes(bytes: &mut [u8], from: usize, to: usize)
+    requires { to ≤ length bytes.old }
+    ensures { (j : ℕ) → slice_get bytes.new j ≡ (if nat_le from j && nat_lt j to then Some 0 else slice_get bytes.old j) }
+{
+    for k in from..to {
         bytes[k] = 0;
     }
 }
@@ -94,6 +128,7 @@ impl Frame {
         Frame {
             bytes: [0; 4096],
             counts: [0; 256],
+            top: 0,
             runs: None,
         }
     }
@@ -127,18 +162,20 @@ impl Frame {
         there
     }
 
-    /// Makes the granule `g` zero, of which the first `count` bytes are present then.
+    /// Makes of the granules from `first` to before `end` the bytes before the place `to` zero and present, and the
+    /// others absent.
     #[tactic(auto, unfolding(crate::specs::Pages::seen))]
-    pub(crate) fn mark(&mut self, g: usize, count: u8)
-        requires { g < 256 }
-        ensures { (j : ℕ) → seen self.new j ≡ (if j / 16 == g then (if nat_lt (j % 16) count then Some 0 else None) else seen self.old j) }
+    pub(crate) fn mark(&mut self, first: usize, end: usize, to: usize)
+        requires order { first ≤ end }
+        requires within { end ≤ 256 }
+        requires few { to ≤ 16 * end }
+        ensures { (j : ℕ) → seen self.new j ≡ (if nat_le first (j / 16) && nat_lt (j / 16) end then (if nat_lt j to then Some 0 else None) else seen self.old j) }
     {
-        if self.runs.is_some() {
-            self.runs = None;
-            flatten(&mut self.counts);
-        }
-        zero_granule(&mut self.bytes, g * 16);
-        self.counts[g] = count.min(16);
+        self.top = top_after(self.top, first as u16, end as u16, to > 0);
+        self.runs = None;
+        zero_bytes(&mut self.bytes, 16 * first, to);
+        cut(&mut self.counts, first);
+        count(&mut self.counts, first, end, to);
     }
 
     /// Whether the bytes from `from` to before `to` are present, granule by granule.
@@ -221,13 +258,59 @@ impl Frame {
         true
     }
 
+    /// The first granule from `g` to before `end` that has a byte, or `end`.
+    pub(crate) fn free_to(&self, g: usize, end: usize) -> usize
+        requires order { g ≤ end }
+        requires within { end ≤ 256 }
+        ensures order { g ≤ result }
+        ensures within { result ≤ end }
+        ensures free { (j : ℕ) → g ≤ j → j < result → seen self.now (j * 16) ≡ None }
+        ensures taken { result < end → is_some (seen self.now (result * 16)) ≡ true }
+    {
+        for k in g..end.min(self.top as usize) {
+            if self.counts[k] != 0 {
+                return k;
+            }
+        }
+        end
+    }
+
+    /// The granule behind the row of the granule `g`, which has a byte.
+    fn row_to(&self, g: usize) -> usize
+        requires within { g < 256 }
+        requires taken { is_some (seen self.now (g * 16)) ≡ true }
+        ensures order { g < result }
+        ensures within { result ≤ 256 }
+        ensures taken { (j : ℕ) → g ≤ j → j < result → is_some (seen self.now (j * 16)) ≡ true }
+    {
+        g + (self.counts[g] as usize / 16).max(1)
+    }
+
+    /// The first granule behind `g`, which has a byte, that has none, or 256.
+    pub(crate) fn used_to(&self, g: usize) -> usize
+        requires within { g < 256 }
+        requires taken { is_some (seen self.now (g * 16)) ≡ true }
+        ensures order { g < result }
+        ensures within { result ≤ 256 }
+        ensures taken { (j : ℕ) → g ≤ j → j < result → is_some (seen self.now (j * 16)) ≡ true }
+    {
+        let mut next = self.row_to(g);
+        'used: while next < 256 {
+            if self.counts[next] == 0 {
+                return next;
+            }
+            next = self.row_to(next);
+        }
+        next
+    }
+
     /// Looks for the runs of free granules, unless they are known.
     #[tactic(auto, unfolding(crate::specs::Pages::seen))]
     pub(crate) fn sum_up(&mut self)
         ensures { (k : ℕ) → seen self.new k ≡ seen self.old k }
     {
         if self.runs.is_none() {
-            self.runs = Some(summed(&mut self.counts));
+            self.runs = Some(summed(&self.counts));
         }
     }
 

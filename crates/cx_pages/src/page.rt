@@ -1,6 +1,6 @@
 //! Pages: each has its frame from the first area on that touches it.
 
-ghost use Rattle.std.specs.Prelude.{◌≡◌, ℕ, ◌+◌, ◌-◌, ◌/◌, ◌%◌, ◌<◌, ◌≤◌, ◌==◌, ◌⊎◌, true, false, length, Some, None, is_some, nat_lt, slice_get, if◌then◌else◌, IsSome, IfSome, OnOk, OnErr};
+ghost use Rattle.std.specs.Prelude.{◌≡◌, ℕ, ◌+◌, ◌-◌, ◌/◌, ◌%◌, ◌<◌, ◌≤◌, ◌*◌, ◌==◌, ◌&&◌, ◌⊎◌, true, false, length, Some, None, is_some, nat_le, nat_lt, slice_get, if◌then◌else◌, IsSome, IfSome, OnOk, OnErr};
 ghost use Rattle.std.specs.Option.{option_map};
 ghost use Rattle.cx_pages.specs.Parts.Frame.{HasAll, Skips};
 ghost use Rattle.cx_pages.specs.Parts.Page.{is_made};
@@ -62,16 +62,19 @@ impl Page {
         }
     }
 
-    /// Makes the granule `g` zero, of which the first `count` bytes are present then, where the page is made.
+    /// Makes of the granules from `first` to before `end` the bytes before the place `to` zero and present, and the
+    /// others absent, where the page is made.
     #[tactic(auto, unfolding(crate::specs::Pages::found))]
-    pub(crate) fn mark(&mut self, g: usize, count: u8)
-        requires { g < 256 }
-        ensures granule { is_made self.old ≡ true → (j : ℕ) → found self.new j ≡ (if j / 16 == g then (if nat_lt (j % 16) count then Some 0 else None) else found self.old j) }
-        ensures gone { count ≡ 0 → (j : ℕ) → found self.new j ≡ (if j / 16 == g then None else found self.old j) }
+    pub(crate) fn mark(&mut self, first: usize, end: usize, to: usize)
+        requires order { first ≤ end }
+        requires within { end ≤ 256 }
+        requires few { to ≤ 16 * end }
+        ensures made { is_made self.old ≡ true → (j : ℕ) → found self.new j ≡ (if nat_le first (j / 16) && nat_lt (j / 16) end then (if nat_lt j to then Some 0 else None) else found self.old j) }
+        ensures gone { to ≡ 0 → (j : ℕ) → found self.new j ≡ (if nat_le first (j / 16) && nat_lt (j / 16) end then None else found self.old j) }
         ensures same { is_made self.new ≡ is_made self.old }
     {
         if let Some(frame) = &mut self.frame {
-            frame.mark(g, count);
+            frame.mark(first, end, to);
         }
     }
 
@@ -118,6 +121,37 @@ impl Page {
         match &mut self.frame {
             Some(frame) => frame.write(from, source),
             None => false,
+        }
+    }
+
+    /// The first granule from `g` to before `end` that has a byte, or `end`.
+    #[tactic(auto, unfolding(crate::specs::Pages::found))]
+    pub(crate) fn free_to(&self, g: usize, end: usize) -> usize
+        requires order { g ≤ end }
+        requires within { end ≤ 256 }
+        ensures order { g ≤ result }
+        ensures within { result ≤ end }
+        ensures free { (j : ℕ) → g ≤ j → j < result → found self.now (j * 16) ≡ None }
+        ensures taken { result < end → is_some (found self.now (result * 16)) ≡ true }
+    {
+        match &self.frame {
+            Some(frame) => frame.free_to(g, end),
+            None => end,
+        }
+    }
+
+    /// The granule behind a row of granules from `g` on, each of which has a byte; that `g` has one is known.
+    #[tactic(auto, unfolding(crate::specs::Pages::found))]
+    pub(crate) fn used_to(&self, g: usize) -> usize
+        requires within { g < 256 }
+        requires taken { is_some (found self.now (g * 16)) ≡ true }
+        ensures order { g < result }
+        ensures within { result ≤ 256 }
+        ensures taken { (j : ℕ) → g ≤ j → j < result → is_some (found self.now (j * 16)) ≡ true }
+    {
+        match &self.frame {
+            Some(frame) => frame.used_to(g),
+            None => g + 1,
         }
     }
 

@@ -7,7 +7,8 @@ ghost use Rattle.cx_pages.specs.Parts.Shown.{IsShown};
 ghost use Rattle.cx_pages.specs.Pages.{storage_of};
 
 use crate::directory::{
-    byte_in, clear_in, has_in, make_in, part_in, set_in, sum_in, tail_in, write_in, zero_in,
+    byte_in, clear_in, free_in, has_in, make_in, part_in, set_in, sum_in, tail_in, used_in,
+    write_in, zero_in,
 };
 use crate::page::Page;
 use crate::table::spot_of;
@@ -63,10 +64,13 @@ pub(crate) fn place_of(
                 continue;
             }
         }
-        if byte_in(pages, (g * 16) as u32).is_some() {
-            from = g + 1;
+        let free = free_in(pages, g, (from + need).min(i * 256 + 256));
+        if free == g {
+            g = used_in(pages, g);
+            from = g;
+        } else {
+            g = free;
         }
-        g += 1;
     }
     None
 }
@@ -95,6 +99,8 @@ pub(crate) fn get_of(
     };
     let end = start as usize + len as usize;
     let i = spot_of(areas, pages, start);
+    // The pages that were passed in vain are passed at once from then on.
+    sum_in(pages, first as usize / 4096, start as usize / 4096);
     make_in(pages, alloc, start as usize / 4096, (end - 1) / 4096)?;
     areas.insert(i, Area { start, len, owner })?;
     zero_in(pages, start as usize, end);
@@ -114,7 +120,6 @@ pub(crate) fn free_area_of(areas: &mut Vec<Area>, pages: &mut Vec<Page>, start: 
         if area.start == start {
             let end = start as usize + area.len as usize;
             clear_in(pages, start as usize, end);
-            sum_in(pages, start as usize / 4096, end / 4096 + 1);
             areas.remove(i);
             return true;
         }
@@ -138,7 +143,6 @@ pub(crate) fn free_slot_of(areas: &mut Vec<Area>, pages: &mut Vec<Page>, slot: u
             );
         }
     }
-    sum_in(pages, 0, pages.len());
     areas.retain(|area| area.owner.slot != slot);
 }
 

@@ -109,6 +109,20 @@ fn free_slots<S: Store>(store: &mut S) {
     }
 }
 
+/// Gets the two areas of a task and frees its owner's areas, as a task's attach and return do.
+fn attach<S: Store>(store: &mut S) -> Result<(), AllocError> {
+    let owner = Owner {
+        slot: 17,
+        kind: Kind::System,
+    };
+    for _k in 0..TURNS {
+        store.get_area(0x20_0000, LAST, 85, owner)?;
+        store.get_area(0x20_0000, LAST, 2048, owner)?;
+        store.free_slot(17);
+    }
+    Ok(())
+}
+
 /// Nanoseconds since then, for each of so many calls.
 fn since(rt: &HostRuntime, then: Instant, calls: u32) -> io::Result<u128> {
     Ok(then.elapsed(rt)?.as_nanos() / u128::from(calls.max(1)))
@@ -142,6 +156,13 @@ fn mix_time<S: Store>(rt: &HostRuntime, store: &mut S, count: u32) -> io::Result
     since(rt, then, TURNS)
 }
 
+/// The time of a task's attach and return.
+fn attach_time<S: Store>(rt: &HostRuntime, store: &mut S) -> io::Result<u128> {
+    let then = Instant::now(rt)?;
+    attach(store)?;
+    since(rt, then, TURNS)
+}
+
 /// The time of looking for a place, and what was found.
 fn place_time<S: Store>(rt: &HostRuntime, store: &S) -> io::Result<(u128, u32)> {
     let then = Instant::now(rt)?;
@@ -169,11 +190,12 @@ fn time<S: Store>(rt: &HostRuntime, store: &mut S, name: &str, count: u32) -> io
     let (looked, found) = look_time(rt, store, count)?;
     let copied = copy_time(rt, store, count)?;
     let mixed = mix_time(rt, store, count)?;
+    let attached = attach_time(rt, store)?;
     let (placed, places) = place_time(rt, store)?;
     let freed = free_time(rt, store, count)?;
     let slots = free_slots_time(rt, store)?;
     println!(rt;
-        "{name} {count}: get {filled}, byte {looked} ({found} found), read or write {copied}, free and get {mixed}, place {placed} ({places}), free {freed}, free_slot {slots}"
+        "{name} {count}: get {filled}, byte {looked} ({found} found), read or write {copied}, free and get {mixed}, attach and return {attached}, place {placed} ({places}), free {freed}, free_slot {slots}"
     )
 }
 

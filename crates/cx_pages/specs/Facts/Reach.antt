@@ -1,9 +1,10 @@
 -- What counts tell of the granules that they go past is a proposition.
-use Rattle.std.specs.Prelude.{ℕ, List, Option, Some, None}
+use Rattle.std.specs.Prelude.{◌+◌, ◌*◌, ◌≤◌, ℕ, List, slice_index}
 use Rattle.std.specs.Coded.{Π_prop, le_prop}
-use Rattle.cx_pages.specs.declared.frame.Runs.{Runs}
-use Rattle.cx_pages.specs.Parts.Reach.{ReachesAre}
+use Rattle.cx_pages.specs.Parts.Reach.{Reaches}
 
-pub ReachesAre-prop : (known : Option Runs) (counts : List ℕ) → IsProp (ReachesAre known counts)
-ReachesAre-prop None counts = Π_prop (λ _. le_prop)
-ReachesAre-prop (Some runs) counts = Π_prop (λ _. Π_prop (λ _. Π_prop (λ _. le_prop)))
+pub Reaches-prop : (counts : List ℕ) → IsProp (Reaches counts)
+Reaches-prop counts =
+    let rows : IsProp ((g j : ℕ) → 16 * (j + 1) ≤ slice_index counts g → 16 ≤ slice_index counts (g + j)) = Π_prop (λ _. Π_prop (λ _. Π_prop (λ _. le_prop))) in
+    let bound : IsProp ((g : ℕ) → slice_index counts g ≤ 255) = Π_prop (λ _. le_prop) in
+    hlevel (rows, bound)

@@ -11,6 +11,9 @@ IsRuns-prop counts longest tail =
     let most : IsProp ((k : ℕ) → k ≤ 256 → AllFree counts k 256 → 256 ≤ k + tail) = Π_prop (λ k. Π_prop (λ _. Π_prop (λ _. le_prop))) in
     hlevel (bound, free, most, le_prop)
 
+pub AllFree-prop : (counts : List ℕ) (from : ℕ) → IsProp (AllFree counts from 256)
+AllFree-prop counts from = Π_prop (λ j. Π_prop (λ _. Π_prop (λ _. Coded-set coded_ℕ (slice_index counts j) 0)))
+
 pub RunsAre-prop : (known : Option Runs) (counts : List ℕ) → IsProp (RunsAre known counts)
 RunsAre-prop None counts = Unit-prop
 RunsAre-prop (Some runs) counts = IsRuns-prop counts runs.longest runs.tail

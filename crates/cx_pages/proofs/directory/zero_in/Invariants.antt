@@ -1,4 +1,4 @@
-use Rattle.std.proofs.Common.{◌≡◌, ℕ, Some, None, nat_lt, if◌then◌else◌}
+use Rattle.std.proofs.Common.{◌≡◌, ◌≤◌, ◌+◌, ◌-◌, ◌/◌, ℕ, Some, None, nat_lt, if◌then◌else◌}
 use Rattle.cx_pages.specs.Parts.Directory.{has_page}
 use Rattle.cx_pages.specs.Pages.{there}
 use Rattle.cx_pages.proofs.DirectoryLemmas.{ruled}
@@ -6,4 +6,9 @@ use Rattle.cx_pages.proofs.directory.zero_in.Given as goal
 
 -- the granules so far are done
 abbrev pub invariant-loop-g : goal.invariant-loop-g
-invariant-loop-g l = ((x : ℕ) → there l.pages.items x ≡ ruled l.start l.g (λ x. if nat_lt x l.end then Some 0 else None) (there l.initial.pages.items) x) × ((i : ℕ) → has_page l.pages.items i ≡ has_page l.initial.pages.items i)
+invariant-loop-g l =
+    (l.start / 16 ≤ l.g) × (l.g ≤ (l.end + 15) / 16) × ((x : ℕ) → there l.pages.items x ≡ ruled l.start l.g (λ x. if nat_lt x l.end then Some 0 else None) (there l.initial.pages.items) x)
+    × ((i : ℕ) → has_page l.pages.items i ≡ has_page l.initial.pages.items i)
+
+abbrev pub decreases-loop-g : goal.decreases-loop-g
+decreases-loop-g l = (l.end + 15) / 16 - l.g

@@ -1,7 +1,6 @@
 use Rattle.cx_pages.specs.Parts.Runs.{IsRunsTo}
-use Rattle.cx_pages.proofs.ReachLemmas.{CountedFrom}
 use Rattle.cx_pages.proofs.frame.summed.Given as goal
 
--- the runs of the granules from the first on, and the rows of those from the last one on
+-- the runs of the granules from the first on
 abbrev pub invariant-loop-k : goal.invariant-loop-k
-invariant-loop-k l = IsRunsTo l.initial.counts l.k l.longest l.run × CountedFrom l.initial.counts l.counts l.k l.row
+invariant-loop-k l = IsRunsTo l.counts l.k l.longest l.run

@@ -32,15 +32,15 @@ pub returns-then-area-start-clause-after : goal.returns-then-area-start-clause-a
 returns-then-area-start-clause-after c =
     let kept = c.remove.ensures.items
     ∙ removed c.args.areas.now.items c.args.pages.now.items c.spot_of-i.result c.args.start c.index-area.result.now c.requires (omega arith) c.index-area.ensures (omega arith) in
-    rw kept (free_is c.args.areas.now.items c.args.pages.now.items c.sum_in.new.pages.items (starts_elsewhere c.args.start) c.requires
-    (one_freed c.args.areas.now.items c.args.pages.now.items c.sum_in.new.pages.items c.spot_of-i.result c.args.start c.index-area.result.now c.requires (omega arith) c.index-area.ensures (omega arith) (λ x. c.sum_in.ensures x ∙ c.clear_in.ensures x)))
+    rw kept (free_is c.args.areas.now.items c.args.pages.now.items c.clear_in.new.pages.items (starts_elsewhere c.args.start) c.requires
+    (one_freed c.args.areas.now.items c.args.pages.now.items c.clear_in.new.pages.items c.spot_of-i.result c.args.start c.index-area.result.now c.requires (omega arith) c.index-area.ensures (omega arith) c.clear_in.ensures))
 
 pub returns-then-area-start-clause-shown : goal.returns-then-area-start-clause-shown
 returns-then-area-start-clause-shown c =
     let kept = c.remove.ensures.items
     ∙ removed c.args.areas.now.items c.args.pages.now.items c.spot_of-i.result c.args.start c.index-area.result.now c.requires (omega arith) c.index-area.ensures (omega arith) in
-    rw kept (free_shown c.args.areas.now.items c.args.pages.now.items c.sum_in.new.pages.items (starts_elsewhere c.args.start) c.requires
-    (one_freed c.args.areas.now.items c.args.pages.now.items c.sum_in.new.pages.items c.spot_of-i.result c.args.start c.index-area.result.now c.requires (omega arith) c.index-area.ensures (omega arith) (λ x. c.sum_in.ensures x ∙ c.clear_in.ensures x)))
+    rw kept (free_shown c.args.areas.now.items c.args.pages.now.items c.clear_in.new.pages.items (starts_elsewhere c.args.start) c.requires
+    (one_freed c.args.areas.now.items c.args.pages.now.items c.clear_in.new.pages.items c.spot_of-i.result c.args.start c.index-area.result.now c.requires (omega arith) c.index-area.ensures (omega arith) c.clear_in.ensures))
 
 elsewhere : (c : Else-area-start) → area_at (storage_of c.args.areas.now.items c.args.pages.now.items) c.args.start ≡ None
 elsewhere c =

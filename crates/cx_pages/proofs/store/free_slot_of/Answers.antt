@@ -38,17 +38,17 @@ loop-i-preserved c =
     ]
 
 -- after the loop all areas of the slot are cleared
-all_gone : (c : After-retain) → (x : ℕ) → there c.sum_in.new.pages.items x ≡ (if goes_in (is_of_other_slot c.args.slot) c.args.areas.now.items x then None else there c.args.pages.now.items x)
+all_gone : (c : After-retain) → (x : ℕ) → there c.loop-i.pages.items x ≡ (if goes_in (is_of_other_slot c.args.slot) c.args.areas.now.items x then None else there c.args.pages.now.items x)
 all_gone c x =
     let none = goes_none (is_of_other_slot c.args.slot) c.args.areas.now.items c.loop-i.i x (omega arith) in
-    c.sum_in.ensures x ∙ rw none at (c.loop-i.invariant.0 x)
+    rw none at (c.loop-i.invariant.0 x)
 
 pub returns-clause-after : goal.returns-clause-after
 returns-clause-after c =
     let kept = filter_same _ (is_of_other_slot c.args.slot) _ (λ x b f' k. search rules) _ _ c.retain.ensures.filtered in
-    rw kept (free_is c.args.areas.now.items c.args.pages.now.items c.sum_in.new.pages.items (is_of_other_slot c.args.slot) c.requires (all_gone (goal.at.returns-clause-after c).After-retain))
+    rw kept (free_is c.args.areas.now.items c.args.pages.now.items c.loop-i.pages.items (is_of_other_slot c.args.slot) c.requires (all_gone (goal.at.returns-clause-after c).After-retain))
 
 pub returns-clause-shown : goal.returns-clause-shown
 returns-clause-shown c =
     let kept = filter_same _ (is_of_other_slot c.args.slot) _ (λ x b f' k. search rules) _ _ c.retain.ensures.filtered in
-    rw kept (free_shown c.args.areas.now.items c.args.pages.now.items c.sum_in.new.pages.items (is_of_other_slot c.args.slot) c.requires (all_gone (goal.at.returns-clause-shown c).After-retain))
+    rw kept (free_shown c.args.areas.now.items c.args.pages.now.items c.loop-i.pages.items (is_of_other_slot c.args.slot) c.requires (all_gone (goal.at.returns-clause-shown c).After-retain))

@@ -1,9 +1,8 @@
-use Rattle.std.proofs.Common.{◌≡◌, ◌+◌, ◌*◌, ◌<◌, ◌/◌, is_some, true, false, arith, ◌-◌, ◌⊎◌, inl, inr, ◌≤◌}
+use Rattle.std.proofs.Common.{◌≡◌, ◌+◌, ◌*◌, ◌<◌, ◌/◌, arith, ◌-◌, ◌⊎◌, inl, inr, ◌≤◌}
 use Rattle.std.proofs.lemmas.Bool.{cases_lt}
-use Rattle.cx_pages.specs.Pages.{there, storage_of}
-use Rattle.cx_pages.proofs.ScanLemmas.{scan_start, scan_free, scan_taken, scan_found, scan_none, scan_skip, is_none}
+use Rattle.cx_pages.specs.Pages.{storage_of}
+use Rattle.cx_pages.proofs.ScanLemmas.{scan_start, scan_free, scan_taken, scan_found, scan_none, scan_skip}
 use Rattle.cx_pages.proofs.store.place_of.Goals as goal
-use Rattle.cx_pages.proofs.store.place_of.Goals.{then-is_some, else-is_some}
 
 pub loop-from-init : goal.loop-from-init
 loop-from-init c = (omega arith, scan_start (storage_of c.args.areas.now.items c.args.pages.now.items) c.args.first c.args.last c.args.len)
@@ -14,20 +13,21 @@ returns-then-need-g c =
     scan_found c.args.areas.now.items c.args.pages.now.items c.args.first c.args.last c.args.len c.loop-from.from c.loop-from.g c.requires.shown c.place_is_free.ensures c.requires.len scan
     (omega (arith, scan.order)) (omega arith)
 
+pub loop-from-preserved-then-free-g : goal.loop-from-preserved-then-free-g
+loop-from-preserved-then-free-g c =
+    let scan = c.loop-from.invariant.1 in
+    let more : c.loop-from.g < c.loop-from.from + (c.args.len + 15) / 16 = omega (arith, scan.order) in (
+      omega (arith, more, c.used_in-g.ensures.near),
+      scan_taken c.args.areas.now.items c.args.pages.now.items c.args.first c.args.last c.args.len c.loop-from.from c.loop-from.g c.used_in-g.result c.requires.shown c.place_is_free.ensures c.requires.len scan more c.used_in-g.ensures.order c.used_in-g.ensures.taken,
+    )
+
 pub loop-from-preserved : goal.loop-from-preserved
 loop-from-preserved c =
     let scan = c.loop-from.invariant.1 in
-    let areas = c.args.areas.now.items in
-    let pages = c.args.pages.now.items in
-    let more : c.loop-from.g < c.loop-from.from + (c.args.len + 15) / 16 = omega (arith, scan.order) in
-    elim c.if-is_some.branch [
-      | then-is_some w ↦
-          let taken : is_some (there pages (c.loop-from.g * 16)) ≡ true = cc in
-          rw w.from-is (omega (arith, more), scan_taken areas pages c.args.first c.args.last c.args.len c.loop-from.from c.loop-from.g c.requires.shown c.place_is_free.ensures c.requires.len scan more taken)
-      | else-is_some w ↦
-          let free : is_some (there pages (c.loop-from.g * 16)) ≡ false = cc in
-          rw w.from-is (omega arith, scan_free areas pages c.args.first c.args.last c.args.len c.loop-from.from c.loop-from.g c.requires.shown scan more (is_none (there pages (c.loop-from.g * 16)) free))
-    ]
+    let free = c.free_in-free in (
+      c.loop-from.invariant.0,
+      scan_free c.args.areas.now.items c.args.pages.now.items c.args.first c.args.last c.args.len c.loop-from.from c.loop-from.g free.result c.requires.shown scan free.ensures.order (omega (arith, free.ensures.within)) free.ensures.free,
+    )
 
 pub returns : goal.returns
 returns c =

@@ -7,7 +7,7 @@ use Rattle.cx_pages.proofs.frame.Frame.has_each.Goals as goal
 pub full-preserved : goal.full-preserved
 full-preserved c =
     let full = c.if-count-lt16.false in
-    more_full c.args.self.now.runs c.args.self.now.counts (c.args.from / 16) c.full.g c.args.self.now.reached (omega (arith, full)) c.full.invariant.0 c.full.invariant.1
+    more_full c.args.self.now.counts (c.args.from / 16) c.full.g c.args.self.now.reached (omega (arith, full)) c.full.invariant.0 c.full.invariant.1
 
 pub returns-clause-all : goal.returns-clause-all
 returns-clause-all c = λ counted.

@@ -8,4 +8,4 @@ unfolding seen
 returns c = λ k. rw (zero_index 256 (k / 16), le-ltb (k % 16) 0 (omega arith)) refl
 
 pub invariant_of-result : goal.invariant_of-result
-invariant_of-result c = record { summed = tt; reached = λ g. rw (zero_index 256 g) (omega arith) }
+invariant_of-result c = record { topped = λ j low high. zero_index 256 j; summed = tt; reached = (λ g j more. absurd (let none = zero_index 256 g in omega (arith, more, none)), λ g. rw (zero_index 256 g) (omega arith)) }
