@@ -34,6 +34,15 @@ fn lent_halfword<S: Store>(store: &S, a: u32) -> Option<u16>
     Some(BigEndian::read_u16(part))
 }
 
+/// The halfword at an address, wherever its bytes stand.
+#[inline(never)]
+fn halfword_apart<S: Store>(store: &S, a: u32) -> Option<u16>
+    requires { a < 2 ^ 24 }
+    ensures { result ≡ halfword_at (S.storage store.now) a }
+{
+    cx_storage::halfword_at(store, a)
+}
+
 /// The halfword at an address.
 #[inline(never)]
 fn halfword_in<S: Store>(store: &S, a: u32) -> Option<u16>
@@ -42,7 +51,7 @@ fn halfword_in<S: Store>(store: &S, a: u32) -> Option<u16>
 {
     match lent_halfword(store, a) {
         Some(halfword) => Some(halfword),
-        None => cx_storage::halfword_at(store, a),
+        None => halfword_apart(store, a),
     }
 }
 
@@ -69,6 +78,15 @@ fn lent_word<S: Store>(store: &S, a: u32) -> Option<u32>
     Some(BigEndian::read_u32(part))
 }
 
+/// The word at an address, wherever its bytes stand.
+#[inline(never)]
+fn word_apart<S: Store>(store: &S, a: u32) -> Option<u32>
+    requires { a < 2 ^ 24 }
+    ensures { result ≡ word_at (S.storage store.now) a }
+{
+    cx_storage::word_at(store, a)
+}
+
 /// The word at an address.
 #[inline(never)]
 fn word_in<S: Store>(store: &S, a: u32) -> Option<u32>
@@ -77,7 +95,7 @@ fn word_in<S: Store>(store: &S, a: u32) -> Option<u32>
 {
     match lent_word(store, a) {
         Some(word) => Some(word),
-        None => cx_storage::word_at(store, a),
+        None => word_apart(store, a),
     }
 }
 
