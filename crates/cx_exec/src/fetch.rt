@@ -88,6 +88,7 @@ fn code_apart<S: Store>(store: &S, at: u32) -> Option<Code>
 
 /// The bytes of the instruction at an address.
 #[tactic(auto, unfolding(crate::specs::Fetch::code_at))]
+#[inline(always)]
 pub(crate) fn code_at<S: Store>(store: &S, at: u32) -> Result<Code, Interruption>
     requires { at < 2 ^ 24 }
     ensures { result ≡ code_at (S.storage store.now) at }

@@ -20,7 +20,7 @@ pub struct Due {
 
 /// The target at `a` (below 2^24) of an EX, from its changed copy. `r1` is below 16.
 #[tactic(auto, unfolding(crate::specs::Step::target_at))]
-#[inline(never)]
+#[inline(always)]
 fn target_at<S: Store>(cpu: &Cpu, store: &S, r1: u8, a: u32) -> Result<Inst, Interruption>
     requires first { r1 < 16 }
     requires operand { a < 2 ^ 24 }
@@ -39,6 +39,7 @@ fn target_at<S: Store>(cpu: &Cpu, store: &S, r1: u8, a: u32) -> Result<Inst, Int
 
 /// The instruction that is performed at the next address: for EX its target.
 #[tactic(auto, unfolding(crate::specs::Step::performed))]
+#[inline(always)]
 fn performed<S: Store>(cpu: &Cpu, store: &S) -> Result<Due, Interruption>
     ensures value { result ≡ performed (machine cpu.now (S.storage store.now)) }
     ensures length { IfOk result (λ due. due.updated.length_code ≤ 3) }
