@@ -1,5 +1,5 @@
 -- What is fetched of a spelled instruction.
-use Rattle.std.proofs.Common.{◌≡◌, ℕ, ◌%◌, ◌^◌, ◌<◌, ◌≤◌, ◌==◌, zero, suc, false, List, ◌∷◌, length, take, slice_index, Option, Some, None, Ok, refl, sym, ap, ◌∙◌, arith}
+use Rattle.std.proofs.Common.{◌≡◌, ℕ, ◌%◌, ◌^◌, ◌<◌, ◌≤◌, ◌==◌, zero, suc, false, List, ◌∷◌, length, take, slice_index, Option, Some, None, Result, Ok, Err, MatchResult, refl, sym, ap, ◌∙◌, arith}
 use Rattle.std.specs.Option.{option_map, option_and_then}
 use Rattle.std.proofs.lemmas.Bool.{ne_eqb}
 use Rattle.std.proofs.lemmas.List.{length-take-le, get_or-take}
@@ -13,8 +13,13 @@ use Rattle.cx_code.specs.Table.{format_of, length_of, length_of_format, length_o
 use Rattle.cx_code.specs.Spelling.{Instruction, format_with, IsWellFormed}
 use Rattle.cx_code.specs.Reading.{reading}
 use Rattle.cx_exec.specs.Fetch.{code_bytes, code_at, read_as}
-use Rattle.cx_exec.specs.Machine.{Machine}
-use Rattle.cx_exec.specs.Step.{due, updated_by, performed_of, performed}
+use Rattle.cx_exec.specs.Machine.{Machine, effective}
+use Rattle.cx_exec.specs.Step.{due, updated_by, then_result, target_at, performed_of, performed, Runs}
+use Rattle.cx_exec.specs.Rows.{Effect}
+use Rattle.cx_exec.specs.Outcome.{Outcome, Suppressed}
+use Rattle.cx_exec.specs.declared.machine.Interruption.{Interruption}
+use Rattle.cx_code.specs.declared.table.Op.TheVariants as op
+use Rattle.cx_code.specs.declared.instruction.Fields.TheVariants.{Rx}
 
 -- the first byte of a span
 first_byte : (s : Storage) (a n : ℕ) (bytes : List ℕ) → span s a n ≡ Some bytes → 0 < n → byte_at s a ≡ Some (slice_index bytes 0)
@@ -72,21 +77,38 @@ found_is_read s a bytes i low even there long short reads =
     let whole : code_bytes s a ≡ Some (take (length_of i.op) bytes) = rw (first, long) (span_front s a 8 (length_of i.op) bytes low there short) in
     (rw (odd, whole) refl, reads_as (take (length_of i.op) bytes) i reads)
 
--- and performed, unless it is an EX
+-- and performed, for EX its target
 pub lent_is_performed : (m : Machine) (bytes : List ℕ) (i : Instruction) → m.next < 2 ^ 24 → m.next % 2 ≡ 0 → span m.storage m.next 8 ≡ Some bytes
     → length_of_code (slice_index bytes 0) ≡ length_of i.op → length_of i.op ≤ 8 → reading (take (length_of i.op) bytes) ≡ Some i
     → length (take (length_of i.op) bytes) ≡ length_of i.op
-    → performed_of m i (updated_by m.next (length_of i.op)) ≡ Ok (due i (updated_by m.next (length_of i.op)))
-    → performed m ≡ Ok (due i (updated_by m.next (length_of i.op)))
+    → performed m ≡ performed_of m i (updated_by m.next (length_of i.op))
 unfolding performed
-lent_is_performed m bytes i low even there long short reads size plain =
+lent_is_performed m bytes i low even there long short reads size =
     let found = found_is_read m.storage m.next bytes i low even there long short reads in
-    rw (found.0, found.1, size) plain
+    rw (found.0, found.1, size) refl
 
 -- the fields say how many bytes the row has
 pub length_with : (i : Instruction) → IsWellFormed i → length_of i.op ≡ length_of_format (format_with i.fields)
 unfolding IsWellFormed
 length_with i formed = ap length_of_format (sym formed.0)
+
+-- an EX is performed by the effect of its target
+pub executed : (m : Machine) (i : Instruction) (r1 x2 b2 d2 : ℕ) (outcome : Outcome) (after : Machine)
+    → performed m ≡ performed_of m i (updated_by m.next (length_of i.op)) → IsWellFormed i → i.op ≡ op.Ex → i.fields ≡ Rx r1 x2 b2 d2
+    → MatchResult (target_at m r1 (effective m.regs x2 b2 d2)) (λ target. Effect target (record { length_code = 2; address = along m.next 4 }) m outcome after) (λ cause. Suppressed cause m outcome after)
+    → Runs m outcome after
+unfolding Runs
+executed m i r1 x2 b2 d2 outcome after is formed ex fields effect =
+    let long : length_of i.op ≡ 4 = length_with i formed ∙ rw fields refl in
+    let step : performed m ≡ then_result (target_at m r1 (effective m.regs x2 b2 d2)) (λ target. Ok (due target (record { length_code = 2; address = along m.next 4 })))
+    = is ∙ ap (λ n. performed_of m i (updated_by m.next n)) long ∙ rw (ex, fields) refl in
+    rw step (run (target_at m r1 (effective m.regs x2 b2 d2)) effect)
+  where
+    run : (target : Result Instruction Interruption)
+        → MatchResult target (λ t. Effect t (record { length_code = 2; address = along m.next 4 }) m outcome after) (λ cause. Suppressed cause m outcome after)
+        → MatchResult (then_result target (λ t. Ok (due t (record { length_code = 2; address = along m.next 4 })))) (λ d. Effect d.inst d.updated m outcome after) (λ cause. Suppressed cause m outcome after)
+    run (Ok t) e = e
+    run (Err cause) e = e
 
 pub length_some : (bytes : List ℕ) (op : Op) → length bytes ≡ length_of op → 0 < length bytes
 length_some bytes op e = some (format_of op) e

@@ -1,9 +1,12 @@
 //! One step.
 
-ghost use Rattle.std.specs.Prelude.{◌≡◌, ◌<◌, ◌≤◌, ◌^◌, Ok, IfOk, IfSome};
+ghost use Rattle.std.specs.Prelude.{◌≡◌, ◌<◌, ◌≤◌, ◌^◌, IfOk, IfSome, MatchResult};
+ghost use Rattle.cx_storage.specs.Address.{along};
 ghost use Rattle.cx_code.specs.Table.{length_of};
 ghost use Rattle.cx_exec.specs.Machine.{machine};
-ghost use Rattle.cx_exec.specs.Step.{target_at, due, updated_by, performed, Runs, Steps};
+ghost use Rattle.cx_exec.specs.Outcome.{Suppressed};
+ghost use Rattle.cx_exec.specs.Rows.{Effect};
+ghost use Rattle.cx_exec.specs.Step.{target_at, updated_by, performed_of, performed, Runs, Steps};
 
 use crate::fetch::code_at;
 use crate::machine::{Cpu, ENTRY, Interruption, Step, Updated};
@@ -67,10 +70,10 @@ fn performed<S: Store>(cpu: &Cpu, store: &S) -> Result<Due, Interruption>
     }
 }
 
-/// The instruction at the next address, where eight bytes from there on are lent in one piece, and it is no EX.
+/// The instruction at the next address, where eight bytes from there on are lent in one piece.
 #[inline(always)]
 fn at_hand<S: Store>(cpu: &Cpu, store: &S) -> Option<Inst>
-    ensures { IfSome result (λ inst. performed (machine cpu.now (S.storage store.now)) ≡ Ok (due inst (updated_by cpu.now.next (length_of inst.op)))) }
+    ensures { IfSome result (λ inst. performed (machine cpu.now (S.storage store.now)) ≡ performed_of (machine cpu.now (S.storage store.now)) inst (updated_by cpu.now.next (length_of inst.op))) }
 {
     cx_code::laws::first_bits();
     cx_code::laws::length_read();
@@ -80,10 +83,22 @@ fn at_hand<S: Store>(cpu: &Cpu, store: &S) -> Option<Inst>
         return None;
     }
     let (inst, _) = decode(store.slice(cpu.next, 8)?)?;
-    match inst.fields() {
-        Fields::Rx { .. } if inst.op() == Op::Ex => None,
-        _ => Some(inst),
-    }
+    Some(inst)
+}
+
+/// Performs the target at `a` (below 2^24) of an EX at the next address. `r1` is below 16.
+#[inline(never)]
+fn execute<S: Store>(cpu: &mut Cpu, store: &mut S, r1: u8, a: u32) -> Result<(), Interruption>
+    requires first { r1 < 16 }
+    requires operand { a < 2 ^ 24 }
+    ensures { MatchResult (target_at (machine cpu.old (S.storage store.old)) r1 a) (λ target. Effect target (record { length_code = 2; address = along cpu.old.next 4 }) (machine cpu.old (S.storage store.old)) result (machine cpu.new (S.storage store.new))) (λ cause. Suppressed cause (machine cpu.old (S.storage store.old)) result (machine cpu.new (S.storage store.new))) }
+{
+    let target = target_at(cpu, store, r1, a)?;
+    let updated = Updated {
+        length_code: 2,
+        address: along(cpu.next, 4),
+    };
+    effect(cpu, store, &target, Some(updated))
 }
 
 /// Performs the instruction at the next address, wherever it stands.
@@ -102,9 +117,15 @@ fn run_apart<S: Store>(cpu: &mut Cpu, store: &mut S) -> Result<(), Interruption>
 fn run<S: Store>(cpu: &mut Cpu, store: &mut S) -> Result<(), Interruption>
     ensures { Runs (machine cpu.old (S.storage store.old)) result (machine cpu.new (S.storage store.new)) }
 {
-    match at_hand(cpu, store) {
-        Some(inst) => effect(cpu, store, &inst, None),
-        None => run_apart(cpu, store),
+    let Some(inst) = at_hand(cpu, store) else {
+        return run_apart(cpu, store);
+    };
+    match inst.fields() {
+        Fields::Rx { r1, x2, b2, d2 } if inst.op() == Op::Ex => {
+            let a = effective(&cpu.regs, x2, b2, d2);
+            execute(cpu, store, r1, a)
+        }
+        _ => effect(cpu, store, &inst, None),
     }
 }
 
