@@ -1,7 +1,7 @@
 -- All sixteen registers, and the bytes of several.
-use Rattle.std.proofs.Common.{◌≡◌, ℕ, zero, suc, ◌+◌, ◌-◌, ◌*◌, ◌^◌, ◌<◌, ◌≤◌, ◌%◌, List, [], ◌∷◌, ◌++◌, drop, length, take, slice_index, slice_set, Option, Some, None, refl, sym, ap, ◌∙◌, inl, inr, arith, add-one}
+use Rattle.std.proofs.Common.{◌≡◌, ℕ, zero, suc, ◌+◌, ◌-◌, ◌*◌, ◌^◌, ◌<◌, ◌≤◌, ◌%◌, List, [], ◌∷◌, ◌++◌, drop, map, Ok, length, take, slice_index, slice_set, Option, Some, None, refl, sym, ap, ◌∙◌, inl, inr, arith, add-one}
 use Rattle.std.specs.Option.{option_map, option_and_then}
-use Rattle.std.proofs.lemmas.Bool.{cases_lt}
+use Rattle.std.proofs.lemmas.Bool.{cases_lt, le-leb, lt-leb}
 use Rattle.std.proofs.lemmas.Grind.{same_number_lists}
 use Rattle.cx_storage.specs.Storage.{Storage, span}
 use Rattle.cx_storage.specs.Facts.Spans.{span_at, span_from, span_length}
@@ -11,7 +11,10 @@ use Rattle.std.proofs.lemmas.List.{append_assoc, length-append, get_or-drop, get
 use borrow.Rule.Slice.PartMut.{put_mid, post_of}
 use Rattle.std.proofs.lemmas.List.FromFn.{length-map-range_with_len, get_or-map-range_with_len}
 use Rattle.byteorder.specs.Endian.{big_bytes, big_number}
-use Rattle.cx_exec.specs.Registers.{words_at, loaded_register, loaded_registers, register_bytes}
+use Rattle.std.specs.List.{range_with_len}
+use Rattle.cx_exec.specs.declared.machine.Updated.{Updated}
+use Rattle.cx_exec.specs.Machine.{Machine}
+use Rattle.cx_exec.specs.Registers.{place_after, register_count, words_at, loaded_register, loaded_registers, register_bytes, LoadsRegisters}
 
 pub all_loaded : (regs new : List ℕ) (first last : ℕ) (words : List ℕ) → length new ≡ 16
     → ((k : ℕ) → k < 16 → slice_index new k ≡ loaded_register regs first last words k) → new ≡ loaded_registers regs first last words
@@ -21,6 +24,21 @@ all_loaded regs new first last words len each =
     (λ k h.
     let low : k < 16 = omega arith in
     each k low ∙ sym (get_or-map-range_with_len (loaded_register regs first last words) 0 16 k k 0 low (omega arith)))
+
+-- registers taken from the words that bytes hold
+pub taken_registers : (regs new : List ℕ) (first last : ℕ) (part words : List ℕ) → length new ≡ 16
+    → ((r : ℕ) → r < 16 → place_after first r < register_count first last → slice_index new r ≡ big_number 4 (drop (4 * place_after first r) part))
+    → ((r : ℕ) → r < 16 → register_count first last ≤ place_after first r → slice_index new r ≡ slice_index regs r)
+    → ((k : ℕ) → k < register_count first last → slice_index words k ≡ big_number 4 (drop (4 * k) part))
+    → new ≡ loaded_registers regs first last words
+taken_registers regs new first last part words size taken others each = all_loaded regs new first last words size (λ r low.
+    elim (cases_lt (place_after first last) (place_after first r)) [
+      | inl lt ↦ let behind = lt-leb (place_after first r) (place_after first last) lt in rw behind (others r low (omega (arith, lt)))
+      | inr ge ↦
+          let among = le-leb (place_after first r) (place_after first last) ge in
+          let within : place_after first r < register_count first last = omega (arith, ge) in
+          rw among (taken r low within ∙ sym (each (place_after first r) within))
+    ])
 
 pub no_bytes : (regs : List ℕ) (first : ℕ) → register_bytes regs first 0 ≡ []
 unfolding register_bytes
@@ -103,3 +121,33 @@ lent_words s a count part words low e room each = up count (omega arith)
         let more = words_more s a n (slice_index words n) (take n words) (up n (omega (arith, h))) (rw taken word) in
         let next : n + 1 ≡ suc n = omega arith in
         rw next at (more ∙ ap Some (sym (take_more words n 0 (omega (arith, h, room)))))
+
+-- the words in a row that bytes hold
+words_of : ℕ → List ℕ → List ℕ
+words_of n part = take n (map (λ k. big_number 4 (drop (4 * k) part)) (range_with_len 0 n))
+
+word_of_lent : (n : ℕ) (part : List ℕ) (k : ℕ) → k < n → slice_index (words_of n part) k ≡ big_number 4 (drop (4 * k) part)
+unfolding words_of
+word_of_lent n part k h =
+    let word : ℕ → ℕ = λ k. big_number 4 (drop (4 * k) part) in
+    get_or-take n (map word (range_with_len 0 n)) k 0 h ∙ get_or-map-range_with_len word 0 n k k 0 h (omega arith)
+
+words_lent : (s : Storage) (a n : ℕ) (part : List ℕ) → a < 2 ^ 24 → span s a (4 * n) ≡ Some part → words_at s a n ≡ Some (words_of n part)
+unfolding words_of
+words_lent s a n part low there =
+    let word : ℕ → ℕ = λ k. big_number 4 (drop (4 * k) part) in
+    let all : List ℕ = map word (range_with_len 0 n) in
+    let size : length all ≡ n = length-map-range_with_len word 0 n in
+    let long = span_length s a (4 * n) part there in
+    lent_words s a n part all low there (omega (arith, size))
+    (λ k h. get_or-map-range_with_len word 0 n k k 0 (omega (arith, h, long)) (omega arith))
+
+-- registers loaded from words that stand in lent bytes
+pub loads_lent : (m : Machine) (first last a : ℕ) (part : List ℕ) (updated : Updated) (after : Machine) → a < 2 ^ 24 → span m.storage a (4 * register_count first last) ≡ Some part
+    → ((words : List ℕ) → ((k : ℕ) → k < register_count first last → slice_index words k ≡ big_number 4 (drop (4 * k) part)) → after.regs ≡ loaded_registers m.regs first last words)
+    → after.cc ≡ m.cc → after.next ≡ updated.address → after.storage ≡ m.storage
+    → LoadsRegisters first last a updated m (Ok tt) after
+unfolding LoadsRegisters
+loads_lent m first last a part updated after low there loaded cc next storage =
+    let n : ℕ = register_count first last in
+    rw (words_lent m.storage a n part low there) (refl, rw (loaded (words_of n part) (word_of_lent n part), cc, next, storage) refl)

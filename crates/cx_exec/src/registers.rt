@@ -1,6 +1,6 @@
 //! Several registers at once: LM and STM.
 
-ghost use Rattle.std.specs.Prelude.{◌≡◌, ℕ, ◌<◌, ◌≤◌, ◌^◌, ◌+◌, ◌*◌, drop, length, slice_index, take, Some, None, MatchResult};
+ghost use Rattle.std.specs.Prelude.{◌≡◌, ℕ, List, ◌<◌, ◌≤◌, ◌^◌, ◌+◌, ◌*◌, drop, length, slice_index, take, Some, None, MatchResult};
 ghost use Rattle.byteorder.specs.Endian.{big_number};
 ghost use Rattle.cx_exec.specs.declared.machine.Interruption.TheVariants as interruption;
 ghost use Rattle.cx_exec.specs.Machine.{machine};
@@ -22,13 +22,16 @@ pub(crate) fn place_after(first: u8, r: u8) -> u8
     (r + (16 - first)) % 16
 }
 
-/// Puts the words in a row that lent bytes hold (at most 16) at the front of the buffer.
-fn take_words(part: &[u8], words: &mut [u32; 16])
-    requires { length part.now ≤ 64 }
-    ensures { (k : ℕ) → 4 * k + 4 ≤ length part.now → slice_index words.new k ≡ big_number 4 (drop (4 * k) part.now) }
+/// Loads the registers from the first through the last one, from the words in a row that lent bytes hold.
+#[inline(always)]
+fn take_registers(part: &[u8], first: u8, last: u8, regs: &mut [u32; 16])
+    requires first { first < 16 }
+    requires last { last < 16 }
+    requires size { length part.now ≡ 4 * register_count first last }
+    ensures { (words : List ℕ) → ((k : ℕ) → k < register_count first last → slice_index words k ≡ big_number 4 (drop (4 * k) part.now)) → regs.new ≡ loaded_registers regs.old first last words }
 {
     for k in 0..part.len() / 4 {
-        words[k] = BigEndian::read_u32(&part[4 * k..]);
+        regs[(first as usize + k) % 16] = BigEndian::read_u32(&part[4 * k..]);
     }
 }
 
@@ -49,25 +52,6 @@ fn read_apart<S: Store>(
         let word = word_at(store, along(a, 4 * k as u32))?;
         words[k] = word;
     }
-    Ok(())
-}
-
-/// Reads words in a row (at most 16), from `a` on, to the front of the buffer; interruption 5 where one is absent.
-#[tactic(auto, using(crate::proofs::RegisterLemmas::lent_words, cx_storage::specs::Facts::Spans::span_length))]
-fn read_words<S: Store>(
-    store: &S,
-    a: u32,
-    count: usize,
-    words: &mut [u32; 16],
-) -> Result<(), Interruption>
-    requires operand { a < 2 ^ 24 }
-    requires count { count ≤ 16 }
-    ensures { MatchResult result (λ _. words_at (S.storage store.now) a count ≡ Some (take count words.new)) (λ cause. (words_at (S.storage store.now) a count ≡ None) × (cause ≡ interruption.Addressing)) }
-{
-    let Some(part) = store.slice(a, 4 * count) else {
-        return read_apart(store, a, count, words);
-    };
-    take_words(part, words);
     Ok(())
 }
 
@@ -123,8 +107,36 @@ pub(crate) fn store_multiple<S: Store>(
     put_bytes(cpu, store, a, &bytes[..4 * count], cc, updated)
 }
 
-/// Loads the registers from the first through the last one: all of them, or none and interruption 5.
+/// Loads the registers from the first through the last one, wherever their words stand: all of them, or none and
+/// interruption 5.
 #[tactic(auto, unfolding(crate::specs::Registers::LoadsRegisters))]
+#[inline(never)]
+fn load_apart<S: Store>(
+    cpu: &mut Cpu,
+    store: &S,
+    first: u8,
+    last: u8,
+    a: u32,
+    updated: Updated,
+) -> Result<(), Interruption>
+    requires first { first < 16 }
+    requires last { last < 16 }
+    requires operand { a < 2 ^ 24 }
+    requires address { updated.address < 2 ^ 24 }
+    ensures { LoadsRegisters first last a updated (machine cpu.old (S.storage store.now)) result (machine cpu.new (S.storage store.now)) }
+{
+    let count = place_after(first, last) as usize + 1;
+    let mut words = [0; 16];
+    read_apart(store, a, count, &mut words)?;
+    let mut regs = cpu.regs;
+    load_registers(&mut regs, first, last, &words[..count]);
+    cpu.regs = regs;
+    cpu.next = updated.address;
+    Ok(())
+}
+
+/// Loads the registers from the first through the last one: all of them, or none and interruption 5.
+#[tactic(auto, using(cx_storage::specs::Facts::Spans::span_length))]
 #[inline(never)]
 pub(crate) fn load_multiple<S: Store>(
     cpu: &mut Cpu,
@@ -141,11 +153,10 @@ pub(crate) fn load_multiple<S: Store>(
     ensures { LoadsRegisters first last a updated (machine cpu.old (S.storage store.now)) result (machine cpu.new (S.storage store.now)) }
 {
     let count = place_after(first, last) as usize + 1;
-    let mut words = [0; 16];
-    read_words(store, a, count, &mut words)?;
-    let mut regs = cpu.regs;
-    load_registers(&mut regs, first, last, &words[..count]);
-    cpu.regs = regs;
+    let Some(part) = store.slice(a, 4 * count) else {
+        return load_apart(cpu, store, first, last, a, updated);
+    };
+    take_registers(part, first, last, &mut cpu.regs);
     cpu.next = updated.address;
     Ok(())
 }

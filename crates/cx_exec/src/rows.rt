@@ -117,11 +117,16 @@ fn rx_effect<S: Store>(
     ensures { RxEffect op r1 a updated (machine cpu.old (S.storage store.old)) result (machine cpu.new (S.storage store.new)) }
 {
     let first = cpu.regs[r1 as usize];
-    let cc = cpu.cc;
     match op {
-        Op::Sth => put_bytes(cpu, store, a, &half_bytes(first), cc, updated),
+        Op::Sth => {
+            let cc = cpu.cc;
+            put_bytes(cpu, store, a, &half_bytes(first), cc, updated)
+        }
         Op::La => load(cpu, r1, a, updated),
-        Op::Stc => put_byte(cpu, store, a, (first % 0x100) as u8, cc, updated),
+        Op::Stc => {
+            let cc = cpu.cc;
+            put_byte(cpu, store, a, (first % 0x100) as u8, cc, updated)
+        }
         Op::Ic => load(cpu, r1, inserted(first, byte_at(store, a)?), updated),
         Op::Bal => link(cpu, r1, a, updated),
         Op::Bct => count(cpu, r1, a, updated),
@@ -196,10 +201,12 @@ fn si_effect<S: Store>(
     requires address { updated.address < 2 ^ 24 }
     ensures { SiEffect op i2 a updated (machine cpu.old (S.storage store.old)) result (machine cpu.new (S.storage store.new)) }
 {
-    let cc = cpu.cc;
     match op {
         Op::Tm => set_code(cpu, test_code(i2, byte_at(store, a)?), updated),
-        Op::Mvi => put_byte(cpu, store, a, i2, cc, updated),
+        Op::Mvi => {
+            let cc = cpu.cc;
+            put_byte(cpu, store, a, i2, cc, updated)
+        }
         Op::Ni => put_logical(cpu, store, a, byte_at(store, a)? & i2, updated),
         Op::Cli => set_code(cpu, byte_order(byte_at(store, a)?, i2), updated),
         Op::Oi => put_logical(cpu, store, a, byte_at(store, a)? | i2, updated),
