@@ -9,3 +9,4 @@ pub mod MaskLemmas
 pub mod FetchLemmas
 pub mod BlockLemmas
 pub mod RepeatLemmas
+pub mod ZonedLemmas

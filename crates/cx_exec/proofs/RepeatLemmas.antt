@@ -6,7 +6,7 @@ use Rattle.cx_exec.proofs.SequenceLemmas.{stored_length, stored_more}
 use Rattle.std.proofs.lemmas.Bool.{cases_lt, lt-ltb}
 use Rattle.cx_storage.specs.Storage.{Storage}
 use Rattle.cx_storage.specs.Address.{along, distance}
-use Rattle.cx_exec.specs.Sequence.{content, seen, stored_by}
+use Rattle.cx_exec.specs.Sequence.{seen, stored_by}
 use Rattle.cx_exec.specs.Strings.{moved}
 
 -- so many bytes of a buffer repeat its front

@@ -5,6 +5,7 @@ mod arithmetic;
 mod branches;
 mod comparison;
 mod decimal;
+mod digits;
 mod division;
 mod fetch;
 pub mod laws;

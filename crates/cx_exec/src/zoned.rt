@@ -1,10 +1,13 @@
 //! PACK and UNPK: two operands with lengths of their own, from right to left.
 
-ghost use Rattle.std.specs.Prelude.{◌≡◌, ◌<◌, ◌≤◌, ◌^◌, length, take};
+ghost use Rattle.std.specs.Prelude.{◌≡◌, ◌⊎◌, ◌+◌, ◌-◌, ◌<◌, ◌≤◌, ◌^◌, true, false, is_some, length, take, drop, reverse};
+ghost use Rattle.cx_storage.specs.Address.{along};
+ghost use Rattle.cx_storage.specs.Storage.{span};
 ghost use Rattle.cx_exec.specs.Machine.{machine};
 ghost use Rattle.cx_exec.specs.Sequence.{stored_by};
 ghost use Rattle.cx_exec.specs.Zoned.{behind, source, swapped, packed, unpacked, unpacked_half, PackEffect, UnpkEffect};
 
+use crate::digits::{align, pack_aligned, unpack_aligned};
 use crate::machine::{Cpu, Interruption, Updated};
 use crate::operands::put_bytes;
 use crate::sequence::{distance, seen};
@@ -38,7 +41,7 @@ fn source<S: Store>(store: &S, e1: u32, n2: u32, e2: u32, stored: &[u8], i: u32)
 }
 
 /// The halves of a byte exchanged.
-fn swapped(byte: u8) -> u8
+pub(crate) fn swapped(byte: u8) -> u8
     ensures { result ≡ swapped byte }
 {
     byte % 16 * 16 + byte / 16
@@ -122,6 +125,110 @@ fn unpack_bytes<S: Store>(store: &S, n1: u32, e1: u32, n2: u32, e2: u32, new: &m
     }
 }
 
+/// Whether a result of `n1` bytes at `a1` and a source of `n2` bytes at `a2` lie apart, the result not across address 0.
+#[inline(always)]
+fn lie_apart(n1: u32, n2: u32, a1: u32, a2: u32) -> bool
+    requires count1 { n1 ≤ 16 }
+    requires count2 { n2 ≤ 16 }
+    requires first { a1 < 2 ^ 24 }
+    requires second { a2 < 2 ^ 24 }
+    ensures { result ≡ true → (a1 + n1 ≤ 2 ^ 24) × ((a1 + n1 ≤ a2) ⊎ (a2 + n2 ≤ a1)) }
+{
+    a1 + n1 <= 0x100_0000 && (a1 + n1 <= a2 || a2 + n2 <= a1)
+}
+
+/// Puts the bytes that PACK stores at the end of a buffer, where its source is lent in one piece and lies apart. False elsewhere.
+#[tactic(auto, using(cx_storage::specs::Facts::Spans::span_length))]
+#[inline(always)]
+fn pack_lent<S: Store>(store: &S, n1: u32, n2: u32, a1: u32, a2: u32, new: &mut [u8; 16]) -> bool
+    requires first { a1 < 2 ^ 24 }
+    requires second { a2 < 2 ^ 24 }
+    requires count1 { n1 ≤ 16 }
+    requires count2 { n2 ≤ 16 }
+    requires some1 { 0 < n1 }
+    requires some2 { 0 < n2 }
+    ensures there { result ≡ true → is_some (span (S.storage store.now) a2 n2) ≡ true }
+    ensures bytes { result ≡ true → drop (16 - n1) new.new ≡ reverse (stored_by (packed (S.storage store.now) (along a1 (n1 - 1)) n2 (along a2 (n2 - 1))) n1) }
+{
+    let Some(source) = store.slice(a2, n2 as usize) else {
+        return false;
+    };
+    if !lie_apart(n1, n2, a1, a2) {
+        return false;
+    }
+    let mut zoned = [0; 33];
+    align(source, &mut zoned);
+    pack_aligned(&zoned, new);
+    true
+}
+
+/// Puts the bytes that UNPK stores at the end of a buffer, where its source is lent in one piece and lies apart. False elsewhere.
+#[tactic(auto, using(cx_storage::specs::Facts::Spans::span_length))]
+#[inline(always)]
+fn unpack_lent<S: Store>(store: &S, n1: u32, n2: u32, a1: u32, a2: u32, new: &mut [u8; 16]) -> bool
+    requires first { a1 < 2 ^ 24 }
+    requires second { a2 < 2 ^ 24 }
+    requires count1 { n1 ≤ 16 }
+    requires count2 { n2 ≤ 16 }
+    requires some1 { 0 < n1 }
+    requires some2 { 0 < n2 }
+    ensures there { result ≡ true → is_some (span (S.storage store.now) a2 n2) ≡ true }
+    ensures bytes { result ≡ true → drop (16 - n1) new.new ≡ reverse (stored_by (unpacked (S.storage store.now) (along a1 (n1 - 1)) n2 (along a2 (n2 - 1))) n1) }
+{
+    let Some(source) = store.slice(a2, n2 as usize) else {
+        return false;
+    };
+    if !lie_apart(n1, n2, a1, a2) {
+        return false;
+    }
+    let mut packed = [0; 33];
+    align(source, &mut packed);
+    unpack_aligned(&packed, new);
+    true
+}
+
+/// Puts the bytes that PACK stores at the end of a buffer, one after the other. False where a byte of its source is absent.
+#[tactic(auto, using(crate::proofs::ZonedLemmas::reversed_end))]
+#[inline(never)]
+fn pack_each<S: Store>(store: &S, n1: u32, n2: u32, a1: u32, a2: u32, new: &mut [u8; 16]) -> bool
+    requires first { a1 < 2 ^ 24 }
+    requires second { a2 < 2 ^ 24 }
+    requires count1 { n1 ≤ 16 }
+    requires count2 { n2 ≤ 16 }
+    requires some1 { 0 < n1 }
+    requires some2 { 0 < n2 }
+    ensures there { result ≡ is_some (span (S.storage store.now) a2 n2) }
+    ensures bytes { result ≡ true → drop (16 - n1) new.new ≡ reverse (stored_by (packed (S.storage store.now) (along a1 (n1 - 1)) n2 (along a2 (n2 - 1))) n1) }
+{
+    if !store.has_span(a2, n2 as usize) {
+        return false;
+    }
+    pack_bytes(store, n1, along(a1, n1 - 1), n2, along(a2, n2 - 1), new);
+    new.reverse();
+    true
+}
+
+/// Puts the bytes that UNPK stores at the end of a buffer, one after the other. False where a byte of its source is absent.
+#[tactic(auto, using(crate::proofs::ZonedLemmas::reversed_end))]
+#[inline(never)]
+fn unpack_each<S: Store>(store: &S, n1: u32, n2: u32, a1: u32, a2: u32, new: &mut [u8; 16]) -> bool
+    requires first { a1 < 2 ^ 24 }
+    requires second { a2 < 2 ^ 24 }
+    requires count1 { n1 ≤ 16 }
+    requires count2 { n2 ≤ 16 }
+    requires some1 { 0 < n1 }
+    requires some2 { 0 < n2 }
+    ensures there { result ≡ is_some (span (S.storage store.now) a2 n2) }
+    ensures bytes { result ≡ true → drop (16 - n1) new.new ≡ reverse (stored_by (unpacked (S.storage store.now) (along a1 (n1 - 1)) n2 (along a2 (n2 - 1))) n1) }
+{
+    if !store.has_span(a2, n2 as usize) {
+        return false;
+    }
+    unpack_bytes(store, n1, along(a1, n1 - 1), n2, along(a2, n2 - 1), new);
+    new.reverse();
+    true
+}
+
 /// PACK. The operands, of `n1` and `n2` bytes, begin at `a1` and `a2`.
 #[tactic(auto, unfolding(crate::specs::Zoned::PackEffect))]
 pub(crate) fn pack<S: Store>(
@@ -142,22 +249,12 @@ pub(crate) fn pack<S: Store>(
     requires address { updated.address < 2 ^ 24 }
     ensures { PackEffect n1 n2 a1 a2 updated (machine cpu.old (S.storage store.old)) result (machine cpu.new (S.storage store.new)) }
 {
-    if !store.has_span(a2, n2 as usize) {
+    let mut new = [0; 16];
+    if !pack_lent(store, n1, n2, a1, a2, &mut new) && !pack_each(store, n1, n2, a1, a2, &mut new) {
         return Err(Interruption::Addressing);
     }
-    let mut new = [0; 16];
-    pack_bytes(
-        store,
-        n1,
-        along(a1, n1 - 1),
-        n2,
-        along(a2, n2 - 1),
-        &mut new,
-    );
-    let bytes = &mut new[..n1 as usize];
-    bytes.reverse();
     let cc = cpu.cc;
-    put_bytes(cpu, store, a1, bytes, cc, updated)
+    put_bytes(cpu, store, a1, &new[16 - n1 as usize..], cc, updated)
 }
 
 /// UNPK. The operands, of `n1` and `n2` bytes, begin at `a1` and `a2`.
@@ -180,20 +277,12 @@ pub(crate) fn unpk<S: Store>(
     requires address { updated.address < 2 ^ 24 }
     ensures { UnpkEffect n1 n2 a1 a2 updated (machine cpu.old (S.storage store.old)) result (machine cpu.new (S.storage store.new)) }
 {
-    if !store.has_span(a2, n2 as usize) {
+    let mut new = [0; 16];
+    if !unpack_lent(store, n1, n2, a1, a2, &mut new)
+        && !unpack_each(store, n1, n2, a1, a2, &mut new)
+    {
         return Err(Interruption::Addressing);
     }
-    let mut new = [0; 16];
-    unpack_bytes(
-        store,
-        n1,
-        along(a1, n1 - 1),
-        n2,
-        along(a2, n2 - 1),
-        &mut new,
-    );
-    let bytes = &mut new[..n1 as usize];
-    bytes.reverse();
     let cc = cpu.cc;
-    put_bytes(cpu, store, a1, bytes, cc, updated)
+    put_bytes(cpu, store, a1, &new[16 - n1 as usize..], cc, updated)
 }

@@ -1,0 +1,25 @@
+use Rattle.std.proofs.Common.{rules, arith}
+use Rattle.cx_storage.specs.Facts.Spans.{span_length}
+use Rattle.cx_exec.proofs.ZonedLemmas.{all_zero, aligned_is_unpacked}
+use Rattle.cx_exec.proofs.zoned.unpack_lent.Goals as goal
+
+pub align-requires-clause-zeros : goal.align-requires-clause-zeros
+align-requires-clause-zeros g c = all_zero 33
+
+pub returns-clause-bytes : goal.returns-clause-bytes
+returns-clause-bytes g c _ =
+    let apart = c.lie_apart.ensures (search rules) in
+    aligned_is_unpacked _ _ _ _ _ _ _ _
+    (record {
+      some1 = c.requires.some1;
+      some2 = c.requires.some2;
+      few = omega (arith, c.requires.count2);
+      fits1 = apart.0;
+      fits2 = c.in-Some.ensures.no_wrap;
+      apart = apart.1;
+      there = c.in-Some.ensures.bytes;
+      long = span_length _ _ _ _ c.in-Some.ensures.bytes;
+      front = c.align.ensures.front;
+      each = c.align.ensures.bytes;
+    })
+    (omega (arith, c.requires.count1)) c.unpack_aligned.array_long c.unpack_aligned.ensures.right c.unpack_aligned.ensures.left c.unpack_aligned.ensures.last
