@@ -73,9 +73,35 @@ fn begins_outside(n: u32, a1: u32, a2: u32) -> bool
     behind == 0 || n <= behind
 }
 
-/// MVC of operands of which the first doesn't begin inside the second behind its first byte.
+/// MVC through a buffer of the operands' length, of operands of which the first doesn't begin inside the second behind its
+/// first byte.
 #[tactic(auto, using(crate::proofs::BlockLemmas::read_is_moved), unfolding(crate::specs::Strings::MvcEffect))]
-fn copy<S: Store>(
+#[inline(always)]
+fn copy_through<S: Store>(
+    cpu: &mut Cpu,
+    store: &mut S,
+    a1: u32,
+    a2: u32,
+    bytes: &mut [u8],
+    updated: Updated,
+) -> Result<(), Interruption>
+    requires first { a1 < 2 ^ 24 }
+    requires second { a2 < 2 ^ 24 }
+    requires count { length bytes.old ≤ 256 }
+    requires outside { (j : ℕ) → 0 < j → j < length bytes.old → a1 ≢ along a2 j }
+    requires address { updated.address < 2 ^ 24 }
+    ensures { MvcEffect (length bytes.old) a1 a2 updated (machine cpu.old (S.storage store.old)) result (machine cpu.new (S.storage store.new)) }
+{
+    if !store.read(a2, bytes) {
+        return Err(Interruption::Addressing);
+    }
+    let cc = cpu.cc;
+    put_bytes(cpu, store, a1, bytes, cc, updated)
+}
+
+/// MVC of such operands, whatever their length.
+#[inline(never)]
+fn copy_long<S: Store>(
     cpu: &mut Cpu,
     store: &mut S,
     n: u32,
@@ -91,12 +117,35 @@ fn copy<S: Store>(
     ensures { MvcEffect n a1 a2 updated (machine cpu.old (S.storage store.old)) result (machine cpu.new (S.storage store.new)) }
 {
     let mut new = [0; 256];
-    let bytes = &mut new[..n as usize];
-    if !store.read(a2, bytes) {
-        return Err(Interruption::Addressing);
+    copy_through(cpu, store, a1, a2, &mut new[..n as usize], updated)
+}
+
+/// MVC of such operands. Those of a few bytes need no large buffer, and the lengths of most fields are known to the compiler.
+#[inline(always)]
+fn copy<S: Store>(
+    cpu: &mut Cpu,
+    store: &mut S,
+    n: u32,
+    a1: u32,
+    a2: u32,
+    updated: Updated,
+) -> Result<(), Interruption>
+    requires first { a1 < 2 ^ 24 }
+    requires second { a2 < 2 ^ 24 }
+    requires count { n ≤ 256 }
+    requires outside { (j : ℕ) → 0 < j → j < n → a1 ≢ along a2 j }
+    requires address { updated.address < 2 ^ 24 }
+    ensures { MvcEffect n a1 a2 updated (machine cpu.old (S.storage store.old)) result (machine cpu.new (S.storage store.new)) }
+{
+    let mut new = [0; 16];
+    match n {
+        1 => copy_through(cpu, store, a1, a2, &mut new[..1], updated),
+        2 => copy_through(cpu, store, a1, a2, &mut new[..2], updated),
+        4 => copy_through(cpu, store, a1, a2, &mut new[..4], updated),
+        8 => copy_through(cpu, store, a1, a2, &mut new[..8], updated),
+        0..=16 => copy_through(cpu, store, a1, a2, &mut new[..n as usize], updated),
+        _ => copy_long(cpu, store, n, a1, a2, updated),
     }
-    let cc = cpu.cc;
-    put_bytes(cpu, store, a1, bytes, cc, updated)
 }
 
 /// Puts the bytes of two strings, joined by exclusive or, into a buffer of their length.
@@ -151,9 +200,35 @@ fn join_stored<S: Store>(store: &S, a1: u32, a2: u32, new: &mut [u8]) -> bool
     join_copies(store, a1, a2, new)
 }
 
-/// XC of operands of which the first doesn't begin inside the second behind its first byte.
+/// XC through a buffer of the operands' length, of operands of which the first doesn't begin inside the second behind its
+/// first byte.
 #[tactic(auto, unfolding(crate::specs::Strings::XcEffect))]
-fn join<S: Store>(
+#[inline(always)]
+fn join_through<S: Store>(
+    cpu: &mut Cpu,
+    store: &mut S,
+    a1: u32,
+    a2: u32,
+    bytes: &mut [u8],
+    updated: Updated,
+) -> Result<(), Interruption>
+    requires first { a1 < 2 ^ 24 }
+    requires second { a2 < 2 ^ 24 }
+    requires count { length bytes.old ≤ 256 }
+    requires outside { (j : ℕ) → 0 < j → j < length bytes.old → a1 ≢ along a2 j }
+    requires address { updated.address < 2 ^ 24 }
+    ensures { XcEffect (length bytes.old) a1 a2 updated (machine cpu.old (S.storage store.old)) result (machine cpu.new (S.storage store.new)) }
+{
+    if !join_stored(store, a1, a2, bytes) {
+        return Err(Interruption::Addressing);
+    }
+    let cc = string_code(bytes);
+    put_bytes(cpu, store, a1, bytes, cc, updated)
+}
+
+/// XC of such operands, whatever their length.
+#[inline(never)]
+fn join_long<S: Store>(
     cpu: &mut Cpu,
     store: &mut S,
     n: u32,
@@ -169,16 +244,89 @@ fn join<S: Store>(
     ensures { XcEffect n a1 a2 updated (machine cpu.old (S.storage store.old)) result (machine cpu.new (S.storage store.new)) }
 {
     let mut new = [0; 256];
-    let bytes = &mut new[..n as usize];
-    if !join_stored(store, a1, a2, bytes) {
+    join_through(cpu, store, a1, a2, &mut new[..n as usize], updated)
+}
+
+/// XC of such operands. Those of a few bytes need no large buffer.
+#[inline(always)]
+fn join<S: Store>(
+    cpu: &mut Cpu,
+    store: &mut S,
+    n: u32,
+    a1: u32,
+    a2: u32,
+    updated: Updated,
+) -> Result<(), Interruption>
+    requires first { a1 < 2 ^ 24 }
+    requires second { a2 < 2 ^ 24 }
+    requires count { n ≤ 256 }
+    requires outside { (j : ℕ) → 0 < j → j < n → a1 ≢ along a2 j }
+    requires address { updated.address < 2 ^ 24 }
+    ensures { XcEffect n a1 a2 updated (machine cpu.old (S.storage store.old)) result (machine cpu.new (S.storage store.new)) }
+{
+    let mut new = [0; 16];
+    match n {
+        4 => join_through(cpu, store, a1, a2, &mut new[..4], updated),
+        8 => join_through(cpu, store, a1, a2, &mut new[..8], updated),
+        0..=16 => join_through(cpu, store, a1, a2, &mut new[..n as usize], updated),
+        _ => join_long(cpu, store, n, a1, a2, updated),
+    }
+}
+
+/// MVC of operands of which the first may begin inside the second.
+#[tactic(auto, unfolding(crate::specs::Strings::MvcEffect))]
+#[inline(never)]
+fn fill<S: Store>(
+    cpu: &mut Cpu,
+    store: &mut S,
+    n: u32,
+    a1: u32,
+    a2: u32,
+    updated: Updated,
+) -> Result<(), Interruption>
+    requires first { a1 < 2 ^ 24 }
+    requires second { a2 < 2 ^ 24 }
+    requires count { n ≤ 256 }
+    requires address { updated.address < 2 ^ 24 }
+    ensures { MvcEffect n a1 a2 updated (machine cpu.old (S.storage store.old)) result (machine cpu.new (S.storage store.new)) }
+{
+    if !store.has_span(a2, n as usize) {
         return Err(Interruption::Addressing);
     }
+    let mut new = [0; 256];
+    fill_bytes(store, n, a1, a2, &mut new);
+    let cc = cpu.cc;
+    put_bytes(cpu, store, a1, &new[..n as usize], cc, updated)
+}
+
+/// XC of such operands, byte by byte.
+#[tactic(auto, unfolding(crate::specs::Strings::XcEffect))]
+#[inline(never)]
+fn join_each<S: Store>(
+    cpu: &mut Cpu,
+    store: &mut S,
+    n: u32,
+    a1: u32,
+    a2: u32,
+    updated: Updated,
+) -> Result<(), Interruption>
+    requires first { a1 < 2 ^ 24 }
+    requires second { a2 < 2 ^ 24 }
+    requires count { n ≤ 256 }
+    requires address { updated.address < 2 ^ 24 }
+    ensures { XcEffect n a1 a2 updated (machine cpu.old (S.storage store.old)) result (machine cpu.new (S.storage store.new)) }
+{
+    if !store.has_span(a2, n as usize) {
+        return Err(Interruption::Addressing);
+    }
+    let mut new = [0; 256];
+    xor_bytes(store, n, a1, a2, &mut new);
+    let bytes = &new[..n as usize];
     let cc = string_code(bytes);
     put_bytes(cpu, store, a1, bytes, cc, updated)
 }
 
 /// MVC. The operands, of `n` bytes, begin at `a1` and `a2`.
-#[tactic(auto, unfolding(crate::specs::Strings::MvcEffect))]
 #[inline(never)]
 pub(crate) fn mvc<S: Store>(
     cpu: &mut Cpu,
@@ -197,17 +345,10 @@ pub(crate) fn mvc<S: Store>(
     if begins_outside(n, a1, a2) {
         return copy(cpu, store, n, a1, a2, updated);
     }
-    if !store.has_span(a2, n as usize) {
-        return Err(Interruption::Addressing);
-    }
-    let mut new = [0; 256];
-    fill_bytes(store, n, a1, a2, &mut new);
-    let cc = cpu.cc;
-    put_bytes(cpu, store, a1, &new[..n as usize], cc, updated)
+    fill(cpu, store, n, a1, a2, updated)
 }
 
 /// XC. The operands, of `n` bytes, begin at `a1` and `a2`.
-#[tactic(auto, unfolding(crate::specs::Strings::XcEffect))]
 #[inline(never)]
 pub(crate) fn xc<S: Store>(
     cpu: &mut Cpu,
@@ -226,12 +367,5 @@ pub(crate) fn xc<S: Store>(
     if begins_outside(n, a1, a2) {
         return join(cpu, store, n, a1, a2, updated);
     }
-    if !store.has_span(a2, n as usize) {
-        return Err(Interruption::Addressing);
-    }
-    let mut new = [0; 256];
-    xor_bytes(store, n, a1, a2, &mut new);
-    let bytes = &new[..n as usize];
-    let cc = string_code(bytes);
-    put_bytes(cpu, store, a1, bytes, cc, updated)
+    join_each(cpu, store, n, a1, a2, updated)
 }

@@ -1,6 +1,6 @@
 use Rattle.std.proofs.Common.{rules, arith}
 use Rattle.cx_exec.proofs.BlockLemmas.{copied}
-use Rattle.cx_exec.proofs.strings.copy.Goals as goal
+use Rattle.cx_exec.proofs.strings.copy_through.Goals as goal
 
 pub returns : goal.returns
 returns g c =
