@@ -24,6 +24,11 @@ pub(crate) fn repeat(new: &mut [u8], period: usize)
     ensures front { (k : ℕ) → k < period → slice_index new.new k ≡ slice_index new.old k }
     ensures each { (k : ℕ) → k + period < length new.old → slice_index new.new (k + period) ≡ slice_index new.new k }
 {
+    if period == 1 {
+        let byte = new[0];
+        new.fill(byte);
+        return;
+    }
     let mut filled = period;
     while filled < new.len() {
         double(new, filled);

@@ -1,6 +1,7 @@
 //! Bytes that are stored one after the other, and addresses that go on at 0 after the last.
 
-ghost use Rattle.std.specs.Prelude.{◌≡◌, ◌<◌, ◌≤◌, ◌^◌};
+ghost use Rattle.std.specs.Prelude.{◌≡◌, ◌<◌, ◌≤◌, ◌^◌, is_some};
+ghost use Rattle.cx_storage.specs.Storage.{span};
 ghost use Rattle.cx_storage.specs.Address.{distance};
 ghost use Rattle.cx_exec.specs.Sequence.{content, seen};
 
@@ -21,6 +22,16 @@ pub(crate) fn content<S: Store>(store: &S, a: u32) -> u8
     ensures { result ≡ content (S.storage store.now) a }
 {
     store.byte(a).unwrap_or(0)
+}
+
+/// Whether each of the `n` bytes (at most 65,536) from an address (below 2^24) on is present: at once where they are lent.
+#[inline(always)]
+pub(crate) fn is_present<S: Store>(store: &S, a: u32, n: u32) -> bool
+    requires address { a < 2 ^ 24 }
+    requires count { n ≤ 65536 }
+    ensures { result ≡ is_some (span (S.storage store.now) a n) }
+{
+    store.slice(a, n as usize).is_some() || store.has_span(a, n as usize)
 }
 
 /// The byte seen at `x` (below 2^24), the address of the `number`-th byte to be stored, once some are stored: theirs,

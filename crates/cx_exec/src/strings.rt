@@ -11,7 +11,7 @@ use crate::logic::string_code;
 use crate::machine::{Cpu, Interruption, Updated};
 use crate::operands::put_bytes;
 use crate::repeats::repeat;
-use crate::sequence::{content, distance, seen};
+use crate::sequence::{content, distance, is_present, seen};
 use cx_storage::{Store, along};
 
 /// Puts the bytes that MVC stores at the front of the buffer.
@@ -290,7 +290,7 @@ fn fill<S: Store>(
     requires address { updated.address < 2 ^ 24 }
     ensures { MvcEffect n a1 a2 updated (machine cpu.old (S.storage store.old)) result (machine cpu.new (S.storage store.new)) }
 {
-    if !store.has_span(a2, n as usize) {
+    if !is_present(store, a2, n) {
         return Err(Interruption::Addressing);
     }
     let mut new = [0; 256];
@@ -316,7 +316,7 @@ fn join_each<S: Store>(
     requires address { updated.address < 2 ^ 24 }
     ensures { XcEffect n a1 a2 updated (machine cpu.old (S.storage store.old)) result (machine cpu.new (S.storage store.new)) }
 {
-    if !store.has_span(a2, n as usize) {
+    if !is_present(store, a2, n) {
         return Err(Interruption::Addressing);
     }
     let mut new = [0; 256];

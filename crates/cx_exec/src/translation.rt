@@ -8,7 +8,7 @@ ghost use Rattle.cx_exec.specs.Translation.{table_byte, HasTable, translated, fi
 
 use crate::loads::inserted;
 use crate::machine::{Cpu, Interruption, Updated};
-use crate::sequence::{content, distance, seen};
+use crate::sequence::{content, distance, is_present, seen};
 use cx_storage::{Store, along};
 
 /// The table's byte for the `k`-th argument byte (`k` is at most 256), where both are present.
@@ -224,7 +224,7 @@ pub(crate) fn trt<S: Store>(
     requires address { updated.address < 2 ^ 24 }
     ensures { TrtEffect n a1 a2 updated (machine cpu.old (S.storage store.now)) result (machine cpu.new (S.storage store.now)) }
 {
-    if !store.has_span(a1, n as usize) {
+    if !is_present(store, a1, n) {
         return Err(Interruption::Addressing);
     }
     let Some(k) = first_found(store, n, a1, a2) else {
