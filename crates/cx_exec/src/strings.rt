@@ -116,11 +116,16 @@ fn copy_long<S: Store>(
     requires address { updated.address < 2 ^ 24 }
     ensures { MvcEffect n a1 a2 updated (machine cpu.old (S.storage store.old)) result (machine cpu.new (S.storage store.new)) }
 {
+    if n <= 64 {
+        let mut new = [0; 64];
+        return copy_through(cpu, store, a1, a2, &mut new[..n as usize], updated);
+    }
     let mut new = [0; 256];
     copy_through(cpu, store, a1, a2, &mut new[..n as usize], updated)
 }
 
-/// MVC of such operands. Those of a few bytes need no large buffer, and the lengths of most fields are known to the compiler.
+/// MVC of such operands. Those of a few bytes need no large buffer, and for each of the shortest lengths, which are the most
+/// frequent, there is code of its own.
 #[inline(always)]
 fn copy<S: Store>(
     cpu: &mut Cpu,
@@ -141,7 +146,11 @@ fn copy<S: Store>(
     match n {
         1 => copy_through(cpu, store, a1, a2, &mut new[..1], updated),
         2 => copy_through(cpu, store, a1, a2, &mut new[..2], updated),
+        3 => copy_through(cpu, store, a1, a2, &mut new[..3], updated),
         4 => copy_through(cpu, store, a1, a2, &mut new[..4], updated),
+        5 => copy_through(cpu, store, a1, a2, &mut new[..5], updated),
+        6 => copy_through(cpu, store, a1, a2, &mut new[..6], updated),
+        7 => copy_through(cpu, store, a1, a2, &mut new[..7], updated),
         8 => copy_through(cpu, store, a1, a2, &mut new[..8], updated),
         0..=16 => copy_through(cpu, store, a1, a2, &mut new[..n as usize], updated),
         _ => copy_long(cpu, store, n, a1, a2, updated),
@@ -247,7 +256,7 @@ fn join_long<S: Store>(
     join_through(cpu, store, a1, a2, &mut new[..n as usize], updated)
 }
 
-/// XC of such operands. Those of a few bytes need no large buffer.
+/// XC of such operands. Those of a few bytes need no large buffer, and the most frequent lengths have code of their own.
 #[inline(always)]
 fn join<S: Store>(
     cpu: &mut Cpu,
@@ -266,6 +275,9 @@ fn join<S: Store>(
 {
     let mut new = [0; 16];
     match n {
+        1 => join_through(cpu, store, a1, a2, &mut new[..1], updated),
+        2 => join_through(cpu, store, a1, a2, &mut new[..2], updated),
+        3 => join_through(cpu, store, a1, a2, &mut new[..3], updated),
         4 => join_through(cpu, store, a1, a2, &mut new[..4], updated),
         8 => join_through(cpu, store, a1, a2, &mut new[..8], updated),
         0..=16 => join_through(cpu, store, a1, a2, &mut new[..n as usize], updated),
