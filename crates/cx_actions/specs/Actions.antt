@@ -12,6 +12,7 @@ use Rattle.cx_edf.specs.declared.answers.EdfEvent.{EdfEvent}
 use Rattle.cx_edf.specs.declared.answers.EdfEvent.TheVariants as edf
 use Rattle.cx_actions.specs.Words.{word, behind, pair_of, number_of, codes_of_key}
 use Rattle.cx_actions.specs.Alterations.{change_of}
+use Rattle.cx_actions.specs.declared.actions.Action.{Action}
 use Rattle.cx_actions.specs.declared.actions.Action.TheVariants as action
 use Rattle.cx_actions.specs.declared.actions.Line.{Line}
 use Rattle.cx_actions.specs.declared.actions.Line.TheVariants as line
@@ -53,7 +54,7 @@ key_words text =
     (name_of 4 (word text))
 
 -- a line that gives an event
-abbrev pub does : EdfEvent → Line
+abbrev pub does : EdfEvent → Line Action
 does e = line.Action (action.Event e)
 
 -- ON or OFF of a terminal's EDF
@@ -65,12 +66,12 @@ switched (name, true) = edf.On name
 switched (name, false) = edf.Off name
 
 -- the display that is shown, or the one that is so many before the newest
-abbrev pub display_line : List ℕ → Option (List ℕ) → Option Line
+abbrev pub display_line : List ℕ → Option (List ℕ) → Option (Line Action)
 display_line name None = Some (line.Action (action.Display name))
 display_line name (Some back) = option_map (λ k. line.Action (action.Previous name k)) (number_of 1 1 back)
 
 -- a key with its text: none is the empty one
-abbrev pub with_text : List ℕ × Aid × Option (List ℕ) → Option Line
+abbrev pub with_text : List ℕ × Aid × Option (List ℕ) → Option (Line Action)
 with_text key = option_map (λ bytes. does (edf.Plain (event.Key key.0 key.1 bytes))) (codes_of_key (unwrap_or key.2 []))
 
 -- what is written of a source: the listing, the disassembly, or both, in this order; nothing where no word stands there
@@ -82,11 +83,11 @@ wanted_of (Some text) =
     else if bytes_eq text (codes "LIST DISASM") then Some (record { listing = true; disassembly = true }) else None
 
 -- the line that begins a source's block
-abbrev pub source_line : List ℕ → Option (List ℕ) → Option Line
+abbrev pub source_line : List ℕ → Option (List ℕ) → Option (Line Action)
 source_line name rest = option_map (λ wanted. line.Source name wanted) (wanted_of rest)
 
 -- what a line asks by its first word and the words behind it
-unfoldable pub asked : Verb → List ℕ → Option Line
+unfoldable pub asked : Verb → List ℕ → Option (Line Action)
 asked verb.Image text = option_map (λ p. line.Image p.0 p.1) (pair_of (name_of 8) (number_of 1 9) text)
 asked verb.Source text = option_and_then (λ name. source_line name (behind text)) (name_of 8 (word text))
 asked verb.Transaction text = option_map (λ p. does (edf.Plain (event.Transaction p.0 p.1))) (pair_of (name_of 4) (name_of 8) text)
@@ -105,7 +106,7 @@ is_idle [] = true
 is_idle (c ∷ cs) = c == 42
 
 -- What a line asks; None where it is a bad line.
-unfoldable pub line_of : List ℕ → Option Line
+unfoldable pub line_of : List ℕ → Option (Line Action)
 line_of text =
     if is_idle text then Some line.Idle
     else option_and_then (λ v. option_and_then (asked v) (behind text)) (verb_of (word text))

@@ -10,6 +10,7 @@ abbrev pub IsAllowed : Action → Type 0
 IsAllowed (action.Event event) = IsAllowedEdf event
 IsAllowed _ = Unit {0}
 
-abbrev pub IsAllowedLine : Line → Type 0
-IsAllowedLine (line.Action a) = IsAllowed a
-IsAllowedLine _ = Unit {0}
+-- a line whose action may be asked
+abbrev pub IsAllowedLine : {A : Type 0} → (A → Type 0) → Line A → Type 0
+IsAllowedLine Allowed (line.Action a) = Allowed a
+IsAllowedLine Allowed _ = Unit {0}

@@ -2,6 +2,7 @@
 pub mod Words
 pub mod Alterations
 pub mod Actions
+pub mod Language
 pub mod Allowed
 pub mod Texts
 pub mod Effects

@@ -5,7 +5,7 @@ ghost use Rattle.std.specs.List.{find};
 ghost use Rattle.std.specs.Option.{option_copied, option_map};
 ghost use Rattle.cx_ebcdic.specs.Aids.{key_of};
 ghost use Rattle.std.specs.Str.{bytes_eq};
-ghost use Rattle.cx_actions.specs.Allowed.{IsAllowedLine};
+ghost use Rattle.cx_actions.specs.Allowed.{IsAllowed, IsAllowedLine};
 ghost use Rattle.cx_actions.specs.Actions.{aid_of, asked, does, is_idle, key_words, line_of, switch_of, verb_name, verb_of, wanted_of};
 ghost use Rattle.cx_edf.specs.declared.answers.EdfEvent.TheVariants as edf;
 
@@ -95,9 +95,9 @@ impl Verb {
     }
 }
 
-/// What a line asks where it is not in a block.
+/// What a line asks where it is not in a block; `A` is an action of the script's language.
 #[derive(Drop)]
-pub enum Line {
+pub enum Line<A> {
     /// Nothing: it is empty, or a comment.
     Idle,
     /// It begins the block of an image: its name, and the length of its working storage.
@@ -105,7 +105,7 @@ pub enum Line {
     /// It begins the block of a source: its program's name, and what is to be written of it.
     Source(Name8, Wanted),
     /// An action.
-    Action(Action),
+    Action(A),
 }
 
 /// The first of some words that begin a line which is this word.
@@ -141,7 +141,7 @@ fn aid_of(name: &[u8]) -> Option<Aid>
 }
 
 /// The line that asks an event of the region.
-fn event_line(event: Event) -> Line
+fn event_line(event: Event) -> Line<Action>
     ensures { result ≡ does (edf.Plain event) }
 {
     Line::Action(Action::Event(EdfEvent::Plain(event)))
@@ -149,7 +149,7 @@ fn event_line(event: Event) -> Line
 
 /// The line that begins an image's block, by what is behind its first word.
 #[tactic(auto, unfolding(crate::specs::Actions::asked))]
-fn image_line(text: &[u8]) -> Option<Line>
+fn image_line(text: &[u8]) -> Option<Line<Action>>
     ensures { result ≡ asked Verb.Image text.now }
 {
     let (word, rest) = split_word(text);
@@ -190,7 +190,7 @@ fn wanted_of(rest: Option<&[u8]>) -> Option<Wanted>
 
 /// The line that begins a source's block, by what is behind its first word.
 #[tactic(auto, unfolding(crate::specs::Actions::asked))]
-fn source_line(text: &[u8]) -> Option<Line>
+fn source_line(text: &[u8]) -> Option<Line<Action>>
     ensures { result ≡ asked Verb.Source text.now }
 {
     let (word, rest) = split_word(text);
@@ -201,7 +201,7 @@ fn source_line(text: &[u8]) -> Option<Line>
 
 /// TRANSACTION, by what is behind its first word.
 #[tactic(auto, unfolding(crate::specs::Actions::asked))]
-fn transaction_line(text: &[u8]) -> Option<Line>
+fn transaction_line(text: &[u8]) -> Option<Line<Action>>
     ensures { result ≡ asked Verb.Transaction text.now }
 {
     let (word, rest) = split_word(text);
@@ -212,9 +212,9 @@ fn transaction_line(text: &[u8]) -> Option<Line>
 
 /// CLOCK, by what is behind its first word.
 #[tactic(auto, unfolding(crate::specs::Actions::asked))]
-fn clock_line(text: &[u8]) -> Option<Line>
+fn clock_line(text: &[u8]) -> Option<Line<Action>>
     ensures value { result ≡ asked Verb.Clock text.now }
-    ensures allowed { IfSome result IsAllowedLine }
+    ensures allowed { IfSome result (IsAllowedLine IsAllowed) }
 {
     let (word, rest) = split_word(text);
     let time = number(word, 6, 6)?;
@@ -235,10 +235,10 @@ fn key_words(text: &[u8]) -> Option<(Name4, Aid, Option<&[u8]>)>
 
 /// KEY, by what is behind its first word.
 #[tactic(auto, unfolding(crate::specs::Actions::asked))]
-fn key_line(alloc: Global, text: &[u8]) -> Result<Option<Line>, AllocError>
+fn key_line(alloc: Global, text: &[u8]) -> Result<Option<Line<Action>>, AllocError>
     ensures value { IfOk result (λ line. line ≡ asked Verb.Key text.now) }
     ensures memory { OnErr result (is_some (asked Verb.Key text.now) ≡ true) }
-    ensures allowed { IfOk result (λ line. IfSome line IsAllowedLine) }
+    ensures allowed { IfOk result (λ line. IfSome line (IsAllowedLine IsAllowed)) }
 {
     let Some((name, aid, behind)) = key_words(text) else {
         return Ok(None);
@@ -264,9 +264,9 @@ fn switch_of(word: &[u8]) -> Option<bool>
 
 /// EDF, by what is behind its first word.
 #[tactic(auto, unfolding(crate::specs::Actions::asked))]
-fn edf_line(text: &[u8]) -> Option<Line>
+fn edf_line(text: &[u8]) -> Option<Line<Action>>
     ensures value { result ≡ asked Verb.Edf text.now }
-    ensures allowed { IfSome result IsAllowedLine }
+    ensures allowed { IfSome result (IsAllowedLine IsAllowed) }
 {
     let (word, rest) = split_word(text);
     let name = name4(word)?;
@@ -280,9 +280,9 @@ fn edf_line(text: &[u8]) -> Option<Line>
 
 /// DISPLAY, by what is behind its first word.
 #[tactic(auto, unfolding(crate::specs::Actions::asked))]
-fn display_line(text: &[u8]) -> Option<Line>
+fn display_line(text: &[u8]) -> Option<Line<Action>>
     ensures value { result ≡ asked Verb.Display text.now }
-    ensures allowed { IfSome result IsAllowedLine }
+    ensures allowed { IfSome result (IsAllowedLine IsAllowed) }
 {
     let (word, rest) = split_word(text);
     let name = name4(word)?;
@@ -295,9 +295,9 @@ fn display_line(text: &[u8]) -> Option<Line>
 
 /// ALTER, by what is behind its first word.
 #[tactic(auto, unfolding(crate::specs::Actions::asked))]
-fn alter_line(text: &[u8]) -> Option<Line>
+fn alter_line(text: &[u8]) -> Option<Line<Action>>
     ensures value { result ≡ asked Verb.Alter text.now }
-    ensures allowed { IfSome result IsAllowedLine }
+    ensures allowed { IfSome result (IsAllowedLine IsAllowed) }
 {
     let (word, rest) = split_word(text);
     let name = name4(word)?;
@@ -307,10 +307,10 @@ fn alter_line(text: &[u8]) -> Option<Line>
 
 /// What a line asks by its first word and what is behind it.
 #[tactic(auto, unfolding(crate::specs::Actions::asked))]
-fn asked(alloc: Global, verb: Verb, text: &[u8]) -> Result<Option<Line>, AllocError>
+fn asked(alloc: Global, verb: Verb, text: &[u8]) -> Result<Option<Line<Action>>, AllocError>
     ensures value { IfOk result (λ line. line ≡ asked verb text.now) }
     ensures memory { OnErr result (is_some (asked verb text.now) ≡ true) }
-    ensures allowed { IfOk result (λ line. IfSome line IsAllowedLine) }
+    ensures allowed { IfOk result (λ line. IfSome line (IsAllowedLine IsAllowed)) }
 {
     match verb {
         Verb::Image => Ok(image_line(text)),
@@ -336,10 +336,10 @@ fn is_idle(text: &[u8]) -> bool
 
 /// What a line asks where it is not in a block; None, and never Memory, where it is a bad line.
 #[tactic(auto, unfolding(crate::specs::Actions::line_of))]
-pub fn line_of(alloc: Global, text: &[u8]) -> Result<Option<Line>, AllocError>
+pub fn line_of(alloc: Global, text: &[u8]) -> Result<Option<Line<Action>>, AllocError>
     ensures value { IfOk result (λ line. line ≡ line_of text.now) }
     ensures memory { OnErr result (is_some (line_of text.now) ≡ true) }
-    ensures allowed { IfOk result (λ line. IfSome line IsAllowedLine) }
+    ensures allowed { IfOk result (λ line. IfSome line (IsAllowedLine IsAllowed)) }
 {
     if is_idle(text) {
         return Ok(Some(Line::Idle));

@@ -1,14 +1,13 @@
 //! What actions do to a region under EDF.
 
-ghost use Rattle.std.specs.Prelude.{◌≡◌, ℕ, List, IfOk};
+ghost use Rattle.std.specs.Prelude.{◌≡◌, IfOk};
 ghost use Rattle.cx_edf.specs.Runs.{IsAllowedEdf};
-ghost use Rattle.cx_actions.specs.Allowed.{IsAllowed};
-ghost use Rattle.cx_actions.specs.declared.actions.Action.{Action};
 ghost use Rattle.cx_actions.specs.Effects.{Performs, Replies, main_page_back, page_of, screen_of, shown_page};
 ghost use Rattle.cx_actions.specs.Texts.{display_text, screen_text};
 ghost use Rattle.cx_actions.specs.declared.actions.Action.TheVariants as action;
 
 use crate::actions::Action;
+use crate::stage::Stage;
 use crate::texts::{answer_text, display_text, refused_image, screen_text};
 use cx_code::{Bytes, Image};
 use cx_ebcdic::{Name4, Name8};
@@ -18,17 +17,6 @@ use cx_region::Event;
 use cx_storage::Store;
 use cx_text::Page;
 use std::alloc::{AllocError, Global};
-
-/// What the actions of a script are performed on.
-pub trait Stage {
-    /// One action: the state before, the action, what is written for it, and the state after.
-    ghost performs: { Self → Action → List ℕ → Self → Type 0 };
-
-    /// Performs an action, and gives what is written for it.
-    fn perform(&mut self, alloc: Global, action: Action) -> Result<Vec<u8>, AllocError>
-        requires { IsAllowed action }
-        ensures { IfOk result (λ text. performs self.old action text.items self.new) };
-}
 
 /// Does an event, and gives the text of its answer.
 #[tactic(auto, using(crate::proofs::EffectLemmas::event_replied))]
@@ -133,6 +121,8 @@ fn show_previous<S: Store + Drop>(
 }
 
 impl<S: Store + Drop> Stage for Debugged<S> {
+    type Action = Action;
+
     ghost performs = { Performs };
 
     #[tactic(auto, using(crate::proofs::EffectLemmas::event_done, crate::proofs::EffectLemmas::screen_shown, crate::proofs::EffectLemmas::display_shown, crate::proofs::EffectLemmas::previous_shown))]

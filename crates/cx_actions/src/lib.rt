@@ -4,8 +4,9 @@
 mod actions;
 mod alterations;
 mod effects;
+mod stage;
 mod texts;
 mod words;
 
 pub use actions::{Action, Line, Verb, Wanted, line_of};
-pub use effects::Stage;
+pub use stage::{ScriptAction, Stage};

@@ -18,7 +18,7 @@ use Rattle.cx_prepare.specs.declared.faults.PrepareFault.TheVariants as without
 use Rattle.cx_prepare.specs.declared.program.Prepared.{Prepared}
 use Rattle.cx_lines.specs.Lines.{is_too_long}
 use Rattle.cx_actions.specs.Words.{hex_bytes}
-use Rattle.cx_actions.specs.Actions.{line_of}
+use Rattle.cx_actions.specs.Language.{Language}
 use Rattle.cx_actions.specs.declared.actions.Action.{Action}
 use Rattle.cx_actions.specs.declared.actions.Action.TheVariants as action
 use Rattle.cx_actions.specs.declared.actions.Line.{Line}
@@ -37,7 +37,7 @@ abbrev pub image_action : ImageBlock → Action
 image_action block = action.Image block.name (image_of block)
 
 -- a line outside a block
-abbrev pub step_of : ℕ → Line → Step
+abbrev pub step_of : {A : Type 0} → ℕ → Line A → Step A
 step_of number line.Idle = record { action = None; block = None }
 step_of number (line.Image name stg_len) = record { action = None; block = Some (kind.Image (record { line = number; name = name; stg_len = stg_len; text = [] })) }
 step_of number (line.Source name wanted) = record { action = None; block = Some (kind.Source (record { line = number; name = name; wanted = wanted; lines = [] })) }
@@ -64,7 +64,7 @@ abbrev pub with_line : Block → List ℕ → Option Block
 with_line (kind.Image block) text = option_map (with_bytes block) (hex_bytes text)
 with_line (kind.Source block) text = Some (with_source_line block text)
 
-abbrev pub continued : Block → Step
+abbrev pub continued : {A : Type 0} → Block → Step A
 continued block = record { action = None; block = Some block }
 
 -- A source's fault is told by the script's line: of NoEnd that is the line that ends the block.
@@ -76,23 +76,24 @@ located first without.Memory = Memory
 abbrev pub source_action : SourceBlock → Prepared → Action
 source_action block prepared = action.Source block.name prepared.text prepared.image
 
-abbrev pub source_ended : SourceBlock → Result Prepared PrepareFault → Result Step RunFault
-source_ended block (Ok prepared) = Ok (record { action = Some (source_action block prepared); block = None })
-source_ended block (Err fault) = Err (located block.line fault)
+abbrev pub source_ended : {A : Type 0} → Language A → SourceBlock → Result Prepared PrepareFault → Result (Step A) RunFault
+source_ended language block (Ok prepared) = Ok (record { action = Some (language.of_block (source_action block prepared)); block = None })
+source_ended language block (Err fault) = Err (located block.line fault)
 
 -- What the line that ends a block leads to. A source is judged there, whole.
-abbrev pub ended : Block → Result Step RunFault
-ended (kind.Image block) = Ok (record { action = Some (image_action block); block = None })
-ended (kind.Source block) = source_ended block (prepared_of block.wanted.listing block.wanted.disassembly block.lines)
+abbrev pub ended : {A : Type 0} → Language A → Block → Result (Step A) RunFault
+ended language (kind.Image block) = Ok (record { action = Some (language.of_block (image_action block)); block = None })
+ended language (kind.Source block) = source_ended language block (prepared_of block.wanted.listing block.wanted.disassembly block.lines)
 
 -- a line inside a block: its end, or one more line of it
-abbrev pub step_within : ℕ → Block → List ℕ → Result Step RunFault
-step_within number block text = if bytes_eq text (codes "/*") then ended block else ok_or (option_map continued (with_line block text)) (BadLine number)
+abbrev pub step_within : {A : Type 0} → Language A → ℕ → Block → List ℕ → Result (Step A) RunFault
+step_within language number block text = if bytes_eq text (codes "/*") then ended language block else ok_or (option_map continued (with_line block text)) (BadLine number)
 
-abbrev pub step_in : ℕ → Option Block → List ℕ → Result Step RunFault
-step_in number None text = ok_or (option_map (step_of number) (line_of text)) (BadLine number)
-step_in number (Some block) text = step_within number block text
+abbrev pub step_in : {A : Type 0} → Language A → ℕ → Option Block → List ℕ → Result (Step A) RunFault
+step_in language number None text = ok_or (option_map (step_of number) (language.line_of text)) (BadLine number)
+step_in language number (Some block) text = step_within language number block text
 
--- What the line with this number leads to: a step, or a fault of its own. That of a bad line is BadLine with its number.
-unfoldable pub step_at : ℕ → Option Block → List ℕ → Result Step RunFault
-step_at number block text = if is_too_long text then Err (BadLine number) else step_in number block text
+-- What the line with this number leads to in a script of this language: a step, or a fault of its own. That of a bad line is
+-- BadLine with its number.
+unfoldable pub step_at : {A : Type 0} → Language A → ℕ → Option Block → List ℕ → Result (Step A) RunFault
+step_at language number block text = if is_too_long text then Err (BadLine number) else step_in language number block text

@@ -9,3 +9,4 @@ pub use Rattle.cx_prepare.specs.Kinds
 pub use Rattle.cx_prepare.specs.Prepared
 pub use Rattle.cx_actions.specs.Words
 pub use Rattle.cx_actions.specs.Actions
+pub use Rattle.cx_actions.specs.Language

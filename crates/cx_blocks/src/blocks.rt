@@ -1,14 +1,13 @@
 //! Lines and blocks: what each line of a script leads to.
 
 ghost use Rattle.std.specs.Prelude.{◌≡◌, ◌≤◌, ◌/◌, ◌++◌, ◌∷◌, [], None, Err, IfOk, IfSome, OnErr, OnOk, MatchOption, is_some, true, false, length};
-ghost use Rattle.cx_actions.specs.Allowed.{IsAllowed};
 ghost use Rattle.cx_actions.specs.Words.{hex_bytes};
 ghost use Rattle.cx_blocks.specs.Blocks.{ended, first_line, image_action, kept, kept_lines, located, step_at, step_in, step_of, step_within, with_line};
 ghost use Rattle.cx_blocks.specs.Faults.{is_memory, is_read, is_write};
 ghost use Rattle.cx_blocks.specs.declared.faults.RunFault.TheVariants.{BadLine};
 
 use crate::faults::RunFault;
-use cx_actions::{Action, Line, Wanted, line_of};
+use cx_actions::{Action, Line, ScriptAction, Wanted};
 use cx_code::{Bytes, Image, Offsets};
 use cx_ebcdic::Name8;
 use cx_lines::is_too_long;
@@ -117,9 +116,9 @@ impl SourceBlock {
 
     /// What its end leads to: the program of its source, or the fault.
     #[tactic(auto, using(crate::proofs::BlockLemmas::source_refused))]
-    fn end(self, alloc: Global) -> Result<Step, RunFault>
-        ensures value { is_memory result ≡ false → result ≡ ended (Block.Source self) }
-        ensures allowed { IfOk result (λ step. IfSome step.action IsAllowed) }
+    fn end<A: ScriptAction>(self, alloc: Global) -> Result<Step<A>, RunFault>
+        ensures value { is_memory result ≡ false → result ≡ ended A.language (Block.Source self) }
+        ensures allowed { IfOk result (λ step. IfSome step.action A.allowed) }
         ensures unwritten { is_write result ≡ false }
         ensures unread { is_read result ≡ false }
     {
@@ -131,7 +130,7 @@ impl SourceBlock {
         } = self;
         match prepare(alloc, lines, wanted.listing, wanted.disassembly) {
             Ok(prepared) => Ok(Step {
-                action: Some(Action::Source(name, prepared.text, prepared.image)),
+                action: Some(A::of_block(Action::Source(name, prepared.text, prepared.image))),
                 block: None,
             }),
             Err(fault) => refused(line, fault),
@@ -140,9 +139,9 @@ impl SourceBlock {
 }
 
 /// The fault of a source that begins behind this line. No source has so many lines that the sum doesn't fit.
-fn refused(first: usize, fault: PrepareFault) -> Result<Step, RunFault>
+fn refused<A: ScriptAction>(first: usize, fault: PrepareFault) -> Result<Step<A>, RunFault>
     ensures value { is_memory result ≡ false → result ≡ Err (located first fault) }
-    ensures allowed { IfOk result (λ step. IfSome step.action IsAllowed) }
+    ensures allowed { IfOk result (λ step. IfSome step.action A.allowed) }
     ensures unwritten { is_write result ≡ false }
     ensures unread { is_read result ≡ false }
 {
@@ -167,15 +166,15 @@ impl Block {
     }
 
     /// What its end leads to.
-    fn end(self, alloc: Global) -> Result<Step, RunFault>
-        ensures value { is_memory result ≡ false → result ≡ ended self }
-        ensures allowed { IfOk result (λ step. IfSome step.action IsAllowed) }
+    fn end<A: ScriptAction>(self, alloc: Global) -> Result<Step<A>, RunFault>
+        ensures value { is_memory result ≡ false → result ≡ ended A.language self }
+        ensures allowed { IfOk result (λ step. IfSome step.action A.allowed) }
         ensures unwritten { is_write result ≡ false }
         ensures unread { is_read result ≡ false }
     {
         match self {
             Block::Image(block) => Ok(Step {
-                action: Some(block.action(alloc)),
+                action: Some(A::of_block(block.action(alloc))),
                 block: None,
             }),
             Block::Source(block) => block.end(alloc),
@@ -205,13 +204,13 @@ impl Block {
 
 /// What a line leads to: what is done, and the block that the next line is in.
 #[derive(Drop)]
-pub struct Step {
-    pub action: Option<Action>,
+pub struct Step<A> {
+    pub action: Option<A>,
     pub block: Option<Block>,
 }
 
 /// What a line outside a block leads to.
-fn step_of(alloc: Global, number: usize, line: Line) -> Step
+fn step_of<A: ScriptAction>(alloc: Global, number: usize, line: Line<A>) -> Step<A>
     ensures { result ≡ step_of number line }
 {
     match line {
@@ -279,11 +278,16 @@ fn append_text(alloc: Global, lines: &mut Vec<Text>, line: &[u8]) -> Result<(), 
 
 /// What a line inside a block leads to.
 #[tactic(auto, using(crate::proofs::BlockLemmas::end_is_good))]
-fn step_within(alloc: Global, number: usize, block: Block, line: &[u8]) -> Result<Step, RunFault>
+fn step_within<A: ScriptAction>(
+    alloc: Global,
+    number: usize,
+    block: Block,
+    line: &[u8],
+) -> Result<Step<A>, RunFault>
     requires { length line.now ≤ 4096 }
-    ensures value { is_memory result ≡ false → result ≡ step_within number block line.now }
-    ensures bad { step_within number block line.now ≡ Err (BadLine number) → result ≡ Err (BadLine number) }
-    ensures allowed { IfOk result (λ step. IfSome step.action IsAllowed) }
+    ensures value { is_memory result ≡ false → result ≡ step_within A.language number block line.now }
+    ensures bad { step_within A.language number block line.now ≡ Err (BadLine number) → result ≡ Err (BadLine number) }
+    ensures allowed { IfOk result (λ step. IfSome step.action A.allowed) }
     ensures unwritten { is_write result ≡ false }
     ensures unread { is_read result ≡ false }
 {
@@ -300,32 +304,36 @@ fn step_within(alloc: Global, number: usize, block: Block, line: &[u8]) -> Resul
 }
 
 /// What a line outside a block leads to, by its text.
-fn step_outside(alloc: Global, number: usize, line: &[u8]) -> Result<Step, RunFault>
-    ensures value { is_memory result ≡ false → result ≡ step_in number None line.now }
-    ensures bad { step_in number None line.now ≡ Err (BadLine number) → result ≡ Err (BadLine number) }
-    ensures allowed { IfOk result (λ step. IfSome step.action IsAllowed) }
+fn step_outside<A: ScriptAction>(
+    alloc: Global,
+    number: usize,
+    line: &[u8],
+) -> Result<Step<A>, RunFault>
+    ensures value { is_memory result ≡ false → result ≡ step_in A.language number None line.now }
+    ensures bad { step_in A.language number None line.now ≡ Err (BadLine number) → result ≡ Err (BadLine number) }
+    ensures allowed { IfOk result (λ step. IfSome step.action A.allowed) }
     ensures unwritten { is_write result ≡ false }
     ensures unread { is_read result ≡ false }
 {
-    match line_of(alloc, line)? {
+    match A::read_line(alloc, line)? {
         Some(line) => Ok(step_of(alloc, number, line)),
         None => Err(RunFault::BadLine(number)),
     }
 }
 
-/// What the line with this number leads to, the first of it in this block.
+/// What the line with this number leads to in a script of these actions, in this block.
 ///
 /// An error is the line's own fault, or Memory where a growth was refused. A bad line is BadLine with its number, never Memory.
 #[tactic(auto, unfolding(crate::specs::Blocks::step_at))]
-pub fn step_at(
+pub fn step_at<A: ScriptAction>(
     alloc: Global,
     number: usize,
     block: Option<Block>,
     line: &[u8],
-) -> Result<Step, RunFault>
-    ensures value { is_memory result ≡ false → result ≡ step_at number block line.now }
-    ensures bad { step_at number block line.now ≡ Err (BadLine number) → result ≡ Err (BadLine number) }
-    ensures allowed { IfOk result (λ step. IfSome step.action IsAllowed) }
+) -> Result<Step<A>, RunFault>
+    ensures value { is_memory result ≡ false → result ≡ step_at A.language number block line.now }
+    ensures bad { step_at A.language number block line.now ≡ Err (BadLine number) → result ≡ Err (BadLine number) }
+    ensures allowed { IfOk result (λ step. IfSome step.action A.allowed) }
     ensures unwritten { is_write result ≡ false }
     ensures unread { is_read result ≡ false }
 {

@@ -1,10 +1,10 @@
 //! Calls that take memory, each given once more where it is answered Memory.
 
 ghost use Rattle.std.specs.Prelude.{◌≡◌, [], IfOk, IfSome};
-ghost use Rattle.cx_actions.specs.Allowed.{IsAllowedLine};
+ghost use Rattle.cx_actions.specs.Allowed.{IsAllowed, IsAllowedLine};
 ghost use Rattle.cx_edf.specs.Runs.{IsAllowedEdf};
 
-use cx_actions::{Line, line_of};
+use cx_actions::{Action, Line, line_of};
 use cx_edf::{Answer, Debugged, EdfEvent};
 use cx_pages::PagedStore;
 use cx_region::Region;
@@ -36,8 +36,8 @@ pub fn begun_over_areas(alloc: Global) -> Result<Debugged<FlatStore>, AllocError
 }
 
 /// What a line asks, as a region may be asked it.
-pub fn allowed_line(alloc: Global, line: &[u8]) -> Result<Option<Line>, AllocError>
-    ensures { IfOk result (λ line. IfSome line IsAllowedLine) }
+pub fn allowed_line(alloc: Global, line: &[u8]) -> Result<Option<Line<Action>>, AllocError>
+    ensures { IfOk result (λ line. IfSome line (IsAllowedLine IsAllowed)) }
 {
     match line_of(alloc, line) {
         Ok(line) => Ok(line),

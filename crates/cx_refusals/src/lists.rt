@@ -110,8 +110,8 @@ impl<S: Store + Drop> List<S> {
     }
 
     /// Does what a line asks, and the block behind it where it begins one.
-    fn line(&mut self, rt: &HostRuntime, line: Line, block: &[u8]) -> io::Result<()>
-        requires { IsAllowedLine line }
+    fn line(&mut self, rt: &HostRuntime, line: Line<Action>, block: &[u8]) -> io::Result<()>
+        requires { IsAllowedLine IsAllowed line }
     {
         match line {
             Line::Idle => Ok(()),
@@ -147,7 +147,7 @@ impl<S: Store + Drop> List<S> {
 }
 
 /// The lines of the block that a line begins, none where it begins none, and those behind it.
-fn block_of<'a>(line: &Line, behind: &'a [u8]) -> (&'a [u8], &'a [u8]) {
+fn block_of<'a>(line: &Line<Action>, behind: &'a [u8]) -> (&'a [u8], &'a [u8]) {
     match line {
         Line::Image(_, _) | Line::Source(_, _) => split_block(behind),
         Line::Idle | Line::Action(_) => (b"", behind),

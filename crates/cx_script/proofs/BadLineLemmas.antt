@@ -4,7 +4,6 @@ use Rattle.std.specs.Prelude.{slice_get}
 use Rattle.std.specs.Option.{option_map}
 use Rattle.std.specs.Str.{bytes_eq}
 use Rattle.cx_blocks.specs.declared.blocks.Block.{Block}
-use Rattle.cx_actions.specs.Actions.{line_of}
 use Rattle.std.specs.Option.{ok_or}
 use Rattle.cx_prepare.specs.Prepared.{prepared_of}
 use Rattle.cx_prepare.specs.declared.faults.PrepareFault.{PrepareFault}
@@ -15,10 +14,10 @@ use Rattle.cx_blocks.specs.SourceBlock.{SourceBlock}
 use Rattle.cx_blocks.specs.declared.blocks.Block.TheVariants as kind
 use Rattle.cx_blocks.specs.Blocks.{continued, ended, first_line, image_action, source_action, source_ended, step_at, step_in, step_of, with_bytes, with_line}
 use Rattle.cx_lines.specs.Lines.{is_too_long, lines_met}
-use Rattle.cx_script.specs.Script.{Script, script_of, script_from, fault_at, before, led_to}
+use Rattle.cx_script.specs.Script.{Script, script_in, script_from, fault_at, before, led_to}
 use Rattle.cx_actions.specs.Words.{hex_bytes}
 use Rattle.cx_script.specs.Laws.BadLines.{block_after, block_behind, IsBadIn, IsBadLine, BadLinesAreBad}
-use Rattle.cx_actions.specs.declared.actions.Action.{Action}
+use Rattle.cx_actions.specs.Language.{Language}
 use Rattle.cx_actions.specs.declared.actions.Line.{Line}
 use Rattle.cx_actions.specs.declared.actions.Line.TheVariants as line
 use Rattle.cx_blocks.specs.declared.blocks.Step.{Step}
@@ -29,63 +28,63 @@ use Rattle.cx_lines.specs.declared.input.Ending.TheVariants.{AtEnd, Failed, Past
 use Rattle.cx_script.proofs.FaultLemmas.{fault_before, is_own, led_own, MayBeLed}
 
 -- ---- a line that leads to BadLine is bad where it stands
-abbrev Told : ℕ → Option Block → List ℕ → RunFault → Type 0
-Told number block text (BadLine n) = (n ≡ number) × IsBadIn block text
-Told number block text _ = Unit {0}
+abbrev Told : {A : Type 0} → Language A → ℕ → Option Block → List ℕ → RunFault → Type 0
+Told language number block text (BadLine n) = (n ≡ number) × IsBadIn language block text
+Told language number block text _ = Unit {0}
 
-untold : {A : Type 0} (o : Option A) (f : A → Step) (number : ℕ) (fault : RunFault) → ok_or (option_map f o) (BadLine number) ≡ Err fault → (o ≡ None) × (fault ≡ BadLine number)
+untold : {A B : Type 0} (o : Option B) (f : B → Step A) (number : ℕ) (fault : RunFault) → ok_or (option_map f o) (BadLine number) ≡ Err fault → (o ≡ None) × (fault ≡ BadLine number)
 untold None f number fault e = (refl, cc)
 untold (Some x) f number fault e = cc
 
-told : (number : ℕ) (block : Option Block) (text : List ℕ) (fault : RunFault) → fault ≡ BadLine number → IsBadIn block text → Told number block text fault
-told number block text fault e h = subst (Told number block text) (sym e) (refl, h)
+told : {A : Type 0} (language : Language A) (number : ℕ) (block : Option Block) (text : List ℕ) (fault : RunFault) → fault ≡ BadLine number → IsBadIn language block text → Told language number block text fault
+told language number block text fault e h = subst (Told language number block text) (sym e) (refl, h)
 
 -- an end has no BadLine
-source_told : (number : ℕ) (block : SourceBlock) (text : List ℕ) (due : Result Prepared PrepareFault) (fault : RunFault) → source_ended block due ≡ Err fault
-    → Told number (Some (kind.Source block)) text fault
-source_told number block text (Ok prepared) fault e = cc
-source_told number block text (Err (prepare.At n k)) fault e =
-    let same : Source (block.line + n) k ≡ fault = cc in subst (Told number (Some (kind.Source block)) text) same tt
-source_told number block text (Err prepare.Memory) fault e =
-    let same : Memory ≡ fault = cc in subst (Told number (Some (kind.Source block)) text) same tt
+source_told : {A : Type 0} (language : Language A) (number : ℕ) (block : SourceBlock) (text : List ℕ) (due : Result Prepared PrepareFault) (fault : RunFault) → source_ended language block due ≡ Err fault
+    → Told language number (Some (kind.Source block)) text fault
+source_told language number block text (Ok prepared) fault e = cc
+source_told language number block text (Err (prepare.At n k)) fault e =
+    let same : Source (block.line + n) k ≡ fault = cc in subst (Told language number (Some (kind.Source block)) text) same tt
+source_told language number block text (Err prepare.Memory) fault e =
+    let same : Memory ≡ fault = cc in subst (Told language number (Some (kind.Source block)) text) same tt
 
-end_told : (number : ℕ) (block : Block) (text : List ℕ) (fault : RunFault) → ended block ≡ Err fault → Told number (Some block) text fault
-end_told number (kind.Image block) text fault e = cc
-end_told number (kind.Source block) text fault e =
-    source_told number block text (prepared_of block.wanted.listing block.wanted.disassembly block.lines) fault e
+end_told : {A : Type 0} (language : Language A) (number : ℕ) (block : Block) (text : List ℕ) (fault : RunFault) → ended language block ≡ Err fault → Told language number (Some block) text fault
+end_told language number (kind.Image block) text fault e = cc
+end_told language number (kind.Source block) text fault e =
+    source_told language number block text (prepared_of block.wanted.listing block.wanted.disassembly block.lines) fault e
 
-within_told : (number : ℕ) (block : Block) (text : List ℕ) (end : Bool) (fault : RunFault) → bytes_eq text (codes "/*") ≡ end
-    → cond end (ended block) (ok_or (option_map continued (with_line block text)) (BadLine number)) ≡ Err fault → Told number (Some block) text fault
-within_told number block text true fault b e = end_told number block text fault e
-within_told number block text false fault b e =
+within_told : {A : Type 0} (language : Language A) (number : ℕ) (block : Block) (text : List ℕ) (end : Bool) (fault : RunFault) → bytes_eq text (codes "/*") ≡ end
+    → cond end (ended language block) (ok_or (option_map continued (with_line block text)) (BadLine number)) ≡ Err fault → Told language number (Some block) text fault
+within_told language number block text true fault b e = end_told language number block text fault e
+within_told language number block text false fault b e =
     let u = untold (with_line block text) continued number fault e in
-    told number (Some block) text fault u.1 (inr (b, u.0))
+    told language number (Some block) text fault u.1 (inr (b, u.0))
 
-in_told : (number : ℕ) (block : Option Block) (text : List ℕ) (long : Bool) (fault : RunFault) → long ≡ is_too_long text
-    → cond long (Err (BadLine number)) (step_in number block text) ≡ Err fault → Told number block text fault
-in_told number None text true fault l e = let same : fault ≡ BadLine number = cc in told number None text fault same (inl (sym l))
-in_told number (Some block) text true fault l e = let same : fault ≡ BadLine number = cc in told number (Some block) text fault same (inl (sym l))
-in_told number None text false fault l e =
-    let u = untold (line_of text) (step_of number) number fault e in
-    told number None text fault u.1 (inr u.0)
-in_told number (Some block) text false fault l e = within_told number block text (bytes_eq text (codes "/*")) fault refl e
+in_told : {A : Type 0} (language : Language A) (number : ℕ) (block : Option Block) (text : List ℕ) (long : Bool) (fault : RunFault) → long ≡ is_too_long text
+    → cond long (Err (BadLine number)) (step_in language number block text) ≡ Err fault → Told language number block text fault
+in_told language number None text true fault l e = let same : fault ≡ BadLine number = cc in told language number None text fault same (inl (sym l))
+in_told language number (Some block) text true fault l e = let same : fault ≡ BadLine number = cc in told language number (Some block) text fault same (inl (sym l))
+in_told language number None text false fault l e =
+    let u = untold (language.line_of text) (step_of number) number fault e in
+    told language number None text fault u.1 (inr u.0)
+in_told language number (Some block) text false fault l e = within_told language number block text (bytes_eq text (codes "/*")) fault refl e
 
-is_told : (number : ℕ) (block : Option Block) (text : List ℕ) (fault : RunFault) → step_at number block text ≡ Err fault → Told number block text fault
+is_told : {A : Type 0} (language : Language A) (number : ℕ) (block : Option Block) (text : List ℕ) (fault : RunFault) → step_at language number block text ≡ Err fault → Told language number block text fault
 unfolding step_at
-is_told number block text fault e = in_told number block text (is_too_long text) fault refl e
+is_told language number block text fault e = in_told language number block text (is_too_long text) fault refl e
 
 -- ---- a block that a line leaves was begun by it, or is that which it was in
-abbrev Began : ℕ → Option Block → Step → Type 0
+abbrev Began : {A : Type 0} → ℕ → Option Block → Step A → Type 0
 Began number block step = MatchOption step.block (Unit {0}) (λ next. (step.action ≡ None) × MatchOption block (first_line next ≡ number) (λ b. first_line next ≡ first_line b))
 
-began_line : (number : ℕ) (asked : Option Line) (step : Step) → ok_or (option_map (step_of number) asked) (BadLine number) ≡ Ok step → Began number None step
+began_line : {A : Type 0} (number : ℕ) (asked : Option (Line A)) (step : Step A) → ok_or (option_map (step_of number) asked) (BadLine number) ≡ Ok step → Began number None step
 began_line number None step e = cc
 began_line number (Some line.Idle) step e = let same : step_of number line.Idle ≡ step = cc in subst (Began number None) same tt
 began_line number (Some (line.Image name len)) step e = let same : step_of number (line.Image name len) ≡ step = cc in subst (Began number None) same (refl, refl)
 began_line number (Some (line.Source name wanted)) step e = let same : step_of number (line.Source name wanted) ≡ step = cc in subst (Began number None) same (refl, refl)
 began_line number (Some (line.Action a)) step e = let same : step_of number (line.Action a) ≡ step = cc in subst (Began number None) same tt
 
-began_more : (number : ℕ) (block : Block) (more : Option Block) (step : Step) → IfSome more (λ next. first_line next ≡ first_line block)
+began_more : {A : Type 0} (number : ℕ) (block : Block) (more : Option Block) (step : Step A) → IfSome more (λ next. first_line next ≡ first_line block)
     → ok_or (option_map continued more) (BadLine number) ≡ Ok step → Began number (Some block) step
 began_more number block None step h e = cc
 began_more number block (Some next) step h e = let same : continued next ≡ step = cc in subst (Began number (Some block)) same (refl, h)
@@ -99,81 +98,81 @@ line_kept : (block : Block) (text : List ℕ) → IfSome (with_line block text) 
 line_kept (kind.Image block) text = same_first block (hex_bytes text)
 line_kept (kind.Source block) text = refl
 
-began_source : (number : ℕ) (block : SourceBlock) (due : Result Prepared PrepareFault) (step : Step) → source_ended block due ≡ Ok step
+began_source : {A : Type 0} (language : Language A) (number : ℕ) (block : SourceBlock) (due : Result Prepared PrepareFault) (step : Step A) → source_ended language block due ≡ Ok step
     → Began number (Some (kind.Source block)) step
-began_source number block (Err fault) step e = cc
-began_source number block (Ok prepared) step e =
-    let done : Step = record { action = Some (source_action block prepared); block = None } in
+began_source language number block (Err fault) step e = cc
+began_source {A} language number block (Ok prepared) step e =
+    let done : Step A = record { action = Some (language.of_block (source_action block prepared)); block = None } in
     let same : done ≡ step = cc in subst (Began number (Some (kind.Source block))) same tt
 
-began_end : (number : ℕ) (block : Block) (step : Step) → ended block ≡ Ok step → Began number (Some block) step
-began_end number (kind.Image block) step e =
-    let done : Step = record { action = Some (image_action block); block = None } in
+began_end : {A : Type 0} (language : Language A) (number : ℕ) (block : Block) (step : Step A) → ended language block ≡ Ok step → Began number (Some block) step
+began_end {A} language number (kind.Image block) step e =
+    let done : Step A = record { action = Some (language.of_block (image_action block)); block = None } in
     let same : done ≡ step = cc in subst (Began number (Some (kind.Image block))) same tt
-began_end number (kind.Source block) step e =
-    began_source number block (prepared_of block.wanted.listing block.wanted.disassembly block.lines) step e
+began_end language number (kind.Source block) step e =
+    began_source language number block (prepared_of block.wanted.listing block.wanted.disassembly block.lines) step e
 
-began_within : (number : ℕ) (block : Block) (text : List ℕ) (end : Bool) (step : Step)
-    → cond end (ended block) (ok_or (option_map continued (with_line block text)) (BadLine number)) ≡ Ok step → Began number (Some block) step
-began_within number block text true step e = began_end number block step e
-began_within number block text false step e = began_more number block (with_line block text) step (line_kept block text) e
+began_within : {A : Type 0} (language : Language A) (number : ℕ) (block : Block) (text : List ℕ) (end : Bool) (step : Step A)
+    → cond end (ended language block) (ok_or (option_map continued (with_line block text)) (BadLine number)) ≡ Ok step → Began number (Some block) step
+began_within language number block text true step e = began_end language number block step e
+began_within language number block text false step e = began_more number block (with_line block text) step (line_kept block text) e
 
-began_in : (number : ℕ) (block : Option Block) (text : List ℕ) (long : Bool) (step : Step) → cond long (Err (BadLine number)) (step_in number block text) ≡ Ok step → Began number block step
-began_in number block text true step e = cc
-began_in number None text false step e = began_line number (line_of text) step e
-began_in number (Some block) text false step e = began_within number block text (bytes_eq text (codes "/*")) step e
+began_in : {A : Type 0} (language : Language A) (number : ℕ) (block : Option Block) (text : List ℕ) (long : Bool) (step : Step A) → cond long (Err (BadLine number)) (step_in language number block text) ≡ Ok step → Began number block step
+began_in language number block text true step e = cc
+began_in language number None text false step e = began_line number (language.line_of text) step e
+began_in language number (Some block) text false step e = began_within language number block text (bytes_eq text (codes "/*")) step e
 
-began : (number : ℕ) (block : Option Block) (text : List ℕ) (step : Step) → step_at number block text ≡ Ok step → Began number block step
+began : {A : Type 0} (language : Language A) (number : ℕ) (block : Option Block) (text : List ℕ) (step : Step A) → step_at language number block text ≡ Ok step → Began number block step
 unfolding step_at
-began number block text step e = began_in number block text (is_too_long text) step e
+began language number block text step e = began_in language number block text (is_too_long text) step e
 
 -- ---- a script whose first line leads to a step
-led : (ending : Ending) (number : ℕ) (block : Option Block) (text : List ℕ) (lines : List (List ℕ)) (step : Step) → step_at number block text ≡ Ok step
-    → script_from ending number block (text ∷ lines) ≡ before step.action (script_from ending (number + 1) step.block lines)
+led : {A : Type 0} (language : Language A) (ending : Ending) (number : ℕ) (block : Option Block) (text : List ℕ) (lines : List (List ℕ)) (step : Step A) → step_at language number block text ≡ Ok step
+    → script_from language ending number block (text ∷ lines) ≡ before step.action (script_from language ending (number + 1) step.block lines)
 unfolding script_from
-led ending number block text lines step e = ap (λ d. led_to d (λ next. script_from ending (number + 1) next lines)) e
+led language ending number block text lines step e = ap (λ d. led_to d (λ next. script_from language ending (number + 1) next lines)) e
 
 -- the same actions, with no fault but that no more is read
-abbrev unended : Script → Script
+abbrev unended : {A : Type 0} → Script A → Script A
 unended script = record { actions = script.actions; fault = Some Read }
 
-before_unended : (action : Option Action) (script : Script) → before action (unended script) ≡ unended (before action script)
+before_unended : {A : Type 0} (action : Option A) (script : Script A) → before action (unended script) ≡ unended (before action script)
 before_unended None script = refl
 before_unended (Some action) script = refl
 
 -- ---- where the fault of a script stands
-record Met (ending : Ending) (number : ℕ) (block : Option Block) (lines : List (List ℕ)) (n : ℕ) : Type 0 where
+record Met {A : Type 0} (language : Language A) (ending : Ending) (number : ℕ) (block : Option Block) (lines : List (List ℕ)) (n : ℕ) : Type 0 where
   k : ℕ
   at : n ≡ number + k
   text : List ℕ
   is : slice_get lines k ≡ Some text
   within : k < length lines
-  bad : IsBadIn (block_behind number block (take k lines)) text
-  done : script_from Failed number block (take k lines) ≡ unended (script_from ending number block lines)
+  bad : IsBadIn language (block_behind language number block (take k lines)) text
+  done : script_from language Failed number block (take k lines) ≡ unended (script_from language ending number block lines)
 
-record Open (ending : Ending) (number : ℕ) (block : Option Block) (lines : List (List ℕ)) (n : ℕ) : Type 0 where
+record Open {A : Type 0} (language : Language A) (ending : Ending) (number : ℕ) (block : Option Block) (lines : List (List ℕ)) (n : ℕ) : Type 0 where
   ended : ending ≡ AtEnd
   left : Block
-  is : block_behind number block lines ≡ Some left
+  is : block_behind language number block lines ≡ Some left
   at : first_line left ≡ n
-  done : script_from Failed number block lines ≡ unended (script_from ending number block lines)
+  done : script_from language Failed number block lines ≡ unended (script_from language ending number block lines)
 
-at_end : (ending : Ending) (number : ℕ) (block : Option Block) (n : ℕ) → fault_at ending block ≡ Some (BadLine n) → Met ending number block [] n ⊎ Open ending number block [] n
+at_end : {A : Type 0} (language : Language A) (ending : Ending) (number : ℕ) (block : Option Block) (n : ℕ) → fault_at ending block ≡ Some (BadLine n) → Met language ending number block [] n ⊎ Open language ending number block [] n
 unfolding fault_at script_from block_behind
-at_end AtEnd number None n e = cc
-at_end AtEnd number (Some block) n e = inr (record { ended = refl; left = block; is = refl; at = cc; done = refl })
-at_end Failed number block n e = cc
-at_end PastBound number block n e = cc
+at_end language AtEnd number None n e = cc
+at_end language AtEnd number (Some block) n e = inr (record { ended = refl; left = block; is = refl; at = cc; done = refl })
+at_end language Failed number block n e = cc
+at_end language PastBound number block n e = cc
 
-met_here : (ending : Ending) (number : ℕ) (block : Option Block) (text : List ℕ) (lines : List (List ℕ)) (n : ℕ) → (due : RunFault) → step_at number block text ≡ Err due
-    → (script_from ending number block (text ∷ lines)).fault ≡ Some (BadLine n) → Met ending number block (text ∷ lines) n
+met_here : {A : Type 0} (language : Language A) (ending : Ending) (number : ℕ) (block : Option Block) (text : List ℕ) (lines : List (List ℕ)) (n : ℕ) → (due : RunFault) → step_at language number block text ≡ Err due
+    → (script_from language ending number block (text ∷ lines)).fault ≡ Some (BadLine n) → Met language ending number block (text ∷ lines) n
 unfolding script_from block_behind fault_at
-met_here ending number block text lines n due e f =
-    let bad = ap (λ d. led_to d (λ next. script_from ending (number + 1) next lines)) e in
-    let fault : (script_from ending number block (text ∷ lines)).fault ≡ Some due = ap (λ (s : Script). s.fault) bad in
-    let none : (script_from ending number block (text ∷ lines)).actions ≡ [] = ap (λ (s : Script). s.actions) bad in
+met_here {A} language ending number block text lines n due e f =
+    let bad = ap (λ d. led_to d (λ next. script_from language ending (number + 1) next lines)) e in
+    let fault : (script_from language ending number block (text ∷ lines)).fault ≡ Some due = ap (λ (s : Script A). s.fault) bad in
+    let none : (script_from language ending number block (text ∷ lines)).actions ≡ [] = ap (λ (s : Script A). s.actions) bad in
     let same : due ≡ BadLine n = cc in
-    let how : Told number block text (BadLine n) = subst (Told number block text) same (is_told number block text due e) in
+    let how : Told language number block text (BadLine n) = subst (Told language number block text) same (is_told language number block text due e) in
     record {
       k = 0;
       at = omega (arith, how.0);
@@ -181,139 +180,139 @@ met_here ending number block text lines n due e f =
       is = refl;
       within = omega arith;
       bad = how.1;
-      done = ap (λ (l : List Action). let s : Script = record { actions = l; fault = Some Read } in s) (sym none);
+      done = ap (λ (l : List A). let s : Script A = record { actions = l; fault = Some Read } in s) (sym none);
     }
 
-met_later : (ending : Ending) (number : ℕ) (block : Option Block) (text : List ℕ) (lines : List (List ℕ)) (n : ℕ) (step : Step) → step_at number block text ≡ Ok step
-    → Met ending (number + 1) step.block lines n → Met ending number block (text ∷ lines) n
+met_later : {A : Type 0} (language : Language A) (ending : Ending) (number : ℕ) (block : Option Block) (text : List ℕ) (lines : List (List ℕ)) (n : ℕ) (step : Step A) → step_at language number block text ≡ Ok step
+    → Met language ending (number + 1) step.block lines n → Met language ending number block (text ∷ lines) n
 unfolding block_behind
-met_later ending number block text lines n step e m =
+met_later language ending number block text lines n step e m =
     record {
       k = suc m.k;
       at = omega (arith, m.at);
       text = m.text;
       is = m.is;
       within = omega (arith, m.within);
-      bad = subst (λ d. IsBadIn (block_behind (number + 1) (block_after d) (take m.k lines)) m.text) (sym e) m.bad;
-      done = led Failed number block text (take m.k lines) step e ∙ ap (before step.action) m.done
-          ∙ before_unended step.action (script_from ending (number + 1) step.block lines) ∙ ap unended (sym (led ending number block text lines step e));
+      bad = subst (λ d. IsBadIn language (block_behind language (number + 1) (block_after d) (take m.k lines)) m.text) (sym e) m.bad;
+      done = led language Failed number block text (take m.k lines) step e ∙ ap (before step.action) m.done
+          ∙ before_unended step.action (script_from language ending (number + 1) step.block lines) ∙ ap unended (sym (led language ending number block text lines step e));
     }
 
-open_later : (ending : Ending) (number : ℕ) (block : Option Block) (text : List ℕ) (lines : List (List ℕ)) (n : ℕ) (step : Step) → step_at number block text ≡ Ok step
-    → Open ending (number + 1) step.block lines n → Open ending number block (text ∷ lines) n
+open_later : {A : Type 0} (language : Language A) (ending : Ending) (number : ℕ) (block : Option Block) (text : List ℕ) (lines : List (List ℕ)) (n : ℕ) (step : Step A) → step_at language number block text ≡ Ok step
+    → Open language ending (number + 1) step.block lines n → Open language ending number block (text ∷ lines) n
 unfolding block_behind
-open_later ending number block text lines n step e o =
+open_later language ending number block text lines n step e o =
     record {
       ended = o.ended;
       left = o.left;
       at = o.at;
-      is = ap (λ d. block_behind (number + 1) (block_after d) lines) e ∙ o.is;
-      done = led Failed number block text lines step e ∙ ap (before step.action) o.done
-          ∙ before_unended step.action (script_from ending (number + 1) step.block lines) ∙ ap unended (sym (led ending number block text lines step e));
+      is = ap (λ d. block_behind language (number + 1) (block_after d) lines) e ∙ o.is;
+      done = led language Failed number block text lines step e ∙ ap (before step.action) o.done
+          ∙ before_unended step.action (script_from language ending (number + 1) step.block lines) ∙ ap unended (sym (led language ending number block text lines step e));
     }
 
-later : (ending : Ending) (number : ℕ) (block : Option Block) (text : List ℕ) (lines : List (List ℕ)) (n : ℕ) (due : Result Step RunFault) → step_at number block text ≡ due
-    → (script_from ending number block (text ∷ lines)).fault ≡ Some (BadLine n)
-    → ((next : Option Block) → (script_from ending (number + 1) next lines).fault ≡ Some (BadLine n) → Met ending (number + 1) next lines n ⊎ Open ending (number + 1) next lines n)
-    → Met ending number block (text ∷ lines) n ⊎ Open ending number block (text ∷ lines) n
-later ending number block text lines n (Err due) e f ih = inl (met_here ending number block text lines n due e f)
-later ending number block text lines n (Ok step) e f ih =
-    let rest = script_from ending (number + 1) step.block lines in
-    let same : (script_from ending number block (text ∷ lines)).fault ≡ rest.fault = ap (λ (s : Script). s.fault) (led ending number block text lines step e) ∙ fault_before step.action rest in
+later : {A : Type 0} (language : Language A) (ending : Ending) (number : ℕ) (block : Option Block) (text : List ℕ) (lines : List (List ℕ)) (n : ℕ) (due : Result (Step A) RunFault) → step_at language number block text ≡ due
+    → (script_from language ending number block (text ∷ lines)).fault ≡ Some (BadLine n)
+    → ((next : Option Block) → (script_from language ending (number + 1) next lines).fault ≡ Some (BadLine n) → Met language ending (number + 1) next lines n ⊎ Open language ending (number + 1) next lines n)
+    → Met language ending number block (text ∷ lines) n ⊎ Open language ending number block (text ∷ lines) n
+later language ending number block text lines n (Err due) e f ih = inl (met_here language ending number block text lines n due e f)
+later {A} language ending number block text lines n (Ok step) e f ih =
+    let rest = script_from language ending (number + 1) step.block lines in
+    let same : (script_from language ending number block (text ∷ lines)).fault ≡ rest.fault = ap (λ (s : Script A). s.fault) (led language ending number block text lines step e) ∙ fault_before step.action rest in
     elim (ih step.block (sym same ∙ f)) [
-      | inl m ↦ inl (met_later ending number block text lines n step e m)
-      | inr o ↦ inr (open_later ending number block text lines n step e o)
+      | inl m ↦ inl (met_later language ending number block text lines n step e m)
+      | inr o ↦ inr (open_later language ending number block text lines n step e o)
     ]
 
-found : (ending : Ending) (number : ℕ) (block : Option Block) (lines : List (List ℕ)) (n : ℕ) → (script_from ending number block lines).fault ≡ Some (BadLine n)
-    → Met ending number block lines n ⊎ Open ending number block lines n
+found : {A : Type 0} (language : Language A) (ending : Ending) (number : ℕ) (block : Option Block) (lines : List (List ℕ)) (n : ℕ) → (script_from language ending number block lines).fault ≡ Some (BadLine n)
+    → Met language ending number block lines n ⊎ Open language ending number block lines n
 unfolding script_from
-found ending number block [] n e = at_end ending number block n e
-found ending number block (text ∷ lines) n e =
-    later ending number block text lines n (step_at number block text) refl e (λ next f. found ending (number + 1) next lines n f)
+found language ending number block [] n e = at_end language ending number block n e
+found language ending number block (text ∷ lines) n e =
+    later language ending number block text lines n (step_at language number block text) refl e (λ next f. found language ending (number + 1) next lines n f)
 
 -- ---- the line that begins an open block
-record BeganAt (number : ℕ) (block : Option Block) (lines : List (List ℕ)) (left : Block) : Type 0 where
+record BeganAt {A : Type 0} (language : Language A) (number : ℕ) (block : Option Block) (lines : List (List ℕ)) (left : Block) : Type 0 where
   k : ℕ
   within : k < length lines
   at : first_line left ≡ number + k
-  done : script_from Failed number block (take k lines) ≡ script_from Failed number block lines
+  done : script_from language Failed number block (take k lines) ≡ script_from language Failed number block lines
 
-record Stays (number : ℕ) (block : Option Block) (lines : List (List ℕ)) (left : Block) : Type 0 where
+record Stays {A : Type 0} (language : Language A) (number : ℕ) (block : Option Block) (lines : List (List ℕ)) (left : Block) : Type 0 where
   same : IsSomeAnd block (λ b. first_line b ≡ first_line left)
-  idle : (script_from Failed number block lines).actions ≡ []
+  idle : (script_from language Failed number block lines).actions ≡ []
 
-stayed : (number : ℕ) (block : Option Block) (left : Block) → block ≡ Some left → Stays number block [] left
+stayed : {A : Type 0} (language : Language A) (number : ℕ) (block : Option Block) (left : Block) → block ≡ Some left → Stays language number block [] left
 unfolding script_from
-stayed number None left e = cc
-stayed number (Some b) left e = let same : b ≡ left = cc in record { same = ap first_line same; idle = refl }
+stayed language number None left e = cc
+stayed language number (Some b) left e = let same : b ≡ left = cc in record { same = ap first_line same; idle = refl }
 
 -- a script by its parts
-by_parts : (script : Script) → script.actions ≡ [] → script.fault ≡ Some Read → script ≡ record { actions = []; fault = Some Read }
-by_parts script a f =
-    ap (λ (l : List Action). let s : Script = record { actions = l; fault = script.fault } in s) a
-    ∙ ap (λ (o : Option RunFault). let s : Script = record { actions = []; fault = o } in s) f
+by_parts : {A : Type 0} (script : Script A) → script.actions ≡ [] → script.fault ≡ Some Read → script ≡ record { actions = []; fault = Some Read }
+by_parts {A} script a f =
+    ap (λ (l : List A). let s : Script A = record { actions = l; fault = script.fault } in s) a
+    ∙ ap (λ (o : Option RunFault). let s : Script A = record { actions = []; fault = o } in s) f
 
 -- a line that left the block in which the next ones stay
-stays_on : (number : ℕ) (block : Option Block) (text : List ℕ) (lines : List (List ℕ)) (left : Block) (action : Option Action) (next : Option Block)
-    → step_at number block text ≡ Ok (let s : Step = record { action = action; block = next } in s)
-    → (script_from Failed number block (text ∷ lines)).fault ≡ Some Read → Stays (number + 1) next lines left
-    → BeganAt number block (text ∷ lines) left ⊎ Stays number block (text ∷ lines) left
+stays_on : {A : Type 0} (language : Language A) (number : ℕ) (block : Option Block) (text : List ℕ) (lines : List (List ℕ)) (left : Block) (action : Option A) (next : Option Block)
+    → step_at language number block text ≡ Ok (let s : Step A = record { action = action; block = next } in s)
+    → (script_from language Failed number block (text ∷ lines)).fault ≡ Some Read → Stays language (number + 1) next lines left
+    → BeganAt language number block (text ∷ lines) left ⊎ Stays language number block (text ∷ lines) left
 unfolding script_from fault_at
-stays_on number block text lines left action None e f s = absurd s.same
-stays_on number None text lines left action (Some b) e f s =
-    let step : Step = record { action = action; block = Some b } in
-    let how = began number None text step e in
+stays_on language number block text lines left action None e f s = absurd s.same
+stays_on {A} language number None text lines left action (Some b) e f s =
+    let step : Step A = record { action = action; block = Some b } in
+    let how = began language number None text step e in
     let same : first_line left ≡ number = sym s.same ∙ how.1 in
-    let rest = script_from Failed (number + 1) (Some b) lines in
-    let whole : script_from Failed number None (text ∷ lines) ≡ rest = led Failed number None text lines step e ∙ ap (λ a. before a rest) how.0 in
-    inl (record { k = 0; within = omega arith; at = omega (arith, same); done = sym (whole ∙ by_parts rest s.idle (sym (ap (λ (x : Script). x.fault) whole) ∙ f)) })
-stays_on number (Some b0) text lines left action (Some b) e f s =
-    let step : Step = record { action = action; block = Some b } in
-    let how = began number (Some b0) text step e in
-    let rest = script_from Failed (number + 1) (Some b) lines in
-    let whole : script_from Failed number (Some b0) (text ∷ lines) ≡ rest = led Failed number (Some b0) text lines step e ∙ ap (λ a. before a rest) how.0 in
-    inr (record { same = sym how.1 ∙ s.same; idle = ap (λ (x : Script). x.actions) whole ∙ s.idle })
+    let rest = script_from language Failed (number + 1) (Some b) lines in
+    let whole : script_from language Failed number None (text ∷ lines) ≡ rest = led language Failed number None text lines step e ∙ ap (λ a. before a rest) how.0 in
+    inl (record { k = 0; within = omega arith; at = omega (arith, same); done = sym (whole ∙ by_parts rest s.idle (sym (ap (λ (x : Script A). x.fault) whole) ∙ f)) })
+stays_on {A} language number (Some b0) text lines left action (Some b) e f s =
+    let step : Step A = record { action = action; block = Some b } in
+    let how = began language number (Some b0) text step e in
+    let rest = script_from language Failed (number + 1) (Some b) lines in
+    let whole : script_from language Failed number (Some b0) (text ∷ lines) ≡ rest = led language Failed number (Some b0) text lines step e ∙ ap (λ a. before a rest) how.0 in
+    inr (record { same = sym how.1 ∙ s.same; idle = ap (λ (x : Script A). x.actions) whole ∙ s.idle })
 
-began_later : (number : ℕ) (block : Option Block) (text : List ℕ) (lines : List (List ℕ)) (left : Block) (step : Step) → step_at number block text ≡ Ok step
-    → BeganAt (number + 1) step.block lines left → BeganAt number block (text ∷ lines) left
-began_later number block text lines left step e b =
+began_later : {A : Type 0} (language : Language A) (number : ℕ) (block : Option Block) (text : List ℕ) (lines : List (List ℕ)) (left : Block) (step : Step A) → step_at language number block text ≡ Ok step
+    → BeganAt language (number + 1) step.block lines left → BeganAt language number block (text ∷ lines) left
+began_later language number block text lines left step e b =
     record {
       k = suc b.k;
       within = omega (arith, b.within);
       at = omega (arith, b.at);
-      done = led Failed number block text (take b.k lines) step e ∙ ap (before step.action) b.done ∙ sym (led Failed number block text lines step e);
+      done = led language Failed number block text (take b.k lines) step e ∙ ap (before step.action) b.done ∙ sym (led language Failed number block text lines step e);
     }
 
-opened_line : (number : ℕ) (block : Option Block) (text : List ℕ) (lines : List (List ℕ)) (left : Block) (due : Result Step RunFault) → step_at number block text ≡ due
-    → (script_from Failed number block (text ∷ lines)).fault ≡ Some Read → block_behind (number + 1) (block_after due) lines ≡ Some left
-    → ((next : Option Block) → (script_from Failed (number + 1) next lines).fault ≡ Some Read → block_behind (number + 1) next lines ≡ Some left
-    → BeganAt (number + 1) next lines left ⊎ Stays (number + 1) next lines left)
-    → BeganAt number block (text ∷ lines) left ⊎ Stays number block (text ∷ lines) left
+opened_line : {A : Type 0} (language : Language A) (number : ℕ) (block : Option Block) (text : List ℕ) (lines : List (List ℕ)) (left : Block) (due : Result (Step A) RunFault) → step_at language number block text ≡ due
+    → (script_from language Failed number block (text ∷ lines)).fault ≡ Some Read → block_behind language (number + 1) (block_after due) lines ≡ Some left
+    → ((next : Option Block) → (script_from language Failed (number + 1) next lines).fault ≡ Some Read → block_behind language (number + 1) next lines ≡ Some left
+    → BeganAt language (number + 1) next lines left ⊎ Stays language (number + 1) next lines left)
+    → BeganAt language number block (text ∷ lines) left ⊎ Stays language number block (text ∷ lines) left
 unfolding script_from
-opened_line number block text lines left (Err due) e f b ih =
-    let bad = ap (λ d. led_to d (λ next. script_from Failed (number + 1) next lines)) e in
-    let fault : (script_from Failed number block (text ∷ lines)).fault ≡ Some due = ap (λ (s : Script). s.fault) bad in
+opened_line {A} language number block text lines left (Err due) e f b ih =
+    let bad = ap (λ d. led_to d (λ next. script_from language Failed (number + 1) next lines)) e in
+    let fault : (script_from language Failed number block (text ∷ lines)).fault ≡ Some due = ap (λ (s : Script A). s.fault) bad in
     let same : due ≡ Read = cc in
-    let own : is_own Read ≡ true = subst (λ f. is_own f ≡ true) same (subst MayBeLed e (led_own number block text)) in cc
-opened_line number block text lines left (Ok step) e f b ih =
-    let rest = script_from Failed (number + 1) step.block lines in
-    let same : (script_from Failed number block (text ∷ lines)).fault ≡ rest.fault = ap (λ (s : Script). s.fault) (led Failed number block text lines step e) ∙ fault_before step.action rest in
+    let own : is_own Read ≡ true = subst (λ f. is_own f ≡ true) same (subst MayBeLed e (led_own language number block text)) in cc
+opened_line {A} language number block text lines left (Ok step) e f b ih =
+    let rest = script_from language Failed (number + 1) step.block lines in
+    let same : (script_from language Failed number block (text ∷ lines)).fault ≡ rest.fault = ap (λ (s : Script A). s.fault) (led language Failed number block text lines step e) ∙ fault_before step.action rest in
     elim (ih step.block (sym same ∙ f) b) [
-      | inl m ↦ inl (began_later number block text lines left step e m)
-      | inr s ↦ stays_on number block text lines left step.action step.block e f s
+      | inl m ↦ inl (began_later language number block text lines left step e m)
+      | inr s ↦ stays_on language number block text lines left step.action step.block e f s
     ]
 
-opened : (number : ℕ) (block : Option Block) (lines : List (List ℕ)) (left : Block) → (script_from Failed number block lines).fault ≡ Some Read
-    → block_behind number block lines ≡ Some left → BeganAt number block lines left ⊎ Stays number block lines left
+opened : {A : Type 0} (language : Language A) (number : ℕ) (block : Option Block) (lines : List (List ℕ)) (left : Block) → (script_from language Failed number block lines).fault ≡ Some Read
+    → block_behind language number block lines ≡ Some left → BeganAt language number block lines left ⊎ Stays language number block lines left
 unfolding block_behind
-opened number block [] left f b = inr (stayed number block left b)
-opened number block (text ∷ lines) left f b =
-    opened_line number block text lines left (step_at number block text) refl f b (λ next g c. opened (number + 1) next lines left g c)
+opened language number block [] left f b = inr (stayed language number block left b)
+opened language number block (text ∷ lines) left f b =
+    opened_line language number block text lines left (step_at language number block text) refl f b (λ next g c. opened language (number + 1) next lines left g c)
 
 -- ---- both
-from_met : (ending : Ending) (lines : List (List ℕ)) (n : ℕ) → Met ending 1 None lines n → IsBadLine ending lines n (script_from ending 1 None lines)
-from_met ending lines n m =
+from_met : {A : Type 0} (language : Language A) (ending : Ending) (lines : List (List ℕ)) (n : ℕ) → Met language ending 1 None lines n → IsBadLine language ending lines n (script_from language ending 1 None lines)
+from_met language ending lines n m =
     let place : n - 1 ≡ m.k = omega (arith, m.at) in
     record {
       first = omega (arith, m.at);
@@ -322,8 +321,8 @@ from_met ending lines n m =
       done = rw place m.done;
     }
 
-from_began : (ending : Ending) (lines : List (List ℕ)) (n : ℕ) (o : Open ending 1 None lines n) → BeganAt 1 None lines o.left → IsBadLine ending lines n (script_from ending 1 None lines)
-from_began ending lines n o b =
+from_began : {A : Type 0} (language : Language A) (ending : Ending) (lines : List (List ℕ)) (n : ℕ) (o : Open language ending 1 None lines n) → BeganAt language 1 None lines o.left → IsBadLine language ending lines n (script_from language ending 1 None lines)
+from_began language ending lines n o b =
     let place : n - 1 ≡ b.k = omega (arith, o.at, b.at) in
     record {
       first = omega (arith, o.at, b.at);
@@ -332,18 +331,18 @@ from_began ending lines n o b =
       done = rw place (b.done ∙ o.done);
     }
 
-from_open : (ending : Ending) (lines : List (List ℕ)) (n : ℕ) → Open ending 1 None lines n → IsBadLine ending lines n (script_from ending 1 None lines)
-from_open ending lines n o =
-    elim (opened 1 None lines o.left (ap (λ (s : Script). s.fault) o.done) o.is) [
-      | inl b ↦ from_began ending lines n o b
+from_open : {A : Type 0} (language : Language A) (ending : Ending) (lines : List (List ℕ)) (n : ℕ) → Open language ending 1 None lines n → IsBadLine language ending lines n (script_from language ending 1 None lines)
+from_open {A} language ending lines n o =
+    elim (opened language 1 None lines o.left (ap (λ (s : Script A). s.fault) o.done) o.is) [
+      | inl b ↦ from_began language ending lines n o b
       | inr s ↦ absurd s.same
     ]
 
-pub bad_lines_are_bad : BadLinesAreBad
-unfolding script_of
-bad_lines_are_bad ending bytes n e =
+pub bad_lines_are_bad : {A : Type 0} (language : Language A) → BadLinesAreBad language
+unfolding script_in
+bad_lines_are_bad language ending bytes n e =
     let lines = lines_met ending bytes in
-    elim (found ending 1 None lines n e) [
-      | inl m ↦ from_met ending lines n m
-      | inr o ↦ from_open ending lines n o
+    elim (found language ending 1 None lines n e) [
+      | inl m ↦ from_met language ending lines n m
+      | inr o ↦ from_open language ending lines n o
     ]

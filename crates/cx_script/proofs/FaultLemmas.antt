@@ -5,7 +5,6 @@ use Rattle.std.specs.Option.{ok_or}
 use Rattle.std.specs.Option.{option_map}
 use Rattle.std.specs.Str.{bytes_eq}
 use Rattle.cx_blocks.specs.declared.blocks.Block.TheVariants as kind
-use Rattle.cx_actions.specs.Actions.{line_of}
 use Rattle.cx_blocks.specs.Blocks.{continued, ended, source_ended, step_at, step_in, step_of, with_line}
 use Rattle.cx_prepare.specs.Facts.Faults.{prepared_not_memory}
 use Rattle.cx_prepare.specs.Prepared.{prepared_of}
@@ -14,8 +13,8 @@ use Rattle.cx_prepare.specs.declared.faults.PrepareFault.TheVariants as prepare
 use Rattle.cx_prepare.specs.declared.program.Prepared.{Prepared}
 use Rattle.cx_blocks.specs.SourceBlock.{SourceBlock}
 use Rattle.cx_lines.specs.Lines.{is_too_long, lines_met}
-use Rattle.cx_script.specs.Script.{Script, script_of, script_from, fault_at, before, led_to}
-use Rattle.cx_actions.specs.declared.actions.Action.{Action}
+use Rattle.cx_script.specs.Script.{Script, script_in, script_from, fault_at, before, led_to}
+use Rattle.cx_actions.specs.Language.{Language}
 use Rattle.cx_blocks.specs.declared.blocks.Step.{Step}
 use Rattle.cx_blocks.specs.declared.faults.RunFault.{RunFault}
 use Rattle.cx_blocks.specs.declared.faults.RunFault.TheVariants.{BadLine, Source, Read, Write, Memory, ReadBound}
@@ -31,7 +30,7 @@ may_have Failed (Some Read) = true
 may_have PastBound (Some ReadBound) = true
 may_have _ _ = false
 
-pub fault_before : (action : Option Action) (script : Script) → (before action script).fault ≡ script.fault
+pub fault_before : {A : Type 0} (action : Option A) (script : Script A) → (before action script).fault ≡ script.fault
 fault_before None script = refl
 fault_before (Some action) script = refl
 
@@ -42,38 +41,38 @@ is_own (Source n kind) = true
 is_own _ = false
 
 -- a step, or a fault that a line may have
-abbrev pub MayBeLed : Result Step RunFault → Type 0
+abbrev pub MayBeLed : {A : Type 0} → Result (Step A) RunFault → Type 0
 MayBeLed (Ok step) = Unit {0}
 MayBeLed (Err fault) = is_own fault ≡ true
 
-own_bad : (o : Option Step) (number : ℕ) → MayBeLed (ok_or o (BadLine number))
+own_bad : {A : Type 0} (o : Option (Step A)) (number : ℕ) → MayBeLed (ok_or o (BadLine number))
 own_bad None number = refl
 own_bad (Some step) number = tt
 
 -- what a source's end leads to: want of memory is no fault of a source
-own_source : (block : SourceBlock) (due : Result Prepared PrepareFault) → due ≢ Err prepare.Memory → MayBeLed (source_ended block due)
-own_source block (Ok prepared) h = tt
-own_source block (Err (prepare.At n k)) h = refl
-own_source block (Err prepare.Memory) h = absurd (h refl)
+own_source : {A : Type 0} (language : Language A) (block : SourceBlock) (due : Result Prepared PrepareFault) → due ≢ Err prepare.Memory → MayBeLed (source_ended language block due)
+own_source language block (Ok prepared) h = tt
+own_source language block (Err (prepare.At n k)) h = refl
+own_source language block (Err prepare.Memory) h = absurd (h refl)
 
-own_end : (block : Block) → MayBeLed (ended block)
-own_end (kind.Image block) = tt
-own_end (kind.Source block) =
-    own_source block (prepared_of block.wanted.listing block.wanted.disassembly block.lines)
+own_end : {A : Type 0} (language : Language A) (block : Block) → MayBeLed (ended language block)
+own_end language (kind.Image block) = tt
+own_end language (kind.Source block) =
+    own_source language block (prepared_of block.wanted.listing block.wanted.disassembly block.lines)
     (prepared_not_memory block.wanted.listing block.wanted.disassembly block.lines)
 
-own_within : (number : ℕ) (block : Block) (text : List ℕ) (end : Bool) → MayBeLed (cond end (ended block) (ok_or (option_map continued (with_line block text)) (BadLine number)))
-own_within number block text true = own_end block
-own_within number block text false = own_bad (option_map continued (with_line block text)) number
+own_within : {A : Type 0} (language : Language A) (number : ℕ) (block : Block) (text : List ℕ) (end : Bool) → MayBeLed (cond end (ended language block) (ok_or (option_map continued (with_line block text)) (BadLine number)))
+own_within language number block text true = own_end language block
+own_within language number block text false = own_bad (option_map continued (with_line block text)) number
 
-own_in : (number : ℕ) (block : Option Block) (text : List ℕ) (long : Bool) → MayBeLed (cond long (Err (BadLine number)) (step_in number block text))
-own_in number block text true = refl
-own_in number None text false = own_bad (option_map (step_of number) (line_of text)) number
-own_in number (Some block) text false = own_within number block text (bytes_eq text (codes "/*"))
+own_in : {A : Type 0} (language : Language A) (number : ℕ) (block : Option Block) (text : List ℕ) (long : Bool) → MayBeLed (cond long (Err (BadLine number)) (step_in language number block text))
+own_in language number block text true = refl
+own_in language number None text false = own_bad (option_map (step_of number) (language.line_of text)) number
+own_in language number (Some block) text false = own_within language number block text (bytes_eq text (codes "/*"))
 
-pub led_own : (number : ℕ) (block : Option Block) (text : List ℕ) → MayBeLed (step_at number block text)
+pub led_own : {A : Type 0} (language : Language A) (number : ℕ) (block : Option Block) (text : List ℕ) → MayBeLed (step_at language number block text)
 unfolding step_at
-led_own number block text = own_in number block text (is_too_long text)
+led_own language number block text = own_in language number block text (is_too_long text)
 
 own_may : (ending : Ending) (fault : RunFault) → is_own fault ≡ true → may_have ending (Some fault) ≡ true
 own_may ending (BadLine n) e = refl
@@ -83,7 +82,7 @@ own_may ending Write e = cc
 own_may ending Memory e = cc
 own_may ending ReadBound e = cc
 
-led_has : (ending : Ending) (due : Result Step RunFault) (next : Option Block → Script) → MayBeLed due
+led_has : {A : Type 0} (ending : Ending) (due : Result (Step A) RunFault) (next : Option Block → Script A) → MayBeLed due
     → ((block : Option Block) → may_have ending (next block).fault ≡ true) → may_have ending (led_to due next).fault ≡ true
 led_has ending (Err fault) next own h = own_may ending fault own
 led_has ending (Ok step) next own h = ap (may_have ending) (fault_before step.action (next step.block)) ∙ h step.block
@@ -95,20 +94,20 @@ end_has AtEnd (Some block) = refl
 end_has Failed block = refl
 end_has PastBound block = refl
 
-from_has : (ending : Ending) (number : ℕ) (block : Option Block) (lines : List (List ℕ)) → may_have ending (script_from ending number block lines).fault ≡ true
+from_has : {A : Type 0} (language : Language A) (ending : Ending) (number : ℕ) (block : Option Block) (lines : List (List ℕ)) → may_have ending (script_from language ending number block lines).fault ≡ true
 unfolding script_from
-from_has ending number block [] = end_has ending block
-from_has ending number block (line ∷ lines) =
-    led_has ending (step_at number block line) (λ next. script_from ending (number + 1) next lines) (led_own number block line) (λ next. from_has ending (number + 1) next lines)
+from_has language ending number block [] = end_has ending block
+from_has language ending number block (line ∷ lines) =
+    led_has ending (step_at language number block line) (λ next. script_from language ending (number + 1) next lines) (led_own language number block line) (λ next. from_has language ending (number + 1) next lines)
 
-pub script_has : (ending : Ending) (bytes : List ℕ) → may_have ending (script_of ending bytes).fault ≡ true
-unfolding script_of
-script_has ending bytes = from_has ending 1 None (lines_met ending bytes)
+pub script_has : {A : Type 0} (language : Language A) (ending : Ending) (bytes : List ℕ) → may_have ending (script_in language ending bytes).fault ≡ true
+unfolding script_in
+script_has language ending bytes = from_has language ending 1 None (lines_met ending bytes)
 
 -- a script's fault is one that it may have
-pub has_this : (ending : Ending) (bytes : List ℕ) (fault : Option RunFault) → (script_of ending bytes).fault ≡ fault → may_have ending fault ≡ true
-has_this ending bytes fault e = ap (may_have ending) (sym e) ∙ script_has ending bytes
+pub has_this : {A : Type 0} (language : Language A) (ending : Ending) (bytes : List ℕ) (fault : Option RunFault) → (script_in language ending bytes).fault ≡ fault → may_have ending fault ≡ true
+has_this language ending bytes fault e = ap (may_have ending) (sym e) ∙ script_has language ending bytes
 
 -- a script that was not read to its end has a fault
-pub never_faultless : (ending : Ending) (bytes : List ℕ) → may_have ending None ≡ false → (script_of ending bytes).fault ≡ None → ⊥
-never_faultless ending bytes e f = let has = has_this ending bytes None f in cc
+pub never_faultless : {A : Type 0} (language : Language A) (ending : Ending) (bytes : List ℕ) → may_have ending None ≡ false → (script_in language ending bytes).fault ≡ None → ⊥
+never_faultless language ending bytes e f = let has = has_this language ending bytes None f in cc

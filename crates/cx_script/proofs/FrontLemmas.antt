@@ -6,9 +6,9 @@ use Rattle.cx_blocks.specs.declared.blocks.Block.{Block}
 use Rattle.cx_blocks.specs.Blocks.{step_at}
 use Rattle.cx_lines.specs.Lines.{is_too_long, last_met, lines_met}
 use Rattle.cx_lines.specs.Facts.Lines.{BeginsLong, continues}
-use Rattle.cx_script.specs.Script.{Script, script_from, script_of, fault_at, before, led_to}
+use Rattle.cx_script.specs.Script.{Script, script_from, script_in, fault_at, before, led_to}
 use Rattle.cx_script.specs.Laws.Fronts.{FrontsAreScripts, IsFrontOf}
-use Rattle.cx_actions.specs.declared.actions.Action.{Action}
+use Rattle.cx_actions.specs.Language.{Language}
 use Rattle.cx_blocks.specs.declared.blocks.Step.{Step}
 use Rattle.cx_blocks.specs.declared.faults.RunFault.{RunFault}
 use Rattle.cx_blocks.specs.declared.faults.RunFault.TheVariants.{BadLine}
@@ -17,63 +17,63 @@ use Rattle.cx_lines.specs.declared.input.Ending.TheVariants.{Failed}
 use Rattle.cx_script.proofs.PieceLemmas.{no_step}
 
 -- the same action in front of both
-acted : (action : Option Action) (front whole : Script) → IsFrontOf front whole → IsFrontOf (before action front) (before action whole)
+acted : {A : Type 0} (action : Option A) (front whole : Script A) → IsFrontOf front whole → IsFrontOf (before action front) (before action whole)
 acted None front whole h = h
-acted (Some action) front whole h =
+acted {A} (Some action) front whole h =
     record {
-      actions = ap (λ (l : List Action). action ∷ l) h.actions;
+      actions = ap (λ (l : List A). action ∷ l) h.actions;
       fault = elim h.fault [
         | inl read ↦ inl read
         | inr same ↦ inr (ap (before (Some action)) same)
       ];
     }
 
-same_script : (script : Script) → IsFrontOf script script
+same_script : {A : Type 0} (script : Script A) → IsFrontOf script script
 same_script script = record { actions = take_all (length script.actions) script.actions (omega arith); fault = inr refl }
 
 -- a first line that is too long
-long_first : (ending : Ending) (number : ℕ) (block : Option Block) (lines : List (List ℕ)) → BeginsLong lines
-    → script_from ending number block lines ≡ record { actions = []; fault = Some (BadLine number) }
+long_first : {A : Type 0} (language : Language A) (ending : Ending) (number : ℕ) (block : Option Block) (lines : List (List ℕ)) → BeginsLong lines
+    → script_from language ending number block lines ≡ record { actions = []; fault = Some (BadLine number) }
 unfolding script_from
-long_first ending number block [] h = absurd h
-long_first ending number block (line ∷ lines) h = ap (λ d. led_to d (λ next. script_from ending (number + 1) next lines)) (no_step number block line h)
+long_first language ending number block [] h = absurd h
+long_first language ending number block (line ∷ lines) h = ap (λ d. led_to d (λ next. script_from language ending (number + 1) next lines)) (no_step language number block line h)
 
-unread : (number : ℕ) (block : Option Block) (whole : Script) → IsFrontOf (script_from Failed number block []) whole
+unread : {A : Type 0} (language : Language A) (number : ℕ) (block : Option Block) (whole : Script A) → IsFrontOf (script_from language Failed number block []) whole
 unfolding script_from fault_at
-unread number block whole = record { actions = refl; fault = inl refl }
+unread language number block whole = record { actions = refl; fault = inl refl }
 
 -- where the complete lines end
-part_left : (ending : Ending) (number : ℕ) (block : Option Block) (part : List ℕ) (more : List (List ℕ)) (long : Bool) → is_too_long (strip_carriage_return part) ≡ long
+part_left : {A : Type 0} (language : Language A) (ending : Ending) (number : ℕ) (block : Option Block) (part : List ℕ) (more : List (List ℕ)) (long : Bool) → is_too_long (strip_carriage_return part) ≡ long
     → (is_too_long (strip_carriage_return part) ≡ true → BeginsLong more)
-    → IsFrontOf (script_from Failed number block (cond long (strip_carriage_return part ∷ []) [])) (script_from ending number block more)
-part_left ending number block part more false e h = unread number block (script_from ending number block more)
-part_left ending number block part more true e h =
-    let front = script_from Failed number block (strip_carriage_return part ∷ []) in
-    let same : script_from ending number block more ≡ front = long_first ending number block more (h e) ∙ sym (long_first Failed number block (strip_carriage_return part ∷ []) e) in
+    → IsFrontOf (script_from language Failed number block (cond long (strip_carriage_return part ∷ []) [])) (script_from language ending number block more)
+part_left language ending number block part more false e h = unread language number block (script_from language ending number block more)
+part_left language ending number block part more true e h =
+    let front = script_from language Failed number block (strip_carriage_return part ∷ []) in
+    let same : script_from language ending number block more ≡ front = long_first language ending number block more (h e) ∙ sym (long_first language Failed number block (strip_carriage_return part ∷ []) e) in
     subst (IsFrontOf front) (sym same) (same_script front)
 
-by_step : (ending : Ending) (number : ℕ) (block : Option Block) (line : List ℕ) (lines others : List (List ℕ)) (due : Result Step RunFault)
-    → ((next : Option Block) → IsFrontOf (script_from Failed (number + 1) next lines) (script_from ending (number + 1) next others))
-    → IsFrontOf (led_to due (λ next. script_from Failed (number + 1) next lines)) (led_to due (λ next. script_from ending (number + 1) next others))
-by_step ending number block line lines others (Err fault) h = record { actions = refl; fault = inr refl }
-by_step ending number block line lines others (Ok step) h =
-    acted step.action (script_from Failed (number + 1) step.block lines) (script_from ending (number + 1) step.block others) (h step.block)
+by_step : {A : Type 0} (language : Language A) (ending : Ending) (number : ℕ) (block : Option Block) (line : List ℕ) (lines others : List (List ℕ)) (due : Result (Step A) RunFault)
+    → ((next : Option Block) → IsFrontOf (script_from language Failed (number + 1) next lines) (script_from language ending (number + 1) next others))
+    → IsFrontOf (led_to due (λ next. script_from language Failed (number + 1) next lines)) (led_to due (λ next. script_from language ending (number + 1) next others))
+by_step language ending number block line lines others (Err fault) h = record { actions = refl; fault = inr refl }
+by_step language ending number block line lines others (Ok step) h =
+    acted step.action (script_from language Failed (number + 1) step.block lines) (script_from language ending (number + 1) step.block others) (h step.block)
 
-from_lines : (ending : Ending) (number : ℕ) (block : Option Block) (complete : List (List ℕ)) (part : List ℕ) (more : List (List ℕ))
+from_lines : {A : Type 0} (language : Language A) (ending : Ending) (number : ℕ) (block : Option Block) (complete : List (List ℕ)) (part : List ℕ) (more : List (List ℕ))
     → (is_too_long (strip_carriage_return part) ≡ true → BeginsLong more)
-    → IsFrontOf (script_from Failed number block (complete ++ last_met Failed part)) (script_from ending number block (complete ++ more))
+    → IsFrontOf (script_from language Failed number block (complete ++ last_met Failed part)) (script_from language ending number block (complete ++ more))
 unfolding script_from
-from_lines ending number block [] part more h = part_left ending number block part more (is_too_long (strip_carriage_return part)) refl h
-from_lines ending number block (line ∷ complete) part more h =
-    by_step ending number block line (complete ++ last_met Failed part) (complete ++ more) (step_at number block line)
-    (λ next. from_lines ending (number + 1) next complete part more h)
+from_lines language ending number block [] part more h = part_left language ending number block part more (is_too_long (strip_carriage_return part)) refl h
+from_lines language ending number block (line ∷ complete) part more h =
+    by_step language ending number block line (complete ++ last_met Failed part) (complete ++ more) (step_at language number block line)
+    (λ next. from_lines language ending (number + 1) next complete part more h)
 
-pub fronts_are_scripts : FrontsAreScripts
-unfolding script_of
-fronts_are_scripts ending seen rest =
+pub fronts_are_scripts : {A : Type 0} (language : Language A) → FrontsAreScripts language
+unfolding script_in
+fronts_are_scripts {A} language ending seen rest =
     let c = continues ending seen rest in
-    let front = ap (λ (l : List (List ℕ)). script_from Failed 1 None l) c.front in
-    let whole = ap (λ (l : List (List ℕ)). script_from ending 1 None l) c.whole in
-    subst (λ (s : Script). IsFrontOf s (script_from ending 1 None (lines_met ending (seen ++ rest)))) (sym front)
-    (subst (IsFrontOf (script_from Failed 1 None (c.complete ++ last_met Failed c.part))) (sym whole)
-    (from_lines ending 1 None c.complete c.part c.more c.long))
+    let front = ap (λ (l : List (List ℕ)). script_from language Failed 1 None l) c.front in
+    let whole = ap (λ (l : List (List ℕ)). script_from language ending 1 None l) c.whole in
+    subst (λ (s : Script A). IsFrontOf s (script_from language ending 1 None (lines_met ending (seen ++ rest)))) (sym front)
+    (subst (IsFrontOf (script_from language Failed 1 None (c.complete ++ last_met Failed c.part))) (sym whole)
+    (from_lines language ending 1 None c.complete c.part c.more c.long))

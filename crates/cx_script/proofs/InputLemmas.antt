@@ -5,8 +5,9 @@ use Rattle.std.specs.Result.{result_err}
 use Rattle.std.proofs.lemmas.List.{append_cancel_right}
 use Rattle.cx_edf.specs.State.{EdfState}
 use Rattle.cx_lines.specs.Input.{Reads, is_failure, most_bytes}
-use Rattle.cx_script.specs.Script.{script_of}
+use Rattle.cx_script.specs.Script.{script_in, script_of}
 use Rattle.cx_script.specs.Transcript.{Ends, Stops, WroteAll}
+use Rattle.cx_actions.specs.Language.{Language, edf_language}
 use Rattle.cx_actions.specs.Effects.{Performs, fresh_state}
 use Rattle.cx_script.specs.Outcome.{HasRead}
 use Rattle.cx_script.specs.Laws.Inputs.{was_stopped, InputsDecide, IsPastBound, IsTold, FailuresAreTold, PastTheBoundIsReadBound, ReadBoundIsPastTheBound, ReadIsAFailure}
@@ -54,31 +55,31 @@ same_reads PastBound Failed input after later bytes other p q few less f e = cc
 same_reads PastBound PastBound input after later bytes other p q few less f e = (refl, sym p.1 ∙ q.1)
 
 -- a fault of the script's own
-own : {S : Type 0} (performs : S → Action → List ℕ → S → Type 0) (old : S) (ending : Ending) (bytes : List ℕ) (fault : RunFault) (before after : Option (List ℕ))
-    → was_stopped (Err fault) ≡ false → Stops performs old ending bytes fault before after
-    → ((script_of ending bytes).fault ≡ Some fault) × WroteAll performs old (script_of ending bytes).actions before after
+own : {A S : Type 0} (language : Language A) (performs : S → A → List ℕ → S → Type 0) (old : S) (ending : Ending) (bytes : List ℕ) (fault : RunFault) (before after : Option (List ℕ))
+    → was_stopped (Err fault) ≡ false → Stops language performs old ending bytes fault before after
+    → ((script_in language ending bytes).fault ≡ Some fault) × WroteAll performs old (script_in language ending bytes).actions before after
 unfolding Stops
-own performs old ending bytes (BadLine n) before after e s = s
-own performs old ending bytes (Source n which) before after e s = s
-own performs old ending bytes Read before after e s = s
-own performs old ending bytes Write before after e s = cc
-own performs old ending bytes Memory before after e s = cc
-own performs old ending bytes ReadBound before after e s = s
+own language performs old ending bytes (BadLine n) before after e s = s
+own language performs old ending bytes (Source n which) before after e s = s
+own language performs old ending bytes Read before after e s = s
+own language performs old ending bytes Write before after e s = cc
+own language performs old ending bytes Memory before after e s = cc
+own language performs old ending bytes ReadBound before after e s = s
 
 -- the fault of a run that was not stopped, and what it wrote
 pub told : (ending : Ending) (bytes : List ℕ) (answer : Result Summary RunFault) (before after : Option (List ℕ)) → was_stopped answer ≡ false
-    → Ends Performs fresh_state ending bytes answer before after → (result_err answer ≡ (script_of ending bytes).fault) × WroteAll Performs fresh_state (script_of ending bytes).actions before after
+    → Ends edf_language Performs fresh_state ending bytes answer before after → (result_err answer ≡ (script_of ending bytes).fault) × WroteAll Performs fresh_state (script_of ending bytes).actions before after
 told ending bytes (Ok s) before after e h = (sym h.0, h.2)
-told ending bytes (Err fault) before after e h = let o = own Performs fresh_state ending bytes fault before after e h in (sym o.0, o.1)
+told ending bytes (Err fault) before after e h = let o = own edf_language Performs fresh_state ending bytes fault before after e h in (sym o.0, o.1)
 
 same_answer : (ending : Ending) (bytes : List ℕ) (answer other : Result Summary RunFault) (before after later : Option (List ℕ)) → was_stopped answer ≡ false → was_stopped other ≡ false
-    → Ends Performs fresh_state ending bytes answer before after → Ends Performs fresh_state ending bytes other before later → answer ≡ other
+    → Ends edf_language Performs fresh_state ending bytes answer before after → Ends edf_language Performs fresh_state ending bytes other before later → answer ≡ other
 same_answer ending bytes (Ok s) (Ok t) before after later e f p q = ap (λ (n : ℕ). let s : Summary = record { lines = n } in let r : Result Summary RunFault = Ok s in r) (p.1 ∙ sym q.1)
-same_answer ending bytes (Ok s) (Err g) before after later e f p q = let o = own Performs fresh_state ending bytes g before later f q in let none = p.0 in let some = o.0 in cc
-same_answer ending bytes (Err g) (Ok s) before after later e f p q = let o = own Performs fresh_state ending bytes g before after e p in let none = q.0 in let some = o.0 in cc
+same_answer ending bytes (Ok s) (Err g) before after later e f p q = let o = own edf_language Performs fresh_state ending bytes g before later f q in let none = p.0 in let some = o.0 in cc
+same_answer ending bytes (Err g) (Ok s) before after later e f p q = let o = own edf_language Performs fresh_state ending bytes g before after e p in let none = q.0 in let some = o.0 in cc
 same_answer ending bytes (Err g) (Err h) before after later e f p q =
-    let o = own Performs fresh_state ending bytes g before after e p in
-    let m = own Performs fresh_state ending bytes h before later f q in
+    let o = own edf_language Performs fresh_state ending bytes g before after e p in
+    let m = own edf_language Performs fresh_state ending bytes h before later f q in
     let one = o.0 in let two = m.0 in cc
 
 appended : (text : List ℕ) (after later : Option (List ℕ)) (a b : List ℕ) → a ≡ b → Appends (Some text) after a → Appends (Some text) later b → after ≡ later
@@ -95,11 +96,11 @@ module _ (decides : (old : EdfState) (action : Action) (text other : List ℕ) (
 
   both : (ending another : Ending) (bytes other : List ℕ) (answer second : Result Summary RunFault) (text : List ℕ) (after later : Option (List ℕ))
       → ending ≡ another → bytes ≡ other → was_stopped answer ≡ false → was_stopped second ≡ false
-      → Ends Performs fresh_state ending bytes answer (Some text) after → Ends Performs fresh_state another other second (Some text) later
+      → Ends edf_language Performs fresh_state ending bytes answer (Some text) after → Ends edf_language Performs fresh_state another other second (Some text) later
       → (answer ≡ second) × (after ≡ later)
   both ending another bytes other answer second text after later e b f g p q =
-      let moved = subst (λ (k : Ending). Ends Performs fresh_state k other second (Some text) later) (sym e) q in
-      let there = subst (λ (l : List ℕ). Ends Performs fresh_state ending l second (Some text) later) (sym b) moved in
+      let moved = subst (λ (k : Ending). Ends edf_language Performs fresh_state k other second (Some text) later) (sym e) q in
+      let there = subst (λ (l : List ℕ). Ends edf_language Performs fresh_state ending l second (Some text) later) (sym b) moved in
       let first = told ending bytes answer (Some text) after f p in
       let last = told ending bytes second (Some text) later g there in (
         same_answer ending bytes answer second (Some text) after later f g p there,
@@ -116,14 +117,14 @@ module _ (decides : (old : EdfState) (action : Action) (text other : List ℕ) (
 -- by why no more was read
 past_bound : (ending : Ending) (input bytes : List ℕ) (after : Option (List ℕ)) (failed : Bool) → Reads most_bytes ending (Some input) after bytes → failed ≡ is_failure ending
     → (script_of ending bytes).fault ≡ Some ReadBound → IsPastBound input failed
-past_bound AtEnd input bytes after failed p f e = let h = has_this AtEnd bytes (Some ReadBound) e in cc
-past_bound Failed input bytes after failed p f e = let h = has_this Failed bytes (Some ReadBound) e in cc
+past_bound AtEnd input bytes after failed p f e = let h = has_this edf_language AtEnd bytes (Some ReadBound) e in cc
+past_bound Failed input bytes after failed p f e = let h = has_this edf_language Failed bytes (Some ReadBound) e in cc
 past_bound PastBound input bytes after failed p f e =
     record { longer = p.0; faultless = ap (λ (l : List ℕ). (script_of PastBound l).fault) p.1 ∙ e; unfailed = f }
 
 pub read_bound_is : ReadBoundIsPastTheBound
 read_bound_is input after failed written written_after r =
-    let o = own Performs fresh_state r.ending r.bytes ReadBound written written_after refl r.ends in
+    let o = own edf_language Performs fresh_state r.ending r.bytes ReadBound written written_after refl r.ends in
     past_bound r.ending input r.bytes after failed r.read r.failure o.0
 
 err_is : (answer : Result Summary RunFault) (fault : RunFault) → result_err answer ≡ Some fault → answer ≡ Err fault
@@ -149,8 +150,8 @@ only_failed PastBound e = cc
 
 pub read_is : ReadIsAFailure
 read_is left after failed written written_after r =
-    let o = own Performs fresh_state r.ending r.bytes Read written written_after refl r.ends in
-    r.failure ∙ only_failed r.ending (has_this r.ending r.bytes (Some Read) o.0)
+    let o = own edf_language Performs fresh_state r.ending r.bytes Read written written_after refl r.ends in
+    r.failure ∙ only_failed r.ending (has_this edf_language r.ending r.bytes (Some Read) o.0)
 
 told_by : (ending : Ending) (left after : Option (List ℕ)) (bytes : List ℕ) (answer : Result Summary RunFault) → Reads most_bytes ending left after bytes → true ≡ is_failure ending
     → result_err answer ≡ (script_of ending bytes).fault → IsTold left after answer

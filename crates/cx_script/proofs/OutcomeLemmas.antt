@@ -7,8 +7,8 @@ use Rattle.cx_lines.specs.Lines.{lines_met}
 use Rattle.cx_lines.specs.Facts.Lines.{none_met, unbroken_nil}
 use Rattle.cx_script.specs.Script.{script_from, fault_at}
 use Rattle.cx_script.specs.Transcript.{Runs, Stops, front_of}
-use Rattle.cx_actions.specs.Effects.{Performs, fresh_state}
-use Rattle.cx_script.specs.Outcome.{RanScript, HasRead}
+use Rattle.cx_actions.specs.Language.{Language}
+use Rattle.cx_script.specs.Outcome.{RanIn, HasRead}
 use Rattle.cx_blocks.specs.declared.faults.RunFault.{RunFault}
 use Rattle.cx_blocks.specs.declared.faults.RunFault.TheVariants.{BadLine, Source, Read, Write, Memory, ReadBound}
 use Rattle.cx_blocks.specs.declared.faults.Summary.{Summary}
@@ -29,10 +29,10 @@ no_lines : lines_met PastBound [] ≡ []
 no_lines = none_met PastBound [] unbroken_nil
 
 -- where nothing was done
-pub ran_nothing : (before after written last : Option (List ℕ)) (failed : Bool) → after ≡ before → last ≡ written → failed ≡ false
-    → RanScript Performs fresh_state before after failed (Err Memory) written last
+pub ran_nothing : {A S : Type 0} (language : Language A) (performs : S → A → List ℕ → S → Type 0) (start : S) (before after written last : Option (List ℕ)) (failed : Bool) → after ≡ before → last ≡ written → failed ≡ false
+    → RanIn language performs start before after failed (Err Memory) written last
 unfolding Stops Runs most_bytes script_from fault_at
-ran_nothing before after written last failed same e f =
+ran_nothing language performs start before after written last failed same e f =
     let read : Some Read ≡ Some (BadLine 1) → ⊥ = λ bad. cc in
     record {
       bytes = [];
@@ -44,7 +44,7 @@ ran_nothing before after written last failed same e f =
         line = 0;
         within = inr no_lines;
         led = refl;
-        good = λ bad. read (sym (ap (λ (l : List (List ℕ)). (front_of l 1).fault) no_lines) ∙ bad);
-        done = record { text = []; new = fresh_state; runs = (refl, refl); written = subst (λ l. Appends written l []) (sym e) (Appends-nil written) };
+        good = λ bad. read (sym (ap (λ (l : List (List ℕ)). (front_of language l 1).fault) no_lines) ∙ bad);
+        done = record { text = []; new = start; runs = (refl, refl); written = subst (λ l. Appends written l []) (sym e) (Appends-nil written) };
       };
     }

@@ -9,7 +9,7 @@ use Rattle.cx_script.specs.Script.{Script, script_from, fault_at, before, led_to
 use Rattle.cx_blocks.specs.declared.faults.Summary.{Summary}
 use Rattle.cx_script.specs.Transcript.{Runs}
 use Rattle.cx_script.specs.Parts.Progress.{Acts, Acted, Closes, HaltedAt, Halts, SentAll, SentSome, TakesLine, Took, behind_done}
-use Rattle.cx_actions.specs.declared.actions.Action.{Action}
+use Rattle.cx_actions.specs.Language.{Language}
 use Rattle.cx_blocks.specs.declared.blocks.Step.{Step}
 use Rattle.cx_blocks.specs.declared.faults.RunFault.{RunFault}
 use Rattle.cx_blocks.specs.declared.faults.RunFault.TheVariants.{BadLine, Source, Read, Write, Memory, ReadBound}
@@ -18,69 +18,69 @@ use Rattle.cx_lines.specs.declared.input.Ending.TheVariants.{AtEnd, Failed, Past
 use Rattle.cx_script.proofs.FaultLemmas.{fault_before}
 
 -- the actions of a line
-abbrev pub of_line : Option Action → List Action
+abbrev pub of_line : {A : Type 0} → Option A → List A
 of_line None = []
 of_line (Some action) = action ∷ []
 
-behind_append : (a b : List Action) (s : Script) → behind_done a (behind_done b s) ≡ behind_done (a ++ b) s
-behind_append a b s = ap (λ (l : List Action). let r : Script = record { actions = l; fault = s.fault } in r) (sym (append_assoc a b s.actions))
+behind_append : {A : Type 0} (a b : List A) (s : Script A) → behind_done a (behind_done b s) ≡ behind_done (a ++ b) s
+behind_append {A} a b s = ap (λ (l : List A). let r : Script A = record { actions = l; fault = s.fault } in r) (sym (append_assoc a b s.actions))
 
-before_done : (action : Option Action) (s : Script) → before action s ≡ behind_done (of_line action) s
+before_done : {A : Type 0} (action : Option A) (s : Script A) → before action s ≡ behind_done (of_line action) s
 before_done None s = refl
 before_done (Some action) s = refl
 
 -- where a line leads to a step, or to a fault
-led : (due : Result Step RunFault) (step : Step) (next : Option Block → Script) → due ≡ Ok step → led_to due next ≡ behind_done (of_line step.action) (next step.block)
+led : {A : Type 0} (due : Result (Step A) RunFault) (step : Step A) (next : Option Block → Script A) → due ≡ Ok step → led_to due next ≡ behind_done (of_line step.action) (next step.block)
 led due step next e = ap (λ d. led_to d next) e ∙ before_done step.action (next step.block)
 
-not_led : (due : Result Step RunFault) (fault : RunFault) (next : Option Block → Script) → due ≡ Err fault → led_to due next ≡ record { actions = []; fault = Some fault }
+not_led : {A : Type 0} (due : Result (Step A) RunFault) (fault : RunFault) (next : Option Block → Script A) → due ≡ Err fault → led_to due next ≡ record { actions = []; fault = Some fault }
 not_led due fault next e = ap (λ d. led_to d next) e
 
 -- a bad line in front of which, and behind which, there is no fault
-only_bad : (number : ℕ) (due : Result Step RunFault) (next : Option Block → Script) → ((block : Option Block) → (next block).fault ≡ Some Read) → (led_to due next).fault ≡ Some (BadLine number)
+only_bad : {A : Type 0} (number : ℕ) (due : Result (Step A) RunFault) (next : Option Block → Script A) → ((block : Option Block) → (next block).fault ≡ Some Read) → (led_to due next).fault ≡ Some (BadLine number)
     → due ≡ Err (BadLine number)
 only_bad number (Err fault) next h e = let same : fault ≡ BadLine number = cc in ap Err same
 only_bad number (Ok step) next h e =
     let read : Some Read ≡ Some (BadLine number) = sym (h step.block) ∙ sym (fault_before step.action (next step.block)) ∙ e in cc
 
 -- what is done is a front of the script's actions
-pub front : (script : Script) (done : List Action) (left : Script) → script ≡ behind_done done left → take (length done) script.actions ≡ done
-front script done left e = ap (λ (s : Script). take (length done) s.actions) e ∙ take-append_seam done left.actions
+pub front : {A : Type 0} (script : Script A) (done : List A) (left : Script A) → script ≡ behind_done done left → take (length done) script.actions ≡ done
+front {A} script done left e = ap (λ (s : Script A). take (length done) s.actions) e ∙ take-append_seam done left.actions
 
-more_of : (script left : Script) (done : List Action) (k : ℕ) → script ≡ behind_done done left → done ++ take k left.actions ≡ take (length done + k) script.actions
-more_of script left done k e = sym (take-append-add done left.actions k) ∙ ap (λ (s : Script). take (length done + k) s.actions) (sym e)
+more_of : {A : Type 0} (script left : Script A) (done : List A) (k : ℕ) → script ≡ behind_done done left → done ++ take k left.actions ≡ take (length done + k) script.actions
+more_of {A} script left done k e = sym (take-append-add done left.actions k) ∙ ap (λ (s : Script A). take (length done + k) s.actions) (sym e)
 
-module _ {S : Type 0} (performs : S → Action → List ℕ → S → Type 0) where
-  runs_one : (old : S) (action : Action) (text : List ℕ) (new : S) → performs old action text new → Runs performs old (action ∷ []) text new
+module _ {A S : Type 0} (language : Language A) (performs : S → A → List ℕ → S → Type 0) where
+  runs_one : (old : S) (action : A) (text : List ℕ) (new : S) → performs old action text new → Runs performs old (action ∷ []) text new
   unfolding Runs
   runs_one old action text new p = (new, text, [], p, (refl, refl), sym (append-nil text))
 
-  runs_append : (old : S) (xs : List Action) (s : List ℕ) (mid : S) (ys : List Action) (t : List ℕ) (new : S)
+  runs_append : (old : S) (xs : List A) (s : List ℕ) (mid : S) (ys : List A) (t : List ℕ) (new : S)
       → Runs performs old xs s mid → Runs performs mid ys t new → Runs performs old (xs ++ ys) (s ++ t) new
   unfolding Runs
   runs_append old [] s mid ys t new p q = subst (λ m. Runs performs m ys (s ++ t) new) p.1 (subst (λ l. Runs performs mid ys (l ++ t) new) (sym p.0) q)
   runs_append old (x ∷ xs) s mid ys t new p q =
       (p.0, p.1, p.2 ++ t, p.3, runs_append p.0 xs p.2 mid ys t new p.4 q, ap (λ l. l ++ t) p.5 ∙ append_assoc p.1 p.2 t)
 
-  runs_line : (old : S) (action : Option Action) (text : List ℕ) (new : S) → Acts performs action old text new → Runs performs old (of_line action) text new
+  runs_line : (old : S) (action : Option A) (text : List ℕ) (new : S) → Acts performs action old text new → Runs performs old (of_line action) text new
   unfolding Runs
   runs_line old None text new p = p
   runs_line old (Some action) text new p = runs_one old action text new p
 
   -- where nothing is asked
-  sent_none : (old : S) (actions : List Action) (before after : Told) → actions ≡ [] → after ≡ before → SentAll performs old actions before after
+  sent_none : (old : S) (actions : List A) (before after : Told) → actions ≡ [] → after ≡ before → SentAll performs old actions before after
   unfolding Runs
   sent_none old actions before after e same =
       subst (SentAll performs old actions before) (sym same)
-      (record { text = []; new = old; runs = subst (λ (l : List Action). Runs performs old l [] old) (sym e) (refl, refl); written = sends_nil before })
+      (record { text = []; new = old; runs = subst (λ (l : List A). Runs performs old l [] old) (sym e) (refl, refl); written = sends_nil before })
 
   -- ---- lines that are done
-  pub took_none : (old : S) (n : ℕ) (block : Option Block) (w : Told) → Took performs old n block [] w old n block w
+  pub took_none : (old : S) (n : ℕ) (block : Option Block) (w : Told) → Took language performs old n block [] w old n block w
   unfolding Runs
   took_none old n block w = record { done = []; text = []; runs = (refl, refl); written = sends_nil w; asks = λ ending more. refl; count = omega arith }
 
   pub took_line : (old new : S) (n : ℕ) (block next : Option Block) (line : List ℕ) (before after : Told)
-      → TakesLine performs (n + 1) (step_at (n + 1) block line) old before (Ok tt) new after next → Took performs old n block (line ∷ []) before new (n + 1) next after
+      → TakesLine performs (n + 1) (step_at language (n + 1) block line) old before (Ok tt) new after next → Took language performs old n block (line ∷ []) before new (n + 1) next after
   unfolding TakesLine Acted script_from
   took_line old new n block next line before after t =
       let step = t.0 in
@@ -89,100 +89,100 @@ module _ {S : Type 0} (performs : S → Action → List ℕ → S → Type 0) wh
         text = t.3.0;
         runs = runs_line old step.action t.3.0 new t.3.1;
         written = t.3.2;
-        asks = λ ending more. led (step_at (n + 1) block line) step (λ b. script_from ending (n + 1 + 1) b more) t.1
-            ∙ ap (λ b. behind_done (of_line step.action) (script_from ending (n + 1 + 1) b more)) (sym t.2);
+        asks = λ ending more. led (step_at language (n + 1) block line) step (λ b. script_from language ending (n + 1 + 1) b more) t.1
+            ∙ ap (λ b. behind_done (of_line step.action) (script_from language ending (n + 1 + 1) b more)) (sym t.2);
         count = omega arith;
       }
 
   pub took_trans : (old mid new : S) (n m k : ℕ) (block next last : Option Block) (lines more : List (List ℕ)) (first after end : Told)
-      → Took performs old n block lines first mid m next after → Took performs mid m next more after new k last end → Took performs old n block (lines ++ more) first new k last end
+      → Took language performs old n block lines first mid m next after → Took language performs mid m next more after new k last end → Took language performs old n block (lines ++ more) first new k last end
   took_trans old mid new n m k block next last lines more first after end c d =
       record {
         done = c.done ++ d.done;
         text = c.text ++ d.text;
         runs = runs_append old c.done c.text mid d.done d.text new c.runs d.runs;
         written = sends_trans first after end c.text d.text c.written d.written;
-        asks = λ ending others. ap (λ (l : List (List ℕ)). script_from ending (n + 1) block l) (append_assoc lines more others) ∙ c.asks ending (more ++ others)
-            ∙ ap (behind_done c.done) (d.asks ending others) ∙ behind_append c.done d.done (script_from ending (k + 1) last others);
+        asks = λ ending others. ap (λ (l : List (List ℕ)). script_from language ending (n + 1) block l) (append_assoc lines more others) ∙ c.asks ending (more ++ others)
+            ∙ ap (behind_done c.done) (d.asks ending others) ∙ behind_append c.done d.done (script_from language ending (k + 1) last others);
         count = omega (arith, length-append lines more, c.count, d.count);
       }
 
   -- ---- what was done before, and how the rest ended
-  all_behind : (old mid : S) (script left : Script) (done : List Action) (text : List ℕ) (first after last : Told) → script ≡ behind_done done left
+  all_behind : (old mid : S) (script left : Script A) (done : List A) (text : List ℕ) (first after last : Told) → script ≡ behind_done done left
       → Runs performs old done text mid → Sends first after text → SentAll performs mid left.actions after last → SentAll performs old script.actions first last
   all_behind old mid script left done text first after last e r a w =
-      subst (λ (l : List Action). SentAll performs old l first last) (sym (ap (λ (s : Script). s.actions) e))
+      subst (λ (l : List A). SentAll performs old l first last) (sym (ap (λ (s : Script A). s.actions) e))
       (record { text = text ++ w.text; new = w.new; runs = runs_append old done text mid left.actions w.text w.new r w.runs; written = sends_trans first after last text w.text a w.written })
 
-  some_behind : (old mid : S) (done actions : List Action) (text : List ℕ) (first after last : Told) → Runs performs old done text mid → Sends first after text
+  some_behind : (old mid : S) (done actions : List A) (text : List ℕ) (first after last : Told) → Runs performs old done text mid → Sends first after text
       → SentSome performs mid actions after last → SentSome performs old (done ++ actions) first last
   some_behind old mid done actions text first after last r a w =
       record { text = text ++ w.text; new = w.new; runs = runs_append old done text mid actions w.text w.new r w.runs; written = sends_front first after last text w.text a w.written }
 
-  own_behind : (old mid : S) (script left : Script) (done : List Action) (text : List ℕ) (fault : RunFault) (first after last : Told) → script ≡ behind_done done left
+  own_behind : (old mid : S) (script left : Script A) (done : List A) (text : List ℕ) (fault : RunFault) (first after last : Told) → script ≡ behind_done done left
       → Runs performs old done text mid → Sends first after text → (left.fault ≡ Some fault) × SentAll performs mid left.actions after last
       → (script.fault ≡ Some fault) × SentAll performs old script.actions first last
   own_behind old mid script left done text fault first after last e r a s =
-      (ap (λ (x : Script). x.fault) e ∙ s.0, all_behind old mid script left done text first after last e r a s.1)
+      (ap (λ (x : Script A). x.fault) e ∙ s.0, all_behind old mid script left done text first after last e r a s.1)
 
   halted_behind : (old mid : S) (n m : ℕ) (block next : Option Block) (lines more : List (List ℕ)) (first after last : Told)
-      → Took performs old n block lines first mid m next after → HaltedAt performs mid m next more after last → HaltedAt performs old n block (lines ++ more) first last
+      → Took language performs old n block lines first mid m next after → HaltedAt language performs mid m next more after last → HaltedAt language performs old n block (lines ++ more) first last
   halted_behind old mid n m block next lines more first after last c h =
       let here = take-append-add lines more h.line in
       let there : take (length lines + h.line + 1) (lines ++ more) ≡ lines ++ take (h.line + 1) more =
       ap (λ k. take k (lines ++ more)) (let same : length lines + h.line + 1 ≡ length lines + (h.line + 1) = omega arith in same) ∙ take-append-add lines more (h.line + 1) in
-      let asked = ap (λ (l : List (List ℕ)). script_from Failed (n + 1) block l) here ∙ c.asks Failed (take h.line more) in
-      let with_it = ap (λ (l : List (List ℕ)). script_from Failed (n + 1) block l) there ∙ c.asks Failed (take (h.line + 1) more) in
+      let asked = ap (λ (l : List (List ℕ)). script_from language Failed (n + 1) block l) here ∙ c.asks Failed (take h.line more) in
+      let with_it = ap (λ (l : List (List ℕ)). script_from language Failed (n + 1) block l) there ∙ c.asks Failed (take (h.line + 1) more) in
       let number : n + (length lines + h.line) + 1 ≡ m + h.line + 1 = omega (arith, c.count) in
       record {
         line = length lines + h.line;
         within = omega (arith, h.within, length-append lines more);
-        led = ap (λ (s : Script). s.fault) asked ∙ h.led;
-        good = λ bad. h.good (sym (ap (λ (s : Script). s.fault) with_it) ∙ bad ∙ ap (λ (k : ℕ). let due : Option RunFault = Some (BadLine k) in due) number);
-        done = all_behind old mid (script_from Failed (n + 1) block (take (length lines + h.line) (lines ++ more))) (script_from Failed (m + 1) next (take h.line more))
+        led = ap (λ (s : Script A). s.fault) asked ∙ h.led;
+        good = λ bad. h.good (sym (ap (λ (s : Script A). s.fault) with_it) ∙ bad ∙ ap (λ (k : ℕ). let due : Option RunFault = Some (BadLine k) in due) number);
+        done = all_behind old mid (script_from language Failed (n + 1) block (take (length lines + h.line) (lines ++ more))) (script_from language Failed (m + 1) next (take h.line more))
             c.done c.text first after last asked c.runs c.written h.done;
       }
 
   pub halts_behind : (old mid : S) (n m : ℕ) (block next : Option Block) (lines more : List (List ℕ)) (ending : Ending) (fault : RunFault) (first after last : Told)
-      → Took performs old n block lines first mid m next after → Halts performs mid ending m next more fault after last → Halts performs old ending n block (lines ++ more) fault first last
+      → Took language performs old n block lines first mid m next after → Halts language performs mid ending m next more fault after last → Halts language performs old ending n block (lines ++ more) fault first last
   unfolding Halts
   halts_behind old mid n m block next lines more ending Memory first after last c s = halted_behind old mid n m block next lines more first after last c s
   halts_behind old mid n m block next lines more ending Write first after last c s =
-      let left = script_from ending (m + 1) next more in (
+      let left = script_from language ending (m + 1) next more in (
         length c.done + s.0,
-        subst (λ (l : List Action). SentSome performs old l first last) (more_of (script_from ending (n + 1) block (lines ++ more)) left c.done s.0 (c.asks ending more))
+        subst (λ (l : List A). SentSome performs old l first last) (more_of (script_from language ending (n + 1) block (lines ++ more)) left c.done s.0 (c.asks ending more))
             (some_behind old mid c.done (take s.0 left.actions) c.text first after last c.runs c.written s.1),
       )
   halts_behind old mid n m block next lines more ending (BadLine i) first after last c s =
-      own_behind old mid (script_from ending (n + 1) block (lines ++ more)) (script_from ending (m + 1) next more) c.done c.text (BadLine i) first after last (c.asks ending more) c.runs c.written s
+      own_behind old mid (script_from language ending (n + 1) block (lines ++ more)) (script_from language ending (m + 1) next more) c.done c.text (BadLine i) first after last (c.asks ending more) c.runs c.written s
   halts_behind old mid n m block next lines more ending (Source i which) first after last c s =
-      own_behind old mid (script_from ending (n + 1) block (lines ++ more)) (script_from ending (m + 1) next more) c.done c.text (Source i which) first after last (c.asks ending more) c.runs c.written s
+      own_behind old mid (script_from language ending (n + 1) block (lines ++ more)) (script_from language ending (m + 1) next more) c.done c.text (Source i which) first after last (c.asks ending more) c.runs c.written s
   halts_behind old mid n m block next lines more ending Read first after last c s =
-      own_behind old mid (script_from ending (n + 1) block (lines ++ more)) (script_from ending (m + 1) next more) c.done c.text Read first after last (c.asks ending more) c.runs c.written s
+      own_behind old mid (script_from language ending (n + 1) block (lines ++ more)) (script_from language ending (m + 1) next more) c.done c.text Read first after last (c.asks ending more) c.runs c.written s
   halts_behind old mid n m block next lines more ending ReadBound first after last c s =
-      own_behind old mid (script_from ending (n + 1) block (lines ++ more)) (script_from ending (m + 1) next more) c.done c.text ReadBound first after last (c.asks ending more) c.runs c.written s
+      own_behind old mid (script_from language ending (n + 1) block (lines ++ more)) (script_from language ending (m + 1) next more) c.done c.text ReadBound first after last (c.asks ending more) c.runs c.written s
 
   pub closes_behind : (old mid : S) (n m : ℕ) (block next : Option Block) (lines more : List (List ℕ)) (ending : Ending) (answer : Result Summary RunFault) (first after last : Told)
-      → Took performs old n block lines first mid m next after → Closes performs mid ending m next more answer after last → Closes performs old ending n block (lines ++ more) answer first last
+      → Took language performs old n block lines first mid m next after → Closes language performs mid ending m next more answer after last → Closes language performs old ending n block (lines ++ more) answer first last
   closes_behind old mid n m block next lines more ending (Ok summary) first after last c h =
       let e = c.asks ending more in (
-        ap (λ (x : Script). x.fault) e ∙ h.0,
+        ap (λ (x : Script A). x.fault) e ∙ h.0,
         omega (arith, h.1, length-append lines more, c.count),
-        all_behind old mid (script_from ending (n + 1) block (lines ++ more)) (script_from ending (m + 1) next more) c.done c.text first after last e c.runs c.written h.2,
+        all_behind old mid (script_from language ending (n + 1) block (lines ++ more)) (script_from language ending (m + 1) next more) c.done c.text first after last e c.runs c.written h.2,
       )
   closes_behind old mid n m block next lines more ending (Err fault) first after last c h = halts_behind old mid n m block next lines more ending fault first after last c h
 
   -- ---- a line that wasn't taken
   pub own_fault : (old : S) (ending : Ending) (n : ℕ) (block : Option Block) (line : List ℕ) (lines : List (List ℕ)) (fault : RunFault) (before after : Told)
-      → (step_at (n + 1) block line ≡ Err fault) × (after ≡ before)
-      → ((script_from ending (n + 1) block (line ∷ lines)).fault ≡ Some fault) × SentAll performs old (script_from ending (n + 1) block (line ∷ lines)).actions before after
+      → (step_at language (n + 1) block line ≡ Err fault) × (after ≡ before)
+      → ((script_from language ending (n + 1) block (line ∷ lines)).fault ≡ Some fault) × SentAll performs old (script_from language ending (n + 1) block (line ∷ lines)).actions before after
   unfolding script_from
   own_fault old ending n block line lines fault before after t =
-      let bad = not_led (step_at (n + 1) block line) fault (λ b. script_from ending (n + 1 + 1) b lines) t.0 in
-      (ap (λ (s : Script). s.fault) bad, sent_none old (script_from ending (n + 1) block (line ∷ lines)).actions before after (ap (λ (s : Script). s.actions) bad) t.1)
+      let bad = not_led (step_at language (n + 1) block line) fault (λ b. script_from language ending (n + 1 + 1) b lines) t.0 in
+      (ap (λ (s : Script A). s.fault) bad, sent_none old (script_from language ending (n + 1) block (line ∷ lines)).actions before after (ap (λ (s : Script A). s.actions) bad) t.1)
 
   without_memory : (old : S) (n : ℕ) (block : Option Block) (line : List ℕ) (lines : List (List ℕ)) (before after : Told)
-      → (step_at (n + 1) block line ≡ Err (BadLine (n + 1)) → ⊥) × (after ≡ before) → HaltedAt performs old n block (line ∷ lines) before after
+      → (step_at language (n + 1) block line ≡ Err (BadLine (n + 1)) → ⊥) × (after ≡ before) → HaltedAt language performs old n block (line ∷ lines) before after
   unfolding script_from fault_at
   without_memory old n block line lines before after t =
       let number : n + 0 + 1 ≡ n + 1 = omega arith in
@@ -190,24 +190,24 @@ module _ {S : Type 0} (performs : S → Action → List ℕ → S → Type 0) wh
         line = 0;
         within = omega arith;
         led = refl;
-        good = λ bad. t.0 (only_bad (n + 1) (step_at (n + 1) block line) (λ b. script_from Failed (n + 1 + 1) b []) (λ b. refl)
+        good = λ bad. t.0 (only_bad (n + 1) (step_at language (n + 1) block line) (λ b. script_from language Failed (n + 1 + 1) b []) (λ b. refl)
             (bad ∙ ap (λ (k : ℕ). let due : Option RunFault = Some (BadLine k) in due) number));
         done = sent_none old [] before after refl t.1;
       }
 
-  unwritten_line : (old new : S) (ending : Ending) (n : ℕ) (block : Option Block) (line : List ℕ) (lines : List (List ℕ)) (step : Step) (before after : Told)
-      → step_at (n + 1) block line ≡ Ok step → Acted performs step.action old before (Err Write) new after
-      → (k : ℕ) × SentSome performs old (take k (script_from ending (n + 1) block (line ∷ lines)).actions) before after
+  unwritten_line : (old new : S) (ending : Ending) (n : ℕ) (block : Option Block) (line : List ℕ) (lines : List (List ℕ)) (step : Step A) (before after : Told)
+      → step_at language (n + 1) block line ≡ Ok step → Acted performs step.action old before (Err Write) new after
+      → (k : ℕ) × SentSome performs old (take k (script_from language ending (n + 1) block (line ∷ lines)).actions) before after
   unfolding script_from Acted
   unwritten_line old new ending n block line lines step before after e a =
-      let next_lines = λ (b : Option Block). script_from ending (n + 1 + 1) b lines in
-      let first = front (script_from ending (n + 1) block (line ∷ lines)) (of_line step.action) (next_lines step.block) (led (step_at (n + 1) block line) step next_lines e) in (
+      let next_lines = λ (b : Option Block). script_from language ending (n + 1 + 1) b lines in
+      let first = front (script_from language ending (n + 1) block (line ∷ lines)) (of_line step.action) (next_lines step.block) (led (step_at language (n + 1) block line) step next_lines e) in (
         length (of_line step.action),
-        record { text = a.0; new = new; runs = subst (λ (l : List Action). Runs performs old l a.0 new) (sym first) (runs_line old step.action a.0 new a.1); written = a.2 },
+        record { text = a.0; new = new; runs = subst (λ (l : List A). Runs performs old l a.0 new) (sym first) (runs_line old step.action a.0 new a.1); written = a.2 },
       )
 
   pub stops_line : (old new : S) (ending : Ending) (n : ℕ) (block next : Option Block) (line : List ℕ) (lines : List (List ℕ)) (fault : RunFault) (before after : Told)
-      → TakesLine performs (n + 1) (step_at (n + 1) block line) old before (Err fault) new after next → Halts performs old ending n block (line ∷ lines) fault before after
+      → TakesLine performs (n + 1) (step_at language (n + 1) block line) old before (Err fault) new after next → Halts language performs old ending n block (line ∷ lines) fault before after
   unfolding TakesLine Halts
   stops_line old new ending n block next line lines (BadLine m) before after t = own_fault old ending n block line lines (BadLine m) before after t
   stops_line old new ending n block next line lines (Source m which) before after t = own_fault old ending n block line lines (Source m which) before after t
@@ -218,17 +218,17 @@ module _ {S : Type 0} (performs : S → Action → List ℕ → S → Type 0) wh
 
   -- ---- where no line is left
   pub ended : (old : S) (ending : Ending) (n : ℕ) (block : Option Block) (answer : Result Summary RunFault) (w : Told)
-      → MatchOption (fault_at ending block) (IsOkAnd answer (λ s. s.lines ≡ n)) (λ fault. answer ≡ Err fault) → Closes performs old ending n block [] answer w w
+      → MatchOption (fault_at ending block) (IsOkAnd answer (λ s. s.lines ≡ n)) (λ fault. answer ≡ Err fault) → Closes language performs old ending n block [] answer w w
   unfolding script_from fault_at Halts
   ended old AtEnd n None (Ok s) w h = (refl, omega (arith, h), sent_none old [] w w refl refl)
   ended old AtEnd n None (Err fault) w h = absurd h
   ended old AtEnd n (Some block) (Ok s) w h = cc
   ended old AtEnd n (Some block) (Err fault) w h =
       let same : BadLine (first_line block) ≡ fault = cc in
-      subst (λ f. Halts performs old AtEnd n (Some block) [] f w w) same (refl, sent_none old [] w w refl refl)
+      subst (λ f. Halts language performs old AtEnd n (Some block) [] f w w) same (refl, sent_none old [] w w refl refl)
   ended old Failed n block (Ok s) w h = cc
   ended old Failed n block (Err fault) w h =
-      let same : Read ≡ fault = cc in subst (λ f. Halts performs old Failed n block [] f w w) same (refl, sent_none old [] w w refl refl)
+      let same : Read ≡ fault = cc in subst (λ f. Halts language performs old Failed n block [] f w w) same (refl, sent_none old [] w w refl refl)
   ended old PastBound n block (Ok s) w h = cc
   ended old PastBound n block (Err fault) w h =
-      let same : ReadBound ≡ fault = cc in subst (λ f. Halts performs old PastBound n block [] f w w) same (refl, sent_none old [] w w refl refl)
+      let same : ReadBound ≡ fault = cc in subst (λ f. Halts language performs old PastBound n block [] f w w) same (refl, sent_none old [] w w refl refl)

@@ -6,7 +6,6 @@ use Rattle.cx_lines.specs.Facts.Devices.{front_flushed, sends_flushed}
 use Rattle.cx_blocks.specs.declared.blocks.Block.{Block}
 use Rattle.cx_script.specs.Parts.Progress.{Acted, TakesLine}
 use Rattle.cx_blocks.specs.Faults.{is_memory, is_write}
-use Rattle.cx_actions.specs.declared.actions.Action.{Action}
 use Rattle.cx_blocks.specs.declared.blocks.Step.{Step}
 use Rattle.cx_blocks.specs.declared.faults.RunFault.{RunFault}
 use Rattle.cx_blocks.specs.declared.faults.RunFault.TheVariants.{BadLine, Source, Read, Write, Memory, ReadBound}
@@ -14,13 +13,13 @@ use Rattle.cx_blocks.specs.declared.faults.RunFault.TheVariants.{BadLine, Source
 nothing : (before after : Option (List ℕ)) (waits : List ℕ) → told after waits ≡ told before [] → told after [] ≡ told before []
 nothing before after waits e = ap (λ (t : Told). told t.written []) e
 
-module _ {S : Type 0} (performs : S → Action → List ℕ → S → Type 0) where
-  own : (number : ℕ) (due : Result Step RunFault) (met fault : RunFault) (old : S) (before : Told) (block : Option Block)
+module _ {A S : Type 0} (performs : S → A → List ℕ → S → Type 0) where
+  own : (number : ℕ) (due : Result (Step A) RunFault) (met fault : RunFault) (old : S) (before : Told) (block : Option Block)
       → met ≡ fault → TakesLine performs number due old before (Err met) old before block → TakesLine performs number due old before (Err fault) old before block
   own number due met fault old before block e t = subst (λ f. TakesLine performs number due old before (Err f) old before block) e t
 
   -- a line's own fault, or want of memory where it isn't a bad one
-  pub line_faulty : (number : ℕ) (due r : Result Step RunFault) (fault : RunFault) (old : S) (before : Told) (block : Option Block)
+  pub line_faulty : (number : ℕ) (due r : Result (Step A) RunFault) (fault : RunFault) (old : S) (before : Told) (block : Option Block)
       → r ≡ Err fault → (is_memory r ≡ false → r ≡ due) → (due ≡ Err (BadLine number) → r ≡ Err (BadLine number)) → is_write r ≡ false
       → TakesLine performs number due old before (Err fault) old before block
   unfolding TakesLine
@@ -33,7 +32,7 @@ module _ {S : Type 0} (performs : S → Action → List ℕ → S → Type 0) wh
   line_faulty number due (Err Memory) fault old before block e h bad w =
       let same : Memory ≡ fault = cc in own number due Memory fault old before block same ((λ is. let told = bad is in cc), refl)
 
-  pub line_acted : (number : ℕ) (due : Result Step RunFault) (step : Step) (old new : S) (before after : Told) (r : Result (Unit {0}) RunFault)
+  pub line_acted : (number : ℕ) (due : Result (Step A) RunFault) (step : Step A) (old new : S) (before after : Told) (r : Result (Unit {0}) RunFault)
       → due ≡ Ok step → Acted performs step.action old before r new after
       → TakesLine performs number due old before r new after step.block
   unfolding TakesLine Acted
@@ -46,20 +45,20 @@ module _ {S : Type 0} (performs : S → Action → List ℕ → S → Type 0) wh
   line_acted number due step old new before after (Err ReadBound) e a = absurd a
 
   -- ---- a line behind which what waits is written
-  pub line_written : (number : ℕ) (due : Result Step RunFault) (old new : S) (before after : Option (List ℕ)) (mid : Option (List ℕ)) (waits : List ℕ) (block : Option Block)
+  pub line_written : (number : ℕ) (due : Result (Step A) RunFault) (old new : S) (before after : Option (List ℕ)) (mid : Option (List ℕ)) (waits : List ℕ) (block : Option Block)
       → TakesLine performs number due old (told before []) (Ok tt) new (told mid waits) block → Appends mid after waits
       → TakesLine performs number due old (told before []) (Ok tt) new (told after []) block
   unfolding TakesLine Acted
   line_written number due old new before after mid waits block t w = (t.0, t.1, t.2, (t.3.0, t.3.1, sends_flushed (told before []) mid after waits t.3.0 t.3.2 w))
 
-  pub line_unwritten : (number : ℕ) (due : Result Step RunFault) (old new : S) (before after : Option (List ℕ)) (mid : Option (List ℕ)) (waits : List ℕ) (block : Option Block)
+  pub line_unwritten : (number : ℕ) (due : Result (Step A) RunFault) (old new : S) (before after : Option (List ℕ)) (mid : Option (List ℕ)) (waits : List ℕ) (block : Option Block)
       → TakesLine performs number due old (told before []) (Ok tt) new (told mid waits) block → WroteFront mid after waits
       → TakesLine performs number due old (told before []) (Err Write) new (told after []) block
   unfolding TakesLine Acted
   line_unwritten number due old new before after mid waits block t w = (t.0, t.1, (t.3.0, t.3.1, front_flushed (told before []) mid after waits [] t.3.0 t.3.2 w))
 
   -- where nothing waited, nothing waits behind a fault
-  pub line_failed : (number : ℕ) (due : Result Step RunFault) (fault : RunFault) (old new : S) (before after : Option (List ℕ)) (waits : List ℕ) (block : Option Block)
+  pub line_failed : (number : ℕ) (due : Result (Step A) RunFault) (fault : RunFault) (old new : S) (before after : Option (List ℕ)) (waits : List ℕ) (block : Option Block)
       → TakesLine performs number due old (told before []) (Err fault) new (told after waits) block → TakesLine performs number due old (told before []) (Err fault) new (told after []) block
   unfolding TakesLine Acted
   line_failed number due (BadLine n) old new before after waits block t = (t.0, nothing before after waits t.1)

@@ -5,10 +5,10 @@ use Rattle.std.specs.Str.Lines.{lines, lines_of_parts as std_lines_of_parts, str
 use Rattle.cx_lines.specs.Lines.{lines_met, lines_of_parts}
 use Rattle.cx_script.specs.Transcript.{Runs, Ends}
 use Rattle.cx_lines.specs.Input.{Reads, most_bytes}
+use Rattle.cx_actions.specs.Language.{edf_language}
 use Rattle.cx_actions.specs.Effects.{Performs, fresh_state}
 use Rattle.cx_script.specs.Laws.WholeScripts.{IsTranscribed, OkIsTheWholeScript}
 use Rattle.cx_script.proofs.FaultLemmas.{never_faultless}
-use Rattle.cx_actions.specs.declared.actions.Action.{Action}
 use Rattle.cx_blocks.specs.declared.faults.Summary.{Summary}
 use Rattle.cx_lines.specs.declared.input.Ending.{Ending}
 use Rattle.cx_lines.specs.declared.input.Ending.TheVariants.{AtEnd, Failed, PastBound}
@@ -25,22 +25,22 @@ same_lines_met bytes = same_parts (slice_split (λ b. b == 10) bytes)
 -- an Ok is the whole script, where the reader tells its bytes
 whole_by : (ending : Ending) (bytes : List ℕ) (left left_after written written_after : Option (List ℕ)) (summary : Summary)
     → Reads most_bytes ending left left_after bytes → length bytes ≤ most_bytes
-    → Ends Performs fresh_state ending bytes (Ok summary) written written_after
+    → Ends edf_language Performs fresh_state ending bytes (Ok summary) written written_after
     → IfSome left (λ input. IsTranscribed input summary.lines written written_after)
 whole_by AtEnd bytes None left_after written written_after summary r few e = tt
 whole_by AtEnd bytes (Some input) left_after written written_after summary r few e =
     subst (λ b. IsTranscribed b summary.lines written written_after) (sym r)
     (record { within = few; faultless = e.0; count = e.1 ∙ ap length (same_lines_met bytes); transcript = e.2 })
-whole_by Failed bytes left left_after written written_after summary r few e = absurd (never_faultless Failed bytes refl e.0)
-whole_by PastBound bytes left left_after written written_after summary r few e = absurd (never_faultless PastBound bytes refl e.0)
+whole_by Failed bytes left left_after written written_after summary r few e = absurd (never_faultless edf_language Failed bytes refl e.0)
+whole_by PastBound bytes left left_after written written_after summary r few e = absurd (never_faultless edf_language PastBound bytes refl e.0)
 
 pub ok_whole : OkIsTheWholeScript
 ok_whole left left_after failed written written_after summary r = whole_by r.ending r.bytes left left_after written written_after summary r.read r.within r.ends
 
 -- two runs of the same actions are one
-module _ {S : Type 0} (performs : S → Action → List ℕ → S → Type 0)
-    (decides : (old : S) (action : Action) (text other : List ℕ) (new another : S) → performs old action text new → performs old action other another → (text ≡ other) × (new ≡ another)) where
-  pub one_transcript : (old : S) (actions : List Action) (text other : List ℕ) (new another : S)
+module _ {A S : Type 0} (performs : S → A → List ℕ → S → Type 0)
+    (decides : (old : S) (action : A) (text other : List ℕ) (new another : S) → performs old action text new → performs old action other another → (text ≡ other) × (new ≡ another)) where
+  pub one_transcript : (old : S) (actions : List A) (text other : List ℕ) (new another : S)
       → Runs performs old actions text new → Runs performs old actions other another → (text ≡ other) × (new ≡ another)
   unfolding Runs
   one_transcript old [] text other new another p q = (p.0 ∙ sym q.0, p.1 ∙ sym q.1)

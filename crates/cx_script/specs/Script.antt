@@ -1,5 +1,6 @@
--- What a script asks: its actions in order, up to its first fault (own).
+-- What a script of a language asks: its actions in order, up to its first fault (own).
 use Rattle.std.specs.Prelude.{ℕ, ◌+◌, Option, Some, None, Result, Ok, Err, List, [], ◌∷◌}
+use Rattle.cx_actions.specs.Language.{Language, edf_language}
 use Rattle.cx_actions.specs.declared.actions.Action.{Action}
 use Rattle.cx_blocks.specs.declared.faults.RunFault.{RunFault}
 use Rattle.cx_blocks.specs.declared.faults.RunFault.TheVariants as fault
@@ -10,9 +11,9 @@ use Rattle.cx_blocks.specs.declared.blocks.Block.{Block}
 use Rattle.cx_blocks.specs.declared.blocks.Step.{Step}
 use Rattle.cx_blocks.specs.Blocks.{first_line, step_at}
 
-pub record Script : Type 0 where
+pub record Script (A : Type 0) : Type 0 where
   -- what is done, in order, in front of the fault
-  pub actions : List Action
+  pub actions : List A
   -- the fault that comes first, where there is one
   pub fault : Option RunFault
 
@@ -24,21 +25,25 @@ fault_at AtEnd (Some block) = Some (fault.BadLine (first_line block))
 fault_at Failed block = Some fault.Read
 fault_at PastBound block = Some fault.ReadBound
 
-abbrev pub before : Option Action → Script → Script
+abbrev pub before : {A : Type 0} → Option A → Script A → Script A
 before None script = script
 before (Some action) script = record { actions = action ∷ script.actions; fault = script.fault }
 
 -- a line's fault ends the script; after any other line come the next ones
-abbrev pub led_to : Result Step RunFault → (Option Block → Script) → Script
+abbrev pub led_to : {A : Type 0} → Result (Step A) RunFault → (Option Block → Script A) → Script A
 led_to (Err fault) next = record { actions = []; fault = Some fault }
 led_to (Ok step) next = before step.action (next step.block)
 
 -- the lines from the one with this number on, the first of them in this block
-unfoldable pub script_from : Ending → ℕ → Option Block → List (List ℕ) → Script
-script_from ending number block [] = record { actions = []; fault = fault_at ending block }
-script_from ending number block (line ∷ lines) =
-    led_to (step_at number block line) (λ next. script_from ending (number + 1) next lines)
+unfoldable pub script_from : {A : Type 0} → Language A → Ending → ℕ → Option Block → List (List ℕ) → Script A
+script_from language ending number block [] = record { actions = []; fault = fault_at ending block }
+script_from language ending number block (line ∷ lines) =
+    led_to (step_at language number block line) (λ next. script_from language ending (number + 1) next lines)
 
--- the script that these bytes are
-unfoldable pub script_of : Ending → List ℕ → Script
-script_of ending bytes = script_from ending 1 None (lines_met ending bytes)
+-- the script that these bytes are in a language
+unfoldable pub script_in : {A : Type 0} → Language A → Ending → List ℕ → Script A
+script_in language ending bytes = script_from language ending 1 None (lines_met ending bytes)
+
+-- the script of `cicsedf` that they are
+abbrev pub script_of : Ending → List ℕ → Script Action
+script_of ending bytes = script_in edf_language ending bytes

@@ -5,58 +5,58 @@ use Rattle.cx_lines.specs.Devices.{WroteFront}
 use Rattle.cx_lines.specs.Lines.{lines_met}
 use Rattle.cx_lines.specs.declared.input.Ending.{Ending}
 use Rattle.cx_lines.specs.declared.input.Ending.TheVariants.{Failed}
-use Rattle.cx_script.specs.Script.{Script, script_from, script_of}
-use Rattle.cx_actions.specs.declared.actions.Action.{Action}
+use Rattle.cx_script.specs.Script.{Script, script_from, script_in}
+use Rattle.cx_actions.specs.Language.{Language}
 use Rattle.cx_blocks.specs.declared.faults.RunFault.{RunFault}
 use Rattle.cx_blocks.specs.declared.faults.RunFault.TheVariants.{BadLine, Read, Write, Memory}
 use Rattle.cx_blocks.specs.declared.faults.Summary.{Summary}
 
 -- Actions one after another on some state, and the transcript: what each writes, in order. `performs` is one action: the
 -- state before, the action, what is written for it, and the state after.
-unfoldable pub Runs : {S : Type 0} → (S → Action → List ℕ → S → Type 0) → S → List Action → List ℕ → S → Type 0
+unfoldable pub Runs : {S A : Type 0} → (S → A → List ℕ → S → Type 0) → S → List A → List ℕ → S → Type 0
 Runs performs old [] text new = (text ≡ []) × (new ≡ old)
 Runs {S} performs old (action ∷ actions) text new =
     (between : S) × (first : List ℕ) × (rest : List ℕ)
     × performs old action first between × Runs performs between actions rest new × (text ≡ first ++ rest)
 
 -- the transcript of these actions was written
-pub record WroteAll {S : Type 0} (performs : S → Action → List ℕ → S → Type 0) (old : S) (actions : List Action) (before after : Option (List ℕ)) : Type 0 where
+pub record WroteAll {A S : Type 0} (performs : S → A → List ℕ → S → Type 0) (old : S) (actions : List A) (before after : Option (List ℕ)) : Type 0 where
   pub text : List ℕ
   pub new : S
   pub runs : Runs performs old actions text new
   pub written : Appends before after text
 
 -- a front of it was
-pub record WroteSome {S : Type 0} (performs : S → Action → List ℕ → S → Type 0) (old : S) (actions : List Action) (before after : Option (List ℕ)) : Type 0 where
+pub record WroteSome {A S : Type 0} (performs : S → A → List ℕ → S → Type 0) (old : S) (actions : List A) (before after : Option (List ℕ)) : Type 0 where
   pub text : List ℕ
   pub new : S
   pub runs : Runs performs old actions text new
   pub written : WroteFront before after text
 
 -- what the first so many lines ask, as if no more could be read
-abbrev pub front_of : List (List ℕ) → ℕ → Script
-front_of lines n = script_from Failed 1 None (take n lines)
+abbrev pub front_of : {A : Type 0} → Language A → List (List ℕ) → ℕ → Script A
+front_of language lines n = script_from language Failed 1 None (take n lines)
 
 -- A run without memory stopped at a line, or before it had any: those in front of it have no fault, and are done and written;
 -- and it isn't a bad one.
-pub record StoppedAt {S : Type 0} (performs : S → Action → List ℕ → S → Type 0) (old : S) (lines : List (List ℕ)) (before after : Option (List ℕ)) : Type 0 where
+pub record StoppedAt {A S : Type 0} (language : Language A) (performs : S → A → List ℕ → S → Type 0) (old : S) (lines : List (List ℕ)) (before after : Option (List ℕ)) : Type 0 where
   -- how many stand in front of it
   pub line : ℕ
   pub within : (line < length lines) ⊎ (lines ≡ [])
-  pub led : (front_of lines line).fault ≡ Some Read
-  pub good : (front_of lines (line + 1)).fault ≡ Some (BadLine (line + 1)) → ⊥
-  pub done : WroteAll performs old (front_of lines line).actions before after
+  pub led : (front_of language lines line).fault ≡ Some Read
+  pub good : (front_of language lines (line + 1)).fault ≡ Some (BadLine (line + 1)) → ⊥
+  pub done : WroteAll performs old (front_of language lines line).actions before after
 
 -- How a run of the script that these bytes are stopped. Without memory it stopped at a line; after a failed write some of its
 -- actions are done, and a front of their transcript is written; any other fault is the script's own, and everything in front of
 -- it is done and written.
-unfoldable pub Stops : {S : Type 0} → (S → Action → List ℕ → S → Type 0) → S → Ending → List ℕ → RunFault → Option (List ℕ) → Option (List ℕ) → Type 0
-Stops performs old ending bytes Memory before after = StoppedAt performs old (lines_met ending bytes) before after
-Stops performs old ending bytes Write before after = (n : ℕ) × WroteSome performs old (take n (script_of ending bytes).actions) before after
-Stops performs old ending bytes fault before after = ((script_of ending bytes).fault ≡ Some fault) × WroteAll performs old (script_of ending bytes).actions before after
+unfoldable pub Stops : {A S : Type 0} → Language A → (S → A → List ℕ → S → Type 0) → S → Ending → List ℕ → RunFault → Option (List ℕ) → Option (List ℕ) → Type 0
+Stops language performs old ending bytes Memory before after = StoppedAt language performs old (lines_met ending bytes) before after
+Stops language performs old ending bytes Write before after = (n : ℕ) × WroteSome performs old (take n (script_in language ending bytes).actions) before after
+Stops language performs old ending bytes fault before after = ((script_in language ending bytes).fault ≡ Some fault) × WroteAll performs old (script_in language ending bytes).actions before after
 
 -- How it ended: all of its actions are done and written, or it stopped.
-abbrev pub Ends : {S : Type 0} → (S → Action → List ℕ → S → Type 0) → S → Ending → List ℕ → Result Summary RunFault → Option (List ℕ) → Option (List ℕ) → Type 0
-Ends performs old ending bytes (Ok summary) before after =
-    ((script_of ending bytes).fault ≡ None) × (summary.lines ≡ length (lines_met ending bytes)) × WroteAll performs old (script_of ending bytes).actions before after
-Ends performs old ending bytes (Err fault) before after = Stops performs old ending bytes fault before after
+abbrev pub Ends : {A S : Type 0} → Language A → (S → A → List ℕ → S → Type 0) → S → Ending → List ℕ → Result Summary RunFault → Option (List ℕ) → Option (List ℕ) → Type 0
+Ends language performs old ending bytes (Ok summary) before after =
+    ((script_in language ending bytes).fault ≡ None) × (summary.lines ≡ length (lines_met ending bytes)) × WroteAll performs old (script_in language ending bytes).actions before after
+Ends language performs old ending bytes (Err fault) before after = Stops language performs old ending bytes fault before after

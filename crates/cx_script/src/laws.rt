@@ -18,6 +18,8 @@ ghost use Rattle.cx_actions.specs.declared.actions.Action.{Action};
 ghost use Rattle.cx_blocks.specs.declared.faults.Summary.{Summary};
 ghost use Rattle.cx_lines.specs.declared.input.Ending.TheVariants.{AtEnd};
 
+use cx_actions::ScriptAction;
+
 /// The lines of a script that is read to its end are those that the standard library cuts a text into: an LF
 /// ends each, one CR before it is dropped, and bytes behind the last LF are a line too.
 pub fn lines_are_lines()
@@ -45,14 +47,14 @@ pub fn the_input_decides()
 
 /// A front of a script is a script: the actions that the lines complete in it give, and a fault met there, are those of
 /// the whole, however it goes on and however no more of it is read. So the pieces in which a script is read don't matter.
-pub fn fronts_are_scripts()
-    ensures { FrontsAreScripts }
+pub fn fronts_are_scripts<A: ScriptAction>()
+    ensures { FrontsAreScripts A.language }
 {}
 
 /// A line that is told as BadLine is one of the script's: bad where it stands, or the beginning of a block that the script's
 /// end leaves open. No line in front of it is bad, and exactly what these complete is done.
-pub fn bad_lines_are_bad()
-    ensures { BadLinesAreBad }
+pub fn bad_lines_are_bad<A: ScriptAction>()
+    ensures { BadLinesAreBad A.language }
 {}
 
 /// An action on a region under EDF has one outcome: what is written for it, and the state after it.

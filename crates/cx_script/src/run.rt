@@ -5,18 +5,16 @@ ghost use Rattle.std.specs.Str.Lines.{strip_carriage_return};
 ghost use Rattle.cx_blocks.specs.Blocks.{step_at};
 ghost use Rattle.cx_lines.specs.Input.{is_failure};
 ghost use Rattle.cx_lines.specs.Lines.{is_too_long, lines_met};
-ghost use Rattle.cx_script.specs.Outcome.{RanScript};
+ghost use Rattle.cx_script.specs.Outcome.{RanIn};
 ghost use Rattle.cx_script.specs.Script.{fault_at};
 ghost use Rattle.cx_blocks.specs.Faults.{is_read, is_write};
-ghost use Rattle.cx_actions.specs.Allowed.{IsAllowed};
 ghost use Rattle.cx_script.specs.Parts.Progress.{Acted, Came, Closes, Stopped, TakesLine};
 ghost use Rattle.cx_lines.specs.Devices.{told};
 ghost use Rattle.cx_lines.specs.Unbroken.{IsUnbroken};
-ghost use Rattle.cx_actions.specs.declared.actions.Action.{Action};
 ghost use Rattle.cx_blocks.specs.declared.faults.RunFault.TheVariants.{BadLine};
 
 use arrayvec::ArrayVec;
-use cx_actions::{Action, Stage};
+use cx_actions::Stage;
 use cx_blocks::{Block, RunFault, Summary, step_at};
 use cx_lines::{
     Ending, ScriptIn, ScriptOut, Waiting, in_front, is_too_long, last_line, split_line,
@@ -40,9 +38,9 @@ fn act<P: Stage, W: ScriptOut>(
     alloc: Global,
     waiting: &mut Waiting,
     writer: &mut W,
-    action: Option<Action>,
+    action: Option<P::Action>,
 ) -> Result<(), RunFault>
-    requires allowed { IfSome action IsAllowed }
+    requires allowed { IfSome action P.Action.allowed }
     requires failure { W.has_failed writer.old ≡ false }
     ensures acted { Acted P.performs action stage.old (told (W.written writer.old) waiting.old) result stage.new (told (W.written writer.new) waiting.new) }
     ensures failure { W.has_failed writer.new ≡ is_write result }
@@ -79,7 +77,7 @@ impl<P: Stage + Drop> Progress<P> {
     ) -> Result<(), RunFault>
         requires lines { self.old.lines < 2 ^ 32 }
         requires failure { W.has_failed writer.old ≡ false }
-        ensures taken { TakesLine P.performs (self.old.lines + 1) (step_at (self.old.lines + 1) self.old.block line.now) self.old.stage
+        ensures taken { TakesLine P.performs (self.old.lines + 1) (step_at P.Action.language (self.old.lines + 1) self.old.block line.now) self.old.stage
             (told (W.written writer.old) self.old.waiting) result self.new.stage (told (W.written writer.new) self.new.waiting) self.new.block }
         ensures lines { self.new.lines ≡ self.old.lines + 1 }
         ensures failure { W.has_failed writer.new ≡ is_write result }
@@ -111,7 +109,7 @@ impl<P: Stage + Drop> Progress<P> {
         requires lines { self.old.lines < 2 ^ 32 }
         requires waits { self.old.waiting ≡ [] }
         requires failure { W.has_failed writer.old ≡ false }
-        ensures taken { TakesLine P.performs (self.old.lines + 1) (step_at (self.old.lines + 1) self.old.block line.now) self.old.stage
+        ensures taken { TakesLine P.performs (self.old.lines + 1) (step_at P.Action.language (self.old.lines + 1) self.old.block line.now) self.old.stage
             (told (W.written writer.old) []) result self.new.stage (told (W.written writer.new) []) self.new.block }
         ensures lines { self.new.lines ≡ self.old.lines + 1 }
         ensures failure { W.has_failed writer.new ≡ is_write result }
@@ -183,7 +181,7 @@ impl<P: Stage + Drop> Run<P> {
         requires lines { self.old.progress.lines < 2 ^ 32 }
         requires failure { W.has_failed writer.old ≡ false }
         ensures taken { TakesLine P.performs (self.old.progress.lines + 1)
-            (step_at (self.old.progress.lines + 1) self.old.progress.block (strip_carriage_return (self.old.part.items ++ bytes.now)))
+            (step_at P.Action.language (self.old.progress.lines + 1) self.old.progress.block (strip_carriage_return (self.old.part.items ++ bytes.now)))
             self.old.progress.stage (told (W.written writer.old) self.old.progress.waiting) result self.new.progress.stage
             (told (W.written writer.new) self.new.progress.waiting) self.new.progress.block }
         ensures lines { self.new.progress.lines ≡ self.old.progress.lines + 1 }
@@ -233,13 +231,13 @@ impl<P: Stage + Drop> Run<P> {
         requires lines { self.old.progress.lines + length piece.now < 2 ^ 32 }
         requires unbroken { IsUnbroken self.old.part.items }
         requires failure { W.has_failed writer.old ≡ false }
-        ensures came { OnOk result (Came P.performs self.old.progress.stage self.old.progress.lines self.old.progress.block (self.old.part.items ++ piece.now)
+        ensures came { OnOk result (Came P.Action.language P.performs self.old.progress.stage self.old.progress.lines self.old.progress.block (self.old.part.items ++ piece.now)
             (told (W.written writer.old) self.old.progress.waiting) self.new.progress.stage self.new.progress.lines self.new.progress.block self.new.part.items
             (told (W.written writer.new) self.new.progress.waiting)) }
         ensures unbroken { OnOk result (IsUnbroken self.new.part.items) }
         ensures short { OnOk result (is_too_long (strip_carriage_return self.new.part.items) ≡ false) }
         ensures lines { OnOk result (self.new.progress.lines ≤ self.old.progress.lines + length piece.now) }
-        ensures err { IfErr result (λ fault. Stopped P.performs self.old.progress.stage self.old.progress.lines self.old.progress.block (self.old.part.items ++ piece.now) fault
+        ensures err { IfErr result (λ fault. Stopped P.Action.language P.performs self.old.progress.stage self.old.progress.lines self.old.progress.block (self.old.part.items ++ piece.now) fault
             (told (W.written writer.old) self.old.progress.waiting) (told (W.written writer.new) self.new.progress.waiting)) }
         ensures failure { W.has_failed writer.new ≡ is_write result }
         ensures unread { is_read result ≡ false }
@@ -265,13 +263,13 @@ impl<P: Stage + Drop> Run<P> {
         requires unbroken { IsUnbroken self.old.part.items }
         requires waits { self.old.progress.waiting ≡ [] }
         requires failure { W.has_failed writer.old ≡ false }
-        ensures came { OnOk result (Came P.performs self.old.progress.stage self.old.progress.lines self.old.progress.block (self.old.part.items ++ piece.now)
+        ensures came { OnOk result (Came P.Action.language P.performs self.old.progress.stage self.old.progress.lines self.old.progress.block (self.old.part.items ++ piece.now)
             (told (W.written writer.old) []) self.new.progress.stage self.new.progress.lines self.new.progress.block self.new.part.items (told (W.written writer.new) [])) }
         ensures unbroken { OnOk result (IsUnbroken self.new.part.items) }
         ensures short { OnOk result (is_too_long (strip_carriage_return self.new.part.items) ≡ false) }
         ensures lines { OnOk result (self.new.progress.lines ≤ self.old.progress.lines + length piece.now) }
         ensures waits { OnOk result (self.new.progress.waiting ≡ []) }
-        ensures err { IfErr result (λ fault. Stopped P.performs self.old.progress.stage self.old.progress.lines self.old.progress.block (self.old.part.items ++ piece.now) fault
+        ensures err { IfErr result (λ fault. Stopped P.Action.language P.performs self.old.progress.stage self.old.progress.lines self.old.progress.block (self.old.part.items ++ piece.now) fault
             (told (W.written writer.old) []) (told (W.written writer.new) [])) }
         ensures failure { W.has_failed writer.new ≡ is_write result }
         ensures unread { is_read result ≡ false }
@@ -298,7 +296,7 @@ impl<P: Stage + Drop> Run<P> {
         requires short { is_too_long (strip_carriage_return self.part.items) ≡ false }
         requires waits { self.progress.waiting ≡ [] }
         requires failure { W.has_failed writer.old ≡ false }
-        ensures ends { Closes P.performs self.progress.stage ending self.progress.lines self.progress.block (lines_met ending self.part.items) result
+        ensures ends { Closes P.Action.language P.performs self.progress.stage ending self.progress.lines self.progress.block (lines_met ending self.part.items) result
             (told (W.written writer.old) []) (told (W.written writer.new) []) }
         ensures failure { W.has_failed writer.new ≡ is_write result }
         ensures read { is_read result ≡ is_failure ending }
@@ -325,7 +323,7 @@ impl<P: Stage + Drop> Run<P> {
         requires waits { self.progress.waiting ≡ [] }
         requires reader { R.has_failed reader.old ≡ false }
         requires writer { W.has_failed writer.old ≡ false }
-        ensures ran { RanScript P.performs self.progress.stage (R.left reader.old) (R.left reader.new) (R.has_failed reader.new) result
+        ensures ran { RanIn P.Action.language P.performs self.progress.stage (R.left reader.old) (R.left reader.new) (R.has_failed reader.new) result
             (W.written writer.old) (W.written writer.new) }
         ensures read { R.has_failed reader.new ≡ is_read result }
         ensures write { W.has_failed writer.new ≡ is_write result }

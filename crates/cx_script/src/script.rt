@@ -1,19 +1,31 @@
 //! A script from its reader to its transcript.
 
-ghost use Rattle.std.specs.Prelude.{◌≡◌, false};
+ghost use Rattle.std.specs.Prelude.{◌≡◌, IfOk, false};
 ghost use Rattle.cx_actions.specs.Effects.{Performs, fresh_state};
-ghost use Rattle.cx_script.specs.Outcome.{RanScript};
+ghost use Rattle.cx_script.specs.Outcome.{RanIn, RanScript};
 ghost use Rattle.cx_blocks.specs.Faults.{is_read, is_write};
 
 use crate::run::Run;
+use cx_actions::Stage;
 use cx_blocks::{RunFault, Summary};
 use cx_edf::Debugged;
 use cx_lines::{ScriptIn, ScriptOut};
 use cx_pages::PagedStore;
 use cx_region::Region;
-use std::alloc::Global;
+use std::alloc::{AllocError, Global};
 
-/// Runs a script: does what its lines ask, in order, on a fresh region, and writes the transcript. It is read in pieces of at
+/// What a script of `cicsedf` is performed on: a region under EDF.
+pub type EdfStage = Debugged<PagedStore>;
+
+/// The stage on which a script of `cicsedf` begins: a fresh region, with EDF Off at each terminal.
+pub fn edf_stage(alloc: Global) -> Result<EdfStage, AllocError>
+    ensures { IfOk result (λ stage. stage ≡ fresh_state) }
+{
+    let region = Region::new(alloc, PagedStore::new(alloc))?;
+    Ok(Debugged::new(alloc, region))
+}
+
+/// Runs a script: does what its lines ask, in order, on a stage that was to be made, and writes the transcript. It is read in pieces of at
 /// most 4,096 bytes. The lines that are complete in a piece are done, and their texts written, before more is read and before
 /// a fault is answered; at most 16,384 bytes of texts wait to be written in one. Of the script the unfinished line or block
 /// alone is held.
@@ -25,6 +37,26 @@ use std::alloc::Global;
 /// where a growth was refused, before anything was read or at a line that isn't a bad one: the lines in
 /// front of it have no fault, are done, and their transcript is written.
 #[tactic(auto, using(crate::proofs::OutcomeLemmas::ran_nothing))]
+pub fn run_script_on<P: Stage + Drop, R: ScriptIn, W: ScriptOut>(
+    stage: Result<P, AllocError>,
+    alloc: Global,
+    reader: &mut R,
+    writer: &mut W,
+) -> Result<Summary, RunFault>
+    requires reader { R.has_failed reader.old ≡ false }
+    requires writer { W.has_failed writer.old ≡ false }
+    ensures ran { (start : P) → IfOk stage (λ made. made ≡ start) → RanIn P.Action.language P.performs start (R.left reader.old) (R.left reader.new)
+        (R.has_failed reader.new) result (W.written writer.old) (W.written writer.new) }
+    ensures read { R.has_failed reader.new ≡ is_read result }
+    ensures write { W.has_failed writer.new ≡ is_write result }
+{
+    let Ok(stage) = stage else {
+        return Err(RunFault::Memory);
+    };
+    Run::new(stage).run(alloc, reader, writer)
+}
+
+/// Runs a script of `cicsedf` on a fresh region, as `run_script_on` does.
 pub fn run_script<R: ScriptIn, W: ScriptOut>(
     alloc: Global,
     reader: &mut R,
@@ -37,8 +69,5 @@ pub fn run_script<R: ScriptIn, W: ScriptOut>(
     ensures read { R.has_failed reader.new ≡ is_read result }
     ensures write { W.has_failed writer.new ≡ is_write result }
 {
-    let Ok(region) = Region::new(alloc, PagedStore::new(alloc)) else {
-        return Err(RunFault::Memory);
-    };
-    Run::new(Debugged::new(alloc, region)).run(alloc, reader, writer)
+    run_script_on(edf_stage(alloc), alloc, reader, writer)
 }

@@ -34,7 +34,7 @@ WasWritten answer before after text = Appends before after text
 
 -- What was done of a script: the first of its actions, and all of them unless memory or the writer stopped the run. Their events
 -- are a run under EDF from the fresh region on, and their texts were written.
-pub record IsDoneOf (script : Script) (answer : Result Summary RunFault) (before after : Option (List ℕ)) : Type 0 where
+pub record IsDoneOf (script : Script Action) (answer : Result Summary RunFault) (before after : Option (List ℕ)) : Type 0 where
   pub count : ℕ
   pub actions : List Action
   pub first : actions ≡ take count script.actions

@@ -7,7 +7,7 @@ use Rattle.cx_lines.specs.Lines.{lines_met}
 use Rattle.cx_script.specs.Script.{Script, script_from}
 use Rattle.cx_lines.specs.declared.input.Ending.{Ending}
 use Rattle.cx_lines.specs.declared.input.Ending.TheVariants.{Failed}
-use Rattle.cx_actions.specs.declared.actions.Action.{Action}
+use Rattle.cx_actions.specs.Language.{Language}
 use Rattle.cx_blocks.specs.declared.blocks.Step.{Step}
 use Rattle.cx_blocks.specs.declared.faults.RunFault.{RunFault}
 use Rattle.cx_blocks.specs.declared.faults.RunFault.TheVariants.{BadLine, Read, Write, Memory}
@@ -15,90 +15,90 @@ use Rattle.cx_blocks.specs.declared.faults.Summary.{Summary}
 use Rattle.cx_script.specs.Transcript.{Runs}
 
 -- what is done for a line: nothing where it asks none
-abbrev pub Acts : {S : Type 0} → (S → Action → List ℕ → S → Type 0) → Option Action → S → List ℕ → S → Type 0
+abbrev pub Acts : {A S : Type 0} → (S → A → List ℕ → S → Type 0) → Option A → S → List ℕ → S → Type 0
 Acts performs None old text new = (text ≡ []) × (new ≡ old)
 Acts performs (Some action) old text new = performs old action text new
 
 -- an action and its text, by what was answered
-unfoldable pub Acted : {S : Type 0} → (S → Action → List ℕ → S → Type 0) → Option Action → S → Told → Result (Unit {0}) RunFault → S → Told → Type 0
+unfoldable pub Acted : {A S : Type 0} → (S → A → List ℕ → S → Type 0) → Option A → S → Told → Result (Unit {0}) RunFault → S → Told → Type 0
 Acted performs action old before (Ok done) new after = (text : List ℕ) × Acts performs action old text new × Sends before after text
 Acted performs action old before (Err Memory) new after = after ≡ before
 Acted performs action old before (Err Write) new after = (text : List ℕ) × Acts performs action old text new × SentFront before after text
 Acted performs action old before (Err _) new after = ⊥
 
 -- a line with this number, of which this step or fault is due, by what was answered; a bad one is never told as Memory
-unfoldable pub TakesLine : {S : Type 0} → (S → Action → List ℕ → S → Type 0) → ℕ → Result Step RunFault → S → Told → Result (Unit {0}) RunFault → S → Told → Option Block → Type 0
+unfoldable pub TakesLine : {A S : Type 0} → (S → A → List ℕ → S → Type 0) → ℕ → Result (Step A) RunFault → S → Told → Result (Unit {0}) RunFault → S → Told → Option Block → Type 0
 TakesLine performs number due old before (Err Memory) new after block = (due ≡ Err (BadLine number) → ⊥) × (after ≡ before)
-TakesLine performs number due old before (Err Write) new after block =
-    (step : Step) × (due ≡ Ok step) × Acted performs step.action old before (Err Write) new after
+TakesLine {A} performs number due old before (Err Write) new after block =
+    (step : Step A) × (due ≡ Ok step) × Acted performs step.action old before (Err Write) new after
 TakesLine performs number due old before (Err fault) new after block = (due ≡ Err fault) × (after ≡ before)
-TakesLine performs number due old before (Ok done) new after block =
-    (step : Step) × (due ≡ Ok step) × (block ≡ step.block) × Acted performs step.action old before (Ok done) new after
+TakesLine {A} performs number due old before (Ok done) new after block =
+    (step : Step A) × (due ≡ Ok step) × (block ≡ step.block) × Acted performs step.action old before (Ok done) new after
 
 -- what is left of a script, behind actions that were done
-abbrev pub behind_done : List Action → Script → Script
+abbrev pub behind_done : {A : Type 0} → List A → Script A → Script A
 behind_done done left = record { actions = done ++ left.actions; fault = left.fault }
 
 -- Some lines are done, behind so many others and in this block: however the script goes on, what it asks is their actions, and
 -- what the next lines ask.
-pub record Took {S : Type 0} (performs : S → Action → List ℕ → S → Type 0) (old : S) (n : ℕ) (block : Option Block) (lines : List (List ℕ)) (before : Told) (new : S) (m : ℕ) (next : Option Block) (after : Told) : Type 0 where
-  pub done : List Action
+pub record Took {A S : Type 0} (language : Language A) (performs : S → A → List ℕ → S → Type 0) (old : S) (n : ℕ) (block : Option Block) (lines : List (List ℕ)) (before : Told) (new : S) (m : ℕ) (next : Option Block) (after : Told) : Type 0 where
+  pub done : List A
   pub text : List ℕ
   pub runs : Runs performs old done text new
   pub written : Sends before after text
-  pub asks : (ending : Ending) (more : List (List ℕ)) → script_from ending (n + 1) block (lines ++ more) ≡ behind_done done (script_from ending (m + 1) next more)
+  pub asks : (ending : Ending) (more : List (List ℕ)) → script_from language ending (n + 1) block (lines ++ more) ≡ behind_done done (script_from language ending (m + 1) next more)
   pub count : n + length lines ≡ m
 
 -- how far a run has come from one place of a script to another: the lines are done that the bytes ahead have in front of those
 -- of the bytes left, however the script goes on
-pub record Came {S : Type 0} (performs : S → Action → List ℕ → S → Type 0) (old : S) (n : ℕ) (block : Option Block) (ahead : List ℕ) (before : Told) (new : S) (m : ℕ) (next : Option Block) (left : List ℕ) (after : Told) : Type 0 where
+pub record Came {A S : Type 0} (language : Language A) (performs : S → A → List ℕ → S → Type 0) (old : S) (n : ℕ) (block : Option Block) (ahead : List ℕ) (before : Told) (new : S) (m : ℕ) (next : Option Block) (left : List ℕ) (after : Told) : Type 0 where
   pub lines : List (List ℕ)
   pub met : (ending : Ending) (rest : List ℕ) → lines_met ending (ahead ++ rest) ≡ lines ++ lines_met ending (left ++ rest)
-  pub took : Took performs old n block lines before new m next after
+  pub took : Took language performs old n block lines before new m next after
 
 -- the transcript of these actions is written, or waits
-pub record SentAll {S : Type 0} (performs : S → Action → List ℕ → S → Type 0) (old : S) (actions : List Action) (before after : Told) : Type 0 where
+pub record SentAll {A S : Type 0} (performs : S → A → List ℕ → S → Type 0) (old : S) (actions : List A) (before after : Told) : Type 0 where
   pub text : List ℕ
   pub new : S
   pub runs : Runs performs old actions text new
   pub written : Sends before after text
 
 -- a front of it is written, and of what waited
-pub record SentSome {S : Type 0} (performs : S → Action → List ℕ → S → Type 0) (old : S) (actions : List Action) (before after : Told) : Type 0 where
+pub record SentSome {A S : Type 0} (performs : S → A → List ℕ → S → Type 0) (old : S) (actions : List A) (before after : Told) : Type 0 where
   pub text : List ℕ
   pub new : S
   pub runs : Runs performs old actions text new
   pub written : SentFront before after text
 
 -- stopped without memory at one of these lines: those in front of it are done, and it isn't a bad one
-pub record HaltedAt {S : Type 0} (performs : S → Action → List ℕ → S → Type 0) (old : S) (n : ℕ) (block : Option Block) (lines : List (List ℕ)) (before after : Told) : Type 0 where
+pub record HaltedAt {A S : Type 0} (language : Language A) (performs : S → A → List ℕ → S → Type 0) (old : S) (n : ℕ) (block : Option Block) (lines : List (List ℕ)) (before after : Told) : Type 0 where
   pub line : ℕ
   pub within : line < length lines
-  pub led : (script_from Failed (n + 1) block (take line lines)).fault ≡ Some Read
-  pub good : (script_from Failed (n + 1) block (take (line + 1) lines)).fault ≡ Some (BadLine (n + line + 1)) → ⊥
-  pub done : SentAll performs old (script_from Failed (n + 1) block (take line lines)).actions before after
+  pub led : (script_from language Failed (n + 1) block (take line lines)).fault ≡ Some Read
+  pub good : (script_from language Failed (n + 1) block (take (line + 1) lines)).fault ≡ Some (BadLine (n + line + 1)) → ⊥
+  pub done : SentAll performs old (script_from language Failed (n + 1) block (take line lines)).actions before after
 
 -- how a run stopped in these lines, behind so many others, where some of its transcript may wait yet
-unfoldable pub Halts : {S : Type 0} → (S → Action → List ℕ → S → Type 0) → S → Ending → ℕ → Option Block → List (List ℕ) → RunFault → Told → Told → Type 0
-Halts performs old ending n block lines Memory before after = HaltedAt performs old n block lines before after
-Halts performs old ending n block lines Write before after =
-    (k : ℕ) × SentSome performs old (take k (script_from ending (n + 1) block lines).actions) before after
-Halts performs old ending n block lines fault before after =
-    ((script_from ending (n + 1) block lines).fault ≡ Some fault) × SentAll performs old (script_from ending (n + 1) block lines).actions before after
+unfoldable pub Halts : {A S : Type 0} → Language A → (S → A → List ℕ → S → Type 0) → S → Ending → ℕ → Option Block → List (List ℕ) → RunFault → Told → Told → Type 0
+Halts language performs old ending n block lines Memory before after = HaltedAt language performs old n block lines before after
+Halts language performs old ending n block lines Write before after =
+    (k : ℕ) × SentSome performs old (take k (script_from language ending (n + 1) block lines).actions) before after
+Halts language performs old ending n block lines fault before after =
+    ((script_from language ending (n + 1) block lines).fault ≡ Some fault) × SentAll performs old (script_from language ending (n + 1) block lines).actions before after
 
 -- how it ended
-abbrev pub Closes : {S : Type 0} → (S → Action → List ℕ → S → Type 0) → S → Ending → ℕ → Option Block → List (List ℕ) → Result Summary RunFault → Told → Told → Type 0
-Closes performs old ending n block lines (Ok summary) before after =
-    ((script_from ending (n + 1) block lines).fault ≡ None) × (summary.lines ≡ n + length lines) × SentAll performs old (script_from ending (n + 1) block lines).actions before after
-Closes performs old ending n block lines (Err fault) before after = Halts performs old ending n block lines fault before after
+abbrev pub Closes : {A S : Type 0} → Language A → (S → A → List ℕ → S → Type 0) → S → Ending → ℕ → Option Block → List (List ℕ) → Result Summary RunFault → Told → Told → Type 0
+Closes language performs old ending n block lines (Ok summary) before after =
+    ((script_from language ending (n + 1) block lines).fault ≡ None) × (summary.lines ≡ n + length lines) × SentAll performs old (script_from language ending (n + 1) block lines).actions before after
+Closes language performs old ending n block lines (Err fault) before after = Halts language performs old ending n block lines fault before after
 
 -- a run stopped at such a place, however the script goes on
-pub record Stopped {S : Type 0} (performs : S → Action → List ℕ → S → Type 0) (old : S) (n : ℕ) (block : Option Block) (ahead : List ℕ) (fault : RunFault) (before after : Told) : Type 0 where
-  pub stops : (ending : Ending) (rest : List ℕ) → Halts performs old ending n block (lines_met ending (ahead ++ rest)) fault before after
+pub record Stopped {A S : Type 0} (language : Language A) (performs : S → A → List ℕ → S → Type 0) (old : S) (n : ℕ) (block : Option Block) (ahead : List ℕ) (fault : RunFault) (before after : Told) : Type 0 where
+  pub stops : (ending : Ending) (rest : List ℕ) → Halts language performs old ending n block (lines_met ending (ahead ++ rest)) fault before after
 
 -- what a run from a script's beginning has read so far: so many bytes, and how far it has come in them
-pub record Seen {S : Type 0} (performs : S → Action → List ℕ → S → Type 0) (start : S) (left now : Option (List ℕ)) (read : ℕ) (new : S) (m : ℕ) (next : Option Block) (part : List ℕ) (before after : Option (List ℕ)) : Type 0 where
+pub record Seen {A S : Type 0} (language : Language A) (performs : S → A → List ℕ → S → Type 0) (start : S) (left now : Option (List ℕ)) (read : ℕ) (new : S) (m : ℕ) (next : Option Block) (part : List ℕ) (before after : Option (List ℕ)) : Type 0 where
   pub seen : List ℕ
   pub consumed : Consumes left now seen
   pub len : length seen ≡ read
-  pub came : Came performs start 0 None seen (told before []) new m next part (told after [])
+  pub came : Came language performs start 0 None seen (told before []) new m next part (told after [])

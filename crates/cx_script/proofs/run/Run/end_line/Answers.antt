@@ -8,4 +8,4 @@ pub returns-then-is_err-clause-taken : goal.returns-then-is_err-clause-taken
 unfolding TakesLine
 returns-then-is_err-clause-taken g c =
     let long : 4097 < length (c.args.self.now.part.items ++ c.args.bytes.now) = grind (arith, common_steps) in
-    (too_long_line _ _ _ long, refl)
+    (too_long_line _ _ _ _ long, refl)

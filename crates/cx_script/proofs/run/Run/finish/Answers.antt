@@ -5,14 +5,14 @@ use Rattle.cx_script.proofs.run.Run.finish.Goals as goal
 pub returns-in_default-clause-ends : goal.returns-in_default-clause-ends
 returns-in_default-clause-ends g c =
     let none = rw c.as_slice.ensures.value at c.in_default.ensures in
-    finished g.P.Stage.performs _ _ _ _ _ _ _ c.requires.unbroken (sym none) c.end.ensures.value
+    finished _ g.P.Stage.performs _ _ _ _ _ _ _ c.requires.unbroken (sym none) c.end.ensures.value
 
 pub returns-in-Err-clause-ends : goal.returns-in-Err-clause-ends
 returns-in-Err-clause-ends g c =
     let one = rw c.as_slice.ensures.value at c.in-Some.ensures in
-    finished_badly g.P.Stage.performs _ _ _ _ _ _ _ _ _ _ _ c.requires.unbroken (sym one) c.in-Err.ensures.taken
+    finished_badly _ g.P.Stage.performs _ _ _ _ _ _ _ _ _ _ _ c.requires.unbroken (sym one) c.in-Err.ensures.taken
 
 pub returns-clause-ends : goal.returns-clause-ends
 returns-clause-ends g c =
     let one = rw c.as_slice.ensures.value at c.in-Some.ensures in
-    finished_line g.P.Stage.performs _ _ _ _ _ _ _ _ _ _ _ _ c.requires.unbroken (sym one) c.in_default-take_last.ensures.taken c.in_default-take_last.ensures.lines c.end-2.ensures.value
+    finished_line _ g.P.Stage.performs _ _ _ _ _ _ _ _ _ _ _ _ c.requires.unbroken (sym one) c.in_default-take_last.ensures.taken c.in_default-take_last.ensures.lines c.end-2.ensures.value

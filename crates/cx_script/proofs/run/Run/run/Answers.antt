@@ -23,30 +23,30 @@ pieces-init g c = (
   omega (arith, c.requires.lines),
   omega arith,
   omega arith,
-  seen_start g.P.Stage.performs _ _ _ _ _ _ c.requires.lines c.requires.block c.requires.part,
+  seen_start _ g.P.Stage.performs _ _ _ _ _ _ c.requires.lines c.requires.block c.requires.part,
 )
 
 pub returns-in_default-clause-ran : goal.returns-in_default-clause-ran
 returns-in_default-clause-ran g c =
-    ran_failed g.P.Stage.performs _ _ _ _ _ _ _ _ _ _ _ _ _ _ c.pieces.invariant.8 c.in_default.ensures.bytes c.pieces.invariant.7 (failed_now _ _ c.in_default.ensures.failure) c.finish.ensures.ends
+    ran_failed _ g.P.Stage.performs _ _ _ _ _ _ _ _ _ _ _ _ _ _ c.pieces.invariant.8 c.in_default.ensures.bytes c.pieces.invariant.7 (failed_now _ _ c.in_default.ensures.failure) c.finish.ensures.ends
 
 pub returns-then-taken-eq0-clause-ran : goal.returns-then-taken-eq0-clause-ran
 returns-then-taken-eq0-clause-ran g c =
     let room : 0 < length c.read.new.buffer = grind (arith, common_steps) in
-    ran_at_end g.P.Stage.performs _ _ _ _ _ _ _ _ _ _ _ _ _ _ _ _ c.pieces.invariant.8 c.if-taken-eq0.true c.in-Ok.ensures.bytes.0 (c.in-Ok.ensures.bytes.1 c.if-taken-eq0.true room)
+    ran_at_end _ g.P.Stage.performs _ _ _ _ _ _ _ _ _ _ _ _ _ _ _ _ c.pieces.invariant.8 c.if-taken-eq0.true c.in-Ok.ensures.bytes.0 (c.in-Ok.ensures.bytes.1 c.if-taken-eq0.true room)
     c.pieces.invariant.7 (unfailed _ _ c.in-Ok.ensures.failure c.pieces.invariant.0) c.finish-then-taken-eq0.ensures.ends
 
 pub returns-in-Err-clause-ran : goal.returns-in-Err-clause-ran
 returns-in-Err-clause-ran g c =
     let least = c.min-room.ensures in
-    ran_piece_stopped g.P.Stage.performs _ _ _ _ _ _ _ _ _ _ _ _ _ _ _ _ _ _ c.pieces.invariant.8 c.in-Ok.ensures.bytes.0 c.in_front-piece.ensures (omega (arith, least)) c.in-Ok.ensures.bound
+    ran_piece_stopped _ g.P.Stage.performs _ _ _ _ _ _ _ _ _ _ _ _ _ _ _ _ _ _ c.pieces.invariant.8 c.in-Ok.ensures.bytes.0 c.in_front-piece.ensures (omega (arith, least)) c.in-Ok.ensures.bound
     (omega (arith, least, c.pieces.invariant.7)) (unfailed _ _ c.in-Ok.ensures.failure c.pieces.invariant.0) c.in-Err.ensures.err
 
 pub returns-then-room-taken-clause-ran : goal.returns-then-room-taken-clause-ran
 returns-then-room-taken-clause-ran g c =
     let least = c.min-room.ensures in
     let less = c.if-room-taken.true in
-    ran_past g.P.Stage.performs _ _ _ _ _ _ _ _ _ _ _ _ _ _ _ _ _ _ _ _ _ _ _ c.pieces.invariant.8 c.in-Ok.ensures.bytes.0 c.in_front-piece.ensures less c.in-Ok.ensures.bound
+    ran_past _ g.P.Stage.performs _ _ _ _ _ _ _ _ _ _ _ _ _ _ _ _ _ _ _ _ _ _ _ c.pieces.invariant.8 c.in-Ok.ensures.bytes.0 c.in_front-piece.ensures less c.in-Ok.ensures.bound
     (omega (arith, least, less, c.pieces.invariant.7)) (unfailed _ _ c.in-Ok.ensures.failure c.pieces.invariant.0) c.in_default-serve.ensures.came c.finish-then-room-taken.ensures.ends
 
 pub pieces-preserved : goal.pieces-preserved
@@ -65,5 +65,5 @@ pieces-preserved g c =
       omega (arith, c.in_default-serve.ensures.lines, c.pieces.invariant.5, len, same),
       omega (arith, c.pieces.invariant.6, some),
       omega (arith, least, same, c.pieces.invariant.7),
-      seen_taken g.P.Stage.performs _ _ _ _ _ _ _ _ _ _ _ _ _ _ _ _ _ _ _ _ c.pieces.invariant.8 c.in-Ok.ensures.bytes.0 c.in_front-piece.ensures same few c.in_default-serve.ensures.came,
+      seen_taken _ g.P.Stage.performs _ _ _ _ _ _ _ _ _ _ _ _ _ _ _ _ _ _ _ _ c.pieces.invariant.8 c.in-Ok.ensures.bytes.0 c.in_front-piece.ensures same few c.in_default-serve.ensures.came,
     )

@@ -10,5 +10,5 @@ invariant-pieces g l =
     (g.R.ScriptIn.has_failed l.reader ≡ false) × (g.W.ScriptOut.has_failed l.writer ≡ false)
     × (l.self.progress.waiting ≡ []) × IsUnbroken l.self.part.items × (is_too_long (strip_carriage_return l.self.part.items) ≡ false)
     × (l.self.progress.lines ≤ l.read) × (l._turn ≤ l.read) × (l.read ≤ 16777216)
-    × Seen g.P.Stage.performs l.initial.self.progress.stage (g.R.ScriptIn.left l.initial.reader) (g.R.ScriptIn.left l.reader) l.read
+    × Seen g.P.Action.ScriptAction.language g.P.Stage.performs l.initial.self.progress.stage (g.R.ScriptIn.left l.initial.reader) (g.R.ScriptIn.left l.reader) l.read
     l.self.progress.stage l.self.progress.lines l.self.progress.block l.self.part.items (g.W.ScriptOut.written l.initial.writer) (g.W.ScriptOut.written l.writer)

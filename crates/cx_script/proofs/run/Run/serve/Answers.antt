@@ -15,17 +15,17 @@ pub returns-then-failed-clause-err : goal.returns-then-failed-clause-err
 returns-then-failed-clause-err g c =
     let wrote : is_write c.take_piece-answer.result ≡ true = sym c.take_piece-answer.ensures.failure ∙ sym c.failed.ensures ∙ c.if-failed.true in
     let stopped = rw c.requires.waits at c.take_piece-answer.ensures.err in
-    served_failed g.P.Stage.performs c.take_piece-answer.result _ _ _ _ _ _ _ stopped wrote
+    served_failed _ g.P.Stage.performs c.take_piece-answer.result _ _ _ _ _ _ _ stopped wrote
 
 pub returns-then-is_err-clause-err : goal.returns-then-is_err-clause-err
 returns-then-is_err-clause-err g c =
     let unwritten : is_write c.take_piece-answer.result ≡ false = sym c.take_piece-answer.ensures.failure ∙ sym c.failed.ensures ∙ c.if-failed.false in
     let came = rw c.requires.waits at c.take_piece-answer.ensures.came in
     let stopped = rw c.requires.waits at c.take_piece-answer.ensures.err in
-    served_front g.P.Stage.performs c.take_piece-answer.result _ _ _ _ _ _ _ _ _ _ _ _ came stopped unwritten (on_err c.flush.result (sym c.is_err.ensures.value ∙ c.if-is_err.true) c.flush.ensures.err)
+    served_front _ g.P.Stage.performs c.take_piece-answer.result _ _ _ _ _ _ _ _ _ _ _ _ came stopped unwritten (on_err c.flush.result (sym c.is_err.ensures.value ∙ c.if-is_err.true) c.flush.ensures.err)
 
 pub returns-clause-err : goal.returns-clause-err
 returns-clause-err g c =
     let unwritten : is_write c.take_piece-answer.result ≡ false = sym c.take_piece-answer.ensures.failure ∙ sym c.failed.ensures ∙ c.if-failed.false in
     let stopped = rw c.requires.waits at c.take_piece-answer.ensures.err in
-    served_stopped g.P.Stage.performs c.take_piece-answer.result _ _ _ _ _ _ _ _ stopped unwritten (on_ok c.flush.result (sym c.is_err.ensures.value ∙ c.if-is_err.false) c.flush.ensures.ok)
+    served_stopped _ g.P.Stage.performs c.take_piece-answer.result _ _ _ _ _ _ _ _ stopped unwritten (on_ok c.flush.result (sym c.is_err.ensures.value ∙ c.if-is_err.false) c.flush.ensures.ok)

@@ -9,7 +9,7 @@ invariant-lines g l =
     (g.W.ScriptOut.has_failed l.writer ≡ false)
     × IsUnbroken l.self.part.items
     × (l.self.progress.lines + length l.rest ≤ l.initial.self.progress.lines + length l.piece)
-    × Came g.P.Stage.performs l.initial.self.progress.stage l.initial.self.progress.lines l.initial.self.progress.block (l.initial.self.part.items ++ l.piece)
+    × Came g.P.Action.ScriptAction.language g.P.Stage.performs l.initial.self.progress.stage l.initial.self.progress.lines l.initial.self.progress.block (l.initial.self.part.items ++ l.piece)
     (told (g.W.ScriptOut.written l.initial.writer) l.initial.self.progress.waiting) l.self.progress.stage l.self.progress.lines l.self.progress.block (l.self.part.items ++ l.rest)
     (told (g.W.ScriptOut.written l.writer) l.self.progress.waiting)
 

@@ -1,0 +1,15 @@
+-- The language of a script: what its lines ask where they are not in a block, and what the end of a block asks (own).
+use Rattle.std.specs.Prelude.{ℕ, Option, List}
+use Rattle.cx_actions.specs.Actions.{line_of}
+use Rattle.cx_actions.specs.declared.actions.Action.{Action}
+use Rattle.cx_actions.specs.declared.actions.Line.{Line}
+
+pub record Language (A : Type 0) : Type 0 where
+  -- what a line asks; None where it is a bad line
+  pub line_of : List ℕ → Option (Line A)
+  -- the action that the end of a block gives, as one of these
+  pub of_block : Action → A
+
+-- that of `cicsedf`
+abbrev pub edf_language : Language Action
+edf_language = record { line_of = line_of; of_block = λ a. a }
