@@ -87,6 +87,11 @@ def lessons():
     return [path.removesuffix(".script") for path in sorted(glob.glob("lessons/*/*.script"))]
 
 
+def looks():
+    """The names of the examples with looks, which are scripts of `cicslook` alone."""
+    return [path.removesuffix(".script") for path in sorted(glob.glob("looks/*.script"))]
+
+
 def wanted(name):
     """How the run of an example ends: NAME.transcript is written, NAME.stderr is told, and NAME.status is the status; where
     one of the latter two doesn't stand, nothing is told, and the status is 0."""

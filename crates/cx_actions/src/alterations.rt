@@ -46,7 +46,7 @@ fn hex_word(word: &[u8]) -> Option<u32>
 }
 
 /// The number that six hexadecimal digits spell.
-fn hex_address(word: &[u8]) -> Option<u32>
+pub fn hex_address(word: &[u8]) -> Option<u32>
     ensures { result ≡ hex_number 3 word.now }
 {
     let mut bytes = [0; 3];

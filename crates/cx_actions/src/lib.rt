@@ -9,4 +9,7 @@ mod texts;
 mod words;
 
 pub use actions::{Action, Line, Verb, Wanted, line_of};
+pub use alterations::hex_address;
 pub use stage::{ScriptAction, Stage};
+pub use texts::answer_text;
+pub use words::{name4, name8, number, split_word};

@@ -1,0 +1,13 @@
+//! `cicslook [FILE]`: runs a script with looks from a file or from standard input, and writes its transcript.
+#![tactic(auto)]
+
+use cx_look_stage::look_stage;
+use cx_start::start;
+use std::process::ExitCode;
+
+/// The line on standard error where the words are refused.
+const USAGE: &str = "cicslook: usage: cicslook [FILE]";
+
+fn main(rt: HostRuntime) -> ExitCode {
+    start(&rt, look_stage(rt.alloc()), USAGE)
+}

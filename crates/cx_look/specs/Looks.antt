@@ -1,0 +1,68 @@
+-- What a line that looks at a region asks (own).
+use Rattle.std.specs.Prelude.{ℕ, ◌==◌, ◌&&◌, nat_le, if◌then◌else◌, Option, Some, None, List, [], ◌∷◌, length, codes}
+use Rattle.std.specs.List.{find}
+use Rattle.std.specs.Option.{option_and_then, option_map}
+use Rattle.std.specs.Str.{bytes_eq}
+use Rattle.cx_ebcdic.specs.Names.{name_of}
+use Rattle.cx_actions.specs.Alterations.{hex_number}
+use Rattle.cx_actions.specs.Words.{behind, hex_bytes, number_of, pair_of, word}
+use Rattle.cx_look.specs.declared.look.Look.{Look}
+use Rattle.cx_look.specs.declared.look.Look.TheVariants as look
+use Rattle.cx_look.specs.declared.look.Subject.{Subject}
+use Rattle.cx_look.specs.declared.look.Subject.TheVariants as subject
+
+-- the word that a look at each subject begins with
+abbrev pub subject_name : Subject → List ℕ
+subject_name subject.Storage = codes "STORAGE"
+subject_name subject.Areas = codes "AREAS"
+subject_name subject.Task = codes "TASK"
+subject_name subject.Tasks = codes "TASKS"
+subject_name subject.Abend = codes "ABEND"
+subject_name subject.Queues = codes "QUEUES"
+subject_name subject.Queue = codes "QUEUE"
+subject_name subject.Resources = codes "RESOURCES"
+subject_name subject.Programs = codes "PROGRAMS"
+subject_name subject.Command = codes "COMMAND"
+
+abbrev pub subjects : List Subject
+subjects =
+    subject.Storage ∷ subject.Areas ∷ subject.Task ∷ subject.Tasks ∷ subject.Abend ∷ subject.Queues ∷ subject.Queue ∷ subject.Resources
+    ∷ subject.Programs ∷ subject.Command ∷ []
+
+unfoldable pub subject_of : List ℕ → Option Subject
+subject_of text = find (λ s. bytes_eq (subject_name s) text) subjects
+
+-- a number in decimal digits from 1 to a most
+abbrev pub at_most : ℕ → ℕ → Option ℕ
+at_most most n = if nat_le 1 n && nat_le n most then Some n else None
+
+unfoldable pub count_of : ℕ → List ℕ → Option ℕ
+count_of most text = option_and_then (at_most most) (number_of 1 5 text)
+
+-- the name of a queue: sixteen hexadecimal digits are its eight bytes
+unfoldable pub queue_name_of : List ℕ → Option (List ℕ)
+queue_name_of text = if length text == 16 then hex_bytes text else name_of 8 text
+
+-- a queue, or its item of a number
+abbrev pub queue_look : List ℕ → Option (List ℕ) → Option Look
+queue_look name None = Some (look.Queue name)
+queue_look name (Some text) = option_map (λ n. look.Item name n) (count_of 32767 text)
+
+-- a look by its first word, and by the words behind it where there are some
+unfoldable pub looked : Subject → Option (List ℕ) → Option Look
+looked subject.Storage (Some text) = option_map (λ p. look.Storage p.0 p.1) (pair_of (hex_number 3) (count_of 4096) text)
+looked subject.Areas None = Some look.Areas
+looked subject.Areas (Some text) = option_map (λ name. look.AreasOf name) (name_of 4 text)
+looked subject.Task (Some text) = option_map (λ name. look.Task name) (name_of 4 text)
+looked subject.Tasks None = Some look.Tasks
+looked subject.Abend (Some text) = option_map (λ name. look.Abend name) (name_of 4 text)
+looked subject.Queues None = Some look.Queues
+looked subject.Queue (Some text) = option_and_then (λ name. queue_look name (behind text)) (queue_name_of (word text))
+looked subject.Resources None = Some look.Resources
+looked subject.Programs None = Some look.Programs
+looked subject.Command (Some text) = option_map (λ name. look.Command name) (name_of 4 text)
+looked _ _ = None
+
+-- What a line looks at; None where it is no look.
+unfoldable pub look_of : List ℕ → Option Look
+look_of text = option_and_then (λ s. looked s (behind text)) (subject_of (word text))

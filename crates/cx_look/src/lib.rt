@@ -1,0 +1,6 @@
+//! What a line that looks at a region asks.
+#![tactic(auto)]
+
+mod look;
+
+pub use look::{Look, Subject, look_of};

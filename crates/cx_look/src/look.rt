@@ -1,0 +1,239 @@
+//! Looks, and how a line of a script is read as one.
+ghost use Rattle.std.specs.Prelude.{◌≡◌, ◌≤◌, IfSome, None, Some, if◌then◌else◌, length};
+ghost use Rattle.std.specs.List.{find};
+ghost use Rattle.std.specs.Option.{option_copied};
+ghost use Rattle.std.specs.Str.{bytes_eq};
+ghost use Rattle.cx_actions.specs.Words.{hex_bytes};
+ghost use Rattle.cx_look.specs.Looks.{count_of, look_of, looked, queue_look, queue_name_of, subject_name, subject_of};
+ghost use Rattle.cx_look.specs.declared.look.Subject.TheVariants as subject;
+
+use cx_actions::{hex_address, name4, name8, number, split_word};
+use cx_ebcdic::{Name4, Name8};
+
+/// The most bytes of storage that are looked at together.
+const MOST_BYTES: u32 = 4_096;
+
+/// The highest number of a queue's item.
+const LAST_ITEM: u32 = 32_767;
+
+/// The digits that spell the eight bytes of a queue's name.
+const NAME_DIGITS: usize = 16;
+
+/// What is looked at.
+#[derive(Clone, Copy, Debug, PartialEq, Eq)]
+pub enum Look {
+    /// Storage from an address on, so many bytes: 1 to 4,096.
+    Storage(u32, u32),
+    /// All areas.
+    Areas,
+    /// The areas of a terminal's task.
+    AreasOf(Name4),
+    /// The task of a terminal.
+    Task(Name4),
+    /// Each terminal, and what its task is doing.
+    Tasks,
+    /// The last abend of a terminal.
+    Abend(Name4),
+    /// All queues.
+    Queues,
+    /// A queue and its items.
+    Queue(Name8),
+    /// A queue's item of a number, 1 to 32,767, as a whole.
+    Item(Name8, u32),
+    /// All resources that are owned.
+    Resources,
+    /// All programs.
+    Programs,
+    /// The command that is due at a terminal.
+    Command(Name4),
+}
+
+/// The word that begins a look.
+#[derive(Clone, Copy, Debug, PartialEq, Eq)]
+pub enum Subject {
+    Storage,
+    Areas,
+    Task,
+    Tasks,
+    Abend,
+    Queues,
+    Queue,
+    Resources,
+    Programs,
+    Command,
+}
+
+impl Subject {
+    /// All of these words.
+    pub const ALL: [Subject; 10] = [
+        Subject::Storage,
+        Subject::Areas,
+        Subject::Task,
+        Subject::Tasks,
+        Subject::Abend,
+        Subject::Queues,
+        Subject::Queue,
+        Subject::Resources,
+        Subject::Programs,
+        Subject::Command,
+    ];
+
+    /// The word as it is written.
+    fn name(self) -> &'static [u8]
+        ensures { result.now ≡ subject_name self }
+    {
+        match self {
+            Subject::Storage => b"STORAGE",
+            Subject::Areas => b"AREAS",
+            Subject::Task => b"TASK",
+            Subject::Tasks => b"TASKS",
+            Subject::Abend => b"ABEND",
+            Subject::Queues => b"QUEUES",
+            Subject::Queue => b"QUEUE",
+            Subject::Resources => b"RESOURCES",
+            Subject::Programs => b"PROGRAMS",
+            Subject::Command => b"COMMAND",
+        }
+    }
+}
+
+/// The first of some words that begin a look which is this word.
+fn subject_in(subjects: &[Subject], word: &[u8]) -> Option<Subject>
+    ensures { result ≡ find (λ s. bytes_eq (subject_name s) word.now) subjects.now }
+{
+    subjects
+        .iter()
+        .copied()
+        .find(|subject| subject.name() == word)
+}
+
+/// The word that begins a look, where it is one of these.
+#[tactic(auto, unfolding(crate::specs::Looks::subject_of))]
+fn subject_of(word: &[u8]) -> Option<Subject>
+    ensures { result ≡ subject_of word.now }
+{
+    subject_in(&Subject::ALL, word)
+}
+
+/// The number from 1 to a most that at most five decimal digits spell.
+#[tactic(auto, using(std::proofs::lemmas::Bool::Decides::nat_tests), unfolding(crate::specs::Looks::count_of))]
+fn count_of(word: &[u8], most: u32) -> Option<u32>
+    ensures value { result ≡ count_of most word.now }
+{
+    let n = number(word, 1, 5)?;
+    if n < 1 || n > most {
+        return None;
+    }
+    Some(n)
+}
+
+/// Puts the bytes that sixteen hexadecimal digits spell into a buffer of eight; false where they don't spell bytes.
+#[tactic(auto, using(crate::proofs::NameLemmas::spelled))]
+fn decode(word: &[u8], bytes: &mut [u8]) -> bool
+    requires digits { length word.now ≡ 16 }
+    requires bytes { length bytes.old ≡ 8 }
+    ensures { hex_bytes word.now ≡ (if result then Some bytes.new else None) }
+{
+    hex::decode_to_slice(word, bytes).is_ok()
+}
+
+/// The name of a queue whose eight bytes sixteen hexadecimal digits spell.
+fn name_of_digits(word: &[u8]) -> Option<Name8>
+    requires { length word.now ≡ 16 }
+    ensures { result ≡ hex_bytes word.now }
+{
+    let mut bytes = [0; 8];
+    if decode(word, &mut bytes) {
+        Some(Name8::from_bytes(bytes))
+    } else {
+        None
+    }
+}
+
+/// The name of a queue that a word spells.
+#[tactic(auto, unfolding(crate::specs::Looks::queue_name_of))]
+fn queue_name_of(word: &[u8]) -> Option<Name8>
+    ensures { result ≡ queue_name_of word.now }
+{
+    if word.len() == NAME_DIGITS {
+        name_of_digits(word)
+    } else {
+        name8(word)
+    }
+}
+
+/// A look at a queue, or at its item of the number that is behind its name.
+fn queue_look(name: Name8, rest: Option<&[u8]>) -> Option<Look>
+    ensures { result ≡ queue_look name (option_copied rest.entry) }
+{
+    let Some(rest) = rest else {
+        return Some(Look::Queue(name));
+    };
+    let n = count_of(rest, LAST_ITEM)?;
+    Some(Look::Item(name, n))
+}
+
+/// QUEUE, by what is behind it.
+#[tactic(auto, unfolding(crate::specs::Looks::looked))]
+fn queue(text: &[u8]) -> Option<Look>
+    ensures { result ≡ looked subject.Queue (Some text.now) }
+{
+    let (word, rest) = split_word(text);
+    let name = queue_name_of(word)?;
+    queue_look(name, rest)
+}
+
+/// STORAGE, by what is behind it.
+#[tactic(auto, unfolding(crate::specs::Looks::looked))]
+fn storage(text: &[u8]) -> Option<Look>
+    ensures { result ≡ looked subject.Storage (Some text.now) }
+{
+    let (word, rest) = split_word(text);
+    let address = hex_address(word)?;
+    let count = count_of(rest?, MOST_BYTES)?;
+    Some(Look::Storage(address, count))
+}
+
+/// A look whose word stands alone.
+#[tactic(auto, unfolding(crate::specs::Looks::looked))]
+fn alone(subject: Subject) -> Option<Look>
+    ensures { result ≡ looked subject None }
+{
+    match subject {
+        Subject::Areas => Some(Look::Areas),
+        Subject::Tasks => Some(Look::Tasks),
+        Subject::Queues => Some(Look::Queues),
+        Subject::Resources => Some(Look::Resources),
+        Subject::Programs => Some(Look::Programs),
+        _ => None,
+    }
+}
+
+/// A look by its word and what is behind it.
+#[tactic(auto, unfolding(crate::specs::Looks::looked))]
+fn at(subject: Subject, text: &[u8]) -> Option<Look>
+    ensures { result ≡ looked subject (Some text.now) }
+{
+    match subject {
+        Subject::Storage => storage(text),
+        Subject::Areas => name4(text).map(|name| Look::AreasOf(name)),
+        Subject::Task => name4(text).map(|name| Look::Task(name)),
+        Subject::Abend => name4(text).map(|name| Look::Abend(name)),
+        Subject::Queue => queue(text),
+        Subject::Command => name4(text).map(|name| Look::Command(name)),
+        _ => None,
+    }
+}
+
+/// What a line looks at; None where it is no look. It takes no memory.
+#[tactic(auto, unfolding(crate::specs::Looks::look_of))]
+pub fn look_of(line: &[u8]) -> Option<Look>
+    ensures { result ≡ look_of line.now }
+{
+    let (word, rest) = split_word(line);
+    let subject = subject_of(word)?;
+    match rest {
+        Some(text) => at(subject, text),
+        None => alone(subject),
+    }
+}

@@ -1,0 +1,31 @@
+-- Values as a source writes them (own).
+use Rattle.std.specs.Prelude.{ℕ, Bool, false, ◌&&◌, ◌==◌, not, List, ◌++◌, codes, if◌then◌else◌}
+use Rattle.std.specs.List.{list_all}
+use Rattle.std.specs.Option.{option_map_or}
+use Rattle.std.specs.Str.{byte}
+use Rattle.cx_ebcdic.specs.Characters.{code_of, shown_as}
+use Rattle.cx_text.specs.Digits.{spelled}
+use Rattle.cx_text.specs.Texts.{shown, trimmed}
+
+-- a byte that is the code of a character: one that isn't is shown by another's
+abbrev pub has_character : ℕ → Bool
+has_character b = option_map_or (λ code. code == b) (code_of (shown_as b)) false
+
+-- a byte that stands between apostrophes as itself
+abbrev pub is_plain : ℕ → Bool
+is_plain b = has_character b && not (shown_as b == byte "'")
+
+abbrev pub in_apostrophes : List ℕ → List ℕ
+in_apostrophes text = codes "'" ++ text ++ codes "'"
+
+-- bytes in hexadecimal: X'..'
+abbrev pub in_hexadecimal : List ℕ → List ℕ
+in_hexadecimal bytes = codes "X" ++ in_apostrophes (spelled bytes)
+
+-- bytes as characters between apostrophes; in hexadecimal where one of them has no character, or is an apostrophe
+unfoldable pub written_bytes : List ℕ → List ℕ
+written_bytes bytes = if list_all is_plain bytes then in_apostrophes (shown bytes) else in_hexadecimal bytes
+
+-- a name: as bytes, but without the blanks that fill it
+unfoldable pub written_name : List ℕ → List ℕ
+written_name name = if list_all is_plain name then in_apostrophes (trimmed (shown name)) else in_hexadecimal name

@@ -1,0 +1,92 @@
+//! Values as a source writes them.
+
+ghost use Rattle.std.specs.Prelude.{◌≡◌, ◌++◌, IfOk, OnOk};
+ghost use Rattle.std.specs.List.{list_all};
+ghost use Rattle.cx_text.specs.Digits.{spelled};
+ghost use Rattle.cx_look_commands.specs.Values.{has_character, in_apostrophes, in_hexadecimal, is_plain, written_bytes, written_name};
+
+use cx_ebcdic::{display, to_ebcdic};
+use cx_text::{hexadecimal, shown, trimmed};
+use std::alloc::{AllocError, Global};
+
+/// Whether a byte is the code of a character.
+fn has_character(byte: u8) -> bool
+    ensures { result ≡ has_character byte }
+{
+    match to_ebcdic(display(byte)) {
+        Some(code) => code == byte,
+        None => false,
+    }
+}
+
+/// Whether a byte stands between apostrophes as itself.
+fn is_plain(byte: u8) -> bool
+    ensures { result ≡ is_plain byte }
+{
+    has_character(byte) && display(byte) != '\''
+}
+
+/// Whether each byte stands between apostrophes as itself.
+fn are_plain(bytes: &[u8]) -> bool
+    ensures { result ≡ list_all is_plain bytes.now }
+{
+    bytes.iter().all(|byte| is_plain(*byte))
+}
+
+/// A text between apostrophes.
+fn in_apostrophes(alloc: Global, text: &[u8]) -> Result<Vec<u8>, AllocError>
+    ensures { IfOk result (λ value. value.items ≡ in_apostrophes text.now) }
+{
+    let mut value = b"'".to_vec(alloc)?;
+    value.extend_from_slice(text)?;
+    value.push(b'\'')?;
+    Ok(value)
+}
+
+/// Adds the hexadecimal digits of bytes, two for each.
+fn push_hexadecimal(text: &mut Vec<u8>, bytes: &[u8]) -> Result<(), AllocError>
+    ensures { OnOk result (text.new.items ≡ text.old.items ++ spelled bytes.now) }
+{
+    for byte in bytes {
+        text.extend_from_slice(&hexadecimal::<2>(u32::from(*byte)))?;
+    }
+    Ok(())
+}
+
+/// Bytes in hexadecimal.
+fn in_hexadecimal(alloc: Global, bytes: &[u8]) -> Result<Vec<u8>, AllocError>
+    ensures { IfOk result (λ value. value.items ≡ in_hexadecimal bytes.now) }
+{
+    let mut value = b"X'".to_vec(alloc)?;
+    push_hexadecimal(&mut value, bytes)?;
+    value.push(b'\'')?;
+    Ok(value)
+}
+
+/// Bytes as characters between apostrophes; in hexadecimal where one of them has no character, or is an apostrophe.
+///
+/// An error comes only where memory for them was refused.
+#[tactic(auto, unfolding(crate::specs::Values::written_bytes))]
+pub fn written_bytes(alloc: Global, bytes: &[u8]) -> Result<Vec<u8>, AllocError>
+    ensures { IfOk result (λ value. value.items ≡ written_bytes bytes.now) }
+{
+    if !are_plain(bytes) {
+        return in_hexadecimal(alloc, bytes);
+    }
+    let text = shown(alloc, bytes)?;
+    in_apostrophes(alloc, text.as_slice())
+}
+
+/// A name as bytes, but without the blanks that fill it.
+///
+/// An error comes only where memory for it was refused.
+#[tactic(auto, unfolding(crate::specs::Values::written_name))]
+pub fn written_name(alloc: Global, name: &[u8]) -> Result<Vec<u8>, AllocError>
+    ensures { IfOk result (λ value. value.items ≡ written_name name.now) }
+{
+    if !are_plain(name) {
+        return in_hexadecimal(alloc, name);
+    }
+    let text = shown(alloc, name)?;
+    in_apostrophes(alloc, trimmed(text.as_slice()))
+}

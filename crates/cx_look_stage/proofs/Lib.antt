@@ -1,0 +1,3 @@
+mod TurnLemmas
+mod LawLemmas
+mod MarkLemmas

@@ -1,0 +1,69 @@
+-- A look changes nothing (own).
+use Rattle.std.specs.Prelude.{◌≡◌, ◌⊎◌, ℕ, ◌≤◌, List, [], ◌∷◌, ◌++◌, replicate}
+use Rattle.std.specs.List.{flat_map}
+use Rattle.cx_edf.specs.State.{EdfState}
+use Rattle.cx_actions.specs.Effects.{Performs}
+use Rattle.cx_actions.specs.declared.actions.Action.{Action}
+use Rattle.cx_actions.specs.declared.actions.Action.TheVariants as edf_action
+use Rattle.cx_script.specs.Transcript.{Runs}
+use Rattle.cx_look_tables.specs.Words.{look_line}
+use Rattle.cx_look.specs.declared.look.Look.{Look}
+use Rattle.cx_look_stage.specs.Looking.{LookPerforms, look_text}
+use Rattle.cx_look_stage.specs.Runs.{still_running, turn_of}
+use Rattle.cx_look_stage.specs.declared.action.LookAction.{LookAction}
+use Rattle.cx_look_stage.specs.declared.action.LookAction.TheVariants as action
+
+-- What became of an action of a script with looks: actions of `cicsedf`, what these wrote, and what a look wrote behind it.
+pub record Part : Type 0 where
+  pub plain : List Action
+  pub written : List ℕ
+  pub looked : List ℕ
+
+-- Of RUN became turns of its terminal, as many as it did: no more than its number; and its last line tells where it was these.
+pub record IsPartOfRun (name : List ℕ) (n : ℕ) (part : Part) : Type 0 where
+  pub turns : ℕ
+  pub plain : part.plain ≡ replicate turns (edf_action.Event (turn_of name))
+  pub ended : ((turns ≤ n) × (part.looked ≡ [])) ⊎ ((turns ≡ n) × (part.looked ≡ still_running name))
+
+-- an action of `cicsedf` is itself, and a look is none: its text is that of the state there
+abbrev pub IsPart : EdfState → LookAction → Part → Type 0
+IsPart there (action.Script a) part = (part.plain ≡ a ∷ []) × (part.looked ≡ [])
+IsPart there (action.Run name n) part = IsPartOfRun name n part
+IsPart there (action.Look look) part = (part.plain ≡ []) × (part.looked ≡ look_text look there)
+
+-- a part for each action, from the state that those before leave
+unfoldable pub ArePartsOf : EdfState → List LookAction → List Part → EdfState → Type 0
+ArePartsOf old [] [] new = new ≡ old
+ArePartsOf old (a ∷ actions) (part ∷ parts) new =
+    (between : EdfState) × IsPart old a part × Runs Performs old part.plain part.written between × ArePartsOf between actions parts new
+ArePartsOf old _ _ new = ⊥
+
+abbrev pub plain_of : Part → List Action
+plain_of part = part.plain
+
+abbrev pub written_of : Part → List ℕ
+written_of part = part.written
+
+-- what a part and the look behind it wrote
+abbrev pub text_of : Part → List ℕ
+text_of part = part.written ++ part.looked
+
+-- There is a part for each action so that: the actions of all parts are a run of `cicsedf`, from the same state to the same
+-- state; and the text is what this writes, with that of each look where it stands.
+pub record ChangesNothing (old : EdfState) (actions : List LookAction) (text : List ℕ) (new : EdfState) : Type 0 where
+  pub parts : List Part
+  pub each : ArePartsOf old actions parts new
+  pub runs : Runs Performs old (flat_map plain_of parts) (flat_map written_of parts) new
+  pub whole : text ≡ flat_map text_of parts
+
+abbrev pub LooksChangeNothing : Type 0
+LooksChangeNothing = (old : EdfState) (actions : List LookAction) (text : List ℕ) (new : EdfState)
+    → Runs LookPerforms old actions text new → ChangesNothing old actions text new
+
+-- a text of lines of looks, which begin with `> `
+pub record IsOfLooks (text : List ℕ) : Type 0 where
+  pub lines : List (List (List ℕ))
+  pub whole : text ≡ flat_map look_line lines
+
+abbrev pub LooksAreMarked : Type 0
+LooksAreMarked = (look : Look) (state : EdfState) → IsOfLooks (look_text look state)

@@ -1,0 +1,15 @@
+-- The definitions, in reading order.
+pub mod Reading
+pub mod Allowed
+pub mod Runs
+pub mod Looking
+pub mod Laws
+pub mod Parts
+pub use Rattle.cx_actions.specs.Actions
+pub use Rattle.cx_actions.specs.Language
+pub use Rattle.cx_actions.specs.Texts
+pub use Rattle.cx_actions.specs.Effects
+pub use Rattle.cx_look.specs.Looks
+pub use Rattle.cx_look_tables.specs.Words
+pub use Rattle.cx_look_tables.specs.Queues
+pub use Rattle.cx_look_tables.specs.Programs

@@ -1,0 +1,58 @@
+-- What a line of a script with looks asks (own).
+use Rattle.std.specs.Prelude.{ℕ, Bool, true, false, if◌then◌else◌, Option, Some, None, List, codes}
+use Rattle.std.specs.Option.{option_and_then, option_map}
+use Rattle.std.specs.Str.{bytes_eq}
+use Rattle.cx_ebcdic.specs.Names.{name_of}
+use Rattle.cx_actions.specs.Words.{behind, word}
+use Rattle.cx_actions.specs.Actions.{line_of}
+use Rattle.cx_actions.specs.Language.{Language}
+use Rattle.cx_actions.specs.declared.actions.Action.{Action}
+use Rattle.cx_actions.specs.declared.actions.Line.{Line}
+use Rattle.cx_actions.specs.declared.actions.Line.TheVariants as line
+use Rattle.cx_look.specs.Looks.{count_of, look_of}
+use Rattle.cx_look.specs.declared.look.Look.{Look}
+use Rattle.cx_look.specs.declared.look.Look.TheVariants as look
+use Rattle.cx_look_stage.specs.declared.action.LookAction.{LookAction}
+use Rattle.cx_look_stage.specs.declared.action.LookAction.TheVariants as action
+
+-- RUN of a terminal: at most so many turns as the number behind it says, 1,000 where none stands there
+abbrev pub turns_of : List ℕ → Option (List ℕ) → Option LookAction
+turns_of name None = Some (action.Run name 1000)
+turns_of name (Some text) = option_map (λ n. action.Run name n) (count_of 4096 text)
+
+abbrev pub run_of : List ℕ → Option LookAction
+run_of text = option_and_then (λ name. turns_of name (behind text)) (name_of 4 (word text))
+
+-- the looks that a script may have
+abbrev pub is_written : Look → Bool
+is_written look.Queues = true
+is_written (look.Queue name) = true
+is_written (look.Item name n) = true
+is_written look.Programs = true
+is_written _ = false
+
+abbrev pub looks : Look → Option LookAction
+looks l = if is_written l then Some (action.Look l) else None
+
+-- RUN, or a look
+unfoldable pub own_line : List ℕ → Option LookAction
+own_line text = if bytes_eq (word text) (codes "RUN") then option_and_then run_of (behind text) else option_and_then looks (look_of text)
+
+-- a line of `cicsedf`'s scripts as one of these
+abbrev pub scripted : Line Action → Line LookAction
+scripted line.Idle = line.Idle
+scripted (line.Image name stg_len) = line.Image name stg_len
+scripted (line.Source name wanted) = line.Source name wanted
+scripted (line.Action a) = line.Action (action.Script a)
+
+abbrev pub line_by : Option (Line Action) → Option LookAction → Option (Line LookAction)
+line_by (Some l) own = Some (scripted l)
+line_by None own = option_map (λ a. line.Action a) own
+
+-- A line asks what it asks in a script of `cicsedf`; where it is a bad line there, it may be RUN or a look.
+unfoldable pub look_line_of : List ℕ → Option (Line LookAction)
+look_line_of text = line_by (line_of text) (own_line text)
+
+-- the language of `cicslook`
+abbrev pub look_language : Language LookAction
+look_language = record { line_of = look_line_of; of_block = λ a. action.Script a }

@@ -1,0 +1,135 @@
+//! What a line of a script with looks asks.
+ghost use Rattle.std.specs.Prelude.{◌≡◌, ◌≤◌, IfOk, IfSome, OnErr, is_some, true};
+ghost use Rattle.std.specs.Option.{option_copied};
+ghost use Rattle.cx_actions.specs.Allowed.{IsAllowed, IsAllowedLine};
+ghost use Rattle.cx_look.specs.Looks.{count_of};
+ghost use Rattle.cx_look_stage.specs.Allowed.{IsAllowedLook};
+ghost use Rattle.cx_look_stage.specs.Reading.{is_written, look_language, look_line_of, own_line, run_of, scripted, turns_of};
+
+use cx_actions::{Action, Line, ScriptAction, line_of, name4, number, split_word};
+use cx_ebcdic::Name4;
+use cx_look::{Look, look_of};
+use std::alloc::{AllocError, Global};
+
+/// How many turns RUN does at most where no number says so.
+const TURNS: u16 = 1_000;
+
+/// The most turns that RUN does.
+const MOST_TURNS: u32 = 4_096;
+
+/// What is done for a line of a script with looks.
+#[derive(Drop)]
+pub enum LookAction {
+    /// What a script of `cicsedf` asks too.
+    Script(Action),
+    /// At most so many turns of a terminal.
+    Run(Name4, u16),
+    /// A look.
+    Look(Look),
+}
+
+/// The number from 1 to 4,096 that at most five decimal digits spell.
+#[tactic(auto, using(std::proofs::lemmas::Bool::Decides::nat_tests), unfolding(cx_look::specs::Looks::count_of))]
+fn count_of(word: &[u8]) -> Option<u16>
+    ensures value { result ≡ count_of 4096 word.now }
+{
+    let n = number(word, 1, 5)?;
+    if n < 1 || n > MOST_TURNS {
+        return None;
+    }
+    Some(n as u16)
+}
+
+/// At most so many turns of a terminal as is said behind its name.
+fn turns_of(name: Name4, rest: Option<&[u8]>) -> Option<LookAction>
+    ensures value { result ≡ turns_of name (option_copied rest.entry) }
+    ensures allowed { IfSome result IsAllowedLook }
+{
+    let Some(rest) = rest else {
+        return Some(LookAction::Run(name, TURNS));
+    };
+    let n = count_of(rest)?;
+    Some(LookAction::Run(name, n))
+}
+
+/// RUN, by what is behind it.
+fn run_of(text: &[u8]) -> Option<LookAction>
+    ensures value { result ≡ run_of text.now }
+    ensures allowed { IfSome result IsAllowedLook }
+{
+    let (word, rest) = split_word(text);
+    let name = name4(word)?;
+    turns_of(name, rest)
+}
+
+/// Whether something is written for a look.
+fn is_written(look: Look) -> bool
+    ensures { result ≡ is_written look }
+{
+    matches!(
+        look,
+        Look::Queues | Look::Queue(_) | Look::Item(_, _) | Look::Programs
+    )
+}
+
+/// What a line asks that a script of `cicsedf` doesn't have.
+#[tactic(auto, unfolding(crate::specs::Reading::own_line))]
+fn own_line(text: &[u8]) -> Option<LookAction>
+    ensures value { result ≡ own_line text.now }
+    ensures allowed { IfSome result IsAllowedLook }
+{
+    let (word, rest) = split_word(text);
+    if word == b"RUN".as_slice() {
+        return run_of(rest?);
+    }
+    let look = look_of(text)?;
+    if is_written(look) {
+        Some(LookAction::Look(look))
+    } else {
+        None
+    }
+}
+
+/// A line of `cicsedf`'s scripts as one of these.
+fn scripted(line: Line<Action>) -> Line<LookAction>
+    requires { IsAllowedLine IsAllowed line }
+    ensures value { result ≡ scripted line }
+    ensures allowed { IsAllowedLine IsAllowedLook result }
+{
+    match line {
+        Line::Idle => Line::Idle,
+        Line::Image(name, length) => Line::Image(name, length),
+        Line::Source(name, wanted) => Line::Source(name, wanted),
+        Line::Action(action) => Line::Action(LookAction::Script(action)),
+    }
+}
+
+/// What a line asks where it is not in a block; None, and never Memory, where it is a bad line.
+#[tactic(auto, unfolding(crate::specs::Reading::look_line_of))]
+fn look_line_of(alloc: Global, text: &[u8]) -> Result<Option<Line<LookAction>>, AllocError>
+    ensures value { IfOk result (λ line. line ≡ look_line_of text.now) }
+    ensures memory { OnErr result (is_some (look_line_of text.now) ≡ true) }
+    ensures allowed { IfOk result (λ line. IfSome line (IsAllowedLine IsAllowedLook)) }
+{
+    if let Some(line) = line_of(alloc, text)? {
+        return Ok(Some(scripted(line)));
+    }
+    match own_line(text) {
+        Some(action) => Ok(Some(Line::Action(action))),
+        None => Ok(None),
+    }
+}
+
+impl ScriptAction for LookAction {
+    ghost language = { look_language };
+
+    ghost allowed = { IsAllowedLook };
+
+    fn of_block(action: Action) -> LookAction {
+        LookAction::Script(action)
+    }
+
+    fn read_line(alloc: Global, text: &[u8]) -> Result<Option<Line<LookAction>>, AllocError> {
+        look_line_of(alloc, text)
+    }
+}

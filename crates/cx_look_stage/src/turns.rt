@@ -1,0 +1,80 @@
+//! RUN: turns of a terminal, one after another.
+ghost use Rattle.std.specs.Prelude.{◌≡◌, ◌∷◌, [], IfOk};
+ghost use Rattle.cx_look_stage.specs.Runs.{RunsOn, goes_on, is_midway, still_running};
+ghost use Rattle.cx_look_stage.specs.Parts.Turns.{TurnsOnce};
+
+use cx_actions::answer_text;
+use cx_ebcdic::Name4;
+use cx_edf::{Answer, Debugged, EdfEvent};
+use cx_region::{Event, Reply, TurnReply};
+use cx_storage::Store;
+use cx_text::{shown_name, written_line};
+use std::alloc::{AllocError, Global};
+
+/// Whether a turn's answer leaves a task that another turn takes on.
+fn is_midway(answer: &Answer) -> bool
+    ensures { result ≡ is_midway answer.now }
+{
+    matches!(
+        answer,
+        Answer::Region(Reply::Turn(
+            TurnReply::AtCommand
+                | TurnReply::Performed(_)
+                | TurnReply::Entered
+                | TurnReply::Returned
+                | TurnReply::TookLabel(_)
+                | TurnReply::TookExit(_)
+        ))
+    )
+}
+
+/// Whether RUN goes on after a turn that was answered so.
+fn goes_on<S: Store + Drop>(region: &Debugged<S>, name: Name4, answer: &Answer) -> bool
+    ensures { result ≡ goes_on region.now name answer.now }
+{
+    is_midway(answer) && region.display(name).is_none()
+}
+
+/// Does one turn of a terminal, and puts its text behind those before; tells whether RUN goes on.
+fn turn<S: Store + Drop>(
+    region: &mut Debugged<S>,
+    alloc: Global,
+    name: Name4,
+    text: &mut Vec<u8>,
+) -> Result<bool, AllocError>
+    ensures { IfOk result (λ on. TurnsOnce region.old name text.old.items on text.new.items region.new) }
+{
+    let event = EdfEvent::Plain(Event::Turn(name));
+    let answer = region.happen(&event)?;
+    text.extend_from_slice(&answer_text(alloc, &event, answer)?)?;
+    Ok(goes_on(region, name, &answer))
+}
+
+/// The line that tells that the number of turns ended RUN.
+fn still_running(alloc: Global, name: Name4) -> Result<Vec<u8>, AllocError>
+    ensures { IfOk result (λ text. text.items ≡ still_running name) }
+{
+    let name = shown_name(alloc, name)?;
+    written_line(alloc, b">", &[b"RUN", &name, b"STILL", b"RUNNING"])
+}
+
+/// Does turns of a terminal, at most so many, until one is not to be followed by another; gives what is written for them.
+#[tactic(auto, using(crate::proofs::TurnLemmas::left_first))]
+pub(crate) fn run<S: Store + Drop>(
+    region: &mut Debugged<S>,
+    alloc: Global,
+    name: Name4,
+    n: u16,
+) -> Result<Vec<u8>, AllocError>
+    ensures { IfOk result (λ text. RunsOn region.old name n text.items region.new) }
+{
+    let mut text = Vec::new(alloc);
+    'turns: for _done in 0..n {
+        let on = turn(region, alloc, name, &mut text)?;
+        if !on {
+            return Ok(text);
+        }
+    }
+    text.extend_from_slice(&still_running(alloc, name)?)?;
+    Ok(text)
+}

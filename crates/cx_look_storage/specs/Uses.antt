@@ -1,0 +1,70 @@
+-- What an area is, by the region's tables, and whose it is (own).
+use Rattle.std.specs.Prelude.{ℕ, ◌+◌, ◌==◌, if◌then◌else◌, Option, Some, None, List, [], ◌∷◌, ◌++◌, codes}
+use Rattle.std.specs.Fmt.{decimal}
+use Rattle.std.specs.List.{find}
+use Rattle.std.specs.Option.{option_and_then}
+use Rattle.cx_text.specs.Digits.{digits}
+use Rattle.cx_text.specs.Texts.{shown_name, written_line}
+use Rattle.cx_storage.specs.declared.areas.Area.{Area}
+use Rattle.cx_storage.specs.declared.areas.Kind.{Kind}
+use Rattle.cx_storage.specs.declared.areas.Kind.TheVariants as kind
+use Rattle.cx_load.specs.declared.program.Loaded.{Loaded}
+use Rattle.cx_program.specs.declared.level.Level.{Level}
+use Rattle.cx_program.specs.Levels.{Levels, all_levels}
+use Rattle.cx_state.specs.State.{TaskState}
+use Rattle.cx_region.specs.State.{RegionState, TerminalState}
+
+-- ---- whose
+-- the terminal at a position, with its name
+abbrev pub terminal_at : List (List ℕ × TerminalState) → ℕ → Option (List ℕ × TerminalState)
+terminal_at terminals slot = find (λ terminal. terminal.1.slot == slot) terminals
+
+-- the region's, or that of a terminal's task
+abbrev pub owner_name : Option (List ℕ × TerminalState) → List ℕ
+owner_name None = codes "REGION"
+owner_name (Some terminal) = shown_name terminal.0
+
+-- ---- what
+-- a fixed area: a program that starts there, or the common work area
+abbrev pub program_at : List (List ℕ × Loaded) → ℕ → Option (List ℕ × Loaded)
+program_at programs start = find (λ program. program.1.at == start) programs
+
+abbrev pub fixed_use : Option (List ℕ × Loaded) → List ℕ
+fixed_use None = codes "CWA"
+fixed_use (Some program) = codes "PROGRAM " ++ shown_name program.0
+
+-- the number of the level whose DFHEISTG starts there, of levels from this number on; the highest level is number 1
+abbrev pub stg_from : ℕ → List Level → ℕ → Option ℕ
+stg_from n [] start = None
+stg_from n (level ∷ levels) start = if level.stg == start then Some n else stg_from (n + 1) levels start
+
+abbrev pub stg_at : Levels → ℕ → Option ℕ
+stg_at levels start = stg_from 1 (all_levels levels) start
+
+-- DFHEISTG of a level; any other area is the copy of a COMMAREA
+abbrev pub stg_use : Option ℕ → List ℕ
+stg_use None = codes "OTHER"
+stg_use (Some n) = codes "DFHEISTG " ++ decimal n
+
+-- an area that a task was given unasked: its EIB, a level's DFHEISTG, or another
+abbrev pub task_use : ℕ → Option TaskState → List ℕ
+task_use start None = codes "OTHER"
+task_use start (Some task) = if task.eib == start then codes "EIB" else stg_use (stg_at task.levels start)
+
+unfoldable pub use_of : Kind → List (List ℕ × Loaded) → Option TaskState → ℕ → List ℕ
+use_of kind.Fixed programs task start = fixed_use (program_at programs start)
+use_of kind.Got programs task start = codes "GETMAIN"
+use_of kind.System programs task start = task_use start task
+
+-- ---- the line of an area
+abbrev pub area_words : Area → List ℕ → List ℕ → List ℕ
+area_words area what owner =
+    written_line (codes ">") (codes "AREA" ∷ digits 16 6 area.start ∷ codes "LENGTH" ∷ digits 16 6 area.len ∷ what ∷ codes "OWNER" ∷ owner ∷ [])
+
+-- by the terminal whose task owns it, where it isn't the region's
+abbrev pub line_for : RegionState → Area → Option (List ℕ × TerminalState) → List ℕ
+line_for region area terminal =
+    area_words area (use_of area.owner.kind region.programs (option_and_then (λ t. t.1.task) terminal) area.start) (owner_name terminal)
+
+unfoldable pub area_line : RegionState → Area → List ℕ
+area_line region area = line_for region area (terminal_at region.terminals area.owner.slot)

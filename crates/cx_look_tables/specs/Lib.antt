@@ -1,0 +1,4 @@
+-- The definitions, in reading order.
+pub mod Words
+pub mod Queues
+pub mod Programs

@@ -1,0 +1,109 @@
+//! Programs.
+ghost use Rattle.std.specs.Prelude.{◌≡◌, ◌++◌, IfOk, OnOk};
+ghost use Rattle.std.specs.List.{flat_map};
+ghost use Rattle.cx_look_tables.specs.Programs.{if_of, program_line, programs_text, transactions_of};
+
+use crate::words::look_line;
+use cx_ebcdic::{Name4, Name8};
+use cx_load::Loaded;
+use cx_text::{hexadecimal, shown_name};
+use indexmap::IndexMap;
+use std::alloc::{AllocError, Global};
+
+/// Adds a transaction where it is a program's.
+fn push_transaction(
+    alloc: Global,
+    text: &mut Vec<u8>,
+    tran: Name4,
+    of: Name8,
+    program: Name8,
+) -> Result<(), AllocError>
+    ensures { OnOk result (text.new.items ≡ text.old.items ++ if_of program (tran, of)) }
+{
+    if of != program {
+        return Ok(());
+    }
+    text.push(b' ')?;
+    text.extend_from_slice(&shown_name(alloc, tran)?)?;
+    Ok(())
+}
+
+/// The transactions of a program.
+fn transactions_of(
+    alloc: Global,
+    transactions: &IndexMap<Name4, Name8>,
+    program: Name8,
+) -> Result<Vec<u8>, AllocError>
+    ensures { IfOk result (λ text. text.items ≡ transactions_of transactions.now.entries program) }
+{
+    let mut text = b"TRANSACTIONS".to_vec(alloc)?;
+    for (tran, of) in transactions.iter() {
+        push_transaction(alloc, &mut text, *tran, *of, program)?;
+    }
+    Ok(text)
+}
+
+/// The line of a program.
+fn program_line(
+    alloc: Global,
+    transactions: &IndexMap<Name4, Name8>,
+    name: Name8,
+    loaded: &Loaded,
+) -> Result<Vec<u8>, AllocError>
+    ensures { IfOk result (λ text. text.items ≡ program_line transactions.now.entries (name, loaded.now)) }
+{
+    let transactions = transactions_of(alloc, transactions, name)?;
+    let name = shown_name(alloc, name)?;
+    let at = hexadecimal::<6>(loaded.at);
+    let len = hexadecimal::<6>(loaded.len);
+    let entry = hexadecimal::<6>(loaded.entry);
+    let stg_len = hexadecimal::<6>(loaded.stg_len);
+    look_line(
+        alloc,
+        &[
+            b"PROGRAM",
+            &name,
+            b"AT",
+            &at,
+            b"LENGTH",
+            &len,
+            b"ENTRY",
+            &entry,
+            b"STORAGE",
+            &stg_len,
+            &transactions,
+        ],
+    )
+}
+
+/// Adds the lines of programs.
+fn push_programs(
+    alloc: Global,
+    text: &mut Vec<u8>,
+    programs: &IndexMap<Name8, Loaded>,
+    transactions: &IndexMap<Name4, Name8>,
+) -> Result<(), AllocError>
+    ensures { OnOk result (text.new.items ≡ text.old.items ++ flat_map (program_line transactions.now.entries) programs.now.entries) }
+{
+    for (name, loaded) in programs.iter() {
+        text.extend_from_slice(&program_line(alloc, transactions, *name, loaded)?)?;
+    }
+    Ok(())
+}
+
+/// The line of each program; NONE where there is none.
+#[tactic(auto, unfolding(crate::specs::Programs::programs_text))]
+pub(crate) fn programs_text(
+    alloc: Global,
+    programs: &IndexMap<Name8, Loaded>,
+    transactions: &IndexMap<Name4, Name8>,
+) -> Result<Vec<u8>, AllocError>
+    ensures { IfOk result (λ text. text.items ≡ programs_text programs.now.entries transactions.now.entries) }
+{
+    if programs.is_empty() {
+        return look_line(alloc, &[b"PROGRAMS", b"NONE"]);
+    }
+    let mut text = Vec::new(alloc);
+    push_programs(alloc, &mut text, programs, transactions)?;
+    Ok(text)
+}

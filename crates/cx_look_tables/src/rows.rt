@@ -1,0 +1,69 @@
+//! Bytes in rows of sixteen.
+ghost use Rattle.std.specs.Prelude.{◌≡◌, ◌*◌, ◌<◌, ◌≤◌, ◌^◌, ◌++◌, IfOk, OnOk, drop, length, take};
+ghost use Rattle.cx_text.specs.Digits.{spelled};
+ghost use Rattle.cx_look_tables.specs.Queues.{hex_column, row_line, row_of, rows_text};
+
+use crate::words::{behind, front, in_apostrophes, look_line, spelled};
+use cx_text::{hexadecimal, in_columns, shown, spell};
+use std::alloc::{AllocError, Global};
+
+/// The bytes of a row.
+const ROW: u32 = 16;
+
+/// The bytes of a group.
+const GROUP: usize = 4;
+
+/// The group of four bytes at a place of a row, as far as it has them, in hexadecimal digits.
+fn group(alloc: Global, row: &[u8], place: usize) -> Result<Vec<u8>, AllocError>
+    ensures { IfOk result (λ text. text.items ≡ spelled (take 4 (drop place row.now))) }
+{
+    spelled(alloc, front(behind(row, place), GROUP))
+}
+
+/// A row's bytes in hexadecimal digits, in groups of four.
+#[tactic(auto, unfolding(crate::specs::Queues::hex_column))]
+fn hex_column(alloc: Global, row: &[u8]) -> Result<[u8; 35], AllocError>
+    ensures { IfOk result (λ column. column ≡ hex_column row.now) }
+{
+    let a = group(alloc, row, 0)?;
+    let b = group(alloc, row, 4)?;
+    let c = group(alloc, row, 8)?;
+    let d = group(alloc, row, 12)?;
+    Ok(in_columns(&[&a, b" ", &b, b" ", &c, b" ", &d]))
+}
+
+/// The line of a row at an offset.
+fn row_line(alloc: Global, offset: u32, row: &[u8]) -> Result<Vec<u8>, AllocError>
+    ensures { IfOk result (λ text. text.items ≡ row_line offset row.now) }
+{
+    let place = hexadecimal::<4>(offset);
+    let digits = hex_column(alloc, row)?;
+    let characters = shown(alloc, row)?;
+    let characters = in_apostrophes(alloc, &characters)?;
+    look_line(alloc, &[&place, &digits, &characters])
+}
+
+/// The line of a row, counted from 0.
+fn row_of(alloc: Global, k: u32, bytes: &[u8]) -> Result<Vec<u8>, AllocError>
+    requires { 16 * k < 2 ^ 32 }
+    ensures { IfOk result (λ text. text.items ≡ row_of k bytes.now) }
+{
+    let offset = ROW * k;
+    row_line(
+        alloc,
+        offset,
+        front(behind(bytes, offset as usize), ROW as usize),
+    )
+}
+
+/// Adds the rows of bytes.
+pub(crate) fn push_rows(alloc: Global, text: &mut Vec<u8>, bytes: &[u8]) -> Result<(), AllocError>
+    requires { length bytes.now ≤ 32767 }
+    ensures { OnOk result (text.new.items ≡ text.old.items ++ rows_text bytes.now) }
+{
+    let rows = (bytes.len() as u32 + 15) / ROW;
+    for k in 0..rows {
+        text.extend_from_slice(&row_of(alloc, k, bytes)?)?;
+    }
+    Ok(())
+}

@@ -1,0 +1,5 @@
+-- The definitions, in reading order, then what the laws state.
+pub mod Activities
+pub mod Tasks
+pub mod Laws
+pub mod Parts

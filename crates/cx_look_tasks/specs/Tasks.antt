@@ -1,0 +1,112 @@
+-- TASKS and RESOURCES (own).
+use Rattle.std.specs.Prelude.{◌≡◌, ℕ, Bool, false, ◌==◌, ◌+◌, ◌-◌, List, [], ◌∷◌, ◌++◌, length, slice_get, codes, Option, Some, None, if◌then◌else◌}
+use Rattle.std.specs.List.{flat_map}
+use Rattle.std.specs.Option.{option_and_then, option_map_or}
+use Rattle.cx_command.specs.declared.commands.Command.{Command}
+use Rattle.cx_command.specs.Commands.{row_of}
+use Rattle.cx_service.specs.Resources.{hold_of, is_resource}
+use Rattle.cx_service.specs.declared.resources.Hold.{Hold}
+use Rattle.cx_service.specs.declared.resources.ResourceName.{ResourceName}
+use Rattle.cx_service.specs.declared.resources.ResourceName.TheVariants as resource
+use Rattle.cx_state.specs.State.{TaskState}
+use Rattle.cx_region.specs.State.{RegionState, TerminalState}
+use Rattle.cx_text.specs.Digits.{digits}
+use Rattle.cx_text.specs.Texts.{shown_name, written_line}
+use Rattle.cx_look_commands.specs.Values.{written_bytes, written_name}
+use Rattle.cx_look_tasks.specs.Activities.{AreActivities}
+use Rattle.cx_look_tasks.specs.declared.activities.Activity.{Activity}
+use Rattle.cx_look_tasks.specs.declared.activities.Activity.TheVariants.{Due, NoTask, Running, Waiting}
+use Rattle.cx_look_tasks.specs.declared.activities.Wait.{Wait}
+use Rattle.cx_look_tasks.specs.declared.activities.Wait.TheVariants as wait
+
+-- ---- names; hyphens stand where there is none
+-- the terminal at a position, counted from 1
+abbrev pub terminal_at : RegionState → ℕ → List ℕ
+terminal_at region slot = option_map_or (λ entry. shown_name entry.0) (slice_get region.terminals (slot - 1)) (codes "--")
+
+-- a resource: by its bytes, or by its address
+abbrev pub resource_value : ResourceName → List ℕ
+resource_value (resource.Bytes bytes) = written_bytes bytes
+resource_value (resource.Address place) = digits 16 6 place
+
+abbrev pub resource_word : Option ResourceName → List ℕ
+resource_word name = option_map_or resource_value name (codes "--")
+
+abbrev pub owner_of : RegionState → Option ResourceName → Option Hold
+owner_of region name = option_and_then (hold_of region.resources) name
+
+abbrev pub owner_word : RegionState → Option ResourceName → List ℕ
+owner_word region name = option_map_or (λ hold. terminal_at region hold.owner) (owner_of region name) (codes "--")
+
+abbrev pub queue_word : Option (List ℕ) → List ℕ
+queue_word name = option_map_or written_name name (codes "--")
+
+abbrev pub command_word : Option Command → List ℕ
+command_word command = option_map_or (λ command. (row_of command).name) command (codes "?")
+
+-- ---- TASKS
+abbrev pub wait_words : RegionState → Wait → List (List ℕ)
+wait_words region wait.Input = codes "INPUT" ∷ []
+wait_words region (wait.Resource name) = codes "RESOURCE" ∷ resource_word name ∷ codes "OWNER" ∷ owner_word region name ∷ []
+wait_words region (wait.Room name) = codes "ROOM IN QUEUE" ∷ queue_word name ∷ []
+wait_words region wait.Storage = codes "STORAGE" ∷ []
+
+abbrev pub activity_words : RegionState → Activity → List (List ℕ)
+activity_words region NoTask = codes "NO TASK" ∷ []
+activity_words region Running = codes "RUNNING" ∷ []
+activity_words region (Due command) = codes "DUE" ∷ command_word command ∷ []
+activity_words region (Waiting wait) = codes "WAITING FOR" ∷ wait_words region wait
+
+-- the transaction, the task's number, and the number of its levels
+abbrev pub task_words : Option TaskState → List (List ℕ)
+task_words None = []
+task_words (Some task) =
+    shown_name task.tran ∷ codes "TASK" ∷ digits 10 7 task.number ∷ codes "LEVEL" ∷ digits 10 2 (length task.levels.callers + 1) ∷ []
+
+unfoldable pub task_line : RegionState → List ℕ × TerminalState → Activity → List ℕ
+task_line region entry activity =
+    written_line (codes ">") (shown_name entry.0 ∷ task_words entry.1.task ++ activity_words region activity)
+
+-- what is written of each terminal and of what its task is doing, in the order of their definition
+unfoldable pub of_each : (List ℕ × TerminalState → Activity → List ℕ) → List (List ℕ × TerminalState) → List Activity → List ℕ
+of_each text (entry ∷ entries) (activity ∷ activities) = text entry activity ++ of_each text entries activities
+of_each text _ _ = []
+
+-- a look that finds nothing
+abbrev pub none_line : List ℕ → List ℕ
+none_line word = written_line (codes ">") (word ∷ codes "NONE" ∷ [])
+
+abbrev pub or_none : List ℕ → List ℕ → List ℕ
+or_none word text = if length text == 0 then none_line word else text
+
+pub record TasksText (region : RegionState) (text : List ℕ) : Type 0 where
+  pub activities : List Activity
+  pub are : AreActivities region region.terminals activities
+  pub is : text ≡ or_none (codes "TASKS") (of_each (task_line region) region.terminals activities)
+
+-- ---- RESOURCES
+-- the task waits for the resource
+abbrev pub waits_for : ResourceName → Activity → Bool
+waits_for name (Waiting (wait.Resource (Some waited))) = is_resource waited name
+waits_for name _ = false
+
+abbrev pub hold_line : RegionState → ResourceName → Hold → List ℕ
+hold_line region name hold =
+    written_line (codes ">")
+    (codes "RESOURCE" ∷ resource_value name ∷ codes "OWNER" ∷ terminal_at region hold.owner ∷ codes "COUNT" ∷ digits 10 5 hold.count ∷ [])
+
+abbrev pub waiter_line : ResourceName → List ℕ → List ℕ
+waiter_line name terminal = written_line (codes ">") (codes "RESOURCE" ∷ resource_value name ∷ codes "WAITER" ∷ shown_name terminal ∷ [])
+
+-- the line of a terminal whose task waits for the resource
+unfoldable pub waiter_text : ResourceName → List ℕ × TerminalState → Activity → List ℕ
+waiter_text name entry activity = if waits_for name activity then waiter_line name entry.0 else []
+
+-- a resource, and who waits for it
+unfoldable pub resource_lines : RegionState → List Activity → ResourceName × Hold → List ℕ
+resource_lines region activities entry = hold_line region entry.0 entry.1 ++ of_each (waiter_text entry.0) region.terminals activities
+
+pub record ResourcesText (region : RegionState) (text : List ℕ) : Type 0 where
+  pub activities : List Activity
+  pub are : AreActivities region region.terminals activities
+  pub is : text ≡ or_none (codes "RESOURCES") (flat_map (resource_lines region activities) region.resources)

@@ -1,0 +1,300 @@
+//! TASKS.
+
+ghost use Rattle.std.specs.Prelude.{◌≡◌, ◌∷◌, ◌++◌, ℕ, List, [], map, slice_get, IfOk, OnOk, Some};
+ghost use Rattle.std.specs.Option.{option_copied};
+ghost use Rattle.cx_region.specs.Sound.{IsSound};
+ghost use Rattle.cx_region.specs.State.{TerminalState};
+ghost use Rattle.cx_look_tasks.specs.Activities.{AreActivities, IsActivity};
+ghost use Rattle.cx_look_tasks.specs.Tasks.{TasksText, activity_words, command_word, none_line, of_each, or_none, owner_of, owner_word, queue_word, resource_value, resource_word, task_line, task_words, terminal_at, wait_words};
+ghost use Rattle.cx_look_tasks.specs.Parts.Words.{of_one, spaced};
+
+use crate::activities::{Activity, Wait};
+use crate::judging::activity;
+use cx_command::Command;
+use cx_ebcdic::{Name4, Name8};
+use cx_look_commands::{written_bytes, written_name};
+use cx_region::{Region, Terminal};
+use cx_service::{Hold, ResourceName};
+use cx_state::Task;
+use cx_storage::Store;
+use cx_text::{decimal, hexadecimal, shown_name, written_line};
+use std::alloc::{AllocError, Global};
+
+/// What stands where there is no name.
+const ABSENT: &[u8] = b"--";
+
+/// Adds words, each behind a blank.
+fn push_words(text: &mut Vec<u8>, words: &[&[u8]]) -> Result<(), AllocError>
+    ensures { OnOk result (text.new.items ≡ text.old.items ++ spaced (map (λ word. word.now) words.now)) }
+{
+    for word in words {
+        text.push(b' ')?;
+        text.extend_from_slice(word)?;
+    }
+    Ok(())
+}
+
+/// The name of the terminal at a position, counted from 1.
+pub(crate) fn terminal_at<S: Store + Drop>(
+    alloc: Global,
+    region: &Region<S>,
+    slot: u8,
+) -> Result<Vec<u8>, AllocError>
+    ensures { IfOk result (λ name. name.items ≡ terminal_at region.now slot) }
+{
+    let index = usize::from(slot.saturating_sub(1));
+    match region.terminals().get_index(index) {
+        Some((name, _terminal)) => shown_name(alloc, *name),
+        None => ABSENT.to_vec(alloc),
+    }
+}
+
+/// A resource by its bytes, or by its address.
+pub(crate) fn resource_value(alloc: Global, name: &ResourceName) -> Result<Vec<u8>, AllocError>
+    ensures { IfOk result (λ value. value.items ≡ resource_value name.now) }
+{
+    match name {
+        ResourceName::Bytes(bytes) => written_bytes(alloc, bytes.as_slice()),
+        ResourceName::Address(place) => hexadecimal::<6>(*place).to_vec(alloc),
+    }
+}
+
+/// The resource that a task waits for.
+fn resource_word(alloc: Global, name: &Option<ResourceName>) -> Result<Vec<u8>, AllocError>
+    ensures { IfOk result (λ word. word.items ≡ resource_word name.now) }
+{
+    match name {
+        Some(name) => resource_value(alloc, name),
+        None => ABSENT.to_vec(alloc),
+    }
+}
+
+/// Who holds a resource.
+fn hold_of<S: Store + Drop>(region: &Region<S>, name: &Option<ResourceName>) -> Option<Hold>
+    ensures { result ≡ owner_of region.now name.now }
+{
+    let name = name.as_ref()?;
+    region.shared().enqueues.hold(name)
+}
+
+/// The terminal whose task owns a resource.
+fn owner_word<S: Store + Drop>(
+    alloc: Global,
+    region: &Region<S>,
+    name: &Option<ResourceName>,
+) -> Result<Vec<u8>, AllocError>
+    ensures { IfOk result (λ word. word.items ≡ owner_word region.now name.now) }
+{
+    match hold_of(region, name) {
+        Some(hold) => terminal_at(alloc, region, hold.owner),
+        None => ABSENT.to_vec(alloc),
+    }
+}
+
+/// The queue in which there is no room.
+fn queue_word(alloc: Global, name: Option<Name8>) -> Result<Vec<u8>, AllocError>
+    ensures { IfOk result (λ word. word.items ≡ queue_word name) }
+{
+    match name {
+        Some(name) => written_name(alloc, &name.bytes()),
+        None => ABSENT.to_vec(alloc),
+    }
+}
+
+/// The name of the command that is due.
+fn command_word(command: Option<Command>) -> &'static [u8]
+    ensures { result.now ≡ command_word command }
+{
+    match command {
+        Some(command) => command.name().as_bytes(),
+        None => b"?",
+    }
+}
+
+/// Adds a resource that is waited for, and who owns it.
+fn push_resource<S: Store + Drop>(
+    text: &mut Vec<u8>,
+    alloc: Global,
+    region: &Region<S>,
+    name: &Option<ResourceName>,
+) -> Result<(), AllocError>
+    ensures { OnOk result (text.new.items ≡ text.old.items ++ spaced (wait_words region.now (Wait.Resource name.now))) }
+{
+    let resource = resource_word(alloc, name)?;
+    let owner = owner_word(alloc, region, name)?;
+    push_words(
+        text,
+        &[b"RESOURCE", resource.as_slice(), b"OWNER", owner.as_slice()],
+    )
+}
+
+/// Adds a queue in which there is no room.
+fn push_queue<S: Store + Drop>(
+    text: &mut Vec<u8>,
+    alloc: Global,
+    region: &Region<S>,
+    name: Option<Name8>,
+) -> Result<(), AllocError>
+    ensures { OnOk result (text.new.items ≡ text.old.items ++ spaced (wait_words region.now (Wait.Room name))) }
+{
+    let queue = queue_word(alloc, name)?;
+    push_words(text, &[b"ROOM IN QUEUE", queue.as_slice()])
+}
+
+/// Adds what a task waits for.
+fn push_wait<S: Store + Drop>(
+    text: &mut Vec<u8>,
+    alloc: Global,
+    region: &Region<S>,
+    wait: &Wait,
+) -> Result<(), AllocError>
+    ensures { OnOk result (text.new.items ≡ text.old.items ++ spaced (wait_words region.now wait.now)) }
+{
+    match wait {
+        Wait::Input => push_words(text, &[b"INPUT"]),
+        Wait::Resource(name) => push_resource(text, alloc, region, name),
+        Wait::Room(name) => push_queue(text, alloc, region, *name),
+        Wait::Storage => push_words(text, &[b"STORAGE"]),
+    }
+}
+
+/// Adds what a task is doing.
+#[tactic(auto, using(crate::proofs::TextLemmas::spaced_first))]
+fn push_activity<S: Store + Drop>(
+    text: &mut Vec<u8>,
+    alloc: Global,
+    region: &Region<S>,
+    activity: &Activity,
+) -> Result<(), AllocError>
+    ensures { OnOk result (text.new.items ≡ text.old.items ++ spaced (activity_words region.now activity.now)) }
+{
+    match activity {
+        Activity::NoTask => push_words(text, &[b"NO TASK"]),
+        Activity::Running => push_words(text, &[b"RUNNING"]),
+        Activity::Due(command) => push_words(text, &[b"DUE", command_word(*command)]),
+        Activity::Waiting(wait) => {
+            push_words(text, &[b"WAITING FOR"])?;
+            push_wait(text, alloc, region, wait)
+        }
+    }
+}
+
+/// Adds a task's transaction, its number, and the number of its levels.
+fn push_task(text: &mut Vec<u8>, alloc: Global, task: Option<&Task>) -> Result<(), AllocError>
+    ensures { OnOk result (text.new.items ≡ text.old.items ++ spaced (task_words (option_copied task.entry))) }
+{
+    let Some(task) = task else {
+        return Ok(());
+    };
+    let tran = shown_name(alloc, task.tran)?;
+    let number = decimal::<7>(task.number);
+    let levels = decimal::<2>(task.levels.len() as u32);
+    push_words(
+        text,
+        &[tran.as_slice(), b"TASK", &number, b"LEVEL", &levels],
+    )
+}
+
+/// The line of a terminal.
+#[tactic(auto, unfolding(crate::specs::Tasks::task_line), using(crate::proofs::TextLemmas::spaced_both, crate::proofs::TextLemmas::spaced_first))]
+fn task_line<S: Store + Drop>(
+    alloc: Global,
+    region: &Region<S>,
+    name: Name4,
+    terminal: &Terminal,
+    activity: &Activity,
+) -> Result<Vec<u8>, AllocError>
+    ensures { IfOk result (λ line. line.items ≡ task_line region.now (name, terminal.now) activity.now) }
+{
+    let mut text = b">".to_vec(alloc)?;
+    let name = shown_name(alloc, name)?;
+    push_words(&mut text, &[name.as_slice()])?;
+    push_task(&mut text, alloc, terminal.task())?;
+    push_activity(&mut text, alloc, region, activity)?;
+    text.push(b'\n')?;
+    Ok(text)
+}
+
+/// Adds the line of the terminal at an index, where there is one.
+fn push_line<S: Store + Drop>(
+    text: &mut Vec<u8>,
+    alloc: Global,
+    region: &Region<S>,
+    index: usize,
+    activity: &Activity,
+) -> Result<(), AllocError>
+    ensures { OnOk result (text.new.items ≡ text.old.items ++ of_one (λ entry. task_line region.now entry activity.now) (slice_get region.now.terminals index)) }
+{
+    let Some((name, terminal)) = region.terminals().get_index(index) else {
+        return Ok(());
+    };
+    let line = task_line(alloc, region, *name, terminal, activity)?;
+    text.extend_from_slice(line.as_slice())?;
+    Ok(())
+}
+
+/// The lines of all terminals.
+fn task_lines<S: Store + Drop>(
+    alloc: Global,
+    region: &Region<S>,
+    activities: &[Activity],
+) -> Result<Vec<u8>, AllocError>
+    ensures { IfOk result (λ text. text.items ≡ of_each (task_line region.now) region.now.terminals activities.now) }
+{
+    let mut text = Vec::new(alloc);
+    for (i, activity) in activities.iter().enumerate() {
+        push_line(&mut text, alloc, region, i, activity)?;
+    }
+    Ok(text)
+}
+
+/// What the task of the terminal at an index is doing.
+fn activity_at<S: Store + Drop>(region: &Region<S>, index: usize) -> Activity
+    requires { IsSound region.now }
+    ensures { (entry : List ℕ × TerminalState) → slice_get region.now.terminals index ≡ Some entry → IsActivity region.now entry.1 result }
+{
+    match region.terminals().get_index(index) {
+        Some((_name, terminal)) => activity(region, terminal),
+        None => Activity::NoTask,
+    }
+}
+
+/// What the task of each terminal is doing, in the order of their definition.
+///
+/// An error comes only where memory for it was refused.
+pub fn activities_in<S: Store + Drop>(
+    alloc: Global,
+    region: &Region<S>,
+) -> Result<Vec<Activity>, AllocError>
+    requires { IsSound region.now }
+    ensures { IfOk result (λ all. AreActivities region.now region.now.terminals all.items) }
+{
+    let mut all = Vec::new(alloc);
+    for i in 0..region.terminals().len() {
+        let activity = activity_at(region, i);
+        all.push(activity)?;
+    }
+    Ok(all)
+}
+
+/// A text, or the line that tells that there is none.
+pub(crate) fn or_none(alloc: Global, word: &[u8], text: Vec<u8>) -> Result<Vec<u8>, AllocError>
+    ensures { IfOk result (λ all. all.items ≡ or_none word.now text.items) }
+{
+    if text.is_empty() {
+        return written_line(alloc, b">", &[word, b"NONE"]);
+    }
+    Ok(text)
+}
+
+/// A line for each terminal: its task, and what that is doing.
+///
+/// An error comes only where memory for it was refused.
+pub fn tasks_text<S: Store + Drop>(alloc: Global, region: &Region<S>) -> Result<Vec<u8>, AllocError>
+    requires { IsSound region.now }
+    ensures { IfOk result (λ text. TasksText region.now text.items) }
+{
+    let activities = activities_in(alloc, region)?;
+    let text = task_lines(alloc, region, activities.as_slice())?;
+    or_none(alloc, b"TASKS", text)
+}
