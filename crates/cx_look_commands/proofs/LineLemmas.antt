@@ -5,7 +5,8 @@ use Rattle.cx_command.specs.Legal.{has_bit}
 use Rattle.cx_command.specs.declared.options.CommandOption.{CommandOption}
 use Rattle.cx_storage.specs.Storage.{Storage}
 use Rattle.cx_call.specs.Call.{Call}
-use Rattle.cx_look_commands.specs.Commands.{input_line, input_lines, is_input, option_word, option_words, spaced}
+use Rattle.cx_look_commands.specs.Commands.{input_line, input_lines, is_input, option_word, option_words}
+use Rattle.cx_look_words.specs.Words.{spaced}
 
 -- what is written of a list, an item at a time
 pub each_step : {A : Type 0} (f : List A → List ℕ) → ((x : A) (xs : List A) → f (x ∷ xs) ≡ f (x ∷ []) ++ f xs)
@@ -30,13 +31,6 @@ each_ends f empty (first ∷ rest) (suc k) l = each_ends f empty rest k (omega a
 pub each_done : {A : Type 0} (f : List A → List ℕ) → f [] ≡ [] → (all : List A) (k : ℕ) (before initial : List ℕ) → length all ≤ k
     → before ++ f (drop k all) ≡ initial ++ f all → before ≡ initial ++ f all
 each_done f empty all k before initial l so_far = sym (append-nil before) ∙ ap (λ t. before ++ t) (sym (each_ends f empty all k l)) ∙ so_far
-
-pub spaced_both : (one other : List (List ℕ)) → spaced (one ++ other) ≡ spaced one ++ spaced other
-spaced_both [] other = refl
-spaced_both (word ∷ one) other = rw (spaced_both one other) (sym (append_assoc (32 ∷ word) (spaced one) (spaced other)))
-
-pub spaced_one : (word : List ℕ) (words : List (List ℕ)) → spaced (word ∷ words) ≡ (32 ∷ word) ++ spaced words
-spaced_one word words = refl
 
 pub no_options : (s : Storage) (call : Call) → spaced (option_words s call []) ≡ []
 unfolding option_words

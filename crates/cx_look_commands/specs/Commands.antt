@@ -18,8 +18,7 @@ use Rattle.cx_call.specs.Inputs.{bytes_of, halfword_of}
 use Rattle.cx_call.specs.Listed.{listed_of}
 use Rattle.cx_call.specs.declared.listed.Listed.{Listed}
 use Rattle.cx_text.specs.Digits.{digits}
-use Rattle.cx_text.specs.Texts.{written_line}
-use Rattle.cx_look_commands.specs.Values.{written_bytes, written_name}
+use Rattle.cx_look_words.specs.Words.{look_line, written_bytes, written_name}
 
 -- ---- values, with hyphens where the bytes aren't in storage
 abbrev pub name_value : Option (List ℕ) → List ℕ
@@ -77,14 +76,10 @@ nohandle_words call = if has_nohandle call.second then codes "NOHANDLE" ∷ [] e
 abbrev pub resp_words : Call → List (List ℕ)
 resp_words call = option_map_or (λ place. with_value (codes "RESP") (digits 16 6 place) ∷ []) (resp_place call) []
 
--- words, each behind a blank
-abbrev pub spaced : List (List ℕ) → List ℕ
-spaced words = flat_map (λ word. 32 ∷ word) words
-
 -- the command's line
 unfoldable pub command_line : Storage → Call → List ℕ
 command_line s call =
-    written_line (codes ">")
+    look_line
     ((row_of call.command).name ∷ option_words s call (row_of call.command).options ++ map condition_word (listed_of call)
     ++ nohandle_words call ++ resp_words call)
 
@@ -101,7 +96,7 @@ count_read s call option = input_len option.mark (has_option call.command call.f
 
 unfoldable pub input_line : Storage → Call → CommandOption → List ℕ
 input_line s call option =
-    written_line (codes ">") (option_name option.name ∷ bytes_value (bytes_of s call option.name (min 64 (count_read s call option))) ∷ [])
+    look_line (option_name option.name ∷ bytes_value (bytes_of s call option.name (min 64 (count_read s call option))) ∷ [])
 
 -- the data options that are there, of which the command reads some byte
 unfoldable pub is_input : Storage → Call → CommandOption → Bool

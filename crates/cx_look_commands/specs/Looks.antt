@@ -8,12 +8,13 @@ use Rattle.cx_state.specs.State.{TaskState}
 use Rattle.cx_task.specs.Performing.{list_of}
 use Rattle.cx_region.specs.State.{RegionState}
 use Rattle.cx_region.specs.Tables.{task_of}
-use Rattle.cx_text.specs.Texts.{shown_name, written_line}
+use Rattle.cx_text.specs.Texts.{shown_name}
+use Rattle.cx_look_words.specs.Words.{look_line}
 use Rattle.cx_look_commands.specs.Commands.{call_text}
 
 -- a terminal, and one word of it
 abbrev pub noted : List ℕ → List ℕ → List ℕ
-noted name word = written_line (codes ">") (codes "COMMAND" ∷ shown_name name ∷ word ∷ [])
+noted name word = look_line (codes "COMMAND" ∷ shown_name name ∷ word ∷ [])
 
 -- the command that the task's argument list gives, where it can be read
 abbrev pub text_of : Storage → List ℕ → Result Call CallFault → List ℕ

@@ -7,10 +7,11 @@ ghost use Rattle.cx_look_commands.specs.Looks.{command_text, due_text, noted, ta
 use crate::words::call_text;
 use cx_call::read_call;
 use cx_ebcdic::Name4;
+use cx_look_words::look_line;
 use cx_region::Region;
 use cx_state::Task;
 use cx_storage::{Store, address_in};
-use cx_text::{shown_name, written_line};
+use cx_text::shown_name;
 use std::alloc::{AllocError, Global};
 
 /// The line of a terminal that has no more than a word to be told.
@@ -18,7 +19,7 @@ fn noted(alloc: Global, name: Name4, word: &[u8]) -> Result<Vec<u8>, AllocError>
     ensures { IfOk result (λ text. text.items ≡ noted name word.now) }
 {
     let name = shown_name(alloc, name)?;
-    written_line(alloc, b">", &[b"COMMAND", name.as_slice(), word])
+    look_line(alloc, &[b"COMMAND", name.as_slice(), word])
 }
 
 /// The command that a task's argument list gives.

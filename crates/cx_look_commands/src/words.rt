@@ -5,13 +5,14 @@ ghost use Rattle.std.specs.List.{flat_map};
 ghost use Rattle.cx_command.specs.Arguments.{has_option};
 ghost use Rattle.cx_call.specs.Call.{place_of};
 ghost use Rattle.cx_call.specs.Inputs.{bytes_of, halfword_of};
-ghost use Rattle.cx_look_commands.specs.Commands.{address_value, bytes_value, call_text, command_line, condition_word, count_read, halfword_value, input_line, input_lines, is_data, is_input, labelled_word, name_value, nohandle_words, option_value, option_word, option_words, reads_halfword, resp_words, spaced, value_by, with_value};
+ghost use Rattle.cx_look_commands.specs.Commands.{address_value, bytes_value, call_text, command_line, condition_word, count_read, halfword_value, input_line, input_lines, is_data, is_input, labelled_word, name_value, nohandle_words, option_value, option_word, option_words, reads_halfword, resp_words, value_by, with_value};
+ghost use Rattle.cx_look_words.specs.Words.{spaced};
 
-use crate::values::{written_bytes, written_name};
 use cx_call::{Call, Listed, halfword, read_argument};
 use cx_command::{Command, CommandOption, Mark, OptionName, has_bit};
+use cx_look_words::{look_line, push_word, written_bytes, written_name};
 use cx_storage::Store;
-use cx_text::{hexadecimal, written_line};
+use cx_text::hexadecimal;
 use std::alloc::{AllocError, Global};
 
 /// The most bytes of an input that are written.
@@ -125,15 +126,6 @@ fn condition_word(alloc: Global, listed: Listed) -> Result<Vec<u8>, AllocError>
     }
 }
 
-/// Adds a word behind a blank.
-fn push_word(text: &mut Vec<u8>, word: &[u8]) -> Result<(), AllocError>
-    ensures { OnOk result (text.new.items ≡ text.old.items ++ 32 ∷ word.now) }
-{
-    text.push(b' ')?;
-    text.extend_from_slice(word)?;
-    Ok(())
-}
-
 /// Adds the word of an option, where the option is there.
 #[tactic(auto, unfolding(crate::specs::Commands::option_words))]
 fn push_option<S: Store>(
@@ -205,7 +197,7 @@ fn push_resp(text: &mut Vec<u8>, alloc: Global, call: &Call) -> Result<(), Alloc
 }
 
 /// The command's line.
-#[tactic(auto, unfolding(crate::specs::Commands::command_line), using(crate::proofs::LineLemmas::spaced_both, crate::proofs::LineLemmas::spaced_one))]
+#[tactic(auto, unfolding(crate::specs::Commands::command_line), using(cx_look_words::specs::Facts::Spaced::spaced_both, cx_look_words::specs::Facts::Spaced::spaced_first))]
 fn command_line<S: Store>(alloc: Global, store: &S, call: &Call) -> Result<Vec<u8>, AllocError>
     ensures { IfOk result (λ line. line.items ≡ command_line (S.storage store.now) call.now) }
 {
@@ -272,11 +264,7 @@ fn input_line<S: Store>(
     ensures { IfOk result (λ line. line.items ≡ input_line (S.storage store.now) call.now option.now) }
 {
     let value = input_value(alloc, store, call, option)?;
-    written_line(
-        alloc,
-        b">",
-        &[option.name.name().as_bytes(), value.as_slice()],
-    )
+    look_line(alloc, &[option.name.name().as_bytes(), value.as_slice()])
 }
 
 /// Adds the line of an option, where it is an input.

@@ -1,5 +1,5 @@
 -- A look changes nothing.
-use Rattle.std.proofs.Common.{◌≡◌, ◌⊎◌, inl, inr, ℕ, zero, suc, ◌≤◌, Bool, true, false, MatchBool, List, [], ◌∷◌, ◌++◌, map, replicate, refl, sym, ap, ◌∙◌, subst, append-nil, append_assoc, arith}
+use Rattle.std.proofs.Common.{◌≡◌, ◌⊎◌, inl, inr, ℕ, zero, suc, ◌≤◌, Bool, true, false, MatchBool, List, [], ◌∷◌, ◌++◌, replicate, refl, sym, ap, ◌∙◌, subst, append-nil, append_assoc, arith}
 use Rattle.std.specs.List.{flat_map}
 use Rattle.cx_edf.specs.declared.answers.Answer.{Answer}
 use Rattle.cx_edf.specs.State.{EdfState}
@@ -9,7 +9,7 @@ use Rattle.cx_actions.specs.Texts.{answer_text}
 use Rattle.cx_actions.specs.declared.actions.Action.{Action}
 use Rattle.cx_actions.specs.declared.actions.Action.TheVariants as edf_action
 use Rattle.cx_script.specs.Transcript.{Runs}
-use Rattle.cx_look_stage.specs.Looking.{LookPerforms, look_text}
+use Rattle.cx_look_stage.specs.Looking.{LookPerforms}
 use Rattle.cx_look_stage.specs.Runs.{RunsOn, goes_on, still_running, turn_of}
 use Rattle.cx_look_stage.specs.Laws.Looks.{ArePartsOf, ChangesNothing, IsPart, LooksChangeNothing, Part, plain_of, text_of, written_of}
 use Rattle.cx_look_stage.specs.declared.action.LookAction.{LookAction}
@@ -105,10 +105,10 @@ did old (action.Run name n) text new p =
     }
 did old (action.Look l) text new p =
     record {
-      part = record { plain = []; written = []; looked = look_text l old };
-      is = (refl, refl);
+      part = record { plain = []; written = []; looked = text };
+      is = (refl, p.0);
       runs = (refl, p.1);
-      whole = p.0;
+      whole = refl;
     }
 
 in_front : (old : EdfState) (a : LookAction) (first : List ℕ) (between : EdfState) (actions : List LookAction) (rest text : List ℕ) (new : EdfState)

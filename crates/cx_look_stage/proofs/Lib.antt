@@ -1,3 +1,6 @@
 mod TurnLemmas
 mod LawLemmas
+mod TableMarks
+mod CommandMarks
+mod TaskMarks
 mod MarkLemmas

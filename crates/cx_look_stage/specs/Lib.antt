@@ -10,6 +10,11 @@ pub use Rattle.cx_actions.specs.Language
 pub use Rattle.cx_actions.specs.Texts
 pub use Rattle.cx_actions.specs.Effects
 pub use Rattle.cx_look.specs.Looks
-pub use Rattle.cx_look_tables.specs.Words
+pub use Rattle.cx_look_words.specs.Words
+pub use Rattle.cx_look_words.specs.Marked
 pub use Rattle.cx_look_tables.specs.Queues
 pub use Rattle.cx_look_tables.specs.Programs
+pub use Rattle.cx_look_commands.specs.Commands
+pub use Rattle.cx_look_commands.specs.Looks as LooksAtCommands
+pub use Rattle.cx_look_tasks.specs.Activities
+pub use Rattle.cx_look_tasks.specs.Tasks

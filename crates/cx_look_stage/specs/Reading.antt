@@ -29,6 +29,9 @@ is_written look.Queues = true
 is_written (look.Queue name) = true
 is_written (look.Item name n) = true
 is_written look.Programs = true
+is_written look.Tasks = true
+is_written look.Resources = true
+is_written (look.Command name) = true
 is_written _ = false
 
 abbrev pub looks : Look → Option LookAction

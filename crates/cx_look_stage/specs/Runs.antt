@@ -11,7 +11,7 @@ use Rattle.cx_edf.specs.declared.answers.EdfEvent.TheVariants as edf_event
 use Rattle.cx_edf.specs.State.{EdfState, stopped_at}
 use Rattle.cx_edf.specs.Steps.{EdfHappens}
 use Rattle.cx_actions.specs.Texts.{answer_text}
-use Rattle.cx_look_tables.specs.Words.{look_line}
+use Rattle.cx_look_words.specs.Words.{look_line}
 
 -- the task goes on with another turn: it is due at a command, or one was performed, or taken by a label or an exit
 abbrev pub is_midway : Answer → Bool

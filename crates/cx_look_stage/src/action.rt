@@ -68,7 +68,13 @@ fn is_written(look: Look) -> bool
 {
     matches!(
         look,
-        Look::Queues | Look::Queue(_) | Look::Item(_, _) | Look::Programs
+        Look::Queues
+            | Look::Queue(_)
+            | Look::Item(_, _)
+            | Look::Programs
+            | Look::Tasks
+            | Look::Resources
+            | Look::Command(_)
     )
 }
 

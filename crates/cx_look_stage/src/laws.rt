@@ -1,6 +1,6 @@
 //! What follows from the definitions of a script with looks.
 
-ghost use Rattle.cx_look_stage.specs.Laws.Looks.{LooksAreMarked, LooksChangeNothing};
+ghost use Rattle.cx_look_stage.specs.Laws.Looks.{LooksAreMarked, LooksAreToldOnce, LooksChangeNothing};
 
 /// A look changes nothing. Each run has for each of its actions a part, in which an action of `cicsedf` stands for itself, RUN for as
 /// many TURNs as it did, and a look for nothing: the actions of all parts are a run of `cicsedf` from the same state to the same
@@ -9,7 +9,14 @@ pub fn looks_change_nothing()
     ensures { LooksChangeNothing }
 {}
 
-/// The text of a look is lines that begin with `> `.
+/// The text of a look is lines that begin with `> `; no word of them has an LF.
 pub fn looks_are_marked()
     ensures { LooksAreMarked }
 {}
+
+/// The text of a look is a function of the state.
+pub fn looks_are_told_once()
+    ensures { LooksAreToldOnce }
+{
+    cx_look_tasks::laws::texts_decide();
+}

@@ -6,9 +6,10 @@ ghost use Rattle.cx_look_stage.specs.Parts.Turns.{TurnsOnce};
 use cx_actions::answer_text;
 use cx_ebcdic::Name4;
 use cx_edf::{Answer, Debugged, EdfEvent};
+use cx_look_words::look_line;
 use cx_region::{Event, Reply, TurnReply};
 use cx_storage::Store;
-use cx_text::{shown_name, written_line};
+use cx_text::shown_name;
 use std::alloc::{AllocError, Global};
 
 /// Whether a turn's answer leaves a task that another turn takes on.
@@ -55,7 +56,7 @@ fn still_running(alloc: Global, name: Name4) -> Result<Vec<u8>, AllocError>
     ensures { IfOk result (λ text. text.items ≡ still_running name) }
 {
     let name = shown_name(alloc, name)?;
-    written_line(alloc, b">", &[b"RUN", &name, b"STILL", b"RUNNING"])
+    look_line(alloc, &[b"RUN", &name, b"STILL", b"RUNNING"])
 }
 
 /// Does turns of a terminal, at most so many, until one is not to be followed by another; gives what is written for them.

@@ -1,4 +1,4 @@
 -- The definitions, in reading order.
-pub mod Words
 pub mod Queues
 pub mod Programs
+pub use Rattle.cx_look_words.specs.Words

@@ -6,14 +6,15 @@ use Rattle.cx_ebcdic.specs.Names.{is_name}
 use Rattle.cx_text.specs.Digits.{digits}
 use Rattle.cx_text.specs.Texts.{shown_name}
 use Rattle.cx_load.specs.declared.program.Loaded.{Loaded}
-use Rattle.cx_look_tables.specs.Words.{look_line}
+use Rattle.cx_look_words.specs.Words.{look_line, none_line}
 
--- the transactions of a program, each behind a blank
-abbrev pub if_of : List ℕ → List ℕ × List ℕ → List ℕ
-if_of program (tran, of) = if is_name of program then byte " " ∷ shown_name tran else []
+-- a transaction behind a blank, where it begins with the program
+abbrev pub transaction_word : List ℕ → List ℕ × List ℕ → List ℕ
+transaction_word program (tran, of) = if is_name of program then byte " " ∷ shown_name tran else []
 
+-- the transactions of a program
 abbrev pub transactions_of : List (List ℕ × List ℕ) → List ℕ → List ℕ
-transactions_of transactions program = codes "TRANSACTIONS" ++ flat_map (if_of program) transactions
+transactions_of transactions program = codes "TRANSACTIONS" ++ flat_map (transaction_word program) transactions
 
 -- a program: its place, its length, its entry's address, the length of its working storage, its transactions
 abbrev pub program_line : List (List ℕ × List ℕ) → List ℕ × Loaded → List ℕ
@@ -22,5 +23,5 @@ program_line transactions (name, loaded) =
     ∷ codes "ENTRY" ∷ digits 16 6 loaded.entry ∷ codes "STORAGE" ∷ digits 16 6 loaded.stg_len ∷ transactions_of transactions name ∷ [])
 
 unfoldable pub programs_text : List (List ℕ × Loaded) → List (List ℕ × List ℕ) → List ℕ
-programs_text [] transactions = look_line (codes "PROGRAMS" ∷ codes "NONE" ∷ [])
+programs_text [] transactions = none_line (codes "PROGRAMS")
 programs_text (program ∷ programs) transactions = flat_map (program_line transactions) (program ∷ programs)

@@ -5,17 +5,17 @@ use Rattle.std.specs.List.{flat_map}
 use Rattle.cx_text.specs.Digits.{digits, spelled}
 use Rattle.cx_text.specs.Texts.{in_columns, joined, shown}
 use Rattle.cx_service.specs.Queues.{Queue, Queues, item_of, queue_of, size_of}
-use Rattle.cx_look_tables.specs.Words.{in_apostrophes, look_line, quoted}
+use Rattle.cx_look_words.specs.Words.{in_apostrophes, look_line, none_line, written_name}
 
 -- ---- all queues
 -- a queue: its name, its items, their bytes together, the number of the item last read
 abbrev pub queue_line : List ℕ × Queue → List ℕ
 queue_line (name, queue) =
-    look_line (codes "QUEUE" ∷ quoted name ∷ codes "ITEMS" ∷ decimal (length queue.items) ∷ codes "BYTES" ∷ decimal (size_of queue)
+    look_line (codes "QUEUE" ∷ written_name name ∷ codes "ITEMS" ∷ decimal (length queue.items) ∷ codes "BYTES" ∷ decimal (size_of queue)
     ∷ codes "READ" ∷ decimal queue.last_read ∷ [])
 
 unfoldable pub queues_text : Queues → List ℕ
-queues_text [] = look_line (codes "QUEUES" ∷ codes "NONE" ∷ [])
+queues_text [] = none_line (codes "QUEUES")
 queues_text (queue ∷ queues) = flat_map queue_line (queue ∷ queues)
 
 -- ---- one queue
@@ -29,7 +29,7 @@ items_text n [] = []
 items_text n (item ∷ items) = item_line n item ++ items_text (n + 1) items
 
 abbrev pub queue_found : List ℕ → Option Queue → List ℕ
-queue_found name None = look_line (codes "QUEUE" ∷ quoted name ∷ codes "NONE" ∷ [])
+queue_found name None = look_line (codes "QUEUE" ∷ written_name name ∷ codes "NONE" ∷ [])
 queue_found name (Some queue) = queue_line (name, queue) ++ items_text 1 queue.items
 
 unfoldable pub queue_text : Queues → List ℕ → List ℕ
@@ -58,9 +58,9 @@ abbrev pub rows_text : List ℕ → List ℕ
 rows_text bytes = first_rows ((length bytes + 15) / 16) bytes
 
 abbrev pub item_found : List ℕ → ℕ → Option (List ℕ) → List ℕ
-item_found name n None = look_line (codes "QUEUE" ∷ quoted name ∷ codes "ITEM" ∷ decimal n ∷ codes "NONE" ∷ [])
+item_found name n None = look_line (codes "QUEUE" ∷ written_name name ∷ codes "ITEM" ∷ decimal n ∷ codes "NONE" ∷ [])
 item_found name n (Some item) =
-    look_line (codes "QUEUE" ∷ quoted name ∷ codes "ITEM" ∷ decimal n ∷ codes "LENGTH" ∷ decimal (length item) ∷ []) ++ rows_text item
+    look_line (codes "QUEUE" ∷ written_name name ∷ codes "ITEM" ∷ decimal n ∷ codes "LENGTH" ∷ decimal (length item) ∷ []) ++ rows_text item
 
 unfoldable pub item_text : Queues → List ℕ → ℕ → List ℕ
 item_text queues name n = item_found name n (item_of queues name n)

@@ -5,6 +5,5 @@ mod looks;
 mod programs;
 mod queues;
 mod rows;
-mod words;
 
 pub use looks::{item_text, programs_text, queue_text, queues_text};

@@ -1,11 +1,11 @@
 //! Programs.
 ghost use Rattle.std.specs.Prelude.{◌≡◌, ◌++◌, IfOk, OnOk};
 ghost use Rattle.std.specs.List.{flat_map};
-ghost use Rattle.cx_look_tables.specs.Programs.{if_of, program_line, programs_text, transactions_of};
+ghost use Rattle.cx_look_tables.specs.Programs.{transaction_word, program_line, programs_text, transactions_of};
 
-use crate::words::look_line;
 use cx_ebcdic::{Name4, Name8};
 use cx_load::Loaded;
+use cx_look_words::look_line;
 use cx_text::{hexadecimal, shown_name};
 use indexmap::IndexMap;
 use std::alloc::{AllocError, Global};
@@ -18,7 +18,7 @@ fn push_transaction(
     of: Name8,
     program: Name8,
 ) -> Result<(), AllocError>
-    ensures { OnOk result (text.new.items ≡ text.old.items ++ if_of program (tran, of)) }
+    ensures { OnOk result (text.new.items ≡ text.old.items ++ transaction_word program (tran, of)) }
 {
     if of != program {
         return Ok(());

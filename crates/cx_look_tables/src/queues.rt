@@ -5,11 +5,11 @@ ghost use Rattle.std.specs.List.{flat_map};
 ghost use Rattle.std.specs.Option.{option_copied, option_map};
 ghost use Rattle.cx_service.specs.Queues.{AreSoundQueues, item_of, numbered, size_of};
 ghost use Rattle.cx_look_tables.specs.Queues.{item_found, item_line, items_text, item_text, queue_found, queue_line, queue_text, queues_text, rows_text};
-ghost use Rattle.cx_look_tables.specs.Words.{look_line};
+ghost use Rattle.cx_look_words.specs.Words.{look_line};
 
-use crate::rows::push_rows;
-use crate::words::{decimal, front, in_apostrophes, look_line, quoted};
+use crate::rows::{front, push_rows};
 use cx_ebcdic::Name8;
+use cx_look_words::{decimal, in_apostrophes, look_line, written_name};
 use cx_service::{Queue, Queues};
 use cx_text::shown;
 use indexmap::IndexMap;
@@ -23,7 +23,7 @@ fn queue_line(alloc: Global, name: Name8, queue: &Queue) -> Result<Vec<u8>, Allo
     requires { size_of queue.now < 2 ^ 64 }
     ensures { IfOk result (λ text. text.items ≡ queue_line (name, queue.now)) }
 {
-    let name = quoted(alloc, name)?;
+    let name = written_name(alloc, &name.bytes())?;
     let items = decimal(alloc, queue.count())?;
     let bytes = decimal(alloc, queue.size())?;
     let read = decimal(alloc, queue.last_read())?;
@@ -104,7 +104,7 @@ pub(crate) fn queue_text(alloc: Global, queues: &Queues, name: Name8) -> Result<
     ensures { IfOk result (λ text. text.items ≡ queue_text queues.now name) }
 {
     let Some(queue) = queues.all().get(&name) else {
-        let name = quoted(alloc, name)?;
+        let name = written_name(alloc, &name.bytes())?;
         return look_line(alloc, &[b"QUEUE", &name, b"NONE"]);
     };
     let mut text = queue_line(alloc, name, queue)?;
@@ -153,7 +153,7 @@ pub(crate) fn item_text(
     ensures { IfOk result (λ text. text.items ≡ item_text queues.now name n) }
 {
     let item = item_of(queues, name, n);
-    let name = quoted(alloc, name)?;
+    let name = written_name(alloc, &name.bytes())?;
     let n = decimal(alloc, n)?;
     match item {
         Some(item) => whole_item(alloc, &name, &n, item),

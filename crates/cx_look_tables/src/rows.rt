@@ -3,8 +3,8 @@ ghost use Rattle.std.specs.Prelude.{◌≡◌, ◌*◌, ◌<◌, ◌≤◌, ◌^
 ghost use Rattle.cx_text.specs.Digits.{spelled};
 ghost use Rattle.cx_look_tables.specs.Queues.{hex_column, row_line, row_of, rows_text};
 
-use crate::words::{behind, front, in_apostrophes, look_line, spelled};
-use cx_text::{hexadecimal, in_columns, shown, spell};
+use cx_look_words::{in_apostrophes, look_line, spelled};
+use cx_text::{hexadecimal, in_columns, shown};
 use std::alloc::{AllocError, Global};
 
 /// The bytes of a row.
@@ -12,6 +12,20 @@ const ROW: u32 = 16;
 
 /// The bytes of a group.
 const GROUP: usize = 4;
+
+/// The bytes from a place on; none where there are none.
+fn behind(bytes: &[u8], place: usize) -> &[u8]
+    ensures { result.now ≡ drop place bytes.now }
+{
+    bytes.split_at(place.min(bytes.len())).1
+}
+
+/// The first so many bytes, or all where there are fewer.
+pub(crate) fn front(bytes: &[u8], count: usize) -> &[u8]
+    ensures { result.now ≡ take count bytes.now }
+{
+    bytes.split_at(count.min(bytes.len())).0
+}
 
 /// The group of four bytes at a place of a row, as far as it has them, in hexadecimal digits.
 fn group(alloc: Global, row: &[u8], place: usize) -> Result<Vec<u8>, AllocError>

@@ -1,2 +1,3 @@
 pub mod WaitLemmas
 pub mod TextLemmas
+pub mod DecideLemmas

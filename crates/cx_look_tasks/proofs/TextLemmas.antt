@@ -1,18 +1,11 @@
--- Words and lines, one behind the other.
+-- Lines, one behind the other.
 use Rattle.std.proofs.Common.{◌≡◌, ℕ, zero, suc, ◌+◌, ◌<◌, ◌≤◌, List, [], ◌∷◌, ◌++◌, length, take, drop, slice_get, Some, refl, sym, ap, ◌∙◌, arith, append_assoc, append-nil}
 use Rattle.std.specs.List.{flat_map}
 use Rattle.cx_region.specs.State.{RegionState, TerminalState}
 use Rattle.cx_look_tasks.specs.Activities.{AreActivities, IsActivity}
-use Rattle.cx_look_tasks.specs.Parts.Words.{of_one, spaced}
+use Rattle.cx_look_tasks.specs.Parts.Words.{of_one}
 use Rattle.cx_look_tasks.specs.Tasks.{of_each}
 use Rattle.cx_look_tasks.specs.declared.activities.Activity.{Activity}
-
-pub spaced_both : (one other : List (List ℕ)) → spaced (one ++ other) ≡ spaced one ++ spaced other
-spaced_both [] other = refl
-spaced_both (word ∷ one) other = rw (spaced_both one other) (sym (append_assoc (32 ∷ word) (spaced one) (spaced other)))
-
-pub spaced_first : (word : List ℕ) (words : List (List ℕ)) → spaced (word ∷ words) ≡ (32 ∷ word) ++ spaced words
-spaced_first word words = refl
 
 -- ---- what is written of a list, an item at a time
 flat_step : {A : Type 0} (f : A → List ℕ) (xs : List A) (k : ℕ) → of_one f (slice_get xs k) ++ flat_map f (drop (suc k) xs) ≡ flat_map f (drop k xs)

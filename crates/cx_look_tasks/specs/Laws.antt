@@ -1,4 +1,4 @@
--- Who is told as waiting.
+-- Who is told as waiting, and that each text is one.
 use Rattle.std.specs.Prelude.{◌≡◌, ℕ, Bool, true, false, List, Some}
 use Rattle.cx_state.specs.declared.replies.TurnReply.{TurnReply}
 use Rattle.cx_state.specs.declared.replies.TurnReply.TheVariants as turn
@@ -6,6 +6,7 @@ use Rattle.cx_region.specs.State.{RegionState, TerminalState}
 use Rattle.cx_region.specs.Tables.{terminal_of}
 use Rattle.cx_region.specs.Turn.{Turned}
 use Rattle.cx_look_tasks.specs.Activities.{IsActivity, is_waiting}
+use Rattle.cx_look_tasks.specs.Tasks.{ResourcesText, TasksText}
 use Rattle.cx_look_tasks.specs.declared.activities.Activity.{Activity}
 
 abbrev pub is_wait_reply : TurnReply → Bool
@@ -22,3 +23,10 @@ WaitsAreTold = (region new : RegionState) (name : List ℕ) (terminal : Terminal
 abbrev pub ActivitiesDecide : Type 0
 ActivitiesDecide = (region : RegionState) (terminal : TerminalState) (one other : Activity)
     → IsActivity region terminal one → IsActivity region terminal other → one ≡ other
+
+-- so are the texts of TASKS and of RESOURCES, each as a whole
+abbrev pub TasksTextsDecide : Type 0
+TasksTextsDecide = (region : RegionState) (one other : List ℕ) → TasksText region one → TasksText region other → one ≡ other
+
+abbrev pub ResourcesTextsDecide : Type 0
+ResourcesTextsDecide = (region : RegionState) (one other : List ℕ) → ResourcesText region one → ResourcesText region other → one ≡ other

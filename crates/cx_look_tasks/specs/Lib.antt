@@ -3,3 +3,5 @@ pub mod Activities
 pub mod Tasks
 pub mod Laws
 pub mod Parts
+pub use Rattle.cx_look_words.specs.Words
+pub use Rattle.cx_look_words.specs.Terminals

@@ -1,5 +1,5 @@
 -- TASKS and RESOURCES (own).
-use Rattle.std.specs.Prelude.{◌≡◌, ℕ, Bool, false, ◌==◌, ◌+◌, ◌-◌, List, [], ◌∷◌, ◌++◌, length, slice_get, codes, Option, Some, None, if◌then◌else◌}
+use Rattle.std.specs.Prelude.{◌≡◌, ℕ, Bool, false, ◌+◌, List, [], ◌∷◌, ◌++◌, length, codes, Option, Some, None, if◌then◌else◌}
 use Rattle.std.specs.List.{flat_map}
 use Rattle.std.specs.Option.{option_and_then, option_map_or}
 use Rattle.cx_command.specs.declared.commands.Command.{Command}
@@ -11,8 +11,9 @@ use Rattle.cx_service.specs.declared.resources.ResourceName.TheVariants as resou
 use Rattle.cx_state.specs.State.{TaskState}
 use Rattle.cx_region.specs.State.{RegionState, TerminalState}
 use Rattle.cx_text.specs.Digits.{digits}
-use Rattle.cx_text.specs.Texts.{shown_name, written_line}
-use Rattle.cx_look_commands.specs.Values.{written_bytes, written_name}
+use Rattle.cx_text.specs.Texts.{shown_name}
+use Rattle.cx_look_words.specs.Terminals.{terminal_at}
+use Rattle.cx_look_words.specs.Words.{look_line, or_none, written_bytes, written_name}
 use Rattle.cx_look_tasks.specs.Activities.{AreActivities}
 use Rattle.cx_look_tasks.specs.declared.activities.Activity.{Activity}
 use Rattle.cx_look_tasks.specs.declared.activities.Activity.TheVariants.{Due, NoTask, Running, Waiting}
@@ -20,9 +21,9 @@ use Rattle.cx_look_tasks.specs.declared.activities.Wait.{Wait}
 use Rattle.cx_look_tasks.specs.declared.activities.Wait.TheVariants as wait
 
 -- ---- names; hyphens stand where there is none
--- the terminal at a position, counted from 1
-abbrev pub terminal_at : RegionState → ℕ → List ℕ
-terminal_at region slot = option_map_or (λ entry. shown_name entry.0) (slice_get region.terminals (slot - 1)) (codes "--")
+-- the terminal whose task is an owner
+abbrev pub owner_name : RegionState → ℕ → List ℕ
+owner_name region slot = option_map_or (λ terminal. shown_name terminal.0) (terminal_at region.terminals slot) (codes "--")
 
 -- a resource: by its bytes, or by its address
 abbrev pub resource_value : ResourceName → List ℕ
@@ -36,7 +37,7 @@ abbrev pub owner_of : RegionState → Option ResourceName → Option Hold
 owner_of region name = option_and_then (hold_of region.resources) name
 
 abbrev pub owner_word : RegionState → Option ResourceName → List ℕ
-owner_word region name = option_map_or (λ hold. terminal_at region hold.owner) (owner_of region name) (codes "--")
+owner_word region name = option_map_or (λ hold. owner_name region hold.owner) (owner_of region name) (codes "--")
 
 abbrev pub queue_word : Option (List ℕ) → List ℕ
 queue_word name = option_map_or written_name name (codes "--")
@@ -65,19 +66,12 @@ task_words (Some task) =
 
 unfoldable pub task_line : RegionState → List ℕ × TerminalState → Activity → List ℕ
 task_line region entry activity =
-    written_line (codes ">") (shown_name entry.0 ∷ task_words entry.1.task ++ activity_words region activity)
+    look_line (shown_name entry.0 ∷ task_words entry.1.task ++ activity_words region activity)
 
 -- what is written of each terminal and of what its task is doing, in the order of their definition
 unfoldable pub of_each : (List ℕ × TerminalState → Activity → List ℕ) → List (List ℕ × TerminalState) → List Activity → List ℕ
 of_each text (entry ∷ entries) (activity ∷ activities) = text entry activity ++ of_each text entries activities
 of_each text _ _ = []
-
--- a look that finds nothing
-abbrev pub none_line : List ℕ → List ℕ
-none_line word = written_line (codes ">") (word ∷ codes "NONE" ∷ [])
-
-abbrev pub or_none : List ℕ → List ℕ → List ℕ
-or_none word text = if length text == 0 then none_line word else text
 
 pub record TasksText (region : RegionState) (text : List ℕ) : Type 0 where
   pub activities : List Activity
@@ -92,11 +86,11 @@ waits_for name _ = false
 
 abbrev pub hold_line : RegionState → ResourceName → Hold → List ℕ
 hold_line region name hold =
-    written_line (codes ">")
-    (codes "RESOURCE" ∷ resource_value name ∷ codes "OWNER" ∷ terminal_at region hold.owner ∷ codes "COUNT" ∷ digits 10 5 hold.count ∷ [])
+    look_line
+    (codes "RESOURCE" ∷ resource_value name ∷ codes "OWNER" ∷ owner_name region hold.owner ∷ codes "COUNT" ∷ digits 10 5 hold.count ∷ [])
 
 abbrev pub waiter_line : ResourceName → List ℕ → List ℕ
-waiter_line name terminal = written_line (codes ">") (codes "RESOURCE" ∷ resource_value name ∷ codes "WAITER" ∷ shown_name terminal ∷ [])
+waiter_line name terminal = look_line (codes "RESOURCE" ∷ resource_value name ∷ codes "WAITER" ∷ shown_name terminal ∷ [])
 
 -- the line of a terminal whose task waits for the resource
 unfoldable pub waiter_text : ResourceName → List ℕ × TerminalState → Activity → List ℕ

@@ -1,5 +1,5 @@
-//! Who is told as waiting.
-ghost use Rattle.cx_look_tasks.specs.Laws.{ActivitiesDecide, WaitsAreTold};
+//! Who is told as waiting, and that each text is one.
+ghost use Rattle.cx_look_tasks.specs.Laws.{ActivitiesDecide, ResourcesTextsDecide, TasksTextsDecide, WaitsAreTold};
 
 /// A terminal is told as waiting exactly where its next turn would be answered Waiting.
 pub fn waits_are_told()
@@ -13,4 +13,12 @@ pub fn activities_decide()
     ensures { ActivitiesDecide }
 {
     cx_rows::laws::a_call_is_judged_once();
+}
+
+/// Each region has one text of its tasks, and one of its resources.
+pub fn texts_decide()
+    ensures tasks { TasksTextsDecide }
+    ensures resources { ResourcesTextsDecide }
+{
+    activities_decide();
 }

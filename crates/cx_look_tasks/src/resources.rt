@@ -7,12 +7,13 @@ ghost use Rattle.cx_look_tasks.specs.Parts.Words.{of_one};
 ghost use Rattle.cx_look_tasks.specs.Tasks.{ResourcesText, hold_line, of_each, resource_lines, waiter_line, waiter_text, waits_for};
 
 use crate::activities::{Activity, Wait};
-use crate::tasks::{activities_in, or_none, resource_value, terminal_at};
+use crate::tasks::{activities_in, owner_name, resource_value};
 use cx_ebcdic::Name4;
+use cx_look_words::{look_line, or_none};
 use cx_region::Region;
 use cx_service::{Hold, ResourceName};
 use cx_storage::Store;
-use cx_text::{decimal, shown_name, written_line};
+use cx_text::{decimal, shown_name};
 use indexmap::IndexMap;
 use std::alloc::{AllocError, Global};
 
@@ -36,11 +37,10 @@ fn hold_line<S: Store + Drop>(
     ensures { IfOk result (λ line. line.items ≡ hold_line region.now name.now hold) }
 {
     let resource = resource_value(alloc, name)?;
-    let owner = terminal_at(alloc, region, hold.owner)?;
+    let owner = owner_name(alloc, region, hold.owner)?;
     let count = decimal::<5>(u32::from(hold.count));
-    written_line(
+    look_line(
         alloc,
-        b">",
         &[
             b"RESOURCE",
             resource.as_slice(),
@@ -58,9 +58,8 @@ fn waiter_line(alloc: Global, name: &ResourceName, terminal: Name4) -> Result<Ve
 {
     let resource = resource_value(alloc, name)?;
     let terminal = shown_name(alloc, terminal)?;
-    written_line(
+    look_line(
         alloc,
-        b">",
         &[
             b"RESOURCE",
             resource.as_slice(),

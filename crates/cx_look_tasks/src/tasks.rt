@@ -5,46 +5,35 @@ ghost use Rattle.std.specs.Option.{option_copied};
 ghost use Rattle.cx_region.specs.Sound.{IsSound};
 ghost use Rattle.cx_region.specs.State.{TerminalState};
 ghost use Rattle.cx_look_tasks.specs.Activities.{AreActivities, IsActivity};
-ghost use Rattle.cx_look_tasks.specs.Tasks.{TasksText, activity_words, command_word, none_line, of_each, or_none, owner_of, owner_word, queue_word, resource_value, resource_word, task_line, task_words, terminal_at, wait_words};
-ghost use Rattle.cx_look_tasks.specs.Parts.Words.{of_one, spaced};
+ghost use Rattle.cx_look_tasks.specs.Tasks.{TasksText, activity_words, command_word, of_each, owner_name, owner_of, owner_word, queue_word, resource_value, resource_word, task_line, task_words, wait_words};
+ghost use Rattle.cx_look_tasks.specs.Parts.Words.{of_one};
+ghost use Rattle.cx_look_words.specs.Words.{spaced};
 
 use crate::activities::{Activity, Wait};
 use crate::judging::activity;
 use cx_command::Command;
 use cx_ebcdic::{Name4, Name8};
-use cx_look_commands::{written_bytes, written_name};
+use cx_look_words::{or_none, push_words, terminal_at, written_bytes, written_name};
 use cx_region::{Region, Terminal};
 use cx_service::{Hold, ResourceName};
 use cx_state::Task;
 use cx_storage::Store;
-use cx_text::{decimal, hexadecimal, shown_name, written_line};
+use cx_text::{decimal, hexadecimal, shown_name};
 use std::alloc::{AllocError, Global};
 
 /// What stands where there is no name.
 const ABSENT: &[u8] = b"--";
 
-/// Adds words, each behind a blank.
-fn push_words(text: &mut Vec<u8>, words: &[&[u8]]) -> Result<(), AllocError>
-    ensures { OnOk result (text.new.items ≡ text.old.items ++ spaced (map (λ word. word.now) words.now)) }
-{
-    for word in words {
-        text.push(b' ')?;
-        text.extend_from_slice(word)?;
-    }
-    Ok(())
-}
-
-/// The name of the terminal at a position, counted from 1.
-pub(crate) fn terminal_at<S: Store + Drop>(
+/// The name of the terminal at a position.
+pub(crate) fn owner_name<S: Store + Drop>(
     alloc: Global,
     region: &Region<S>,
     slot: u8,
 ) -> Result<Vec<u8>, AllocError>
-    ensures { IfOk result (λ name. name.items ≡ terminal_at region.now slot) }
+    ensures { IfOk result (λ name. name.items ≡ owner_name region.now slot) }
 {
-    let index = usize::from(slot.saturating_sub(1));
-    match region.terminals().get_index(index) {
-        Some((name, _terminal)) => shown_name(alloc, *name),
+    match terminal_at(region.terminals(), slot) {
+        Some((name, _terminal)) => shown_name(alloc, name),
         None => ABSENT.to_vec(alloc),
     }
 }
@@ -86,7 +75,7 @@ fn owner_word<S: Store + Drop>(
     ensures { IfOk result (λ word. word.items ≡ owner_word region.now name.now) }
 {
     match hold_of(region, name) {
-        Some(hold) => terminal_at(alloc, region, hold.owner),
+        Some(hold) => owner_name(alloc, region, hold.owner),
         None => ABSENT.to_vec(alloc),
     }
 }
@@ -159,7 +148,7 @@ fn push_wait<S: Store + Drop>(
 }
 
 /// Adds what a task is doing.
-#[tactic(auto, using(crate::proofs::TextLemmas::spaced_first))]
+#[tactic(auto, using(cx_look_words::specs::Facts::Spaced::spaced_first))]
 fn push_activity<S: Store + Drop>(
     text: &mut Vec<u8>,
     alloc: Global,
@@ -196,7 +185,7 @@ fn push_task(text: &mut Vec<u8>, alloc: Global, task: Option<&Task>) -> Result<(
 }
 
 /// The line of a terminal.
-#[tactic(auto, unfolding(crate::specs::Tasks::task_line), using(crate::proofs::TextLemmas::spaced_both, crate::proofs::TextLemmas::spaced_first))]
+#[tactic(auto, unfolding(crate::specs::Tasks::task_line), using(cx_look_words::specs::Facts::Spaced::spaced_both, cx_look_words::specs::Facts::Spaced::spaced_first))]
 fn task_line<S: Store + Drop>(
     alloc: Global,
     region: &Region<S>,
@@ -275,16 +264,6 @@ pub fn activities_in<S: Store + Drop>(
         all.push(activity)?;
     }
     Ok(all)
-}
-
-/// A text, or the line that tells that there is none.
-pub(crate) fn or_none(alloc: Global, word: &[u8], text: Vec<u8>) -> Result<Vec<u8>, AllocError>
-    ensures { IfOk result (λ all. all.items ≡ or_none word.now text.items) }
-{
-    if text.is_empty() {
-        return written_line(alloc, b">", &[word, b"NONE"]);
-    }
-    Ok(text)
 }
 
 /// A line for each terminal: its task, and what that is doing.

@@ -6,9 +6,9 @@ use Rattle.cx_actions.specs.Effects.{Performs}
 use Rattle.cx_actions.specs.declared.actions.Action.{Action}
 use Rattle.cx_actions.specs.declared.actions.Action.TheVariants as edf_action
 use Rattle.cx_script.specs.Transcript.{Runs}
-use Rattle.cx_look_tables.specs.Words.{look_line}
+use Rattle.cx_look_words.specs.Marked.{IsOfLooks}
 use Rattle.cx_look.specs.declared.look.Look.{Look}
-use Rattle.cx_look_stage.specs.Looking.{LookPerforms, look_text}
+use Rattle.cx_look_stage.specs.Looking.{IsLookText, LookPerforms}
 use Rattle.cx_look_stage.specs.Runs.{still_running, turn_of}
 use Rattle.cx_look_stage.specs.declared.action.LookAction.{LookAction}
 use Rattle.cx_look_stage.specs.declared.action.LookAction.TheVariants as action
@@ -29,7 +29,7 @@ pub record IsPartOfRun (name : List ℕ) (n : ℕ) (part : Part) : Type 0 where
 abbrev pub IsPart : EdfState → LookAction → Part → Type 0
 IsPart there (action.Script a) part = (part.plain ≡ a ∷ []) × (part.looked ≡ [])
 IsPart there (action.Run name n) part = IsPartOfRun name n part
-IsPart there (action.Look look) part = (part.plain ≡ []) × (part.looked ≡ look_text look there)
+IsPart there (action.Look look) part = (part.plain ≡ []) × IsLookText look there part.looked
 
 -- a part for each action, from the state that those before leave
 unfoldable pub ArePartsOf : EdfState → List LookAction → List Part → EdfState → Type 0
@@ -60,10 +60,10 @@ abbrev pub LooksChangeNothing : Type 0
 LooksChangeNothing = (old : EdfState) (actions : List LookAction) (text : List ℕ) (new : EdfState)
     → Runs LookPerforms old actions text new → ChangesNothing old actions text new
 
--- a text of lines of looks, which begin with `> `
-pub record IsOfLooks (text : List ℕ) : Type 0 where
-  pub lines : List (List (List ℕ))
-  pub whole : text ≡ flat_map look_line lines
-
+-- what is written for a look is lines of looks
 abbrev pub LooksAreMarked : Type 0
-LooksAreMarked = (look : Look) (state : EdfState) → IsOfLooks (look_text look state)
+LooksAreMarked = (look : Look) (state : EdfState) (text : List ℕ) → IsLookText look state text → IsOfLooks text
+
+-- the text of a look is a function of the state
+abbrev pub LooksAreToldOnce : Type 0
+LooksAreToldOnce = (look : Look) (state : EdfState) (one other : List ℕ) → IsLookText look state one → IsLookText look state other → one ≡ other

@@ -1,5 +1,6 @@
 use Rattle.std.proofs.Common.{◌≡◌, ◌++◌, map, take}
-use Rattle.cx_look_commands.specs.Commands.{condition_word, spaced}
+use Rattle.cx_look_commands.specs.Commands.{condition_word}
+use Rattle.cx_look_words.specs.Words.{spaced}
 use Rattle.cx_look_commands.proofs.words.push_conditions.Given as goal
 
 abbrev pub invariant-loop-listed : goal.invariant-loop-listed

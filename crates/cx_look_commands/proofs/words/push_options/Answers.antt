@@ -1,5 +1,6 @@
 use Rattle.std.proofs.lemmas.Option.{slice_get-get_or}
-use Rattle.cx_look_commands.specs.Commands.{option_words, spaced}
+use Rattle.cx_look_commands.specs.Commands.{option_words}
+use Rattle.cx_look_words.specs.Words.{spaced}
 use Rattle.cx_look_commands.proofs.LineLemmas.{each_done, each_goes_on, no_options, one_more_option}
 use Rattle.cx_look_commands.proofs.words.push_options.Goals as goal
 

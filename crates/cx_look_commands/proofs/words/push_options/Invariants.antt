@@ -1,5 +1,6 @@
 use Rattle.std.proofs.Common.{◌≡◌, ◌++◌, drop}
-use Rattle.cx_look_commands.specs.Commands.{option_words, spaced}
+use Rattle.cx_look_commands.specs.Commands.{option_words}
+use Rattle.cx_look_words.specs.Words.{spaced}
 use Rattle.cx_look_commands.proofs.words.push_options.Given as goal
 
 abbrev pub invariant-loop-option : goal.invariant-loop-option

@@ -1,12 +1,29 @@
--- Values as a source writes them (own).
-use Rattle.std.specs.Prelude.{ℕ, Bool, false, ◌&&◌, ◌==◌, not, List, ◌++◌, codes, if◌then◌else◌}
-use Rattle.std.specs.List.{list_all}
+-- What the lines of looks are made of (own).
+use Rattle.std.specs.Prelude.{ℕ, Bool, false, ◌&&◌, ◌==◌, not, List, [], ◌∷◌, ◌++◌, length, codes, if◌then◌else◌}
+use Rattle.std.specs.List.{flat_map, list_all}
 use Rattle.std.specs.Option.{option_map_or}
 use Rattle.std.specs.Str.{byte}
 use Rattle.cx_ebcdic.specs.Characters.{code_of, shown_as}
 use Rattle.cx_text.specs.Digits.{spelled}
 use Rattle.cx_text.specs.Texts.{shown, trimmed}
 
+-- ---- lines
+-- words, each behind a blank
+abbrev pub spaced : List (List ℕ) → List ℕ
+spaced words = flat_map (λ word. byte " " ∷ word) words
+
+-- a line of a look: its words behind `>`, and LF
+abbrev pub look_line : List (List ℕ) → List ℕ
+look_line words = codes ">" ++ spaced words ++ codes "\n"
+
+-- the line of a look that finds nothing
+abbrev pub none_line : List ℕ → List ℕ
+none_line word = look_line (word ∷ codes "NONE" ∷ [])
+
+abbrev pub or_none : List ℕ → List ℕ → List ℕ
+or_none word text = if length text == 0 then none_line word else text
+
+-- ---- bytes and names
 -- a byte that is the code of a character: one that isn't is shown by another's
 abbrev pub has_character : ℕ → Bool
 has_character b = option_map_or (λ code. code == b) (code_of (shown_as b)) false

@@ -1,9 +1,8 @@
-//! Values as a source writes them.
-
+//! Bytes and names as a source writes them.
 ghost use Rattle.std.specs.Prelude.{◌≡◌, ◌++◌, IfOk, OnOk};
 ghost use Rattle.std.specs.List.{list_all};
 ghost use Rattle.cx_text.specs.Digits.{spelled};
-ghost use Rattle.cx_look_commands.specs.Values.{has_character, in_apostrophes, in_hexadecimal, is_plain, written_bytes, written_name};
+ghost use Rattle.cx_look_words.specs.Words.{has_character, in_apostrophes, in_hexadecimal, is_plain, written_bytes, written_name};
 
 use cx_ebcdic::{display, to_ebcdic};
 use cx_text::{hexadecimal, shown, trimmed};
@@ -34,7 +33,9 @@ fn are_plain(bytes: &[u8]) -> bool
 }
 
 /// A text between apostrophes.
-fn in_apostrophes(alloc: Global, text: &[u8]) -> Result<Vec<u8>, AllocError>
+///
+/// An error comes only where memory for it was refused.
+pub fn in_apostrophes(alloc: Global, text: &[u8]) -> Result<Vec<u8>, AllocError>
     ensures { IfOk result (λ value. value.items ≡ in_apostrophes text.now) }
 {
     let mut value = b"'".to_vec(alloc)?;
@@ -43,22 +44,26 @@ fn in_apostrophes(alloc: Global, text: &[u8]) -> Result<Vec<u8>, AllocError>
     Ok(value)
 }
 
-/// Adds the hexadecimal digits of bytes, two for each.
-fn push_hexadecimal(text: &mut Vec<u8>, bytes: &[u8]) -> Result<(), AllocError>
-    ensures { OnOk result (text.new.items ≡ text.old.items ++ spelled bytes.now) }
+/// Bytes in hexadecimal digits, two for each.
+///
+/// An error comes only where memory for them was refused.
+pub fn spelled(alloc: Global, bytes: &[u8]) -> Result<Vec<u8>, AllocError>
+    ensures { IfOk result (λ text. text.items ≡ spelled bytes.now) }
 {
+    let mut text = Vec::new(alloc);
     for byte in bytes {
         text.extend_from_slice(&hexadecimal::<2>(u32::from(*byte)))?;
     }
-    Ok(())
+    Ok(text)
 }
 
 /// Bytes in hexadecimal.
 fn in_hexadecimal(alloc: Global, bytes: &[u8]) -> Result<Vec<u8>, AllocError>
     ensures { IfOk result (λ value. value.items ≡ in_hexadecimal bytes.now) }
 {
+    let digits = spelled(alloc, bytes)?;
     let mut value = b"X'".to_vec(alloc)?;
-    push_hexadecimal(&mut value, bytes)?;
+    value.extend_from_slice(&digits)?;
     value.push(b'\'')?;
     Ok(value)
 }
@@ -66,7 +71,7 @@ fn in_hexadecimal(alloc: Global, bytes: &[u8]) -> Result<Vec<u8>, AllocError>
 /// Bytes as characters between apostrophes; in hexadecimal where one of them has no character, or is an apostrophe.
 ///
 /// An error comes only where memory for them was refused.
-#[tactic(auto, unfolding(crate::specs::Values::written_bytes))]
+#[tactic(auto, unfolding(crate::specs::Words::written_bytes))]
 pub fn written_bytes(alloc: Global, bytes: &[u8]) -> Result<Vec<u8>, AllocError>
     ensures { IfOk result (λ value. value.items ≡ written_bytes bytes.now) }
 {
@@ -80,7 +85,7 @@ pub fn written_bytes(alloc: Global, bytes: &[u8]) -> Result<Vec<u8>, AllocError>
 /// A name as bytes, but without the blanks that fill it.
 ///
 /// An error comes only where memory for it was refused.
-#[tactic(auto, unfolding(crate::specs::Values::written_name))]
+#[tactic(auto, unfolding(crate::specs::Words::written_name))]
 pub fn written_name(alloc: Global, name: &[u8]) -> Result<Vec<u8>, AllocError>
     ensures { IfOk result (λ value. value.items ≡ written_name name.now) }
 {

@@ -1,0 +1,4 @@
+-- Lemmas that other crates cite.
+pub mod Spaced
+pub mod Words
+pub mod Marked

@@ -1,0 +1,63 @@
+//! Lines of looks, and their words.
+ghost use Rattle.std.specs.Prelude.{◌≡◌, ◌∷◌, ◌++◌, IfOk, OnOk, map};
+ghost use Rattle.std.specs.Fmt.{decimal};
+ghost use Rattle.std.specs.Str.{byte};
+ghost use Rattle.cx_look_words.specs.Words.{look_line, or_none, spaced};
+
+use std::alloc::{AllocError, Global};
+
+/// Adds a word behind a blank.
+///
+/// An error comes only where memory for it was refused; then the blank may be there.
+pub fn push_word(text: &mut Vec<u8>, word: &[u8]) -> Result<(), AllocError>
+    ensures { OnOk result (text.new.items ≡ text.old.items ++ byte " " ∷ word.now) }
+{
+    text.push(b' ')?;
+    text.extend_from_slice(word)?;
+    Ok(())
+}
+
+/// Adds words, each behind a blank.
+///
+/// An error comes only where memory for them was refused; then some of them may be there.
+pub fn push_words(text: &mut Vec<u8>, words: &[&[u8]]) -> Result<(), AllocError>
+    ensures { OnOk result (text.new.items ≡ text.old.items ++ spaced (map (λ word. word.now) words.now)) }
+{
+    for word in words {
+        push_word(text, word)?;
+    }
+    Ok(())
+}
+
+/// A line of a look: `>`, the words, each behind a blank, and LF.
+///
+/// An error comes only where memory for it was refused.
+pub fn look_line(alloc: Global, words: &[&[u8]]) -> Result<Vec<u8>, AllocError>
+    ensures { IfOk result (λ text. text.items ≡ look_line (map (λ word. word.now) words.now)) }
+{
+    let mut text = b">".to_vec(alloc)?;
+    push_words(&mut text, words)?;
+    text.push(b'\n')?;
+    Ok(text)
+}
+
+/// A text, or the line that tells that a look found nothing.
+///
+/// An error comes only where memory for it was refused.
+pub fn or_none(alloc: Global, word: &[u8], text: Vec<u8>) -> Result<Vec<u8>, AllocError>
+    ensures { IfOk result (λ all. all.items ≡ or_none word.now text.items) }
+{
+    if text.is_empty() {
+        return look_line(alloc, &[word, b"NONE"]);
+    }
+    Ok(text)
+}
+
+/// A number in decimal digits, without zeros in front.
+///
+/// An error comes only where memory for it was refused.
+pub fn decimal(alloc: Global, n: usize) -> Result<Vec<u8>, AllocError>
+    ensures { IfOk result (λ text. text.items ≡ decimal n) }
+{
+    Ok(n.to_string(alloc)?.into_bytes())
+}
