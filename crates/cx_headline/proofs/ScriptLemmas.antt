@@ -1,11 +1,11 @@
 -- What was done of a script that ran.
-use Rattle.std.proofs.Common.{ℕ, List, length, take, take_all, le_refl, Option, None, Result, Ok, Err, refl, sym}
+use Rattle.std.proofs.Common.{◌≡◌, ℕ, false, List, length, take, take_all, le_refl, Option, None, Result, Ok, Err, refl, sym}
+use Rattle.std.specs.List.{flat_map}
 use Rattle.cx_edf.specs.declared.answers.Answer.{Answer}
 use Rattle.cx_edf.specs.declared.answers.EdfEvent.{EdfEvent}
 use Rattle.cx_edf.specs.State.{EdfState}
 use Rattle.cx_actions.specs.Effects.{Performs, fresh_state}
-use Rattle.cx_actions.specs.Language.{edf_language}
-use Rattle.cx_actions.specs.declared.actions.Action.{Action}
+use Rattle.cx_actions.specs.Language.{Language, edf_language}
 use Rattle.cx_blocks.specs.declared.faults.RunFault.{RunFault}
 use Rattle.cx_blocks.specs.declared.faults.RunFault.TheVariants.{BadLine, Source, Read, Write, Memory, ReadBound}
 use Rattle.cx_blocks.specs.declared.faults.Summary.{Summary}
@@ -13,14 +13,30 @@ use Rattle.cx_lines.specs.Lines.{lines_met}
 use Rattle.cx_lines.specs.declared.input.Ending.{Ending}
 use Rattle.cx_script.specs.Facts.Fronts.{first_actions}
 use Rattle.cx_script.specs.Script.{Script, script_in, script_of}
-use Rattle.cx_script.specs.Transcript.{Ends, Stops, WroteAll, front_of}
+use Rattle.cx_script.specs.Transcript.{Ends, Runs, Stops, WroteAll, front_of}
 use Rattle.cx_script.specs.Laws.Events.{ScriptsRunTheirEvents, events_of}
+use Rattle.cx_script.specs.Laws.Inputs.{was_stopped}
+use Rattle.cx_look_stage.specs.Laws.Looks.{LooksChangeNothing, plain_of, written_of}
+use Rattle.cx_look_stage.specs.Looking.{LookPerforms}
+use Rattle.cx_look_stage.specs.Reading.{look_language}
+use Rattle.cx_headline.specs.Laws.Looks.{ScriptsAreLookedOver}
 use Rattle.cx_headline.specs.Laws.Runs.{IsDoneOf, OfEachRun, OfEachScript, WasWritten}
 
+-- what was done of a script of a language: the first of its actions, and what these wrote
+record Done {A : Type 0} (performs : EdfState → A → List ℕ → EdfState → Type 0) (script : Script A) (answer : Result Summary RunFault) (before after : Option (List ℕ)) : Type 0 where
+  count : ℕ
+  actions : List A
+  first : actions ≡ take count script.actions
+  all : was_stopped answer ≡ false → actions ≡ script.actions
+  text : List ℕ
+  written : WasWritten answer before after text
+  new : EdfState
+  runs : Runs performs fresh_state actions text new
+
 -- all of its actions
-of_whole : ScriptsRunTheirEvents → (script : Script Action) (answer : Result Summary RunFault) (before after : Option (List ℕ)) (w : WroteAll Performs fresh_state script.actions before after)
-    → WasWritten answer before after w.text → IsDoneOf script answer before after
-of_whole law script answer before after w written =
+of_whole : {A : Type 0} (performs : EdfState → A → List ℕ → EdfState → Type 0) (script : Script A) (answer : Result Summary RunFault) (before after : Option (List ℕ))
+    (w : WroteAll performs fresh_state script.actions before after) → WasWritten answer before after w.text → Done performs script answer before after
+of_whole performs script answer before after w written =
     record {
       count = length script.actions;
       actions = script.actions;
@@ -29,31 +45,32 @@ of_whole law script answer before after w written =
       text = w.text;
       written = written;
       new = w.new;
-      did = law fresh_state script.actions w.text w.new w.runs;
+      runs = w.runs;
     }
 
-done_of : ScriptsRunTheirEvents → (ending : Ending) (bytes : List ℕ) (answer : Result Summary RunFault) (before after : Option (List ℕ))
-    → Ends edf_language Performs fresh_state ending bytes answer before after → IsDoneOf (script_of ending bytes) answer before after
+done_in : {A : Type 0} (language : Language A) (performs : EdfState → A → List ℕ → EdfState → Type 0) (ending : Ending) (bytes : List ℕ) (answer : Result Summary RunFault)
+    (before after : Option (List ℕ)) → Ends language performs fresh_state ending bytes answer before after → Done performs (script_in language ending bytes) answer before after
 unfolding Stops script_in
-done_of law ending bytes (Ok summary) before after e = of_whole law (script_of ending bytes) (Ok summary) before after e.2 e.2.written
-done_of law ending bytes (Err (BadLine n)) before after e = of_whole law (script_of ending bytes) (Err (BadLine n)) before after e.1 e.1.written
-done_of law ending bytes (Err (Source n which)) before after e = of_whole law (script_of ending bytes) (Err (Source n which)) before after e.1 e.1.written
-done_of law ending bytes (Err Read) before after e = of_whole law (script_of ending bytes) (Err Read) before after e.1 e.1.written
-done_of law ending bytes (Err ReadBound) before after e = of_whole law (script_of ending bytes) (Err ReadBound) before after e.1 e.1.written
-done_of law ending bytes (Err Memory) before after e =
-    let actions = (front_of edf_language (lines_met ending bytes) e.line).actions in
+done_in language performs ending bytes (Ok summary) before after e = of_whole performs (script_in language ending bytes) (Ok summary) before after e.2 e.2.written
+done_in language performs ending bytes (Err (BadLine n)) before after e = of_whole performs (script_in language ending bytes) (Err (BadLine n)) before after e.1 e.1.written
+done_in language performs ending bytes (Err (Source n which)) before after e =
+    of_whole performs (script_in language ending bytes) (Err (Source n which)) before after e.1 e.1.written
+done_in language performs ending bytes (Err Read) before after e = of_whole performs (script_in language ending bytes) (Err Read) before after e.1 e.1.written
+done_in language performs ending bytes (Err ReadBound) before after e = of_whole performs (script_in language ending bytes) (Err ReadBound) before after e.1 e.1.written
+done_in {A} language performs ending bytes (Err Memory) before after e =
+    let actions : List A = (front_of language (lines_met ending bytes) e.line).actions in
     record {
       count = length actions;
       actions = actions;
-      first = sym (first_actions edf_language ending 1 None (lines_met ending bytes) e.line);
+      first = sym (first_actions language ending 1 None (lines_met ending bytes) e.line);
       all = λ stopped. cc;
       text = e.done.text;
       written = e.done.written;
       new = e.done.new;
-      did = law fresh_state actions e.done.text e.done.new e.done.runs;
+      runs = e.done.runs;
     }
-done_of law ending bytes (Err Write) before after e =
-    let actions = take e.0 (script_of ending bytes).actions in
+done_in {A} language performs ending bytes (Err Write) before after e =
+    let actions : List A = take e.0 (script_in language ending bytes).actions in
     record {
       count = e.0;
       actions = actions;
@@ -62,7 +79,22 @@ done_of law ending bytes (Err Write) before after e =
       text = e.1.text;
       written = e.1.written;
       new = e.1.new;
-      did = law fresh_state actions e.1.text e.1.new e.1.runs;
+      runs = e.1.runs;
+    }
+
+done_of : ScriptsRunTheirEvents → (ending : Ending) (bytes : List ℕ) (answer : Result Summary RunFault) (before after : Option (List ℕ))
+    → Ends edf_language Performs fresh_state ending bytes answer before after → IsDoneOf (script_of ending bytes) answer before after
+done_of law ending bytes answer before after e =
+    let d = done_in edf_language Performs ending bytes answer before after e in
+    record {
+      count = d.count;
+      actions = d.actions;
+      first = d.first;
+      all = d.all;
+      text = d.text;
+      written = d.written;
+      new = d.new;
+      did = law fresh_state d.actions d.text d.new d.runs;
     }
 
 -- what holds of each run holds of what each script did
@@ -70,3 +102,20 @@ pub of_scripts : ScriptsRunTheirEvents → (Holds : EdfState → List EdfEvent �
 of_scripts law Holds each left left_after failed answer before after ran =
     let done = done_of law ran.ending ran.bytes answer before after ran.ends in
     (done, each fresh_state (events_of done.actions) done.did.answers done.new done.did.run)
+
+-- ---- scripts with looks
+pub looked_over : ScriptsRunTheirEvents → LooksChangeNothing → ScriptsAreLookedOver
+looked_over law change left left_after failed answer before after ran =
+    let d = done_in look_language LookPerforms ran.ending ran.bytes answer before after ran.ends in
+    let c = change fresh_state d.actions d.text d.new d.runs in
+    record {
+      count = d.count;
+      actions = d.actions;
+      first = d.first;
+      all = d.all;
+      text = d.text;
+      written = d.written;
+      new = d.new;
+      unchanged = c;
+      did = law fresh_state (flat_map plain_of c.parts) (flat_map written_of c.parts) d.new c.runs;
+    }

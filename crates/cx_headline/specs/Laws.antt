@@ -3,6 +3,7 @@ pub mod Runs
 pub mod Rows
 pub mod Sources
 pub mod Watching
+pub mod Looks
 pub mod Entries
 pub mod Due
 pub mod Pointers

@@ -4,11 +4,13 @@
 ghost use Rattle.cx_asm_laws.specs.Laws.Back.{ComesBack};
 ghost use Rattle.cx_headline.specs.Laws.Due.{AlwaysKeepsWhatIsDue, EventsKeepWhatIsDue, KeepsWhatIsDue, RunsKeepWhatIsDue, StillKeepsWhatIsDue};
 ghost use Rattle.cx_headline.specs.Laws.Entries.{EntriesHoldTheirBases, TasksBeginSo};
+ghost use Rattle.cx_headline.specs.Laws.Looks.{ScriptsAreLookedOver};
 ghost use Rattle.cx_headline.specs.Laws.Pointers.{PointersAreGiven};
 ghost use Rattle.cx_headline.specs.Laws.Rows.{EachIsItsRow};
 ghost use Rattle.cx_headline.specs.Laws.Runs.{OfEachRun, OfEachScript};
 ghost use Rattle.cx_headline.specs.Laws.Sources.{BlocksComeBack};
 ghost use Rattle.cx_headline.specs.Laws.Watching.{IsAsUnwatched, ShowingChangesNothing};
+ghost use Rattle.cx_look_stage.specs.Laws.Looks.{LooksAreMarked, LooksAreToldOnce, LooksChangeNothing};
 ghost use Rattle.cx_region.specs.Defining.{fresh_region};
 
 /// Each event of a run changes the region exactly as its row says. A turn is one half-turn of the terminal's task: the
@@ -43,6 +45,22 @@ pub fn watching_changes_nothing()
     cx_region_laws::laws::runs_decide();
     cx_edf::edf_laws::what_is_erased_changes_nothing();
     cx_edf::edf_laws::off_is_the_region();
+    cx_script::laws::a_script_runs_its_events();
+}
+
+/// A look changes nothing. In each run of a script with looks each action has a part: one of `cicsedf` stands for itself, RUN for
+/// the turns that it did, and a look for nothing. What they stand for, in order, is a run of `cicsedf` from the same state to the
+/// same state, and the text is that run's, with each look's where it stands. A look's text is a function of the state there, and
+/// is lines that begin with `> `, with no other LF than that at their ends.
+pub fn looking_changes_nothing()
+    ensures runs { LooksChangeNothing }
+    ensures scripts { ScriptsAreLookedOver }
+    ensures told { LooksAreToldOnce }
+    ensures marked { LooksAreMarked }
+{
+    cx_look_stage::laws::looks_change_nothing();
+    cx_look_stage::laws::looks_are_told_once();
+    cx_look_stage::laws::looks_are_marked();
     cx_script::laws::a_script_runs_its_events();
 }
 
