@@ -1,4 +1,4 @@
-"""What a reader must believe of a repository, in the program, the crates that it stands on and the crates of laws:
+"""What a reader must believe of a repository, in the programs, the crates that they stand on and the crates of laws:
 
 - definitions: the definition files of a crate but those of its modules Laws, Facts and Parts;
 - laws' statements: those of Laws;
@@ -16,7 +16,7 @@ import re
 from interface import functions_in
 from repository import Repository, text_of
 
-PROGRAM = "cicsedf"
+PROGRAMS = ("cicsedf", "cicslook")
 HEADLINE = "cx_headline"  # laws too, of all of it
 APART = ("Laws", "Facts", "Parts")  # modules of specs/ without definitions: statements of laws, lemmas, words of private functions
 IMPORT = re.compile(r"^[ \t]*(?:pub )?(?:use|mod)\b[^{\n]*(?:\{[^}]*\})?[^\n]*\n?", re.M)
@@ -113,12 +113,12 @@ class Crate:
 
 
 class Believed:
-    """The definitions, laws and clauses of the crates that the program stands on, of it, and of the crates of laws."""
+    """The definitions, laws and clauses of the crates that the programs stand on, of them, and of the crates of laws."""
 
     def __init__(self, root="."):
         self.root, repository = root, Repository(root)
         self.crates = {it: Crate(root, it) for it in repository.libraries}
-        below = repository.below(PROGRAM)
+        below = set().union(*map(repository.below, PROGRAMS))
         self.counted = [it for it in self.crates if it in below or it.endswith("_laws") or it == HEADLINE]
 
     def kind(self, crate, path):
