@@ -9,6 +9,7 @@ mod stops;
 mod storage_page;
 
 pub use displays::Display;
+pub use rows::{character_group, hex_group};
 #[doc(hidden)]
 pub use seen::Seen;
 pub use stops::{Ending, Kind};

@@ -55,14 +55,10 @@ fn character_at<S: Store + Drop>(region: &Region<S>, address: u32, count: u32, k
     character_of(region.byte(along(address, k)))
 }
 
-/// Four bytes of a row of so many, in hexadecimal.
+/// Four bytes of a row of so many from an address on, from the one with that number on, in hexadecimal: hyphens stand
+/// for an absent byte, blanks for one behind the row's end. It takes no memory.
 #[tactic(auto, unfolding(crate::specs::Texts::hex_group))]
-pub(crate) fn hex_group<S: Store + Drop>(
-    region: &Region<S>,
-    address: u32,
-    count: u32,
-    k: u32,
-) -> [u8; 8]
+pub fn hex_group<S: Store + Drop>(region: &Region<S>, address: u32, count: u32, k: u32) -> [u8; 8]
     requires { k < 16 }
     ensures { result ≡ hex_group region.now.storage address count k }
 {
@@ -73,9 +69,10 @@ pub(crate) fn hex_group<S: Store + Drop>(
     in_columns::<8>(&[&a, &b, &c, &d])
 }
 
-/// The characters of four bytes of a row of so many.
+/// The characters of four bytes of a row of so many from an address on, from the one with that number on: a hyphen
+/// stands for an absent byte, a blank for one behind the row's end. It takes no memory.
 #[tactic(auto, unfolding(crate::specs::Texts::character_group))]
-pub(crate) fn character_group<S: Store + Drop>(
+pub fn character_group<S: Store + Drop>(
     region: &Region<S>,
     address: u32,
     count: u32,

@@ -2,6 +2,8 @@
 use Rattle.std.proofs.Common.{◌≡◌, ℕ, List, sym, ◌∙◌, subst}
 use Rattle.cx_look.specs.declared.look.Look.TheVariants as look
 use Rattle.cx_look_words.specs.Marked.{IsOfLooks}
+use Rattle.cx_look_storage.specs.Facts.Marked.{areas_marked, storage_marked, task_areas_marked}
+use Rattle.cx_look_task.specs.Facts.Marked.{task_marked}
 use Rattle.cx_look_tasks.specs.Laws.{ResourcesTextsDecide, TasksTextsDecide}
 use Rattle.cx_look_stage.specs.Looking.{IsLookText}
 use Rattle.cx_look_stage.specs.Laws.Looks.{LooksAreMarked, LooksAreToldOnce}
@@ -21,10 +23,10 @@ looks_are_marked look.Programs state text e = marked text _ e (all_programs stat
 looks_are_marked look.Tasks state text is = tasks_marked state.region text is
 looks_are_marked look.Resources state text is = resources_marked state.region text is
 looks_are_marked (look.Command name) state text e = marked text _ e (a_command state.region name)
-looks_are_marked (look.Storage at n) state text is = absurd is
-looks_are_marked look.Areas state text is = absurd is
-looks_are_marked (look.AreasOf name) state text is = absurd is
-looks_are_marked (look.Task name) state text is = absurd is
+looks_are_marked (look.Storage at n) state text e = marked text _ e (storage_marked state.region at n)
+looks_are_marked look.Areas state text e = marked text _ e (areas_marked state.region)
+looks_are_marked (look.AreasOf name) state text e = marked text _ e (task_areas_marked state.region name)
+looks_are_marked (look.Task name) state text e = marked text _ e (task_marked state.region name)
 looks_are_marked (look.Abend name) state text is = absurd is
 
 pub looks_are_told_once : TasksTextsDecide → ResourcesTextsDecide → LooksAreToldOnce
@@ -36,8 +38,8 @@ looks_are_told_once tasks resources look.Programs state one other p q = p ∙ sy
 looks_are_told_once tasks resources look.Tasks state one other p q = tasks state.region one other p q
 looks_are_told_once tasks resources look.Resources state one other p q = resources state.region one other p q
 looks_are_told_once tasks resources (look.Command name) state one other p q = p ∙ sym q
-looks_are_told_once tasks resources (look.Storage at n) state one other p q = absurd p
-looks_are_told_once tasks resources look.Areas state one other p q = absurd p
-looks_are_told_once tasks resources (look.AreasOf name) state one other p q = absurd p
-looks_are_told_once tasks resources (look.Task name) state one other p q = absurd p
+looks_are_told_once tasks resources (look.Storage at n) state one other p q = p ∙ sym q
+looks_are_told_once tasks resources look.Areas state one other p q = p ∙ sym q
+looks_are_told_once tasks resources (look.AreasOf name) state one other p q = p ∙ sym q
+looks_are_told_once tasks resources (look.Task name) state one other p q = p ∙ sym q
 looks_are_told_once tasks resources (look.Abend name) state one other p q = absurd p

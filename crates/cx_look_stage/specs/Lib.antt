@@ -14,6 +14,12 @@ pub use Rattle.cx_look_words.specs.Words
 pub use Rattle.cx_look_words.specs.Marked
 pub use Rattle.cx_look_tables.specs.Queues
 pub use Rattle.cx_look_tables.specs.Programs
+pub use Rattle.cx_look_storage.specs.Uses
+pub use Rattle.cx_look_storage.specs.Areas
+pub use Rattle.cx_look_storage.specs.Bytes
+pub use Rattle.cx_look_storage.specs.Places
+pub use Rattle.cx_look_task.specs.Levels
+pub use Rattle.cx_look_task.specs.Tasks as TasksLookedAt
 pub use Rattle.cx_look_commands.specs.Commands
 pub use Rattle.cx_look_commands.specs.Looks as LooksAtCommands
 pub use Rattle.cx_look_tasks.specs.Activities

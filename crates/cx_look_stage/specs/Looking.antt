@@ -7,6 +7,9 @@ use Rattle.cx_look.specs.declared.look.Look.TheVariants as look
 use Rattle.cx_look_tables.specs.Queues.{item_text, queue_text, queues_text}
 use Rattle.cx_look_tables.specs.Programs.{programs_text}
 use Rattle.cx_look_commands.specs.Looks.{command_text}
+use Rattle.cx_look_storage.specs.Areas.{areas_text, task_areas_text}
+use Rattle.cx_look_storage.specs.Bytes.{storage_text}
+use Rattle.cx_look_task.specs.Tasks.{task_text}
 use Rattle.cx_look_tasks.specs.Tasks.{ResourcesText, TasksText}
 use Rattle.cx_look_stage.specs.Runs.{RunsOn}
 use Rattle.cx_look_stage.specs.declared.action.LookAction.{LookAction}
@@ -21,6 +24,10 @@ IsLookText look.Programs state text = text ≡ programs_text state.region.progra
 IsLookText look.Tasks state text = TasksText state.region text
 IsLookText look.Resources state text = ResourcesText state.region text
 IsLookText (look.Command name) state text = text ≡ command_text state.region name
+IsLookText (look.Task name) state text = text ≡ task_text state.region name
+IsLookText look.Areas state text = text ≡ areas_text state.region
+IsLookText (look.AreasOf name) state text = text ≡ task_areas_text state.region name
+IsLookText (look.Storage at n) state text = text ≡ storage_text state.region at n
 IsLookText _ state text = ⊥
 
 -- One action: the state before, the action, what is written for it, and the state after.

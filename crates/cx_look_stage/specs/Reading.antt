@@ -25,14 +25,8 @@ run_of text = option_and_then (λ name. turns_of name (behind text)) (name_of 4 
 
 -- the looks that a script may have
 abbrev pub is_written : Look → Bool
-is_written look.Queues = true
-is_written (look.Queue name) = true
-is_written (look.Item name n) = true
-is_written look.Programs = true
-is_written look.Tasks = true
-is_written look.Resources = true
-is_written (look.Command name) = true
-is_written _ = false
+is_written (look.Abend name) = false
+is_written _ = true
 
 abbrev pub looks : Look → Option LookAction
 looks l = if is_written l then Some (action.Look l) else None

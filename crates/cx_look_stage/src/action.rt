@@ -66,16 +66,7 @@ fn run_of(text: &[u8]) -> Option<LookAction>
 fn is_written(look: Look) -> bool
     ensures { result ≡ is_written look }
 {
-    matches!(
-        look,
-        Look::Queues
-            | Look::Queue(_)
-            | Look::Item(_, _)
-            | Look::Programs
-            | Look::Tasks
-            | Look::Resources
-            | Look::Command(_)
-    )
+    !matches!(look, Look::Abend(_))
 }
 
 /// What a line asks that a script of `cicsedf` doesn't have.

@@ -6,7 +6,9 @@ ghost use Rattle.cx_look_stage.specs.Reading.{is_written};
 use cx_edf::Debugged;
 use cx_look::Look;
 use cx_look_commands::command_text;
+use cx_look_storage::{areas_text, storage_text, task_areas_text};
 use cx_look_tables::{item_text, programs_text, queue_text, queues_text};
+use cx_look_task::task_text;
 use cx_look_tasks::{resources_text, tasks_text};
 use cx_storage::Store;
 use std::alloc::{AllocError, Global};
@@ -29,6 +31,10 @@ pub(crate) fn look_text<S: Store + Drop>(
         Look::Tasks => tasks_text(alloc, state.region()),
         Look::Resources => resources_text(alloc, state.region()),
         Look::Command(name) => command_text(alloc, state.region(), name),
+        Look::Task(name) => task_text(alloc, state.region(), name),
+        Look::Areas => areas_text(alloc, state.region()),
+        Look::AreasOf(name) => task_areas_text(alloc, state.region(), name),
+        Look::Storage(address, n) => storage_text(alloc, state.region(), address, n),
         _ => Ok(Vec::new(alloc)),
     }
 }

@@ -1,1 +1,3 @@
+pub mod AreaLemmas
 pub mod LevelLemmas
+pub mod MetLemmas

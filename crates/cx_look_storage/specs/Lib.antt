@@ -1,2 +1,8 @@
--- The definitions, in reading order.
+-- The definitions, in reading order, then what the laws state.
 pub mod Uses
+pub mod Areas
+pub mod Bytes
+pub mod Places
+pub mod Laws
+pub mod Parts
+pub mod Facts

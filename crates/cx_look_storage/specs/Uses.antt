@@ -1,10 +1,12 @@
 -- What an area is, by the region's tables, and whose it is (own).
-use Rattle.std.specs.Prelude.{ℕ, ◌+◌, ◌==◌, if◌then◌else◌, Option, Some, None, List, [], ◌∷◌, ◌++◌, codes}
+use Rattle.std.specs.Prelude.{ℕ, ◌+◌, ◌-◌, Bool, ◌||◌, nat_lt, ◌==◌, if◌then◌else◌, Option, Some, None, List, [], ◌∷◌, ◌++◌, codes}
 use Rattle.std.specs.Fmt.{decimal}
 use Rattle.std.specs.List.{find}
 use Rattle.std.specs.Option.{option_and_then}
 use Rattle.cx_text.specs.Digits.{digits}
-use Rattle.cx_text.specs.Texts.{shown_name, written_line}
+use Rattle.cx_text.specs.Texts.{shown_name}
+use Rattle.cx_storage.specs.Address.{distance}
+use Rattle.cx_storage.specs.Storage.{covers}
 use Rattle.cx_storage.specs.declared.areas.Area.{Area}
 use Rattle.cx_storage.specs.declared.areas.Kind.{Kind}
 use Rattle.cx_storage.specs.declared.areas.Kind.TheVariants as kind
@@ -13,12 +15,10 @@ use Rattle.cx_program.specs.declared.level.Level.{Level}
 use Rattle.cx_program.specs.Levels.{Levels, all_levels}
 use Rattle.cx_state.specs.State.{TaskState}
 use Rattle.cx_region.specs.State.{RegionState, TerminalState}
+use Rattle.cx_look_words.specs.Terminals.{terminal_at}
+use Rattle.cx_look_words.specs.Words.{look_line}
 
 -- ---- whose
--- the terminal at a position, with its name
-abbrev pub terminal_at : List (List ℕ × TerminalState) → ℕ → Option (List ℕ × TerminalState)
-terminal_at terminals slot = find (λ terminal. terminal.1.slot == slot) terminals
-
 -- the region's, or that of a terminal's task
 abbrev pub owner_name : Option (List ℕ × TerminalState) → List ℕ
 owner_name None = codes "REGION"
@@ -56,15 +56,33 @@ use_of kind.Fixed programs task start = fixed_use (program_at programs start)
 use_of kind.Got programs task start = codes "GETMAIN"
 use_of kind.System programs task start = task_use start task
 
+-- ---- of a region
+-- the terminal whose task owns an area, where it isn't the region's
+abbrev pub owner_of : RegionState → Area → Option (List ℕ × TerminalState)
+owner_of region area = terminal_at region.terminals area.owner.slot
+
+unfoldable pub area_owner : RegionState → Area → List ℕ
+area_owner region area = owner_name (owner_of region area)
+
+unfoldable pub area_use : RegionState → Area → List ℕ
+area_use region area = use_of area.owner.kind region.programs (option_and_then (λ t. t.1.task) (owner_of region area)) area.start
+
 -- ---- the line of an area
-abbrev pub area_words : Area → List ℕ → List ℕ → List ℕ
-area_words area what owner =
-    written_line (codes ">") (codes "AREA" ∷ digits 16 6 area.start ∷ codes "LENGTH" ∷ digits 16 6 area.len ∷ what ∷ codes "OWNER" ∷ owner ∷ [])
-
--- by the terminal whose task owns it, where it isn't the region's
-abbrev pub line_for : RegionState → Area → Option (List ℕ × TerminalState) → List ℕ
-line_for region area terminal =
-    area_words area (use_of area.owner.kind region.programs (option_and_then (λ t. t.1.task) terminal) area.start) (owner_name terminal)
-
 unfoldable pub area_line : RegionState → Area → List ℕ
-area_line region area = line_for region area (terminal_at region.terminals area.owner.slot)
+area_line region area =
+    look_line (codes "AREA" ∷ digits 16 6 area.start ∷ codes "LENGTH" ∷ digits 16 6 area.len ∷ area_use region area
+    ∷ codes "OWNER" ∷ area_owner region area ∷ [])
+
+-- ---- the line of an area that has one of some bytes from an address on
+-- it has the first of them, or starts at one of them
+abbrev pub is_met : ℕ → ℕ → Area → Bool
+is_met address n area = covers area address || nat_lt (distance address area.start) n
+
+-- the offset in it of the first of them that it has
+abbrev pub offset_of : ℕ → Area → ℕ
+offset_of address area = if covers area address then address - area.start else 0
+
+unfoldable pub met_line : RegionState → ℕ → Area → List ℕ
+met_line region address area =
+    look_line (codes "AREA" ∷ digits 16 6 area.start ∷ codes "LENGTH" ∷ digits 16 6 area.len
+    ∷ codes "OFFSET" ∷ digits 16 6 (offset_of address area) ∷ area_use region area ∷ codes "OWNER" ∷ area_owner region area ∷ [])

@@ -1,27 +1,43 @@
 //! What an area is, by the region's tables, and whose it is.
 ghost use Rattle.std.specs.Prelude.{◌≡◌, IfOk};
 ghost use Rattle.std.specs.Option.{option_copied, option_map};
-ghost use Rattle.cx_look_storage.specs.Uses.{area_line, area_words, fixed_use, program_at, stg_at, stg_use, task_use, terminal_at, use_of};
+ghost use Rattle.cx_storage.specs.Storage.{covers};
+ghost use Rattle.cx_look_storage.specs.Uses.{area_line, area_owner, area_use, fixed_use, is_met, met_line, offset_of, program_at, stg_at, stg_use, task_use, use_of};
 
 use cx_ebcdic::{Name4, Name8};
 use cx_load::Loaded;
+use cx_look_words::{look_line, terminal_at};
 use cx_program::LevelStack;
 use cx_region::{Region, Task, Terminal};
-use cx_storage::{Area, Kind, Store};
-use cx_text::{hexadecimal, shown_name, written_line};
+use cx_storage::{Area, Kind, Store, along};
+use cx_text::{hexadecimal, shown_name};
 use indexmap::IndexMap;
 use std::alloc::{AllocError, Global};
 
-/// The terminal at a position, with its name.
-fn terminal_at(terminals: &IndexMap<Name4, Terminal>, slot: u8) -> Option<(Name4, &Terminal)>
-    ensures { option_map (λ t. (t.0, t.1.now)) result ≡ terminal_at terminals.now.entries slot }
+/// Whether an area has a byte at an address.
+fn covers(area: Area, address: u32) -> bool
+    ensures { result ≡ covers area address }
 {
-    for (name, terminal) in terminals.iter() {
-        if terminal.station().slot == slot {
-            return Some((*name, terminal));
-        }
+    area.start <= address && address - area.start < area.len
+}
+
+/// The offset in an area of the first byte that it has from an address on: 0 where it starts behind the address.
+fn offset_of(address: u32, area: Area) -> u32
+    ensures { result ≡ offset_of address area }
+{
+    if covers(area, address) {
+        address - area.start
+    } else {
+        0
     }
-    None
+}
+
+/// Whether an area has one of so many bytes from an address on.
+pub(crate) fn is_met(address: u32, n: u32, area: Area) -> bool
+    ensures { result ≡ is_met address n area }
+{
+    let distance = along(area.start, 0x100_0000_u32.saturating_sub(address));
+    covers(area, address) || distance < n
 }
 
 /// The name of the program that starts at an address.
@@ -110,17 +126,36 @@ fn use_of(
     }
 }
 
-/// The line of an area.
-fn line_for(alloc: Global, area: Area, what: &[u8], owner: &[u8]) -> Result<Vec<u8>, AllocError>
-    ensures { IfOk result (λ text. text.items ≡ area_words area what.now owner.now) }
+/// What an area is, by the region's tables.
+#[tactic(auto, unfolding(crate::specs::Uses::area_use))]
+fn area_use<S: Store + Drop>(
+    alloc: Global,
+    region: &Region<S>,
+    area: Area,
+) -> Result<Vec<u8>, AllocError>
+    ensures { IfOk result (λ text. text.items ≡ area_use region.now area) }
 {
-    let start = hexadecimal::<6>(area.start);
-    let len = hexadecimal::<6>(area.len);
-    written_line(
-        alloc,
-        b">",
-        &[b"AREA", &start, b"LENGTH", &len, what, b"OWNER", owner],
-    )
+    let programs = &region.shared().programs;
+    let kind = area.owner.kind;
+    let Some((_, terminal)) = terminal_at(region.terminals(), area.owner.slot) else {
+        return use_of(alloc, kind, programs, None, area.start);
+    };
+    use_of(alloc, kind, programs, terminal.task(), area.start)
+}
+
+/// Whose an area is.
+#[tactic(auto, unfolding(crate::specs::Uses::area_owner))]
+fn area_owner<S: Store + Drop>(
+    alloc: Global,
+    region: &Region<S>,
+    area: Area,
+) -> Result<Vec<u8>, AllocError>
+    ensures { IfOk result (λ text. text.items ≡ area_owner region.now area) }
+{
+    let Some((name, _)) = terminal_at(region.terminals(), area.owner.slot) else {
+        return b"REGION".to_vec(alloc);
+    };
+    shown_name(alloc, name)
 }
 
 /// The line of an area: where it starts, its length, what it is, and whose.
@@ -134,18 +169,36 @@ pub fn area_line<S: Store + Drop>(
 ) -> Result<Vec<u8>, AllocError>
     ensures { IfOk result (λ text. text.items ≡ area_line region.now area) }
 {
-    let programs = &region.shared().programs;
-    let Some((name, terminal)) = terminal_at(region.terminals(), area.owner.slot) else {
-        let what = use_of(alloc, area.owner.kind, programs, None, area.start)?;
-        return line_for(alloc, area, &what, b"REGION");
-    };
-    let what = use_of(
+    let start = hexadecimal::<6>(area.start);
+    let len = hexadecimal::<6>(area.len);
+    let what = area_use(alloc, region, area)?;
+    let owner = area_owner(alloc, region, area)?;
+    look_line(
         alloc,
-        area.owner.kind,
-        programs,
-        terminal.task(),
-        area.start,
-    )?;
-    let owner = shown_name(alloc, name)?;
-    line_for(alloc, area, &what, &owner)
+        &[b"AREA", &start, b"LENGTH", &len, &what, b"OWNER", &owner],
+    )
+}
+
+/// The line of an area that has bytes from an address on: as an area's line, with the offset of the first of them in
+/// it.
+#[tactic(auto, unfolding(crate::specs::Uses::met_line))]
+pub(crate) fn met_line<S: Store + Drop>(
+    alloc: Global,
+    region: &Region<S>,
+    address: u32,
+    area: Area,
+) -> Result<Vec<u8>, AllocError>
+    ensures { IfOk result (λ text. text.items ≡ met_line region.now address area) }
+{
+    let start = hexadecimal::<6>(area.start);
+    let len = hexadecimal::<6>(area.len);
+    let offset = hexadecimal::<6>(offset_of(address, area));
+    let what = area_use(alloc, region, area)?;
+    let owner = area_owner(alloc, region, area)?;
+    look_line(
+        alloc,
+        &[
+            b"AREA", &start, b"LENGTH", &len, b"OFFSET", &offset, &what, b"OWNER", &owner,
+        ],
+    )
 }

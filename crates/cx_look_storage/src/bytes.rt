@@ -1,0 +1,111 @@
+//! STORAGE.
+ghost use Rattle.std.specs.Prelude.{◌≡◌, ◌-◌, ◌*◌, ◌<◌, ◌^◌, ◌++◌, IfOk, OnOk};
+ghost use Rattle.std.specs.List.{filter, flat_map};
+ghost use Rattle.cx_storage.specs.Address.{along};
+ghost use Rattle.cx_storage.specs.Storage.{areas_of};
+ghost use Rattle.cx_look_storage.specs.Bytes.{row_line, rows_text, storage_text};
+ghost use Rattle.cx_look_storage.specs.Uses.{is_met, met_line};
+
+use crate::areas::all_areas;
+use crate::uses::{is_met, met_line};
+use cx_display::{character_group, hex_group};
+use cx_look_words::look_line;
+use cx_region::Region;
+use cx_storage::{Area, Store, along};
+use cx_text::{hexadecimal, in_columns};
+use std::alloc::{AllocError, Global};
+
+/// The bytes of a row.
+const ROW: u32 = 16;
+
+/// The line of a row of so many bytes, of which it shows the first sixteen.
+#[tactic(auto, unfolding(crate::specs::Bytes::row_line))]
+fn row_line<S: Store + Drop>(
+    alloc: Global,
+    region: &Region<S>,
+    at: u32,
+    count: u32,
+) -> Result<Vec<u8>, AllocError>
+    ensures { IfOk result (λ line. line.items ≡ row_line region.now.storage at count) }
+{
+    let place = hexadecimal::<6>(at);
+    let a = hex_group(region, at, count, 0);
+    let b = hex_group(region, at, count, 4);
+    let c = hex_group(region, at, count, 8);
+    let d = hex_group(region, at, count, 12);
+    let e = character_group(region, at, count, 0);
+    let f = character_group(region, at, count, 4);
+    let g = character_group(region, at, count, 8);
+    let h = character_group(region, at, count, 12);
+    let characters = in_columns::<16>(&[&e, &f, &g, &h]);
+    look_line(alloc, &[&place, b"", &a, &b, &c, &d, b"", &characters])
+}
+
+/// Adds the rows of so many bytes from an address on.
+fn push_rows<S: Store + Drop>(
+    alloc: Global,
+    text: &mut Vec<u8>,
+    region: &Region<S>,
+    address: u32,
+    n: u32,
+) -> Result<(), AllocError>
+    ensures { OnOk result (text.new.items ≡ text.old.items ++ rows_text region.now.storage address n) }
+{
+    let rows = ((u64::from(n) + 15) / 16) as u32;
+    for k in 0..rows {
+        let line = row_line(alloc, region, along(address, ROW * k), n - ROW * k)?;
+        text.extend_from_slice(&line)?;
+    }
+    Ok(())
+}
+
+/// Adds a line for each of some areas that have bytes from an address on.
+fn push_met<S: Store + Drop>(
+    alloc: Global,
+    text: &mut Vec<u8>,
+    region: &Region<S>,
+    address: u32,
+    areas: &[Area],
+) -> Result<(), AllocError>
+    ensures { OnOk result (text.new.items ≡ text.old.items ++ flat_map (met_line region.now address) areas.now) }
+{
+    for area in areas {
+        text.extend_from_slice(&met_line(alloc, region, address, *area)?)?;
+    }
+    Ok(())
+}
+
+/// The areas that have one of so many bytes from an address on.
+fn met_areas<S: Store>(
+    alloc: Global,
+    store: &S,
+    address: u32,
+    n: u32,
+) -> Result<Vec<Area>, AllocError>
+    ensures { IfOk result (λ areas. areas.items ≡ filter (is_met address n) (areas_of (S.storage store.now))) }
+{
+    let mut areas = all_areas(alloc, store)?;
+    areas.retain(|area| is_met(address, n, *area));
+    Ok(areas)
+}
+
+/// Looks at so many bytes of storage from an address on: sixteen a line, with hyphens for one that is in no area, and
+/// a line for each area that has one of them, the one at the lowest address first. Behind X'FFFFFF' they go on at
+/// address 0.
+///
+/// An error comes only where memory for the text was refused.
+#[tactic(auto, unfolding(crate::specs::Bytes::storage_text))]
+pub fn storage_text<S: Store + Drop>(
+    alloc: Global,
+    region: &Region<S>,
+    address: u32,
+    n: u32,
+) -> Result<Vec<u8>, AllocError>
+    ensures { IfOk result (λ text. text.items ≡ storage_text region.now address n) }
+{
+    let mut text = Vec::new(alloc);
+    push_rows(alloc, &mut text, region, address, n)?;
+    let areas = met_areas(alloc, &region.shared().store, address, n)?;
+    push_met(alloc, &mut text, region, address, &areas)?;
+    Ok(text)
+}

@@ -1,0 +1,220 @@
+-- The lines of a task and of its levels are lines of looks.
+use Rattle.std.specs.Prelude.{ℕ, ◌+◌, Option, Some, None, List, [], ◌∷◌, ◌++◌, length, slice_index, codes, Result, Ok, Err}
+use Rattle.std.specs.Option.{option_map_or}
+use Rattle.std.proofs.Common.{refl}
+use Rattle.cx_command.specs.Commands.{row_of}
+use Rattle.cx_command.specs.Conditions.{entry_of, handled}
+use Rattle.cx_command.specs.Eistg.{eistg_field}
+use Rattle.cx_command.specs.declared.commands.Command.{Command}
+use Rattle.cx_command.specs.declared.commands.Command.TheVariants as command
+use Rattle.cx_command.specs.declared.conditions.Condition.{Condition}
+use Rattle.cx_command.specs.declared.conditions.Condition.TheVariants as condition
+use Rattle.cx_command.specs.declared.eistg.EistgField.TheVariants.{Eicap}
+use Rattle.cx_storage.specs.Address.{along}
+use Rattle.cx_storage.specs.Storage.{Storage}
+use Rattle.cx_storage.specs.Word.{word_at}
+use Rattle.cx_load.specs.declared.program.Loaded.{Loaded}
+use Rattle.cx_program.specs.Entries.{entry_for}
+use Rattle.cx_program.specs.Levels.{all_levels}
+use Rattle.cx_program.specs.declared.entries.Entry.{Entry}
+use Rattle.cx_program.specs.declared.entries.Entry.TheVariants as entry
+use Rattle.cx_program.specs.declared.entries.Exit.{Exit}
+use Rattle.cx_program.specs.declared.entries.Exit.TheVariants as exit
+use Rattle.cx_program.specs.declared.level.Level.{Level}
+use Rattle.cx_call.specs.Call.{Call, call_of}
+use Rattle.cx_call.specs.declared.call.CallFault.{CallFault}
+use Rattle.cx_state.specs.State.{SharedState, TaskState}
+use Rattle.cx_task.specs.Performing.{list_of}
+use Rattle.cx_text.specs.Digits.{digits}
+use Rattle.cx_text.specs.Texts.{shown_name}
+use Rattle.cx_region.specs.State.{RegionState, shared_of}
+use Rattle.cx_region.specs.Tables.{task_of}
+use Rattle.cx_look_words.specs.Facts.Marked.{a_line, lines_of_each, more_lines, no_lines}
+use Rattle.cx_look_words.specs.Facts.Words.{digits_are_word, name_is_word, word_append}
+use Rattle.cx_look_words.specs.Marked.{AreWords, IsOfLooks, IsWord}
+use Rattle.cx_look_storage.specs.Facts.Words.{either_is_word, place_is_word, some_is_word}
+use Rattle.cx_look_storage.specs.Places.{place_word}
+use Rattle.cx_look_task.specs.Levels.{cap_word, exit_line, exit_words, goes_on, handle_line, handle_lines, level_line, level_text, level_words, levels_text}
+use Rattle.cx_look_task.specs.Tasks.{called_name, due_word, none_line, register_line, register_lines, state_line, task_line, task_text, task_words, text_of}
+
+-- ---- names
+condition_word : (c : Condition) → IsWord (entry_of c).name
+condition_word condition.Normal = refl
+condition_word condition.Error = refl
+condition_word condition.Invreq = refl
+condition_word condition.Nospace = refl
+condition_word condition.Lengerr = refl
+condition_word condition.Itemerr = refl
+condition_word condition.Pgmiderr = refl
+condition_word condition.Nostg = refl
+condition_word condition.Qiderr = refl
+condition_word condition.Enqbusy = refl
+
+command_word : (c : Command) → IsWord (row_of c).name
+command_word command.Address = refl
+command_word command.HandleCondition = refl
+command_word command.IgnoreCondition = refl
+command_word command.PushHandle = refl
+command_word command.PopHandle = refl
+command_word command.Receive = refl
+command_word command.WriteqTs = refl
+command_word command.ReadqTs = refl
+command_word command.DeleteqTs = refl
+command_word command.Getmain = refl
+command_word command.Freemain = refl
+command_word command.Link = refl
+command_word command.Xctl = refl
+command_word command.Return = refl
+command_word command.Abend = refl
+command_word command.HandleAbend = refl
+command_word command.Enq = refl
+command_word command.Deq = refl
+command_word command.Suspend = refl
+command_word command.SendText = refl
+
+-- ---- levels
+words_marked : (k : ℕ) (words : List (List ℕ)) → AreWords words → IsOfLooks (level_words k words)
+words_marked k words p = a_line (codes "LEVEL" ∷ digits 10 2 k ∷ words) (refl, (digits_are_word 10 2 k, p))
+
+level_marked : (shared : SharedState) (k : ℕ) (level : Level) → IsOfLooks (level_line shared k level)
+unfolding level_line
+level_marked shared k level =
+    words_marked k
+    (codes "PROGRAM" ∷ shown_name level.program ∷ codes "R14" ∷ digits 16 6 (goes_on level) ∷ place_word shared.programs (goes_on level)
+    ∷ codes "DFHEISTG" ∷ digits 16 6 level.stg ∷ codes "LENGTH" ∷ digits 16 6 level.stg_len ∷ codes "DFHEICAP" ∷ cap_word shared.storage level
+    ∷ codes "EIBCALEN" ∷ digits 16 4 level.calen ∷ codes "PUSHED" ∷ digits 10 2 (length level.handles.kept) ∷ []) (
+      refl,
+      (
+        name_is_word level.program,
+        (
+          refl,
+          (
+            digits_are_word 16 6 (goes_on level),
+            (
+              place_is_word shared.programs (goes_on level),
+              (
+                refl,
+                (
+                  digits_are_word 16 6 level.stg,
+                  (
+                    refl,
+                    (
+                      digits_are_word 16 6 level.stg_len,
+                      (
+                        refl,
+                        (
+                          some_is_word (digits 16 8) (digits_are_word 16 8) (word_at shared.storage (along level.stg (eistg_field Eicap).offset)) (codes "--") refl,
+                          (refl, (digits_are_word 16 4 level.calen, (refl, (digits_are_word 10 2 (length level.handles.kept), tt)))),
+                        ),
+                      ),
+                    ),
+                  ),
+                ),
+              ),
+            ),
+          ),
+        ),
+      ),
+    )
+
+handle_marked : (programs : List (List ℕ × Loaded)) (k : ℕ) (c : Condition) (e : Entry) → IsOfLooks (handle_line programs k c e)
+handle_marked programs k c entry.NoEntry = no_lines
+handle_marked programs k c entry.Ignored = words_marked k (codes "IGNORE" ∷ (entry_of c).name ∷ []) (refl, (condition_word c, tt))
+handle_marked programs k c (entry.Label label) =
+    words_marked k (codes "HANDLE" ∷ (entry_of c).name ∷ digits 16 6 label ∷ place_word programs label ∷ [])
+    (refl, (condition_word c, (digits_are_word 16 6 label, (place_is_word programs label, tt))))
+
+at_exit : (programs : List (List ℕ × Loaded)) (k label : ℕ) (state : List ℕ) → IsWord state → IsOfLooks (exit_words programs k label state)
+at_exit programs k label state p =
+    words_marked k (codes "EXIT" ∷ digits 16 6 label ∷ place_word programs label ∷ state ∷ []) (refl, (digits_are_word 16 6 label, (place_is_word programs label, (p, tt))))
+
+exit_marked : (programs : List (List ℕ × Loaded)) (k : ℕ) (e : Exit) → IsOfLooks (exit_line programs k e)
+exit_marked programs k exit.NoExit = no_lines
+exit_marked programs k (exit.On label) = at_exit programs k label (codes "ON") refl
+exit_marked programs k (exit.Off label) = at_exit programs k label (codes "OFF") refl
+
+text_marked : (shared : SharedState) (k : ℕ) (level : Level) → IsOfLooks (level_text shared k level)
+unfolding level_text
+text_marked shared k level =
+    let handles : List ℕ = handle_lines shared.programs k level.handles.active.entries handled in
+    let first : IsOfLooks (level_line shared k level ++ handles) =
+    more_lines (level_line shared k level) handles (level_marked shared k level)
+    (lines_of_each (λ c. handle_line shared.programs k c (entry_for level.handles.active.entries c))
+    (λ c. handle_marked shared.programs k c (entry_for level.handles.active.entries c)) handled) in
+    more_lines (level_line shared k level ++ handles) (exit_line shared.programs k level.handles.active.exit) first
+    (exit_marked shared.programs k level.handles.active.exit)
+
+levels_marked : (shared : SharedState) (k : ℕ) (levels : List Level) → IsOfLooks (levels_text shared k levels)
+unfolding levels_text
+levels_marked shared k [] = no_lines
+levels_marked shared k (level ∷ levels) =
+    more_lines (level_text shared k level) (levels_text shared (k + 1) levels) (text_marked shared k level) (levels_marked shared (k + 1) levels)
+
+-- ---- the task
+called_word : (call : Result Call CallFault) → IsWord (called_name call)
+called_word (Ok call) = command_word call.command
+called_word (Err fault) = refl
+
+due_marked : (s : Storage) (task : TaskState) → IsWord (due_word s task)
+unfolding due_word
+due_marked s task =
+    either_is_word task.due (codes "DUE " ++ called_name (call_of s (list_of task))) (codes "RUNNING")
+    (word_append (codes "DUE ") (called_name (call_of s (list_of task))) refl (called_word (call_of s (list_of task)))) refl
+
+first_marked : (name : List ℕ) (task : TaskState) (due : List ℕ) → IsWord due → IsOfLooks (task_words name task due)
+unfolding task_words
+first_marked name task due p =
+    a_line (codes "TASK" ∷ shown_name name ∷ codes "TRAN" ∷ shown_name task.tran ∷ codes "NUMBER" ∷ digits 10 7 task.number ∷ due ∷ [])
+    (refl, (name_is_word name, (refl, (name_is_word task.tran, (refl, (digits_are_word 10 7 task.number, (p, tt)))))))
+
+state_marked : (shared : SharedState) (task : TaskState) → IsOfLooks (state_line shared task)
+unfolding state_line
+state_marked shared task =
+    a_line (codes "CC" ∷ digits 10 1 task.cc ∷ codes "NEXT" ∷ digits 16 6 task.next ∷ place_word shared.programs task.next ∷ [])
+    (refl, (digits_are_word 10 1 task.cc, (refl, (digits_are_word 16 6 task.next, (place_is_word shared.programs task.next, tt)))))
+
+register_marked : (regs : List ℕ) (k : ℕ) → IsOfLooks (register_line regs k)
+unfolding register_line
+register_marked regs k =
+    a_line
+    ((codes "R" ++ digits 10 2 k) ∷ digits 16 8 (slice_index regs k) ∷ digits 16 8 (slice_index regs (k + 1)) ∷ digits 16 8 (slice_index regs (k + 2))
+    ∷ digits 16 8 (slice_index regs (k + 3)) ∷ []) (
+      word_append (codes "R") (digits 10 2 k) refl (digits_are_word 10 2 k),
+      (
+        digits_are_word 16 8 (slice_index regs k),
+        (
+          digits_are_word 16 8 (slice_index regs (k + 1)),
+          (digits_are_word 16 8 (slice_index regs (k + 2)), (digits_are_word 16 8 (slice_index regs (k + 3)), tt)),
+        ),
+      ),
+    )
+
+registers_marked : (regs : List ℕ) → IsOfLooks (register_lines regs)
+unfolding register_lines
+registers_marked regs =
+    let two : IsOfLooks (register_line regs 0 ++ register_line regs 4) =
+    more_lines (register_line regs 0) (register_line regs 4) (register_marked regs 0) (register_marked regs 4) in
+    let three : IsOfLooks (register_line regs 0 ++ register_line regs 4 ++ register_line regs 8) =
+    more_lines (register_line regs 0 ++ register_line regs 4) (register_line regs 8) two (register_marked regs 8) in
+    more_lines (register_line regs 0 ++ register_line regs 4 ++ register_line regs 8) (register_line regs 12) three (register_marked regs 12)
+
+whole_marked : (shared : SharedState) (name : List ℕ) (task : TaskState) → IsOfLooks (text_of shared name task)
+whole_marked shared name task =
+    let a : List ℕ = task_line shared name task in
+    let b : List ℕ = register_lines task.regs in
+    let c : List ℕ = state_line shared task in
+    let two : IsOfLooks (a ++ b) =
+    more_lines a b (first_marked name task (due_word shared.storage task) (due_marked shared.storage task)) (registers_marked task.regs) in
+    let three : IsOfLooks (a ++ b ++ c) = more_lines (a ++ b) c two (state_marked shared task) in
+    more_lines (a ++ b ++ c) (levels_text shared 1 (all_levels task.levels)) three (levels_marked shared 1 (all_levels task.levels))
+
+none_marked : (name : List ℕ) → IsOfLooks (none_line name)
+none_marked name = a_line (codes "TASK" ∷ shown_name name ∷ codes "NONE" ∷ []) (refl, (name_is_word name, (refl, tt)))
+
+if_marked : (shared : SharedState) (name : List ℕ) (task : Option TaskState) → IsOfLooks (option_map_or (text_of shared name) task (none_line name))
+if_marked shared name None = none_marked name
+if_marked shared name (Some task) = whole_marked shared name task
+
+pub task_marked : (region : RegionState) (name : List ℕ) → IsOfLooks (task_text region name)
+unfolding task_text
+task_marked region name = if_marked (shared_of region) name (task_of region name)

@@ -1,0 +1,5 @@
+-- The definitions, in reading order.
+pub mod Levels
+pub mod Tasks
+pub mod Parts
+pub mod Facts

@@ -1,0 +1,242 @@
+//! The levels of a task.
+ghost use Rattle.std.specs.Prelude.{◌≡◌, ◌++◌, ◌+◌, ◌∷◌, ◌≤◌, IfOk, OnOk, map, codes, slice_get};
+ghost use Rattle.cx_program.specs.Levels.{all_levels};
+ghost use Rattle.cx_look_task.specs.Parts.Levels.{level_at};
+ghost use Rattle.cx_look_task.specs.Levels.{cap_word, exit_line, exit_words, handle_line, handle_lines, ignore_line, label_line, level_line, level_text, levels_text};
+
+use cx_command::{Condition, EistgField};
+use cx_ebcdic::Name8;
+use cx_load::Loaded;
+use cx_look_storage::place_word;
+use cx_look_words::look_line;
+use cx_program::{Entries, Entry, Exit, Level, LevelStack};
+use cx_state::Shared;
+use cx_storage::{Store, address_in, along, word_at};
+use cx_text::{decimal, hexadecimal, shown_name};
+use indexmap::IndexMap;
+use std::alloc::{AllocError, Global};
+
+/// The word at DFHEICAP.
+fn cap_word<S: Store>(alloc: Global, store: &S, level: &Level) -> Result<Vec<u8>, AllocError>
+    ensures { IfOk result (λ word. word.items ≡ cap_word (S.storage store.now) level.now) }
+{
+    match word_at(store, along(level.stg, EistgField::Eicap.offset())) {
+        Some(word) => hexadecimal::<8>(word).to_vec(alloc),
+        None => b"--".to_vec(alloc),
+    }
+}
+
+/// The line of a level.
+#[tactic(auto, unfolding(crate::specs::Levels::level_line))]
+fn level_line<S: Store + Drop>(
+    alloc: Global,
+    shared: &Shared<S>,
+    k: u32,
+    level: &Level,
+) -> Result<Vec<u8>, AllocError>
+    ensures { IfOk result (λ line. line.items ≡ level_line shared.now k level.now) }
+{
+    let next = address_in(level.regs[14]);
+    let number = decimal::<2>(k);
+    let program = shown_name(alloc, level.program)?;
+    let address = hexadecimal::<6>(next);
+    let place = place_word(alloc, &shared.programs, next)?;
+    let stg = hexadecimal::<6>(level.stg);
+    let len = hexadecimal::<6>(level.stg_len);
+    let cap = cap_word(alloc, &shared.store, level)?;
+    let calen = hexadecimal::<4>(u32::from(level.calen));
+    let pushed = decimal::<2>(level.handles.pushed() as u32);
+    look_line(
+        alloc,
+        &[
+            b"LEVEL",
+            &number,
+            b"PROGRAM",
+            &program,
+            b"R14",
+            &address,
+            &place,
+            b"DFHEISTG",
+            &stg,
+            b"LENGTH",
+            &len,
+            b"DFHEICAP",
+            &cap,
+            b"EIBCALEN",
+            &calen,
+            b"PUSHED",
+            &pushed,
+        ],
+    )
+}
+
+/// The line of a condition that is ignored.
+fn ignore_line(alloc: Global, k: u32, condition: Condition) -> Result<Vec<u8>, AllocError>
+    ensures { IfOk result (λ line. line.items ≡ ignore_line k condition) }
+{
+    let number = decimal::<2>(k);
+    let name = condition.name().as_bytes();
+    look_line(alloc, &[b"LEVEL", &number, b"IGNORE", name])
+}
+
+/// The line of a condition with a label.
+fn label_line(
+    alloc: Global,
+    programs: &IndexMap<Name8, Loaded>,
+    k: u32,
+    condition: Condition,
+    label: u32,
+) -> Result<Vec<u8>, AllocError>
+    ensures { IfOk result (λ line. line.items ≡ label_line programs.now.entries k condition label) }
+{
+    let number = decimal::<2>(k);
+    let name = condition.name().as_bytes();
+    let address = hexadecimal::<6>(label);
+    let place = place_word(alloc, programs, label)?;
+    look_line(
+        alloc,
+        &[b"LEVEL", &number, b"HANDLE", name, &address, &place],
+    )
+}
+
+/// Adds the line of a condition, where it has an entry.
+fn push_handle(
+    alloc: Global,
+    text: &mut Vec<u8>,
+    programs: &IndexMap<Name8, Loaded>,
+    k: u32,
+    condition: Condition,
+    entry: Entry,
+) -> Result<(), AllocError>
+    ensures { OnOk result (text.new.items ≡ text.old.items ++ handle_line programs.now.entries k condition entry) }
+{
+    match entry {
+        Entry::NoEntry => (),
+        Entry::Ignored => text.extend_from_slice(&ignore_line(alloc, k, condition)?)?,
+        Entry::Label(label) => {
+            text.extend_from_slice(&label_line(alloc, programs, k, condition, label)?)?;
+        }
+    }
+    Ok(())
+}
+
+/// Adds the lines of those of some conditions that have an entry.
+fn push_handles(
+    alloc: Global,
+    text: &mut Vec<u8>,
+    programs: &IndexMap<Name8, Loaded>,
+    k: u32,
+    entries: &Entries,
+    conditions: &[Condition],
+) -> Result<(), AllocError>
+    ensures { OnOk result (text.new.items
+        ≡ text.old.items ++ handle_lines programs.now.entries k entries.now conditions.now) }
+{
+    for condition in conditions {
+        let entry = entries.entry_for(*condition);
+        push_handle(alloc, text, programs, k, *condition, entry)?;
+    }
+    Ok(())
+}
+
+/// The line of an exit, with the word that tells whether it is on.
+fn exit_words(
+    alloc: Global,
+    programs: &IndexMap<Name8, Loaded>,
+    k: u32,
+    label: u32,
+    state: &[u8],
+) -> Result<Vec<u8>, AllocError>
+    ensures { IfOk result (λ line. line.items ≡ exit_words programs.now.entries k label state.now) }
+{
+    let number = decimal::<2>(k);
+    let address = hexadecimal::<6>(label);
+    let place = place_word(alloc, programs, label)?;
+    look_line(
+        alloc,
+        &[b"LEVEL", &number, b"EXIT", &address, &place, state],
+    )
+}
+
+/// Adds the line of an exit, where there is one.
+fn push_exit(
+    alloc: Global,
+    text: &mut Vec<u8>,
+    programs: &IndexMap<Name8, Loaded>,
+    k: u32,
+    exit: Exit,
+) -> Result<(), AllocError>
+    ensures { OnOk result (text.new.items ≡ text.old.items ++ exit_line programs.now.entries k exit) }
+{
+    match exit {
+        Exit::NoExit => (),
+        Exit::On(label) => {
+            text.extend_from_slice(&exit_words(alloc, programs, k, label, b"ON")?)?;
+        }
+        Exit::Off(label) => {
+            text.extend_from_slice(&exit_words(alloc, programs, k, label, b"OFF")?)?;
+        }
+    }
+    Ok(())
+}
+
+/// Adds the lines of a level.
+#[tactic(auto, unfolding(crate::specs::Levels::level_text))]
+fn push_level<S: Store + Drop>(
+    alloc: Global,
+    text: &mut Vec<u8>,
+    shared: &Shared<S>,
+    k: u32,
+    level: &Level,
+) -> Result<(), AllocError>
+    ensures { OnOk result (text.new.items ≡ text.old.items ++ level_text shared.now k level.now) }
+{
+    let programs = &shared.programs;
+    let active = level.handles.active();
+    let line = level_line(alloc, shared, k, level)?;
+    text.extend_from_slice(&line)?;
+    push_handles(
+        alloc,
+        text,
+        programs,
+        k,
+        &active.entries,
+        Condition::handled(),
+    )?;
+    push_exit(alloc, text, programs, k, active.exit)?;
+    Ok(())
+}
+
+/// Adds the lines of the level at an index, counted from 0, where there is one.
+fn push_level_at<S: Store + Drop>(
+    alloc: Global,
+    text: &mut Vec<u8>,
+    shared: &Shared<S>,
+    levels: &LevelStack,
+    index: usize,
+) -> Result<(), AllocError>
+    requires { index ≤ 16 }
+    ensures { OnOk result (text.new.items
+        ≡ text.old.items ++ level_at shared.now (index + 1) (slice_get (all_levels levels.now) index)) }
+{
+    let Some(level) = levels.get(index) else {
+        return Ok(());
+    };
+    push_level(alloc, text, shared, index as u32 + 1, level)?;
+    Ok(())
+}
+
+/// Adds the lines of all levels, the highest first.
+pub(crate) fn push_levels<S: Store + Drop>(
+    alloc: Global,
+    text: &mut Vec<u8>,
+    shared: &Shared<S>,
+    levels: &LevelStack,
+) -> Result<(), AllocError>
+    ensures { OnOk result (text.new.items ≡ text.old.items ++ levels_text shared.now 1 (all_levels levels.now)) }
+{
+    for index in 0..levels.len() {
+        push_level_at(alloc, text, shared, levels, index)?;
+    }
+    Ok(())
+}
