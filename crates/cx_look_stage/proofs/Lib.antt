@@ -4,3 +4,4 @@ mod TableMarks
 mod CommandMarks
 mod TaskMarks
 mod MarkLemmas
+mod SameLemmas

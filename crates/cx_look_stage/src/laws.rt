@@ -1,6 +1,7 @@
 //! What follows from the definitions of a script with looks.
 
 ghost use Rattle.cx_look_stage.specs.Laws.Looks.{LooksAreMarked, LooksAreToldOnce, LooksChangeNothing};
+ghost use Rattle.cx_look_stage.specs.Laws.Scripts.{ActionsStay, ScriptsStay};
 
 /// A look changes nothing. Each run has for each of its actions a part, in which an action of `cicsedf` stands for itself, RUN for as
 /// many TURNs as it did, and a look for nothing: the actions of all parts are a run of `cicsedf` from the same state to the same
@@ -20,3 +21,9 @@ pub fn looks_are_told_once()
 {
     cx_look_tasks::laws::texts_decide();
 }
+
+/// A script of `cicsedf` without a bad line is the same script here, and its actions do and write the same.
+pub fn scripts_of_cicsedf_stay()
+    ensures scripts { ScriptsStay }
+    ensures actions { ActionsStay }
+{}
