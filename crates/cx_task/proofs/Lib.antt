@@ -14,4 +14,5 @@ mod TurnLemmas
 mod HalfLemmas
 mod DecideLemmas
 mod TurnDecide
+mod TroubleLemmas
 pub mod StayLemmas

@@ -5,6 +5,7 @@ pub mod Ways
 pub mod Answers
 pub mod Performing
 pub mod Turn
+pub mod Causes
 pub mod Sound
 pub mod Laws
 pub mod Parts

@@ -71,7 +71,7 @@ fn meet<S: Store + Drop>(
 }
 
 /// The way of a task after a command.
-fn way_at(call: &Call, condition: Condition, change: &Change, task: &Task) -> Way
+pub(crate) fn way_at(call: &Call, condition: Condition, change: &Change, task: &Task) -> Way
     requires { condition ≢ Condition.Error }
     ensures { result ≡ way_of call.now task.now.levels.current.handles.active.entries condition change.now }
 {

@@ -1,5 +1,6 @@
 //! What holds of every half-turn.
 ghost use Rattle.cx_task.specs.Laws.HalfTurns.{HalfTurnsDecide, HalfTurnsKeep, HalfTurnsStay, WaitsLeave};
+ghost use Rattle.cx_task.specs.Laws.Troubles.{TroublesDecide, TroublesExplain};
 
 /// What was reached before a half-turn decides its reply and all that is reached after it.
 pub fn half_turns_decide()
@@ -29,3 +30,13 @@ pub fn half_turns_stay()
 pub fn waits_leave()
     ensures { WaitsLeave }
 {}
+
+/// What was reached before a half-turn decides why it leads to an abend, and what the task had then. That is told exactly where the
+/// reply is an abend, whether an exit took it or the task ended; and the abend's code is that which the cause leads to.
+pub fn troubles_explain()
+    ensures decide { TroublesDecide }
+    ensures explain { TroublesExplain }
+{
+    cx_exec_laws::laws::runs_decide();
+    cx_rows::laws::a_call_is_judged_once();
+}

@@ -4,6 +4,8 @@
 mod abending;
 mod answering;
 mod areas;
+mod cause;
+mod causing;
 mod finishing;
 mod going;
 pub mod laws;
@@ -14,6 +16,8 @@ mod way;
 pub use abending::end_by_abend;
 pub use answering::answer;
 pub use areas::{entry_level, entry_registers, get_at, get_filled, get_stg, put_cap, system_owner};
+pub use cause::{Cause, Trouble};
+pub use causing::half_turn_with_cause;
 pub use turning::half_turn;
 #[doc(hidden)]
 pub use way::Way;

@@ -21,7 +21,7 @@ use cx_storage::{Store, address_in};
 use std::alloc::AllocError;
 
 /// The most instructions of a half-turn.
-const MOST_STEPS: u32 = 65_536;
+pub(crate) const MOST_STEPS: u32 = 65_536;
 
 /// A command is due, and the current level keeps registers and code.
 fn stop_at_command(task: &mut Task)
@@ -37,7 +37,7 @@ fn stop_at_command(task: &mut Task)
 
 /// The reply where instructions ended so.
 #[tactic(auto, unfolding(crate::specs::Turn::Halted))]
-fn halt<S: Store + Drop>(
+pub(crate) fn halt<S: Store + Drop>(
     how: Halt,
     shared: &mut Shared<S>,
     station: &mut Station,
@@ -102,7 +102,7 @@ fn perform_call<S: Store + Drop>(
 
 /// Performs the command that is due.
 #[tactic(auto, unfolding(crate::specs::Performing::Commanded))]
-fn perform<S: Store + Drop>(
+pub(crate) fn perform<S: Store + Drop>(
     shared: &mut Shared<S>,
     station: &mut Station,
     task: &mut Task,

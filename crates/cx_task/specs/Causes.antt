@@ -1,0 +1,105 @@
+-- Why a half-turn of a task leads to an abend (own): the cause by which it is dealt with, and what the task had before that.
+use Rattle.std.specs.Prelude.{◌≡◌, ℕ, if◌then◌else◌, List, [], ◌∷◌, map, Option, Some, None, Result, Ok, Err, MatchBool}
+use Rattle.std.specs.Option.{option_map}
+use Rattle.cx_command.specs.declared.abends.Abend.{Abend}
+use Rattle.cx_command.specs.declared.abends.Abend.TheVariants as abend
+use Rattle.cx_command.specs.declared.commands.Command.{Command}
+use Rattle.cx_command.specs.declared.conditions.Condition.{Condition}
+use Rattle.cx_storage.specs.Address.{along}
+use Rattle.cx_storage.specs.Storage.{Storage, byte_at}
+use Rattle.cx_exec.specs.declared.machine.Halt.{Halt}
+use Rattle.cx_exec.specs.declared.machine.Halt.TheVariants as halt
+use Rattle.cx_exec.specs.Machine.{Machine}
+use Rattle.cx_exec.specs.Advance.{Advances}
+use Rattle.cx_call.specs.declared.call.CallFault.{CallFault}
+use Rattle.cx_call.specs.declared.call.CallFault.TheVariants.{Xarg, Xfun}
+use Rattle.cx_call.specs.Call.{Call, call_of}
+use Rattle.cx_call.specs.Inputs.{are_inputs_there}
+use Rattle.cx_state.specs.declared.verdict.Verdict.{Verdict}
+use Rattle.cx_state.specs.declared.verdict.Verdict.TheVariants.{Refuses, Waits, Meets}
+use Rattle.cx_state.specs.State.{Reach}
+use Rattle.cx_rows.specs.Judged.{Judged}
+use Rattle.cx_task.specs.declared.cause.Cause.{Cause}
+use Rattle.cx_task.specs.declared.cause.Cause.TheVariants as cause
+use Rattle.cx_task.specs.declared.cause.Trouble.{Trouble}
+use Rattle.cx_task.specs.declared.way.Way.{Way}
+use Rattle.cx_task.specs.declared.way.Way.TheVariants as way
+use Rattle.cx_task.specs.Answers.{has_room, way_at}
+use Rattle.cx_task.specs.Performing.{list_of}
+use Rattle.cx_task.specs.Turn.{machine_of, most_steps}
+use Rattle.cx_task.specs.Ways.{is_normal}
+
+-- ---- what a task has
+-- the six bytes from an address on, each where it is in storage
+abbrev pub bytes_from : Storage → ℕ → List (Option ℕ)
+bytes_from s a = map (λ k. byte_at s (along a k)) (0 ∷ 1 ∷ 2 ∷ 3 ∷ 4 ∷ 5 ∷ [])
+
+-- a cause, with what the machine has; none where there is no cause
+abbrev pub trouble_with : Option Command → Machine → Cause → Trouble
+trouble_with command m why =
+    record { cause = why; command = command; regs = m.regs; cc = m.cc; next = m.next; bytes = bytes_from m.storage m.next }
+
+-- ---- causes
+-- by how the instructions ended
+abbrev pub halt_cause : Halt → Option Cause
+halt_cause halt.AtEntry = None
+halt_cause (halt.Interrupt interruption place) = Some (cause.Interrupted interruption)
+halt_cause halt.Limit = Some cause.Limit
+
+-- by the way of the task: an abend without a condition is one that the program asked for
+abbrev pub way_cause : Way → Condition → Option Cause
+way_cause (way.Abends code cancel) condition = Some (if is_normal condition then cause.Asked else cause.Met condition)
+way_cause _ condition = None
+
+-- by the verdict; an output whose bytes aren't in storage refuses the command
+unfoldable pub verdict_cause : Verdict → Call → Reach → Option Cause
+verdict_cause (Refuses abend) call r = Some (cause.Refused abend)
+verdict_cause Waits call r = None
+verdict_cause (Meets condition outputs change) call r =
+    if has_room call outputs change r then way_cause (way_at call condition change r) condition else Some (cause.Refused abend.Xarg)
+
+pub record CauseJudged (call : Call) (before : Reach) (why : Option Cause) : Type 0 where
+  pub verdict : Verdict
+  pub judged : Judged call before verdict
+  pub is : why ≡ verdict_cause verdict call before
+
+-- by the call: an input whose bytes aren't in storage refuses it
+unfoldable pub CauseOfCall : Call → Reach → Option Cause → Type 0
+CauseOfCall call before why =
+    MatchBool (are_inputs_there before.shared.storage call) (CauseJudged call before why) (why ≡ Some (cause.Refused abend.Xarg))
+
+abbrev pub fault_abend : CallFault → Abend
+fault_abend Xarg = abend.Xarg
+fault_abend Xfun = abend.Xfun
+
+-- by what the argument list reads as: a fault of it refuses the command
+abbrev pub CauseOfRead : Result Call CallFault → Reach → Option Cause → Type 0
+CauseOfRead (Ok call) before why = CauseOfCall call before why
+CauseOfRead (Err fault) before why = why ≡ Some (cause.Refused (fault_abend fault))
+
+-- ---- troubles
+-- the command, where the argument list can be read
+abbrev pub command_in : Result Call CallFault → Option Command
+command_in (Ok call) = Some call.command
+command_in (Err fault) = None
+
+-- the command that is due as its argument list is read
+abbrev pub read_of : Reach → Result Call CallFault
+read_of r = call_of r.shared.storage (list_of r.task)
+
+-- of a command that is due
+pub record CommandTroubled (before : Reach) (trouble : Option Trouble) : Type 0 where
+  pub why : Option Cause
+  pub causes : CauseOfRead (read_of before) before why
+  pub is : trouble ≡ option_map (trouble_with (command_in (read_of before)) (machine_of before)) why
+
+-- of instructions that run
+pub record RunTroubled (before : Reach) (trouble : Option Trouble) : Type 0 where
+  pub how : Halt
+  pub between : Machine
+  pub advances : Advances most_steps (machine_of before) how between
+  pub is : trouble ≡ option_map (trouble_with None between) (halt_cause how)
+
+-- Why a half-turn leads to an abend, and what the task had before that was dealt with; None where it leads to none.
+unfoldable pub Troubled : Reach → Option Trouble → Type 0
+Troubled before trouble = MatchBool before.task.due (CommandTroubled before trouble) (RunTroubled before trouble)
