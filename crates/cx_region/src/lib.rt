@@ -4,6 +4,7 @@
 mod alter;
 mod asking;
 mod attach;
+mod causing;
 mod changes;
 mod defining;
 mod events;
@@ -19,6 +20,7 @@ pub use cx_call::{Call, CallFault, read_call};
 pub use cx_state::TurnReply;
 #[doc(hidden)]
 pub use cx_state::{Following, Input, Shared, Station, Task};
+pub use cx_task::{Cause, Trouble};
 pub use looking::command_name;
 pub use replies::{DefineFault, Event, KeyReply, Reply, RunStop, TaskInfo};
 pub use state::Region;

@@ -51,7 +51,7 @@ pub(crate) fn drop_if(over: bool, held: &mut Option<Task>)
 }
 
 /// Drops a task that is over, by its answer.
-fn drop_over(reply: &TurnReply, held: &mut Option<Task>)
+pub(crate) fn drop_over(reply: &TurnReply, held: &mut Option<Task>)
     ensures { held.new ≡ (if is_over reply.now then None else held.old) }
 {
     drop_if(reply.is_over(), held);
