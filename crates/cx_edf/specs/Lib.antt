@@ -4,6 +4,7 @@ pub mod Answers
 pub mod Sessions
 pub mod State
 pub mod Steps
+pub mod Causes
 pub mod Erasure
 pub mod Runs
 pub mod Laws

@@ -106,7 +106,7 @@ impl<S: Store + Drop> Debugged<S> {
     }
 
     /// Whether the turns of a terminal are held: it is in Stopped, with a live task.
-    fn holds(&self, name: Name4) -> bool
+    pub(crate) fn holds(&self, name: Name4) -> bool
         ensures { result ≡ holds self.now name }
     {
         table::is_stopped(&self.sessions, name) && self.region.task(name).is_some()

@@ -2,6 +2,7 @@
 #![tactic(auto)]
 
 mod answers;
+mod causing;
 mod debugged;
 pub mod edf_laws;
 mod modes;

@@ -24,7 +24,7 @@ fn of_key(given: KeyAnswer) -> Answer
 }
 
 /// The answer of a turn, as an event's.
-fn of_turn(given: TurnAnswer) -> Answer
+pub(crate) fn of_turn(given: TurnAnswer) -> Answer
     ensures { result ≡ turn_answer given }
 {
     match given {
@@ -69,7 +69,7 @@ impl<S: Store + Drop> Debugged<S> {
 
     /// Does one event of the region.
     #[tactic(auto, unfolding(crate::specs::Steps::EdfHappens, crate::specs::Steps::door_of, crate::specs::Runs::MayTakeEdf))]
-    fn plain(&mut self, event: &Event) -> Result<Answer, AllocError>
+    pub(crate) fn plain(&mut self, event: &Event) -> Result<Answer, AllocError>
         requires { IsAllowed event.now }
         ensures happens { IfOk result (λ given. EdfHappens self.old (edf_event.Plain event.now) given self.new) }
         ensures memory { OnErr result (MayTakeEdf self.old (edf_event.Plain event.now)) }
