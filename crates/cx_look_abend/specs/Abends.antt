@@ -1,0 +1,71 @@
+-- What is kept of a terminal's last abend (own).
+use Rattle.std.specs.Prelude.{ℕ, ◌-◌, ◌&&◌, Bool, nat_le, nat_lt, List, Option, Some, None, slice_index}
+use Rattle.std.specs.List.{find}
+use Rattle.std.specs.Option.{option_and_then, option_map}
+use Rattle.cx_command.specs.Abends.{abend_code}
+use Rattle.cx_command.specs.declared.abends.Abend.TheVariants.{Xedf}
+use Rattle.cx_load.specs.declared.program.Loaded.{Loaded}
+use Rattle.cx_storage.specs.Address.{address_in}
+use Rattle.cx_state.specs.declared.replies.TurnReply.{TurnReply}
+use Rattle.cx_state.specs.declared.replies.TurnReply.TheVariants as turn
+use Rattle.cx_task.specs.declared.cause.Cause.{Cause}
+use Rattle.cx_task.specs.declared.cause.Cause.TheVariants as cause
+use Rattle.cx_task.specs.declared.cause.Trouble.{Trouble}
+use Rattle.cx_region.specs.State.{RegionState}
+use Rattle.cx_region.specs.Tables.{task_of}
+use Rattle.cx_look_abend.specs.declared.abends.LastAbend.{LastAbend}
+use Rattle.cx_look_abend.specs.declared.abends.Place.{Place}
+
+-- ---- places
+-- a program stands at an address
+unfoldable pub covers : ℕ → Loaded → Bool
+covers a loaded = nat_le loaded.at a && nat_lt (a - loaded.at) loaded.len
+
+-- an address, with the program that stands there and how many of its bytes stand before it
+abbrev pub place_in : List (List ℕ × Loaded) → ℕ → Place
+place_in programs a =
+    record {
+      address = a;
+      spot = option_map (λ program. (program.0, a - program.1.at)) (find (λ program. covers a program.1) programs);
+    }
+
+-- ---- an abend
+-- the code of an abend, where a turn's reply is one
+abbrev pub abend_code_in : TurnReply → Option (List ℕ)
+abend_code_in (turn.TookExit code) = Some code
+abend_code_in (turn.Abended code) = Some code
+abend_code_in _ = None
+
+-- where the program was: at the next address, or behind a command, where bits 8 to 31 of R14 lead
+abbrev pub place_by : Cause → Trouble → ℕ
+place_by (cause.Interrupted interruption) trouble = trouble.next
+place_by cause.Limit trouble = trouble.next
+place_by _ trouble = address_in (slice_index trouble.regs 14)
+
+abbrev pub told_place : Trouble → ℕ
+told_place trouble = place_by trouble.cause trouble
+
+-- where the program goes on, where an exit took the abend
+abbrev pub next_of : RegionState → List ℕ → Option ℕ
+next_of region name = option_map (λ task. task.next) (task_of region name)
+
+abbrev pub exit_place : RegionState → List ℕ → TurnReply → Option Place
+exit_place region name (turn.TookExit code) = option_map (place_in region.programs) (next_of region name)
+exit_place region name _ = None
+
+-- the abend of a turn of this terminal with that reply and trouble, in the region after it
+abbrev pub last_with : RegionState → List ℕ → TurnReply → Trouble → List ℕ → LastAbend
+last_with region name reply trouble code =
+    record {
+      code = code;
+      told = Some (record { trouble = trouble; place = place_in region.programs (told_place trouble) });
+      exit = exit_place region name reply;
+    }
+
+abbrev pub last_of_turn : RegionState → List ℕ → TurnReply → Option Trouble → Option LastAbend
+last_of_turn region name reply trouble =
+    option_and_then (λ it. option_map (last_with region name reply it) (abend_code_in reply)) trouble
+
+-- an abend that an operator asked for
+abbrev pub by_operator : LastAbend
+by_operator = record { code = abend_code Xedf; told = None; exit = None }

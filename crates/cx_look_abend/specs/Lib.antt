@@ -1,0 +1,5 @@
+-- The definitions, in reading order.
+pub mod Abends
+pub mod Noting
+pub mod Texts
+pub mod Laws

@@ -1,0 +1,81 @@
+-- How the last abend of each terminal is kept, by the events that are done (own).
+use Rattle.std.specs.Prelude.{◌≡◌, ℕ, Bool, true, false, ⊤, List, Option, Some, None, Ok, MatchBool, if◌then◌else◌}
+use Rattle.std.specs.Map.{set_value}
+use Rattle.std.specs.Option.{option_map_or}
+use Rattle.indexmap.specs.IndexMap.{insert_entry}
+use Rattle.cx_task.specs.declared.cause.Trouble.{Trouble}
+use Rattle.cx_region.specs.Names.{is_name4}
+use Rattle.cx_region.specs.State.{RegionState}
+use Rattle.cx_region.specs.declared.changes.AlterReply.TheVariants as alter
+use Rattle.cx_region.specs.declared.changes.Change.{Change}
+use Rattle.cx_region.specs.declared.changes.Change.TheVariants as change
+use Rattle.cx_region.specs.declared.replies.Event.TheVariants as event
+use Rattle.cx_region.specs.declared.replies.Reply.TheVariants as reply
+use Rattle.cx_edf.specs.Causes.{EdfTroubled}
+use Rattle.cx_edf.specs.Runs.{MayTakeEdf}
+use Rattle.cx_edf.specs.State.{EdfState, ends_by_key}
+use Rattle.cx_edf.specs.Steps.{EdfHappens}
+use Rattle.cx_edf.specs.declared.answers.Answer.{Answer}
+use Rattle.cx_edf.specs.declared.answers.Answer.TheVariants as answer
+use Rattle.cx_edf.specs.declared.answers.EdfEvent.{EdfEvent}
+use Rattle.cx_edf.specs.declared.answers.EdfEvent.TheVariants as edf_event
+use Rattle.cx_look_abend.specs.Abends.{by_operator, last_of_turn}
+use Rattle.cx_look_abend.specs.declared.abends.LastAbend.{LastAbend}
+
+-- the terminals that are defined, each with its last abend, where it has had one
+abbrev pub Abends : Type 0
+Abends = List (List ℕ × Option LastAbend)
+
+-- the same, with this as a terminal's last abend
+abbrev pub with_last : Abends → List ℕ → LastAbend → Abends
+with_last abends name last = set_value (is_name4 name) abends (Some last)
+
+-- a terminal that is defined has had no abend
+abbrev pub is_defined : Answer → Bool
+is_defined (answer.Region (reply.Terminal (Ok done))) = true
+is_defined _ = false
+
+abbrev pub kept_terminal : Abends → List ℕ → Answer → Abends
+kept_terminal abends name given = if is_defined given then insert_entry is_name4 abends name None else abends
+
+-- an abend to which a turn led, in the region after it
+abbrev pub kept_turn : Abends → List ℕ → Answer → Option Trouble → RegionState → Abends
+kept_turn abends name (answer.Region (reply.Turn given)) trouble region =
+    option_map_or (with_last abends name) (last_of_turn region name given trouble) abends
+kept_turn abends name _ trouble region = abends
+
+-- an abend that an operator asked for, by ALTER, or by PF12 that ends a task
+abbrev pub kept_alter : Abends → List ℕ → Change → Answer → Abends
+kept_alter abends name change.Abend (answer.Region (reply.Alter alter.Altered)) = with_last abends name by_operator
+kept_alter abends name _ _ = abends
+
+abbrev pub kept_key : Abends → List ℕ → Bool → Abends
+kept_key abends name ends = if ends then with_last abends name by_operator else abends
+
+-- What is kept after an event that was answered so, for that trouble, in the region after it; the flag says that it was PF12
+-- that ends a task.
+abbrev pub kept_after : Abends → Bool → EdfEvent → Answer → Option Trouble → RegionState → Abends
+kept_after abends ends (edf_event.Plain (event.Terminal name)) given trouble region = kept_terminal abends name given
+kept_after abends ends (edf_event.Plain (event.Turn name)) given trouble region = kept_turn abends name given trouble region
+kept_after abends ends (edf_event.Plain (event.Alter name c)) given trouble region = kept_alter abends name c given
+kept_after abends ends (edf_event.Plain (event.Key name aid bytes)) given trouble region = kept_key abends name ends
+kept_after abends ends _ given trouble region = abends
+
+abbrev pub ends_task : EdfState → EdfEvent → Bool
+ends_task old (edf_event.Plain (event.Key name aid bytes)) = ends_by_key old name aid
+ends_task old _ = false
+
+-- an event, and what is kept after it
+pub record HappensNoted (old : EdfState) (before : Abends) (e : EdfEvent) (given : Answer) (new : EdfState) (after : Abends) : Type 0 where
+  pub trouble : Option Trouble
+  pub happens : EdfHappens old e given new
+  pub troubled : EdfTroubled old e trouble
+  pub kept : after ≡ kept_after before (ends_task old e) e given trouble new.region
+
+-- A new terminal takes room for its last abend; any other event may take memory as it may without what is kept.
+abbrev pub defines_terminal : EdfEvent → Bool
+defines_terminal (edf_event.Plain (event.Terminal name)) = true
+defines_terminal _ = false
+
+abbrev pub MayTakeNoted : EdfState → EdfEvent → Type 0
+MayTakeNoted old e = MatchBool (defines_terminal e) ⊤ (MayTakeEdf old e)

@@ -1,0 +1,207 @@
+//! What is kept of a terminal's last abend.
+ghost use Rattle.std.specs.Prelude.{◌≡◌, ◌≤◌, None, Some};
+ghost use Rattle.std.specs.List.{find};
+ghost use Rattle.indexmap.specs.IndexMap.{insert_entry, spare};
+ghost use Rattle.cx_region.specs.Names.{is_name4};
+ghost use Rattle.cx_look_abend.specs.Abends.{abend_code_in, by_operator, covers, exit_place, last_of_turn, next_of, place_in, told_place};
+
+use cx_command::Abend;
+use cx_ebcdic::{Name4, Name8};
+use cx_load::Loaded;
+use cx_region::{Cause, Region, Trouble, TurnReply};
+use cx_storage::{Store, address_in};
+use indexmap::IndexMap;
+use std::marker::Model;
+
+/// An address, and the program that stands there, with how many of its bytes stand before it.
+#[derive(Clone, Copy, Debug, PartialEq, Eq)]
+pub struct Place {
+    pub address: u32,
+    pub spot: Option<(Name8, u32)>,
+}
+
+/// Why a turn led to an abend, and where its program was: at the next address, or behind a command, where R14 leads.
+#[derive(Clone, Copy, Debug, PartialEq, Eq)]
+pub struct Told {
+    pub trouble: Trouble,
+    pub place: Place,
+}
+
+/// A terminal's last abend.
+#[derive(Clone, Copy, Debug, PartialEq, Eq)]
+pub struct LastAbend {
+    pub code: Name4,
+    /// Why a turn led to it; None where an operator asked for it.
+    pub told: Option<Told>,
+    /// Where the program went on, where an exit took it.
+    pub exit: Option<Place>,
+}
+
+/// The last abend of a terminal, where it has had one.
+#[derive(Drop)]
+pub struct Kept {
+    last: Option<LastAbend>,
+}
+
+impl Model for Kept {
+    ghost use Rattle.std.specs.Prelude.{Option};
+    ghost use Rattle.cx_look_abend.specs.declared.abends.LastAbend.{LastAbend as TheAbend};
+
+    ghost Value = { Option TheAbend };
+
+    ghost view = { λ kept. kept.last };
+}
+
+impl Kept {
+    /// None so far.
+    fn none() -> Kept
+        ensures { result ≡ None }
+    {
+        Kept { last: None }
+    }
+
+    /// The abend, where there is one.
+    pub(crate) fn last(&self) -> Option<LastAbend>
+        ensures { result ≡ self.now }
+    {
+        self.last
+    }
+
+    /// Keeps an abend.
+    pub(crate) fn keep(&mut self, last: LastAbend)
+        ensures { self.new ≡ Some last }
+    {
+        self.last = Some(last);
+    }
+}
+
+/// The last abend of each terminal that is defined.
+pub type LastAbends = IndexMap<Name4, Kept>;
+
+/// Inserts a value for which there is room.
+fn insert<V: Drop>(table: &mut IndexMap<Name4, V>, name: Name4, value: V)
+    requires { 1 ≤ spare table.old }
+    ensures { table.new.entries ≡ insert_entry is_name4 table.old.entries name value }
+{
+    match table.insert(name, value) {
+        Ok(_before) => (),
+        Err(_refused) => (),
+    }
+}
+
+/// Keeps that a terminal, for which there is room, has had no abend.
+pub(crate) fn put_none(abends: &mut LastAbends, name: Name4)
+    requires { 1 ≤ spare abends.old }
+    ensures { abends.new.entries ≡ insert_entry is_name4 abends.old.entries name None }
+{
+    insert(abends, name, Kept::none());
+}
+
+/// Whether a program stands at an address.
+#[tactic(auto, unfolding(crate::specs::Abends::covers))]
+fn covers(loaded: &Loaded, address: u32) -> bool
+    ensures { result ≡ covers address loaded.now }
+{
+    loaded.at <= address && address - loaded.at < loaded.len
+}
+
+/// The program that stands at an address, with its name.
+fn program_at(programs: &IndexMap<Name8, Loaded>, address: u32) -> Option<(Name8, Loaded)>
+    ensures { result ≡ find (λ program. covers address program.1) programs.now.entries }
+{
+    for (name, loaded) in programs.iter() {
+        if covers(loaded, address) {
+            return Some((*name, *loaded));
+        }
+    }
+    None
+}
+
+/// An address, and the program that stands there.
+fn place_in(programs: &IndexMap<Name8, Loaded>, address: u32) -> Place
+    ensures { result ≡ place_in programs.now.entries address }
+{
+    match program_at(programs, address) {
+        Some((program, loaded)) => Place {
+            address,
+            spot: Some((program, address.saturating_sub(loaded.at))),
+        },
+        None => Place {
+            address,
+            spot: None,
+        },
+    }
+}
+
+/// The code of an abend, where a turn's reply is one.
+fn abend_code_in(reply: &TurnReply) -> Option<Name4>
+    ensures { result ≡ abend_code_in reply.now }
+{
+    match reply {
+        TurnReply::TookExit(code) | TurnReply::Abended(code) => Some(*code),
+        _ => None,
+    }
+}
+
+/// The address where the program was.
+fn told_place(trouble: &Trouble) -> u32
+    ensures { result ≡ told_place trouble.now }
+{
+    match trouble.cause {
+        Cause::Interrupted(_) | Cause::Limit => trouble.next,
+        _ => address_in(trouble.regs[14]),
+    }
+}
+
+/// The next address of a terminal's task, where there is one.
+fn next_of<S: Store + Drop>(region: &Region<S>, name: Name4) -> Option<u32>
+    ensures { result ≡ next_of region.now name }
+{
+    let terminal = region.terminals().get(&name)?;
+    let task = terminal.task()?;
+    Some(task.cpu.next)
+}
+
+/// Where the program goes on, where an exit took the abend.
+fn exit_place<S: Store + Drop>(region: &Region<S>, name: Name4, reply: &TurnReply) -> Option<Place>
+    ensures { result ≡ exit_place region.now name reply.now }
+{
+    match reply {
+        TurnReply::TookExit(_code) => {
+            let next = next_of(region, name)?;
+            Some(place_in(&region.shared().programs, next))
+        }
+        _ => None,
+    }
+}
+
+/// The abend of a turn that was answered so, for that trouble, where the region is as it was after the turn.
+pub(crate) fn last_of_turn<S: Store + Drop>(
+    region: &Region<S>,
+    name: Name4,
+    reply: &TurnReply,
+    trouble: &Option<Trouble>,
+) -> Option<LastAbend>
+    ensures { result ≡ last_of_turn region.now name reply.now trouble.now }
+{
+    let trouble = (*trouble)?;
+    let code = abend_code_in(reply)?;
+    let place = place_in(&region.shared().programs, told_place(&trouble));
+    let exit = exit_place(region, name, reply);
+    Some(LastAbend {
+        code,
+        told: Some(Told { trouble, place }),
+        exit,
+    })
+}
+
+/// An abend that an operator asked for.
+pub(crate) fn by_operator() -> LastAbend
+    ensures { result ≡ by_operator }
+{
+    LastAbend {
+        code: Abend::Xedf.code(),
+        told: None,
+        exit: None,
+    }
+}

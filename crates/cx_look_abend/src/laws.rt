@@ -1,0 +1,18 @@
+//! Which abends are kept.
+ghost use Rattle.cx_look_abend.specs.Laws.{AbendsAreKept, NotedDecide};
+
+/// Each turn that is answered as an abend is kept as its terminal's last one, with its code and why it came; any other turn leaves
+/// what is kept.
+pub fn abends_are_kept()
+    ensures { AbendsAreKept }
+{
+    cx_task::laws::troubles_explain();
+}
+
+/// What was there before an event decides its answer, the state after it, and the last abends that are kept then.
+pub fn noted_events_decide()
+    ensures { NotedDecide }
+{
+    cx_edf::edf_laws::edf_events_decide();
+    cx_task::laws::troubles_explain();
+}

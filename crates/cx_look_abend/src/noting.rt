@@ -1,0 +1,159 @@
+//! Events, with the last abend of each terminal kept.
+ghost use Rattle.std.specs.Prelude.{◌≡◌, ◌≤◌, true, IfOk, OnErr, OnOk};
+ghost use Rattle.std.specs.Option.{option_map_or};
+ghost use Rattle.indexmap.specs.IndexMap.{spare};
+ghost use Rattle.cx_edf.specs.Runs.{IsAllowedEdf};
+ghost use Rattle.cx_edf.specs.State.{ends_by_key};
+ghost use Rattle.cx_look_abend.specs.Abends.{last_of_turn};
+ghost use Rattle.cx_look_abend.specs.Noting.{HappensNoted, MayTakeNoted, defines_terminal, ends_task, is_defined, kept_after, kept_alter, kept_key, kept_terminal, kept_turn, with_last};
+
+use crate::abends::{LastAbend, LastAbends, by_operator, last_of_turn, put_none};
+use cx_ebcdic::{Aid, Name4};
+use cx_edf::{Answer, Debugged, EdfEvent};
+use cx_region::{AlterReply, Change, Event, Region, Reply, Trouble, TurnReply};
+use cx_storage::Store;
+use std::alloc::AllocError;
+
+/// Keeps an abend as a terminal's last one, where the terminal is defined.
+#[tactic(auto, using(cx_tables::specs::Facts::Tables::set_value_absent))]
+fn put(abends: &mut LastAbends, name: Name4, last: LastAbend)
+    ensures { abends.new.entries ≡ with_last abends.old.entries name last }
+{
+    let Some(kept) = abends.get_mut(&name) else {
+        return;
+    };
+    kept.keep(last);
+}
+
+/// Whether an answer tells that a terminal was defined.
+fn is_defined(answer: &Answer) -> bool
+    ensures { result ≡ is_defined answer.now }
+{
+    matches!(answer, Answer::Region(Reply::Terminal(Ok(_))))
+}
+
+/// Keeps that a terminal, for which there is room, has had no abend, where it was defined.
+fn keep_terminal(abends: &mut LastAbends, name: Name4, answer: &Answer)
+    requires { 1 ≤ spare abends.old }
+    ensures { abends.new.entries ≡ kept_terminal abends.old.entries name answer.now }
+{
+    if !is_defined(answer) {
+        return;
+    }
+    put_none(abends, name);
+}
+
+/// Keeps an abend to which a turn led, where the region is as it was after the turn.
+fn keep_turn<S: Store + Drop>(
+    abends: &mut LastAbends,
+    region: &Region<S>,
+    name: Name4,
+    answer: &Answer,
+    trouble: &Option<Trouble>,
+)
+    ensures { abends.new.entries ≡ kept_turn abends.old.entries name answer.now trouble.now region.now }
+{
+    let Answer::Region(Reply::Turn(reply)) = answer else {
+        return;
+    };
+    let Some(last) = last_of_turn(region, name, reply, trouble) else {
+        return;
+    };
+    put(abends, name, last);
+}
+
+/// Keeps an abend that an operator asked for by an alteration.
+fn keep_alter(abends: &mut LastAbends, name: Name4, change: &Change, answer: &Answer)
+    ensures { abends.new.entries ≡ kept_alter abends.old.entries name change.now answer.now }
+{
+    if let (Change::Abend, Answer::Region(Reply::Alter(AlterReply::Altered))) = (change, answer) {
+        put(abends, name, by_operator());
+    }
+}
+
+/// Keeps an abend that an operator asked for by a key.
+fn keep_key(abends: &mut LastAbends, name: Name4, ends: bool)
+    ensures { abends.new.entries ≡ kept_key abends.old.entries name ends }
+{
+    if ends {
+        put(abends, name, by_operator());
+    }
+}
+
+/// Keeps what an event led to that was answered so, where the region is as it was after it.
+fn keep<S: Store + Drop>(
+    abends: &mut LastAbends,
+    region: &Region<S>,
+    event: &EdfEvent,
+    answer: &Answer,
+    trouble: &Option<Trouble>,
+    ends: bool,
+)
+    requires { defines_terminal event.now ≡ true → 1 ≤ spare abends.old }
+    ensures { abends.new.entries ≡ kept_after abends.old.entries ends event.now answer.now trouble.now region.now }
+{
+    let EdfEvent::Plain(plain) = event else {
+        return;
+    };
+    match plain {
+        Event::Terminal(name) => keep_terminal(abends, *name, answer),
+        Event::Turn(name) => keep_turn(abends, region, *name, answer, trouble),
+        Event::Alter(name, change) => keep_alter(abends, *name, change, answer),
+        Event::Key(name, _aid, _bytes) => keep_key(abends, *name, ends),
+        _ => (),
+    }
+}
+
+/// Whether a key ends the task of a terminal.
+fn ends_by_key<S: Store + Drop>(state: &Debugged<S>, name: Name4, aid: Aid) -> bool
+    ensures { result ≡ ends_by_key state.now name aid }
+{
+    match aid {
+        Aid::Pf12 => state.display(name).is_some() && state.task(name).is_some(),
+        _ => false,
+    }
+}
+
+/// Whether an event is a key that ends the task of its terminal.
+fn ends_task<S: Store + Drop>(state: &Debugged<S>, event: &EdfEvent) -> bool
+    ensures { result ≡ ends_task state.now event.now }
+{
+    match event {
+        EdfEvent::Plain(Event::Key(name, aid, _bytes)) => ends_by_key(state, *name, *aid),
+        _ => false,
+    }
+}
+
+/// Makes room for a terminal that an event may define.
+fn make_room(abends: &mut LastAbends, event: &EdfEvent) -> Result<(), AllocError>
+    ensures same { abends.new.entries ≡ abends.old.entries }
+    ensures room { OnOk result (defines_terminal event.now ≡ true → 1 ≤ spare abends.new) }
+    ensures err { OnErr result (defines_terminal event.now ≡ true) }
+{
+    match event {
+        EdfEvent::Plain(Event::Terminal(_name)) => abends.reserve(1),
+        _ => Ok(()),
+    }
+}
+
+/// Does an event of a region under EDF, and keeps its terminal's last abend, where the event led to one. Room for it is made with
+/// the terminal.
+///
+/// An error comes only where a growth was refused: that of a new terminal's room, or one that the event may take. Then all is
+/// as before.
+pub fn happen_noted<S: Store + Drop>(
+    state: &mut Debugged<S>,
+    abends: &mut LastAbends,
+    event: &EdfEvent,
+) -> Result<Answer, AllocError>
+    requires { IsAllowedEdf event.now }
+    ensures happens { IfOk result (λ given. HappensNoted state.old abends.old.entries event.now given state.new abends.new.entries) }
+    ensures memory { OnErr result (MayTakeNoted state.old event.now) }
+    ensures err { OnErr result ((state.new ≡ state.old) × (abends.new.entries ≡ abends.old.entries)) }
+{
+    make_room(abends, event)?;
+    let ends = ends_task(state, event);
+    let (answer, trouble) = state.happen_with_cause(event)?;
+    keep(abends, state.region(), event, &answer, &trouble, ends);
+    Ok(answer)
+}
