@@ -1,5 +1,6 @@
--- Which turns keep an abend.
+-- Which turns keep an abend; what is kept is decided; the text of a look at it is lines.
 use Rattle.std.specs.Prelude.{◌≡◌, ℕ, true, is_some, List}
+use Rattle.std.specs.List.{flat_map}
 use Rattle.cx_state.specs.declared.replies.TurnReply.{TurnReply}
 use Rattle.cx_state.specs.declared.replies.TurnReply.TheVariants as turn
 use Rattle.cx_region.specs.declared.replies.Event.TheVariants as event
@@ -10,6 +11,7 @@ use Rattle.cx_edf.specs.declared.answers.Answer.TheVariants as answer
 use Rattle.cx_edf.specs.declared.answers.EdfEvent.{EdfEvent}
 use Rattle.cx_edf.specs.declared.answers.EdfEvent.TheVariants as edf_event
 use Rattle.cx_look_abend.specs.Noting.{Abends, HappensNoted, with_last}
+use Rattle.cx_look_abend.specs.Texts.{abend_text, line}
 use Rattle.cx_look_abend.specs.declared.abends.LastAbend.{LastAbend}
 
 -- an abend with this code, to which a turn led, is the terminal's last one
@@ -33,3 +35,11 @@ AbendsAreKept = (old new : EdfState) (before after : Abends) (name : List ℕ) (
 abbrev pub NotedDecide : Type 0
 NotedDecide = (old new later : EdfState) (before after others : Abends) (e : EdfEvent) (given other : Answer)
     → HappensNoted old before e given new after → HappensNoted old before e other later others → (given ≡ other) × (new ≡ later) × (after ≡ others)
+
+-- the text of a look is lines
+pub record IsOfLines (text : List ℕ) : Type 0 where
+  pub lines : List (List (List ℕ))
+  pub whole : text ≡ flat_map line lines
+
+abbrev pub TextsAreLines : Type 0
+TextsAreLines = (abends : Abends) (name : List ℕ) → IsOfLines (abend_text abends name)

@@ -78,23 +78,15 @@ impl Kept {
 /// The last abend of each terminal that is defined.
 pub type LastAbends = IndexMap<Name4, Kept>;
 
-/// Inserts a value for which there is room.
-fn insert<V: Drop>(table: &mut IndexMap<Name4, V>, name: Name4, value: V)
-    requires { 1 ≤ spare table.old }
-    ensures { table.new.entries ≡ insert_entry is_name4 table.old.entries name value }
-{
-    match table.insert(name, value) {
-        Ok(_before) => (),
-        Err(_refused) => (),
-    }
-}
-
 /// Keeps that a terminal, for which there is room, has had no abend.
 pub(crate) fn put_none(abends: &mut LastAbends, name: Name4)
     requires { 1 ≤ spare abends.old }
     ensures { abends.new.entries ≡ insert_entry is_name4 abends.old.entries name None }
 {
-    insert(abends, name, Kept::none());
+    match abends.insert(name, Kept::none()) {
+        Ok(_before) => (),
+        Err(_refused) => (),
+    }
 }
 
 /// Whether a program stands at an address.
