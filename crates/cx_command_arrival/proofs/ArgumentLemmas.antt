@@ -17,7 +17,8 @@ use Rattle.cx_operands.specs.Laws.AddressLaws.{Holds, IsNearest}
 use Rattle.cx_operands.specs.Storage.{Operand, crowded, explicit_address, index_in, indexed, indexed_by, indexed_in, operand_in}
 use Rattle.cx_operands.specs.declared.addresses.Address.{Address}
 use Rattle.cx_operands.specs.declared.bases.Base.{Base}
-use Rattle.cx_command_arrival.specs.Arguments.{HoldsBase, IsAddressed, IsAddressedBy, IsPlaceOf, OperandsAddress, Sections}
+use Rattle.cx_command_arrival.specs.Arguments.{HoldsBase, IsAddressed, IsAddressedBy, IsPlaceOf, Sections}
+use Rattle.cx_command_arrival.proofs.Arguments.{OperandsAddress}
 
 abbrev pub Nearest : Type 0
 Nearest = (bases : Bases) (section : List ℕ) (number : ℤ) → IsNearest bases section number (nearest bases section number)
@@ -66,7 +67,7 @@ at_register sections regs bases register d x section number (Some (Some base)) i
     modulo b i n = omega arith
 
 pub implied_is : Nearest → (sections : Sections) (regs : List ℕ) (bases : Bases) (section : Option (List ℕ)) (number : ℤ) (at : Address) (x : ℕ) → addressed_in bases section number ≡ Ok at
-    → IsPlaceOf sections regs bases at.base section number (given regs x) (effective regs x at.base at.displacement)
+    → IsPlaceOf sections regs bases section number x at
 unfolding effective
 implied_is near sections regs bases None number at x e =
     λ n is.
@@ -96,10 +97,7 @@ addressed_by near sections regs c place [] x at e =
     let parts = both_ok (Ok 0) (judged (implied_address c.bases) place) x at e in
     let v = judged_ok (implied_address c.bases) place at parts.1 in
     let none : x ≡ 0 = (let same = parts.0 in cc) in
-    let there = implied_is near sections regs c.bases (v.0).section (v.0).number at x v.2 in
-    let placed : IsPlaceOf sections regs c.bases at.base (v.0).section (v.0).number 0 (effective regs x at.base at.displacement) =
-    subst (λ k. IsPlaceOf sections regs c.bases at.base (v.0).section (v.0).number (given regs k) (effective regs x at.base at.displacement)) none there in
-    record { value = v.0; worth = v.1; by = (none, placed) }
+    record { value = v.0; worth = v.1; by = (none, implied_is near sections regs c.bases (v.0).section (v.0).number at x v.2) }
 addressed_by near sections regs c place (index ∷ []) x at e =
     let parts = both_ok (register_in c index) (judged (implied_address c.bases) place) x at e in
     let v = judged_ok (implied_address c.bases) place at parts.1 in

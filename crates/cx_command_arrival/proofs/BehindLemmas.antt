@@ -18,7 +18,7 @@ use Rattle.cx_places.specs.declared.roles.Role.{Role}
 use Rattle.cx_places.specs.declared.roles.Role.TheVariants as role
 use Rattle.cx_second.specs.Statements.{place_for, placed_behind, placed_item, placed_of, stated_in, statements_of}
 use Rattle.cx_asm.specs.Resolving.{line}
-use Rattle.cx_command_arrival.specs.Standing.{placed_from, statements_from}
+use Rattle.cx_command_arrival.proofs.Resolved.{placed_from, statements_from}
 
 -- ---- lists
 pub reverse_cons : {X : Type 0} (x : X) (xs : List X) → reverse (x ∷ xs) ≡ reverse xs ++ (x ∷ [])

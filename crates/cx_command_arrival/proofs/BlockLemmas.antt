@@ -1,5 +1,5 @@
 -- The fields of the EXEC interface block, statement by statement.
-use Rattle.std.specs.Prelude.{option_and_then, codes, decimal, reverse, is_some, slice_get, ⊤}
+use Rattle.std.specs.Prelude.{option_and_then, pos, codes, decimal, reverse, is_some, slice_get, ⊤}
 use Rattle.std.proofs.Common.{◌≡◌, ◌≤◌, ℕ, ◌+◌, ◌-◌, ◌*◌, ◌/◌, Bool, true, false, cond, ◌||◌, Option, Some, None, Ok, List, [], ◌∷◌, ◌++◌, map, take, drop, refl, sym, ◌∙◌, ap, subst, ⊎_elim, arith}
 use Rattle.std.specs.Fmt.{digits}
 use Rattle.std.specs.List.{list_any, position, position_from}
@@ -10,7 +10,7 @@ use Rattle.cx_code.specs.Table.{op_named, ops, row_of}
 use Rattle.cx_command.specs.declared.eib.EibField.{EibField}
 use Rattle.cx_command.specs.declared.eib.EibField.TheVariants.{Time, Date, Trnid, Taskn, Trmid, Calen, Aid, Fn, Rcode, Rsrce, Resp}
 use Rattle.cx_command.specs.declared.eib.EibPiece.{EibPiece}
-use Rattle.cx_command.specs.Eib.{eib_field, eib_pieces}
+use Rattle.cx_command.specs.Eib.{eib_field, eib_len, eib_pieces}
 use Rattle.cx_ebcdic.specs.Facts.Names.{is_name-decides, is_name-laws}
 use Rattle.cx_ebcdic.specs.Characters.{code_of, table}
 use Rattle.cx_ebcdic.specs.Names.{name_of, name_code, is_name_character}
@@ -42,7 +42,20 @@ use Rattle.cx_places.specs.Given.{duplicate}
 use Rattle.cx_places.specs.Known.{Known, after, after_line, definitions_in, known_behind, laid_in, length_of_section, parts_in, role_in}
 use Rattle.cx_places.specs.Layout.{beyond, laid, laid_at}
 use Rattle.cx_places.specs.declared.roles.Role.TheVariants.{Storage, Dummy}
-use Rattle.cx_command_arrival.specs.Block.{EibIsLaidOut, HasBlock, block_name, field_value, IsLaidOut}
+use Rattle.cx_command_arrival.specs.Laid.{EibIsLaidOut, LaysOut}
+
+-- ---- what is to be shown
+abbrev block_name : Option (List ℕ)
+block_name = symbol_name (codes "DFHEIBLK")
+
+abbrev field_value : EibField → Value
+field_value f = record { section = symbol_name (codes "DFHEIBLK"); number = pos (eib_field f).offset; length = (eib_field f).len }
+
+abbrev IsLaidOut : (List ℕ → Option Value) → Type 0
+IsLaidOut find = (f : EibField) → option_and_then find (symbol_name (eib_field f).name) ≡ Some (field_value f)
+
+abbrev HasBlock : List Item → Type 0
+HasBlock items = LaysOut (codes "DFHEIBLK") (map field eib_pieces) eib_field (λ f. (eib_field f).len) eib_len items
 
 -- ---- texts
 pub role_ds : (name operand : List ℕ) → role_in (stmt name (codes "DS") operand) ≡ Storage true
@@ -223,6 +236,21 @@ all_stand line (p ∷ ps) o before more fit begun sound =
           (all_stand line ps (o + p.len) (item ∷ before) more fit.4 next (subst (λ k. (known_behind k).fault ≡ None) (there ∙ again) sound)),
     )
 
+-- where pieces end
+abbrev end_from : ℕ → List EibPiece → ℕ
+end_from o [] = o
+end_from o (p ∷ ps) = end_from (o + p.len) ps
+
+all_end : (line : ℕ) (ps : List EibPiece) (o : ℕ) (before : List Item) → AreFit o ps → Begun (known_behind before) o
+    → Begun (known_behind (reverse (lines line (map field ps)) ++ before)) (end_from o ps)
+unfolding made_item
+all_end line [] o before fit begun = begun
+all_end line (p ∷ ps) o before fit begun =
+    let item = made_item line (field p) in
+    let rest = lines line (map field ps) in
+    subst (λ k. Begun (known_behind k) (end_from (o + p.len) ps)) (sym (ap (λ k. k ++ before) (reverse_cons item rest) ∙ append_assoc (reverse rest) (item ∷ []) before))
+    (all_end line ps (o + p.len) (item ∷ before) fit.4 (goes_on line p (known_behind before) o fit.0 fit.2 fit.3 begun))
+
 pieces_fit : AreFit 0 eib_pieces
 pieces_fit = (fits_4, (refl, refl), omega arith, omega arith, (fits_4, (refl, refl), omega arith, omega arith, (fits_4, (refl, refl), omega arith, omega arith, (fits_4, (refl, refl), omega arith, omega arith, (fits_4, (refl, refl), omega arith, omega arith, (fits_4, tt, omega arith, omega arith, (fits_2, (refl, refl), omega arith, omega arith, (fits_1, (refl, refl), omega arith, omega arith, (fits_2, (refl, refl), omega arith, omega arith, (fits_6, (refl, refl), omega arith, omega arith, (fits_16, tt, omega arith, omega arith, (fits_8, (refl, refl), omega arith, omega arith, (fits_17, tt, omega arith, omega arith, (fits_4, (refl, refl), omega arith, omega arith, (fits_8, tt, omega arith, omega arith, tt)))))))))))))))
 
@@ -263,14 +291,18 @@ begins line known empty =
 
 -- what stands for lines that have the block
 has_block : (before rest : List Item) (line : ℕ) → HasBlock (before ++ lines line eib_section ++ rest)
-unfolding made_item
+unfolding made_item block_named
 has_block before rest line =
     record {
       before = before;
+      first = first;
+      more = [];
       line = line;
       behind = rest;
+      begins = refl;
+      follow = tt;
       is = refl;
-      laid = λ sound empty. laid_out _ (placed sound empty);
+      laid = λ sound empty. (laid_out _ (placed sound empty), ended empty);
     }
   where
     first : Item
@@ -279,15 +311,23 @@ has_block before rest line =
     fields : List Item
     fields = lines line (map field eib_pieces)
 
+    front : reverse (before ++ (first ∷ fields)) ≡ reverse fields ++ (first ∷ reverse before)
+    front = reverse-append before (first ∷ fields) ∙ ap (λ k. k ++ reverse before) (reverse_cons first fields) ∙ append_assoc (reverse fields) (first ∷ []) (reverse before)
+
     turned : reverse (before ++ lines line eib_section ++ rest) ≡ reverse rest ++ (reverse fields ++ (first ∷ reverse before))
-    turned =
-        reverse-append (before ++ (first ∷ fields)) rest ∙ ap (λ k. reverse rest ++ k) (reverse-append before (first ∷ fields) ∙ ap (λ k. k ++ reverse before) (reverse_cons first fields) ∙ append_assoc (reverse fields) (first ∷ []) (reverse before))
+    turned = reverse-append (before ++ (first ∷ fields)) rest ∙ ap (λ k. reverse rest ++ k) front
 
     placed : (known_behind (reverse (before ++ lines line eib_section ++ rest))).fault ≡ None → length_of_section block_name (known_behind (reverse before)).lengths ≡ 0
         → AllStand (known_behind (reverse (before ++ lines line eib_section ++ rest))).symbols eib_pieces
     placed sound empty =
         subst (λ k. AllStand (known_behind k).symbols eib_pieces) (sym turned)
         (all_stand line eib_pieces 0 (first ∷ reverse before) (reverse rest) pieces_fit (begins line (known_behind (reverse before)) empty) (subst (λ k. (known_behind k).fault ≡ None) turned sound))
+
+    ended : length_of_section block_name (known_behind (reverse before)).lengths ≡ 0
+        → length_of_section block_name (known_behind (reverse (before ++ (first ∷ fields)))).lengths ≡ eib_len
+    ended empty =
+        let end = all_end line eib_pieces 0 (first ∷ reverse before) pieces_fit (begins line (known_behind (reverse before)) empty) in
+        subst (λ k. length_of_section block_name (known_behind k).lengths ≡ eib_len) (sym front) (rw block_named.is end.size)
 
 pub none_from : {X : Type 0} (p : X → Bool) (k : ℕ) (xs : List X) → position_from p k xs ≡ None → list_any p xs ≡ false
 none_from p k [] e = refl

@@ -27,9 +27,9 @@ use Rattle.cx_operands.specs.Storage.{plain_in}
 use Rattle.cx_operands.specs.declared.addresses.Address.{Address}
 use Rattle.cx_operands.specs.declared.forms.Form.TheVariants as form
 use Rattle.cx_second.specs.Whole.{Whole}
-use Rattle.cx_command_arrival.specs.Calls.{HasByte, MarkIsResolved, mark_of}
-use Rattle.cx_command_arrival.specs.Standing.{AreResolved, IsResolved}
-use Rattle.cx_command_arrival.specs.Stores.{BranchIsResolved, context_of, word_of_list}
+use Rattle.cx_command_arrival.proofs.Calls.{HasByte, MarkIsResolved, mark_of}
+use Rattle.cx_command_arrival.proofs.Resolved.{AreResolved, IsResolved}
+use Rattle.cx_command_arrival.proofs.Stores.{BranchIsResolved, context_of, word_of_list}
 use Rattle.cx_command_arrival.proofs.ArgumentLemmas.{both_ok, made_ok}
 use Rattle.cx_command_arrival.proofs.PlainLemmas.{ArePlain, decimal_plain, plain_cut}
 

@@ -41,14 +41,12 @@ use Rattle.cx_places.specs.Placed.{known_of}
 use Rattle.cx_places.specs.declared.roles.Role.TheVariants as role
 use Rattle.cx_operands.specs.Bases.{Bases}
 use Rattle.cx_second.specs.Whole.{Whole, whole_of}
-use Rattle.cx_command_arrival.specs.Called.{CallsAreInstructions, CallsStand, StandsFor, call_statements, words_behind}
-use Rattle.cx_command_arrival.specs.Handed.{block_of}
-use Rattle.cx_command_arrival.specs.Standing.{AreResolved, IsResolved, StandInCode, bases_in_use, is_instruction}
-use Rattle.cx_command_arrival.specs.Stores.{load_of}
-use Rattle.cx_command_arrival.specs.Together.{IsMade}
+use Rattle.cx_command_arrival.proofs.Called.{StandsFor, call_statements}
+use Rattle.cx_command_arrival.proofs.Handed.{block_of}
+use Rattle.cx_command_arrival.proofs.Resolved.{AreResolved, IsResolved, StandInCode, bases_in_use, is_instruction}
+use Rattle.cx_command_arrival.proofs.Stores.{load_of}
 use Rattle.cx_command_arrival.proofs.BehindLemmas.{control_same, fault_kept, own_sound, section_sound}
-use Rattle.cx_command_arrival.proofs.StandingLemmas.{accepted, instructions_stand, offset_is}
-use Rattle.cx_command_arrival.proofs.TogetherLemmas.{stand_together}
+use Rattle.cx_command_arrival.proofs.StandingLemmas.{offset_is}
 use Rattle.cx_command_arrival.proofs.BlockLemmas.{none_known}
 
 -- ---- instructions
@@ -83,7 +81,7 @@ calls_so line k last [] = (
 calls_so line k last (argument ∷ list) =
     (is_la line [] (codes "0," ++ argument), (is_st line [] (codes "0,DFHEIPL+" ++ decimal (4 * k)), calls_so line (k + 1) last list))
 
-pub calls_are : CallsAreInstructions
+pub calls_are : (line : ℕ) (command : Command) (words : List Word) → AreInstructions (lines line (call_statements command words))
 calls_are line command words = calls_so line 0 (length (list_of command words) - 1) (list_of command words)
 
 -- ---- DS 0H
@@ -255,7 +253,7 @@ has_label : (c : ℕ) (cs : List ℕ) → label (c ∷ cs) ≡ ds (c ∷ cs) ∷
 has_label c cs = (let some : (length (c ∷ cs) == 0) ≡ false = grind (arith, nat_tests) in rw some refl)
 
 -- a statement's name
-named_so : (source : Source) (name : List ℕ) (line : ℕ) (before behind : List Item) (command : Command) (words : List Word) (lines_of : List Line)
+pub named_so : (source : Source) (name : List ℕ) (line : ℕ) (before behind : List Item) (command : Command) (words : List Word) (lines_of : List Line)
     → source.items ≡ before ++ lines line (label name) ++ lines line (call_statements command words) ++ behind → (known_of source).fault ≡ None
     → (code : StandInCode source (before ++ lines line (label name)) (lines line (call_statements command words)) lines_of) → StandsFor (whole_of source) name code.at
 unfolding symbol_name is_name
@@ -282,7 +280,7 @@ named_so source (c ∷ cs) line before behind command words lines_of is sound co
     name_stands line name symbol (reverse (tail ++ behind)) (reverse before) s op.La named (la_role (codes "0," ++ block_of command words)) (subst (λ k. (known_behind k).fault ≡ None) all sound) in
     subst (λ n. Placed (reverse source.items) symbol n) at (subst (λ k. Placed k symbol (laid_in s (known_behind (one ∷ reverse before))).offset) (sym all) placed)
 
--- ---- all of it
+-- ---- the statements made, in three parts
 pub made_split : (line : ℕ) (name : List ℕ) (command : Command) (words : List Word)
     → lines line (made_in name command words) ≡ lines line (label name) ++ lines line (call_statements command words) ++ lines line (map load (pointers_of (row_of_command command).options words))
 unfolding made_in
@@ -292,40 +290,3 @@ made_split line name command words =
     let loads = map load (pointers_of (row_of_command command).options words) in
     ap (lines line) (ap (λ k. k ++ loads) (append_assoc (label name) list rest))
     ∙ map-append (made_item line) (label name ++ (list ++ rest)) loads ∙ ap (λ k. k ++ lines line loads) (map-append (made_item line) (label name) (list ++ rest))
-
--- lines that stand behind others
-pub record StandBehind (items first part : List Item) : Type 0 where
-  pub rest : List Item
-  pub is : items ≡ first ++ part ++ rest
-
-pub call_behind : (items : List Item) (item : Item) (exec : Stmt) (made : IsMade item exec items)
-    → StandBehind items (made.together.before ++ lines item.line (label exec.name)) (lines item.line (call_statements made.command (words_behind exec made.named)))
-call_behind items item exec made =
-    let words = words_behind exec made.named in
-    let before = made.together.before in
-    let one = lines item.line (label exec.name) in
-    let two = lines item.line (call_statements made.command words) in
-    let loads = lines item.line (map load (pointers_of (row_of_command made.command).options words)) in
-    let behind = made.together.behind in
-    record {
-      rest = loads ++ behind;
-      is =
-          made.together.is ∙ ap (λ k. before ++ k ++ behind) (made_split item.line exec.name made.command words)
-          ∙ ap (λ k. k ++ behind) (sym (append_assoc before (one ++ two) loads) ∙ ap (λ k. k ++ loads) (sym (append_assoc before one two)))
-          ∙ append_assoc (before ++ one ++ two) loads behind;
-    }
-
-pub calls_stand : CallsStand
-calls_stand source translated assembly item exec e accepts has =
-    let made = stand_together source translated item exec e has in
-    let words = words_behind exec made.named in
-    let before = made.together.before in
-    let one = lines item.line (label exec.name) in
-    let two = lines item.line (call_statements made.command words) in
-    let all = call_behind translated.items item exec made in
-    let code = instructions_stand translated assembly (before ++ one) two all.rest accepts all.is (calls_are item.line made.command words) in
-    record {
-      made = made;
-      code = code;
-      named = named_so translated exec.name item.line before all.rest made.command words assembly.section.resolved all.is (accepted translated assembly accepts).first code;
-    }

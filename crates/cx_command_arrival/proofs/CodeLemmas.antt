@@ -18,12 +18,13 @@ use Rattle.cx_operands.specs.Bases.{Bases, none_in_use}
 use Rattle.cx_operands.specs.Context.{Context}
 use Rattle.cx_operands.specs.Forms.{resolved}
 use Rattle.cx_second.specs.SecondFaults.{bases_after}
-use Rattle.cx_second.specs.Statements.{Stated}
+use Rattle.cx_second.specs.Statements.{statements_of, Stated}
 use Rattle.cx_second.specs.Whole.{Whole, whole_of}
 use Rattle.cx_asm.specs.Facts.Bases.{after_sixteen}
-use Rattle.cx_command_arrival.specs.CodeInStorage.{CodeIsLoaded}
-use Rattle.cx_command_arrival.specs.InStorage.{CodeIsUnraised, IsUnraised, LinesAreLoaded, StandsAt, TextsAreMade}
-use Rattle.cx_command_arrival.specs.Standing.{AreResolved, bases_from, bases_in_use, code_lines, statements_from}
+use Rattle.cx_command_arrival.proofs.CodeInStorage.{CodeIsLoaded}
+use Rattle.cx_command_arrival.proofs.InStorage.{CodeIsUnraised, IsUnraised, LinesAreLoaded, StandsAt, TextsAreMade}
+use Rattle.cx_command_arrival.specs.Standing.{code_lines}
+use Rattle.cx_command_arrival.proofs.Resolved.{AreResolved, bases_from, bases_in_use}
 use Rattle.cx_command_arrival.proofs.LoadedLemmas.{along_twice}
 
 -- ---- sixteen bases
@@ -32,7 +33,7 @@ from_sixteen told bases [] e = e
 from_sixteen told bases (s ∷ ss) e = from_sixteen told (bases_after told bases s) ss (after_sixteen told bases s e)
 
 pub in_use_sixteen : (source : Source) (first : List Item) → length (bases_in_use source first) ≡ 16
-in_use_sixteen source first = from_sixteen (whole_of source) none_in_use (statements_from [] first) refl
+in_use_sixteen source first = from_sixteen (whole_of source) none_in_use (statements_of (record { items = first })) refl
 
 -- ---- well-formed instructions at their places
 abbrev pub Forms : Type 0

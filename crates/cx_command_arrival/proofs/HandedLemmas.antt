@@ -37,11 +37,11 @@ use Rattle.cx_operands.specs.Forms.{literal_in}
 use Rattle.cx_operands.specs.Values.{item_in}
 use Rattle.cx_second.specs.Whole.{Whole, whole_of}
 use Rattle.cx_asm.specs.Resolving.{line}
-use Rattle.cx_command_arrival.specs.Handed.{BlockStands, EntryStands, LiteralsAreLoaded, block_of}
-use Rattle.cx_command_arrival.specs.InStorage.{IsUnraised, LinesAreLoaded, StandsAt, TextsAreMade}
-use Rattle.cx_command_arrival.specs.Literals.{HasBytes, HasInstruction, LiteralsStand}
-use Rattle.cx_command_arrival.specs.Standing.{is_instruction_role}
-use Rattle.cx_command_arrival.specs.Stores.{entry_in_15, load_of}
+use Rattle.cx_command_arrival.proofs.Handed.{BlockStands, EntryStands, LiteralsAreLoaded, block_of}
+use Rattle.cx_command_arrival.proofs.InStorage.{IsUnraised, LinesAreLoaded, StandsAt, TextsAreMade}
+use Rattle.cx_command_arrival.proofs.Literals.{HasBytes, HasInstruction, LiteralsStand}
+use Rattle.cx_command_arrival.proofs.Resolved.{is_instruction_role}
+use Rattle.cx_command_arrival.proofs.Stores.{entry_in_15, load_of}
 use Rattle.cx_command_arrival.proofs.HexLemmas.{AreBytes, block_is_last, hex_has_bytes}
 use Rattle.cx_command_arrival.proofs.WordLemmas.{split}
 

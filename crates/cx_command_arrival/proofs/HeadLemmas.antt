@@ -1,6 +1,6 @@
 -- The head of DFHEISTG, statement by statement.
 use native.Mathlib.Numerals.{unary_clauses}
-use Rattle.std.specs.Prelude.{codes, reverse, is_none, slice_get}
+use Rattle.std.specs.Prelude.{codes, option_and_then, pos, reverse, is_none, slice_get}
 use Rattle.std.proofs.Common.{one-add, ◌≡◌, ◌⊎◌, inl, inr, ◌<◌, ℕ, zero, suc, ◌+◌, Bool, true, false, cond, ◌&&◌, ◌||◌, Option, Some, None, Ok, List, [], ◌∷◌, ◌++◌, length, take, drop, get_or, refl, sym, ◌∙◌, ap, subst, ⊎_elim, arith}
 use Rattle.std.specs.List.{AllByRecursion, list_any, position, position_from}
 use Rattle.std.specs.Str.{bytes_eq}
@@ -12,7 +12,7 @@ use Rattle.std.proofs.lemmas.List.Quantifiers.{position-Some}
 use Rattle.std.proofs.lemmas.Slice.Eq.{bytes_eq-Decides}
 use Rattle.cx_command.specs.declared.eistg.EistgField.{EistgField}
 use Rattle.cx_command.specs.declared.eistg.EistgField.TheVariants.{Eipl, Eitp, Eicap}
-use Rattle.cx_command.specs.Eistg.{eistg_field}
+use Rattle.cx_command.specs.Eistg.{eistg_field, eistg_head}
 use Rattle.cx_ebcdic.specs.Facts.Names.{is_name-decides, is_name-laws}
 use Rattle.cx_ebcdic.specs.Characters.{code_of, table}
 use Rattle.cx_ebcdic.specs.Names.{name_of, name_code, is_name_character}
@@ -32,36 +32,43 @@ use Rattle.cx_terms.specs.declared.values.Value.{Value}
 use Rattle.cx_pools.specs.Pools.{capped, pool_extent}
 use Rattle.cx_places.specs.Facts.Faults.{sound_statement}
 use Rattle.cx_places.specs.Facts.Kept.{value_kept}
-use Rattle.cx_places.specs.Given.{duplicate, place_value}
+use Rattle.cx_places.specs.Given.{duplicate}
 use Rattle.cx_places.specs.Known.{Known, after, after_line, definitions_in, known_behind, laid_in, length_of_section, parts_in, role_in}
 use Rattle.cx_places.specs.Layout.{laid, laid_at}
 use Rattle.cx_places.specs.declared.roles.Role.TheVariants.{Storage, Dummy}
 use Rattle.cx_translate.specs.Made.{made_item, stmt}
 use Rattle.cx_translate.specs.Sections.{begins_exec, begins_section, begins_storage, behind, continued, continuing, eib_before, eib_section, is_end, line_of, lines, put, storage_before, storage_behind, storage_fields, with_bases, with_eib, with_storage, bases_behind}
 use Rattle.cx_translate.specs.Translation.{expanded, first_fault, judged, translated, translation_of}
-use Rattle.cx_command_arrival.specs.Head.{FieldStands, HasHead, HeadIsLaidOut, IsHead, field_constant}
-use Rattle.cx_command_arrival.specs.Together.{StandTogether}
+use Rattle.cx_command_arrival.specs.Laid.{HeadIsLaidOut, LaysOut}
+use Rattle.cx_command_arrival.proofs.Together.{StandTogether}
 use Rattle.cx_command_arrival.proofs.BlockLemmas.{Named, fault_kept, none_from, none_known, reverse_cons, role_ds, role_dsect}
 use Rattle.cx_command_arrival.proofs.TogetherLemmas.{Begins, HaveNot, accepted_so, with_bases_has, with_eib_has}
 
+-- ---- what is to be shown
+abbrev HasHead : List Item → Type 0
+HasHead items = LaysOut (codes "DFHEISTG") storage_fields eistg_field (λ f. 4) eistg_head items
+
+abbrev Stands : (List ℕ → Option Value) → EistgField → Type 0
+Stands find f = option_and_then find (symbol_name (eistg_field f).name)
+    ≡ Some (record { section = symbol_name (codes "DFHEISTG"); number = pos (eistg_field f).offset; length = 4 })
+
 -- ---- texts
 record Fits (operand : List ℕ) (f : EistgField) : Type 0 where
-  item : constant_in true operand ≡ Ok (field_constant f)
   laid : (extent : Option ℕ) → laid (Storage true) (parts TopComma operand) extent (eistg_field f).offset
       ≡ laid_at (eistg_field f).offset ((eistg_field f).offset ∷ []) ((eistg_field f).offset + (eistg_field f).len) 4 None
   place : capped (eistg_field f).offset ≡ (eistg_field f).offset
 
 eipl_fits : Fits (codes "18F") Eipl
 unfolding constant_in written_in kind_of digit within_behind laid length_of
-eipl_fits = record { item = refl; laid = λ extent. refl; place = refl }
+eipl_fits = record { laid = λ extent. refl; place = refl }
 
 eitp_fits : Fits (codes "F") Eitp
 unfolding constant_in written_in kind_of digit within_behind laid length_of
-eitp_fits = record { item = refl; laid = λ extent. refl; place = refl }
+eitp_fits = record { laid = λ extent. refl; place = refl }
 
 eicap_fits : Fits (codes "A") Eicap
 unfolding constant_in written_in kind_of digit within_behind laid length_of
-eicap_fits = record { item = refl; laid = λ extent. refl; place = refl }
+eicap_fits = record { laid = λ extent. refl; place = refl }
 
 field_named : (f : EistgField) → Named (eistg_field f).name
 unfolding symbol_name name_of is_name is_letter name_code is_name_character code_of table is_written_in_names
@@ -101,32 +108,26 @@ goes_on line f operand known fits begun =
     }
 
 abbrev field_place : EistgField → Value
-field_place f = place_value (Some storage) (eistg_field f).offset 4
+field_place f = record { section = Some storage; number = pos (eistg_field f).offset; length = 4 }
 
 field_known : (line : ℕ) (f : EistgField) (operand : List ℕ) (known : Known) → Fits operand f → Begun known (eistg_field f).offset
     → (after line (field_stmt f operand) known).fault ≡ None → (after line (field_stmt f operand) known).symbols (field_named f).name ≡ Some (field_place f)
 unfolding after
 field_known line f operand known fits begun sound =
     let given : definitions_in (field_stmt f operand) known ≡ ((field_named f).name, field_place f) ∷ [] =
-    rw (laid_field f operand known fits begun, role_ds (eistg_field f).name operand, (field_named f).is, begun.section) refl in
+    rw (laid_field f operand known fits begun, role_ds (eistg_field f).name operand, (field_named f).is, begun.section, fits.place) refl in
     let unknown : known.symbols (field_named f).name ≡ None =
     none_known known.symbols (field_named f).name (field_place f) (ap (duplicate known.symbols) (sym given) ∙ (sound_statement line (field_stmt f operand) known sound).definitions) in
     rw (given, unknown, is_name-laws.refl (field_named f).name) refl
 
 field_stands : (line : ℕ) (f : EistgField) (operand : List ℕ) (before more : List Item) → Fits operand f → Begun (known_behind before) (eistg_field f).offset
     → (known_behind (more ++ (made_item line (field_stmt f operand) ∷ before))).fault ≡ None
-    → FieldStands (known_behind (more ++ (made_item line (field_stmt f operand) ∷ before))).symbols (known_behind before) (field_stmt f operand) f
+    → Stands (known_behind (more ++ (made_item line (field_stmt f operand) ∷ before))).symbols f
 unfolding made_item
 field_stands line f operand before more fits begun sound =
     let known = field_known line f operand (known_behind before) fits begun (fault_kept more (made_item line (field_stmt f operand) ∷ before) sound) in
     let kept = value_kept more (made_item line (field_stmt f operand) ∷ before) (field_named f).name (field_place f) known in
-    record {
-      constant = fits.item;
-      section = begun.section ∙ sym storage_named.is;
-      begins = rw (laid_field f operand (known_behind before) fits begun) refl;
-      ends = rw (laid_field f operand (known_behind before) fits begun) refl;
-      named = rw ((field_named f).is, storage_named.is) kept;
-    }
+    rw ((field_named f).is, storage_named.is) kept
 
 next : (line : ℕ) (f : EistgField) (operand : List ℕ) (before : List Item) → Fits operand f → Begun (known_behind before) (eistg_field f).offset
     → Begun (known_behind (made_item line (field_stmt f operand) ∷ before)) ((eistg_field f).offset + (eistg_field f).len)
@@ -134,6 +135,15 @@ unfolding made_item
 next line f operand before fits begun = goes_on line f operand (known_behind before) fits begun
 
 -- ---- the three of them
+record IsHead (find : List ℕ → Option Value) (line : ℕ) (before : List Item) : Type 0 where
+  fields : (f : EistgField) → Stands find f
+  ends : Begun (known_behind (reverse (lines line storage_fields) ++ before)) eistg_head
+
+each : (find : List ℕ → Option Value) → Stands find Eipl → Stands find Eitp → Stands find Eicap → (f : EistgField) → Stands find f
+each find one two three Eipl = one
+each find one two three Eitp = two
+each find one two three Eicap = three
+
 head_stands : (line : ℕ) (before more : List Item) → Begun (known_behind before) 0 → (known_behind (more ++ (reverse (lines line storage_fields) ++ before))).fault ≡ None
     → IsHead (known_behind (more ++ (reverse (lines line storage_fields) ++ before))).symbols line before
 head_stands line before more begun sound =
@@ -143,19 +153,16 @@ head_stands line before more begun sound =
     let second = next line Eipl (codes "18F") before eipl_fits begun in
     let third = next line Eitp (codes "F") (one ∷ before) eitp_fits second in
     let end = next line Eicap (codes "A") (two ∷ one ∷ before) eicap_fits third in
+    let first_turn = append_assoc more (three ∷ two ∷ []) (one ∷ before) in
+    let second_turn = append_assoc more (three ∷ []) (two ∷ one ∷ before) in
     record {
-      fields = (
-        subst (λ k. FieldStands (known_behind k).symbols (known_behind before) (field_stmt Eipl (codes "18F")) Eipl) (append_assoc more (three ∷ two ∷ []) (one ∷ before))
-            (field_stands line Eipl (codes "18F") before (more ++ (three ∷ two ∷ [])) eipl_fits begun
-            (subst (λ k. (known_behind k).fault ≡ None) (sym (append_assoc more (three ∷ two ∷ []) (one ∷ before))) sound)),
-        (
-          subst (λ k. FieldStands (known_behind k).symbols (known_behind (one ∷ before)) (field_stmt Eitp (codes "F")) Eitp) (append_assoc more (three ∷ []) (two ∷ one ∷ before))
-              (field_stands line Eitp (codes "F") (one ∷ before) (more ++ (three ∷ [])) eitp_fits second
-              (subst (λ k. (known_behind k).fault ≡ None) (sym (append_assoc more (three ∷ []) (two ∷ one ∷ before))) sound)),
-          (field_stands line Eicap (codes "A") (two ∷ one ∷ before) more eicap_fits third sound, tt),
-        ),
-      );
-      length = rw storage_named.is end.size;
+      fields = each _
+          (subst (λ k. Stands (known_behind k).symbols Eipl) first_turn
+          (field_stands line Eipl (codes "18F") before (more ++ (three ∷ two ∷ [])) eipl_fits begun (subst (λ k. (known_behind k).fault ≡ None) (sym first_turn) sound)))
+          (subst (λ k. Stands (known_behind k).symbols Eitp) second_turn
+          (field_stands line Eitp (codes "F") (one ∷ before) (more ++ (three ∷ [])) eitp_fits second (subst (λ k. (known_behind k).fault ≡ None) (sym second_turn) sound)))
+          (field_stands line Eicap (codes "A") (two ∷ one ∷ before) more eicap_fits third sound);
+      ends = end;
     }
 
 -- ---- the section
@@ -200,6 +207,7 @@ still (item ∷ more) before none begun =
 -- ---- what stands for lines that have the head
 has_head : (before : List Item) (first : Item) (more : List Item) (line : ℕ) (rest : List Item) → begins_storage first ≡ true
     → AllByRecursion (λ item. item.stmt ≡ None) more → HasHead (before ++ (first ∷ more ++ lines line storage_fields) ++ rest)
+unfolding begins_storage
 has_head before first more line rest begins none =
     record {
       before = before;
@@ -213,8 +221,10 @@ has_head before first more line rest begins none =
       laid =
           λ sound empty.
           let begun = still more (first ∷ reverse before) none (dsect_begins first (reverse before) begins (subst (λ n. length_of_section n (known_behind (reverse before)).lengths ≡ 0) storage_named.is empty)) in
-          subst (λ k. IsHead (known_behind k).symbols line (reverse more ++ (first ∷ reverse before))) (sym turned)
-          (head_stands line (reverse more ++ (first ∷ reverse before)) (reverse rest) begun (subst (λ k. (known_behind k).fault ≡ None) turned sound));
+          let head = head_stands line (reverse more ++ (first ∷ reverse before)) (reverse rest) begun (subst (λ k. (known_behind k).fault ≡ None) turned sound) in (
+            subst (λ k. (f : EistgField) → Stands (known_behind k).symbols f) (sym turned) head.fields,
+            subst (λ k. length_of_section (symbol_name (codes "DFHEISTG")) (known_behind k).lengths ≡ eistg_head) (sym front) (rw storage_named.is head.ends.size),
+          );
     }
   where
     fields : List Item
@@ -224,12 +234,13 @@ has_head before first more line rest begins none =
     inner =
         reverse_cons first (more ++ fields) ∙ ap (λ k. k ++ (first ∷ [])) (reverse-append more fields) ∙ append_assoc (reverse fields) (reverse more) (first ∷ [])
 
+    front : reverse (before ++ (first ∷ more ++ fields)) ≡ reverse fields ++ (reverse more ++ (first ∷ reverse before))
+    front =
+        reverse-append before (first ∷ (more ++ fields)) ∙ ap (λ k. k ++ reverse before) inner ∙ append_assoc (reverse fields) (reverse more ++ (first ∷ [])) (reverse before)
+        ∙ ap (λ k. reverse fields ++ k) (append_assoc (reverse more) (first ∷ []) (reverse before))
+
     turned : reverse (before ++ (first ∷ more ++ fields) ++ rest) ≡ reverse rest ++ (reverse fields ++ (reverse more ++ (first ∷ reverse before)))
-    turned =
-        reverse-append (before ++ (first ∷ (more ++ fields))) rest
-        ∙ ap (λ k. reverse rest ++ k)
-        (reverse-append before (first ∷ (more ++ fields)) ∙ ap (λ k. k ++ reverse before) inner ∙ append_assoc (reverse fields) (reverse more ++ (first ∷ [])) (reverse before)
-        ∙ ap (λ k. reverse fields ++ k) (append_assoc (reverse more) (first ∷ []) (reverse before)))
+    turned = reverse-append (before ++ (first ∷ (more ++ fields))) rest ∙ ap (λ k. reverse rest ++ k) front
 
 -- ---- where the translation puts it
 record IsPart (items : List Item) : Type 0 where

@@ -19,7 +19,7 @@ use Rattle.cx_translate.specs.Call.{block_literal, hex_pair}
 use Rattle.cx_operands.specs.Forms.{literal_in, operands_of}
 use Rattle.cx_operands.specs.Values.{item_in}
 use Rattle.cx_second.specs.Whole.{Whole, item_made}
-use Rattle.cx_command_arrival.specs.Literals.{HasBytes}
+use Rattle.cx_command_arrival.proofs.Literals.{HasBytes}
 use Rattle.cx_command_arrival.proofs.PlainLemmas.{ArePlain, glyph_plain, other, plain_cut}
 use Rattle.cx_command_arrival.proofs.TogetherLemmas.{length_joined}
 

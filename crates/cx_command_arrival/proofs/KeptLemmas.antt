@@ -19,7 +19,7 @@ use Rattle.cx_storage.specs.Word.{word_at}
 use Rattle.cx_asm.specs.Resolving.{line}
 use Rattle.cx_command_arrival.specs.Arriving.{AreKept}
 use Rattle.cx_command_arrival.specs.Standing.{code_lines}
-use Rattle.cx_command_arrival.specs.InStorage.{HasText}
+use Rattle.cx_command_arrival.proofs.InStorage.{HasText}
 
 -- ---- spans
 pub span_kept : SpanIsBytes → (s t : Storage) (a n : ℕ) (bytes : List ℕ) → a < 2 ^ 24 → AreKept s t a n → span s a n ≡ Some bytes → span t a n ≡ Some bytes

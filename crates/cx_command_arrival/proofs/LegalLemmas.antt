@@ -17,7 +17,7 @@ use Rattle.cx_translate.specs.Refusals.{fault_in, first_byte, second_byte}
 use Rattle.cx_translate.specs.declared.words.Word.{Word}
 use Rattle.cx_operands.specs.Bases.{Bases}
 use Rattle.cx_second.specs.Whole.{Whole}
-use Rattle.cx_command_arrival.specs.Commands.{IsStatement}
+use Rattle.cx_command_arrival.proofs.Commands.{IsStatementOf}
 use Rattle.cx_command_arrival.proofs.PlaceLemmas.{same_count}
 
 -- what is known of statements that the translator accepts
@@ -52,7 +52,7 @@ unfolding words_read
 counted_so known line command cics named words accepted = (let all = known.read line command cics named words accepted in omega (arith, all))
 
 pub legal_so : Accepts → (told : Whole) (bases : Bases) (line : ℕ) (before : List Item) (command : Command) (cics named words : List Word) (s : Statement)
-    → fault_in line command cics named words ≡ None → IsStatement told bases line before command words s → IsLegal s
+    → fault_in line command cics named words ≡ None → IsStatementOf told bases line before command words s → IsLegal s
 legal_so known told bases line before command cics named words s accepted is =
     let listed = listed_so known line command cics named words accepted (lists_conditions command) refl in
     let count = counted_so known line command cics named words accepted in
@@ -68,7 +68,7 @@ same_conditions : (conditions : List ListedCondition) → condition_bytes condit
 same_conditions [] = refl
 same_conditions (listed ∷ conditions) = ap (λ k. listed.number ∷ listed.label ∷ k) (same_conditions conditions)
 
-pub same_bytes : (told : Whole) (bases : Bases) (line : ℕ) (before : List Item) (command : Command) (words : List Word) (s : Statement) → IsStatement told bases line before command words s
+pub same_bytes : (told : Whole) (bases : Bases) (line : ℕ) (before : List Item) (command : Command) (words : List Word) (s : Statement) → IsStatementOf told bases line before command words s
     → statement_bytes s ≡ block_bytes command words
 unfolding statement_bytes block_bytes
 same_bytes told bases line before command words s is =
@@ -77,7 +77,7 @@ same_bytes told bases line before command words s is =
 
 -- ---- how many words
 pub same_words : Accepts → (told : Whole) (bases : Bases) (line : ℕ) (before : List Item) (command : Command) (cics named words : List Word) (s : Statement)
-    → fault_in line command cics named words ≡ None → IsStatement told bases line before command words s
+    → fault_in line command cics named words ≡ None → IsStatementOf told bases line before command words s
     → (length (list_of command words) ≡ word_count s) × (word_count s ≤ 18)
 same_words known told bases line before command cics named words s accepted is =
     let same = same_count told bases line before 0 (list_of command words) (words_of s) is.arguments in

@@ -1,3 +1,16 @@
+pub mod Together
+pub mod Resolved
+pub mod InStorage
+pub mod Arguments
+pub mod Stores
+pub mod Calls
+pub mod Words
+pub mod Literals
+pub mod Handed
+pub mod Called
+pub mod CodeInStorage
+pub mod Commands
+pub mod Pointers
 pub mod BlockLemmas
 pub mod TogetherLemmas
 pub mod HeadLemmas
@@ -20,7 +33,8 @@ pub mod MadeLemmas
 pub mod PlaceLemmas
 pub mod LegalLemmas
 pub mod KeptLemmas
-pub mod ArrivingLemmas
-pub mod OneLemmas
+pub mod OptionLemmas
 pub mod PointerLemmas
 pub mod ReturnedLemmas
+pub mod ArrivingLemmas
+pub mod OneLemmas

@@ -42,11 +42,11 @@ use Rattle.cx_second.specs.Statements.{Stated, place_for, stated, stated_with, s
 use Rattle.cx_second.specs.Whole.{Whole, length_once, literal_of, literal_place, pool_of, whole_of}
 use Rattle.cx_asm.specs.Assembly.{AssemblyParts, assembly_of, section_of, size_of, standing_of}
 use Rattle.cx_asm.specs.Resolving.{Standing, data_line, data_standing, counter_at, joined, last_pool, line, literal_standing, pool_standing, standing, standing_from, statement_standing}
-use Rattle.cx_command_arrival.specs.Arguments.{OperandsAddress}
-use Rattle.cx_command_arrival.specs.InStorage.{IsUnraised}
-use Rattle.cx_command_arrival.specs.Literals.{HasBytes, HasInstruction, LiteralsStand, StandsInSection}
-use Rattle.cx_command_arrival.specs.Standing.{is_instruction_role, statements_from}
-use Rattle.cx_command_arrival.specs.Stores.{context_of}
+use Rattle.cx_command_arrival.proofs.Arguments.{OperandsAddress}
+use Rattle.cx_command_arrival.proofs.InStorage.{IsUnraised}
+use Rattle.cx_command_arrival.proofs.Literals.{HasBytes, HasInstruction, LiteralsStand, StandsInSection}
+use Rattle.cx_command_arrival.proofs.Resolved.{is_instruction_role, statements_from}
+use Rattle.cx_command_arrival.proofs.Stores.{context_of}
 use Rattle.cx_command_arrival.proofs.ArgumentLemmas.{both_ok}
 use Rattle.cx_command_arrival.proofs.BehindLemmas.{control_same, fault_kept, own_sound, reverse_step, section_sound, statements_are}
 use Rattle.cx_command_arrival.proofs.HeldLemmas.{HasWord, HaveWords, IsHeld, all_back, all_front, all_held, both_have, data_held, pool_held, statement_held}

@@ -20,7 +20,7 @@ use Rattle.cx_storage.specs.Address.{along}
 use Rattle.cx_storage.specs.Laws.Spans.{SpanIsBytes}
 use Rattle.cx_storage.specs.Place.{CanPlace, IsLeastPlace}
 use Rattle.cx_storage.specs.Storage.{Storage, byte_at}
-use Rattle.cx_command_arrival.specs.InStorage.{HasText, IsUnraised, LinesAreLoaded, StandsAt}
+use Rattle.cx_command_arrival.proofs.InStorage.{HasText, IsUnraised, LinesAreLoaded, StandsAt}
 
 -- what the laws of lower crates say
 pub record Known : Type 0 where

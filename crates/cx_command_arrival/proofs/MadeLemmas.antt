@@ -27,10 +27,10 @@ use Rattle.cx_operands.specs.Judging.{judged}
 use Rattle.cx_operands.specs.Storage.{indexed, indexed_by, indexed_in, is_literal, operand, operand_in}
 use Rattle.cx_operands.specs.declared.addresses.Address.{Address}
 use Rattle.cx_second.specs.Whole.{Whole}
-use Rattle.cx_command_arrival.specs.Calls.{MarkIsResolved}
-use Rattle.cx_command_arrival.specs.Commands.{AreArguments, CallsAreMade, behind_list, behind_mark, behind_stores, last_word}
-use Rattle.cx_command_arrival.specs.Standing.{AreResolved}
-use Rattle.cx_command_arrival.specs.Stores.{AreStores, StoresAreResolved, context_of, entry_in_15, list_of_1, load_of, store_of, word_of_list}
+use Rattle.cx_command_arrival.proofs.Calls.{MarkIsResolved}
+use Rattle.cx_command_arrival.proofs.Commands.{AreArguments, CallsAreMade, behind_list, behind_mark, behind_stores, last_word}
+use Rattle.cx_command_arrival.proofs.Resolved.{AreResolved}
+use Rattle.cx_command_arrival.proofs.Stores.{AreStores, StoresAreResolved, context_of, entry_in_15, list_of_1, load_of, store_of, word_of_list}
 use Rattle.cx_command_arrival.proofs.ArgumentLemmas.{both_ok}
 use Rattle.cx_command_arrival.proofs.PlainLemmas.{ArePlain, decimal_plain}
 use Rattle.cx_command_arrival.proofs.WordLemmas.{no_parenthesis}

@@ -1,19 +1,21 @@
--- A statement is determined by the lines before its made statements, its command and its words.
-use Rattle.std.proofs.Common.{◌≡◌, ℕ, ◌+◌, Ok, List, [], ◌∷◌, refl, sym, ◌∙◌, ap}
-use Rattle.std.specs.Prelude.{Result, codes}
-use Rattle.cx_arrival.specs.Made.{Argument, Based, Statement, block_argument, words_of}
+-- A statement is determined by where its made statements stand and what they are made of.
+use Rattle.std.proofs.Common.{◌≡◌, ℕ, ◌+◌, Some, Ok, List, [], ◌∷◌, ◌++◌, refl, sym, ◌∙◌, ap}
+use Rattle.std.specs.Prelude.{Option, Result}
+use Rattle.cx_arrival.specs.Made.{Argument, Based, Statement, block_argument, made, stores, words_of}
+use Rattle.cx_code.specs.declared.instruction.Fields.{Fields}
+use Rattle.cx_code.specs.declared.instruction.Fields.TheVariants.{Rx, Si}
+use Rattle.cx_code.specs.declared.table.Op.{Op}
+use Rattle.cx_code.specs.declared.table.Op.TheVariants as op
+use Rattle.cx_code.specs.Spelling.{Instruction, instruction}
+use Rattle.cx_code.specs.Table.{length_of}
 use Rattle.cx_command.specs.declared.commands.Command.{Command}
 use Rattle.cx_command.specs.declared.legal.ListedCondition.{ListedCondition}
 use Rattle.cx_source.specs.declared.source.Item.{Item}
 use Rattle.cx_source.specs.declared.source.Stmt.{Stmt}
-use Rattle.cx_translate.specs.Call.{list_of}
+use Rattle.cx_terms.specs.declared.faults.FaultKind.{FaultKind}
 use Rattle.cx_translate.specs.Made.{made_item}
-use Rattle.cx_operands.specs.Addresses.{address}
-use Rattle.cx_operands.specs.Bases.{Bases}
-use Rattle.cx_operands.specs.declared.addresses.Address.{Address}
-use Rattle.cx_second.specs.Whole.{Whole}
-use Rattle.cx_command_arrival.specs.Commands.{AreArguments, ResolvesTo, StatementsDecide, behind_list, behind_mark}
-use Rattle.cx_command_arrival.specs.Stores.{entry_in_15, list_of_1, load_of, store_of, word_of_list}
+use Rattle.cx_command_arrival.specs.Arriving.{StatementsDecide}
+use Rattle.cx_command_arrival.specs.Standing.{AreResolved, Site, behind, call_of}
 
 -- ---- records with equal fields
 abbrev based_of : ℕ → ℕ → Based
@@ -30,33 +32,51 @@ argument_is a b index base displacement word =
     ap (λ (x : ℕ). argument_of x a.base a.displacement a.word) index ∙ ap (λ (x : ℕ). argument_of b.index x a.displacement a.word) base
     ∙ ap (λ (x : ℕ). argument_of b.index b.base x a.word) displacement ∙ ap (argument_of b.index b.base b.displacement) word
 
--- ---- what one operand resolves to
-record Same (x y m n i j : ℕ) : Type 0 where
-  index : x ≡ y
-  base : m ≡ n
-  displacement : i ≡ j
+-- ---- the instructions
+codes_are : (site : Site) (before : List Item) (at other : ℕ) (ss : List Stmt) (one two : List Instruction) → AreResolved site before at ss one → AreResolved site before other ss two → one ≡ two
+unfolding AreResolved
+codes_are site before at other [] [] [] a b = refl
+codes_are site before at other [] [] (j ∷ two) a b = absurd b
+codes_are site before at other [] (i ∷ one) two a b = absurd a
+codes_are site before at other (s ∷ ss) [] two a b = absurd a
+codes_are site before at other (s ∷ ss) (i ∷ one) [] a b = absurd b
+codes_are site before at other (s ∷ ss) (i ∷ one) (j ∷ two) a b =
+    let found : ◌≡◌ {A = Option (Result Instruction FaultKind)} (Some (Ok i)) (Some (Ok j)) = sym a.0.1 ∙ b.0.1 in
+    let same : i ≡ j = cc in
+    let rest = codes_are site (made_item site.line s ∷ before) (at + length_of i.op) (other + length_of j.op) ss one two a.1 b.1 in
+    rw (same, rest) refl
 
-same_of : (told : Whole) (bases : Bases) (line : ℕ) (before : List Item) (s : Stmt) (text : List ℕ) (x y m n i j : ℕ) → ResolvesTo told bases line before s text x m i
-    → ResolvesTo told bases line before s text y n j → Same x y m n i j
-same_of told bases line before s text x y m n i j one other =
-    let found : ◌≡◌ {A = Result _ _} (Ok (x, address m i)) (Ok (y, address n j)) = sym one ∙ other in
-    let pair : (x, address m i) ≡ (y, address n j) = cc in
-    record { index = ap (λ (p : ℕ × Address). p.0) pair; base = ap (λ (p : ℕ × Address). (p.1).base) pair; displacement = ap (λ (p : ℕ × Address). (p.1).displacement) pair }
+-- ---- what they are made of
+record Same (xs ys : List Argument) (p q : List Instruction) : Type 0 where
+  arguments : xs ≡ ys
+  behind : p ≡ q
 
-arguments_are : (told : Whole) (bases : Bases) (line : ℕ) (before : List Item) (k : ℕ) (list : List (List ℕ)) (cs bs : List Argument)
-    → AreArguments told bases line before k list cs → AreArguments told bases line before k list bs → cs ≡ bs
-unfolding AreArguments
-arguments_are told bases line before k [] [] [] one other = refl
-arguments_are told bases line before k [] [] (b ∷ bs) one other = absurd other
-arguments_are told bases line before k [] (a ∷ cs) bs one other = absurd one
-arguments_are told bases line before k (text ∷ list) [] bs one other = absurd one
-arguments_are told bases line before k (text ∷ list) (a ∷ cs) [] one other = absurd other
-arguments_are told bases line before k (text ∷ list) (a ∷ cs) (b ∷ bs) one other =
-    let itself = same_of told bases line before (load_of text) text a.index b.index a.base b.base a.displacement b.displacement one.0 other.0 in
-    let word = same_of told bases line (made_item line (load_of text) ∷ before) (store_of k) (word_of_list k) 0 0 a.word.base b.word.base a.word.displacement b.word.displacement one.1 other.1 in
-    let first = argument_is a b itself.index itself.base itself.displacement (based_is a.word b.word word.base word.displacement) in
-    let rest = arguments_are told bases line (made_item line (store_of k) ∷ made_item line (load_of text) ∷ before) (k + 1) list cs bs one.2 other.2 in
-    rw (first, rest) refl
+same_fields : (o : Op) (a b : Fields) (p q : List Instruction) → instruction o a ∷ p ≡ instruction o b ∷ q → (a ≡ b) × (p ≡ q)
+same_fields o a b p q e = (let one : instruction o a ≡ instruction o b = cc in ap (λ (i : Instruction). i.fields) one, cc)
+
+no_load : (a b : Fields) (p q : List Instruction) → instruction op.Oi a ∷ p ≡ instruction op.La b ∷ q → ⊥
+no_load a b p q e =
+    let one : instruction op.Oi a ≡ instruction op.La b = cc in
+    let ops : op.Oi ≡ op.La = ap (λ (i : Instruction). i.op) one in
+    absurd (cc)
+
+stores_are : (xs ys : List Argument) (b d b' d' : ℕ) (p q : List Instruction)
+    → stores xs ++ instruction op.Oi (Si 128 b d) ∷ p ≡ stores ys ++ instruction op.Oi (Si 128 b' d') ∷ q
+    → Same xs ys (instruction op.Oi (Si 128 b d) ∷ p) (instruction op.Oi (Si 128 b' d') ∷ q)
+stores_are [] [] b d b' d' p q e = record { arguments = refl; behind = e }
+stores_are [] (y ∷ ys) b d b' d' p q e = absurd (no_load (Si 128 b d) (Rx 0 y.index y.base y.displacement) _ _ e)
+stores_are (x ∷ xs) [] b d b' d' p q e = absurd (no_load (Si 128 b' d') (Rx 0 x.index x.base x.displacement) _ _ (sym e))
+stores_are (x ∷ xs) (y ∷ ys) b d b' d' p q e =
+    let load = same_fields op.La (Rx 0 x.index x.base x.displacement) (Rx 0 y.index y.base y.displacement) _ _ e in
+    let store = same_fields op.St (Rx 0 0 x.word.base x.word.displacement) (Rx 0 0 y.word.base y.word.displacement) _ _ load.1 in
+    let index : x.index ≡ y.index = (let f = load.0 in cc) in
+    let base : x.base ≡ y.base = (let f = load.0 in cc) in
+    let displacement : x.displacement ≡ y.displacement = (let f = load.0 in cc) in
+    let word_base : x.word.base ≡ y.word.base = (let f = store.0 in cc) in
+    let word_displacement : x.word.displacement ≡ y.word.displacement = (let f = store.0 in cc) in
+    let first = argument_is x y index base displacement (based_is x.word y.word word_base word_displacement) in
+    let rest = stores_are xs ys b d b' d' p q store.1 in
+    record { arguments = rw (first, rest.arguments) refl; behind = rest.behind }
 
 -- ---- the statement
 abbrev statement_of : Command → ℕ → ℕ → List ListedCondition → Based → Based → List Argument → Based → Based → Based → Statement
@@ -74,23 +94,25 @@ statement_of command first second conditions block head arguments last list entr
 }
 
 pub statements_decide : StatementsDecide
-statements_decide told bases line before command words s t one other =
-    let all : block_argument s ∷ s.arguments ≡ block_argument t ∷ t.arguments = arguments_are told bases line before 0 (list_of command words) (words_of s) (words_of t) one.arguments other.arguments in
+unfolding made
+statements_decide site at other s t one two =
+    let code = codes_are site (behind site []) at other (call_of site) (made s) (made t) one.resolved two.resolved in
+    let split = stores_are (words_of s) (words_of t) s.last.base s.last.displacement t.last.base t.last.displacement _ _ code in
+    let all = split.arguments in
     let handed : block_argument s ≡ block_argument t = cc in
     let block : s.block ≡ t.block = based_is s.block t.block (ap (λ (a : Argument). a.base) handed) (ap (λ (a : Argument). a.displacement) handed) in
     let head : s.head ≡ t.head = ap (λ (a : Argument). a.word) handed in
     let arguments : s.arguments ≡ t.arguments = cc in
-    let marked : ◌≡◌ {A = Result _ _} (Ok (address s.last.base s.last.displacement)) (Ok (address t.last.base t.last.displacement)) = sym one.last ∙ other.last in
-    let place : address s.last.base s.last.displacement ≡ address t.last.base t.last.displacement = cc in
-    let last : s.last ≡ t.last = based_is s.last t.last (ap (λ (a : Address). a.base) place) (ap (λ (a : Address). a.displacement) place) in
-    let listed = same_of told bases line (behind_mark line before command words) list_of_1 (codes "DFHEIPL") 0 0 s.list.base t.list.base s.list.displacement t.list.displacement one.list other.list in
-    let list : s.list ≡ t.list = based_is s.list t.list listed.base listed.displacement in
-    let entered = same_of told bases line (behind_list line before command words) entry_in_15 (codes "=V(DFHEI1)") 0 0 s.entry.base t.entry.base s.entry.displacement t.entry.displacement one.entry other.entry in
-    let entry : s.entry ≡ t.entry = based_is s.entry t.entry entered.base entered.displacement in
-    let first = one.first ∙ sym other.first in
-    let second = one.second ∙ sym other.second in
-    let conditions = one.conditions ∙ sym other.conditions in
-    let named = one.for_command ∙ sym other.for_command in
+    let marks = same_fields op.Oi (Si 128 s.last.base s.last.displacement) (Si 128 t.last.base t.last.displacement) _ _ split.behind in
+    let takes = same_fields op.La (Rx 1 0 s.list.base s.list.displacement) (Rx 1 0 t.list.base t.list.displacement) _ _ marks.1 in
+    let loads = same_fields op.L (Rx 15 0 s.entry.base s.entry.displacement) (Rx 15 0 t.entry.base t.entry.displacement) _ _ takes.1 in
+    let last : s.last ≡ t.last = based_is s.last t.last (let f = marks.0 in cc) (let f = marks.0 in cc) in
+    let list : s.list ≡ t.list = based_is s.list t.list (let f = takes.0 in cc) (let f = takes.0 in cc) in
+    let entry : s.entry ≡ t.entry = based_is s.entry t.entry (let f = loads.0 in cc) (let f = loads.0 in cc) in
+    let first = one.first ∙ sym two.first in
+    let second = one.second ∙ sym two.second in
+    let conditions = one.conditions ∙ sym two.conditions in
+    let named = one.command ∙ sym two.command in
     let same : statement_of s.command s.first s.second s.conditions s.block s.head s.arguments s.last s.list s.entry
     ≡ statement_of t.command t.first t.second t.conditions t.block t.head t.arguments t.last t.list t.entry = rw (named, first, second, conditions, block, head, arguments, last, list, entry) refl in
     same

@@ -1,6 +1,6 @@
 -- Where DFHEIPL, its words and a place in the control section are reached.
 use Rattle.std.specs.Prelude.{ℤ, slice_index, ◌≢◌}
-use Rattle.std.proofs.Common.{◌≡◌, ◌≤◌, ℕ, suc, ◌+◌, ◌*◌, false, ◌==◌, List, [], ◌∷◌, length, refl, sym, ◌∙◌, ap, arith}
+use Rattle.std.proofs.Common.{map, ◌≡◌, ◌≤◌, ℕ, suc, ◌+◌, ◌*◌, false, ◌==◌, List, [], ◌∷◌, length, refl, sym, ◌∙◌, ap, arith}
 use Rattle.std.specs.List.{AllByRecursion}
 use Rattle.std.proofs.lemmas.Bool.Decides.{nat_tests}
 use Rattle.cx_arrival.specs.Made.{Argument, reached}
@@ -16,9 +16,9 @@ use Rattle.cx_second.specs.Whole.{Whole}
 use Rattle.cx_translate.specs.Made.{made_item}
 use Rattle.cx_command_arrival.specs.Arguments.{Sections}
 use Rattle.cx_command_arrival.specs.Arriving.{HasBase}
-use Rattle.cx_command_arrival.specs.Commands.{AreArguments}
-use Rattle.cx_command_arrival.specs.Stores.{context_of, load_of, store_of}
-use Rattle.cx_command_arrival.specs.Words.{HasList, LiesBehind, WordsLie}
+use Rattle.cx_command_arrival.proofs.Commands.{AreArguments}
+use Rattle.cx_command_arrival.proofs.Stores.{context_of, load_of, store_of}
+use Rattle.cx_command_arrival.proofs.Words.{HasList, LiesBehind, WordsLie}
 
 -- ---- a base that isn't 0
 pub reached_is : (regs : List ℕ) (b d : ℕ) → b ≢ 0 → effective regs 0 b d ≡ reached regs (record { base = b; displacement = d })
@@ -37,7 +37,7 @@ lies_at c section offset n at sections regs lies has = sym (reached_is regs at.b
 
 -- ---- the words of DFHEIPL
 abbrev AreBased : Sections → List ℕ → Bases → List Argument → Type 0
-AreBased sections regs bases arguments = AllByRecursion (λ a. HasBase sections regs bases a.word) arguments
+AreBased sections regs bases arguments = AllByRecursion (HasBase sections regs bases) (map (λ a. a.word) arguments)
 
 word_again : (place k : ℕ) → along place (4 * k) ≡ along (along place 0) (4 * k)
 word_again place k = omega arith

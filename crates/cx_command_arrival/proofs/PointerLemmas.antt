@@ -12,9 +12,8 @@ use Rattle.cx_code.specs.Spelling.{Instruction, instruction}
 use Rattle.cx_code.specs.Table.{length_of}
 use Rattle.cx_command.specs.Commands.{row_of}
 use Rattle.cx_source.specs.declared.source.Item.{Item}
-use Rattle.cx_source.specs.declared.source.Stmt.{Stmt}
-use Rattle.cx_translate.specs.Call.{operand_of, pointers_of}
-use Rattle.cx_translate.specs.Made.{label, load}
+use Rattle.cx_translate.specs.Call.{pointers_of}
+use Rattle.cx_translate.specs.Made.{load}
 use Rattle.cx_translate.specs.Sections.{lines}
 use Rattle.cx_operands.specs.Bases.{Bases}
 use Rattle.cx_operands.specs.Context.{Context, register_in}
@@ -24,17 +23,19 @@ use Rattle.cx_operands.specs.Storage.{indexed_in}
 use Rattle.cx_operands.specs.declared.addresses.Address.{Address}
 use Rattle.cx_operands.specs.declared.forms.Form.TheVariants as form
 use Rattle.cx_second.specs.Whole.{Whole, whole_of}
-use Rattle.cx_command_arrival.specs.Called.{call_statements, words_behind}
-use Rattle.cx_command_arrival.specs.Commands.{CallsAreMade}
-use Rattle.cx_command_arrival.specs.Pointers.{IsPointerLoad, LoadsAreResolved, PointersAreHanded, PointersAreLoaded, pointer_load, pointer_loads}
-use Rattle.cx_command_arrival.specs.Standing.{AreResolved, bases_in_use}
-use Rattle.cx_command_arrival.specs.Together.{IsMade}
-use Rattle.cx_command_arrival.proofs.CalledLemmas.{AreInstructions, StandBehind, calls_are, is_l, made_split}
-use Rattle.cx_command_arrival.specs.Stores.{context_of}
+use Rattle.cx_source.specs.declared.source.Source.{Source}
+use Rattle.cx_asm.specs.Assembly.{AssemblyParts, assembly_of}
+use Rattle.cx_command.specs.declared.commands.Command.{Command}
+use Rattle.cx_translate.specs.declared.words.Word.{Word}
+use Rattle.cx_command_arrival.proofs.Resolved.{AreResolved, bases_in_use}
+use Rattle.cx_command_arrival.proofs.CalledLemmas.{AreInstructions, calls_are, is_l}
+use Rattle.cx_command_arrival.proofs.Stores.{context_of}
 use Rattle.cx_command_arrival.proofs.ArgumentLemmas.{both_ok, made_ok}
 use Rattle.cx_command_arrival.proofs.StandingLemmas.{instructions_stand}
 use Rattle.cx_command_arrival.proofs.StoreLemmas.{l_indexed, l_named, resolved_so}
-use Rattle.cx_command_arrival.proofs.TogetherLemmas.{stand_together}
+use Rattle.cx_command_arrival.proofs.Called.{call_statements}
+use Rattle.cx_command_arrival.proofs.Commands.{CallsAreMade}
+use Rattle.cx_command_arrival.proofs.Pointers.{IsPointerLoad, LoadsAreResolved, LoadsPointers, pointer_loads}
 
 -- the loads are instructions
 loads_are : (line : ℕ) (registers : List (List ℕ)) → AreInstructions (lines line (map load registers))
@@ -76,47 +77,22 @@ parted told bases before at (item ∷ items) more (i ∷ code) r =
     }
 
 -- ---- where they stand
-loads_behind : (items : List Item) (item : Item) (exec : Stmt) (made : IsMade item exec items)
-    → StandBehind items (made.together.before ++ lines item.line (label exec.name))
-    (lines item.line (call_statements made.command (words_behind exec made.named)) ++ lines item.line (pointer_loads made.command (words_behind exec made.named)))
-loads_behind items item exec made =
-    let words = words_behind exec made.named in
-    let before = made.together.before in
-    let one = lines item.line (label exec.name) in
-    let two = lines item.line (call_statements made.command words) in
-    let loads = lines item.line (map load (pointers_of (row_of made.command).options words)) in
-    let behind = made.together.behind in
+pub loads_pointers : CallsAreMade → (source : Source) (assembly : AssemblyParts) (line : ℕ) (first rest : List Item) (command : Command) (words : List Word) → assembly_of source ≡ Ok assembly
+    → source.items ≡ first ++ (lines line (call_statements command words) ++ lines line (pointer_loads command words)) ++ rest → LoadsPointers source assembly line first command words
+loads_pointers calls_made source assembly line first rest command words accepts is =
+    let two = lines line (call_statements command words) in
+    let loads = lines line (pointer_loads command words) in
+    let code = instructions_stand source assembly first (two ++ loads) rest accepts is (all_are two loads (calls_are line command words) (loads_are line (pointers_of (row_of command).options words))) in
+    let p = parted (whole_of source) (bases_in_use source first) (reverse first) code.at two loads code.code code.resolved in
     record {
-      rest = behind;
-      is =
-          made.together.is ∙ ap (λ k. before ++ k ++ behind) (made_split item.line exec.name made.command words)
-          ∙ ap (λ k. k ++ behind) (ap (λ k. before ++ k) (append_assoc one two loads) ∙ sym (append_assoc before one (two ++ loads)));
-    }
-
-pub pointers_are_loaded : CallsAreMade → PointersAreLoaded
-pointers_are_loaded calls_made source translated assembly item exec e accepts has =
-    let made = stand_together source translated item exec e has in
-    let words = words_behind exec made.named in
-    let first = made.together.before ++ lines item.line (label exec.name) in
-    let two = lines item.line (call_statements made.command words) in
-    let loads = lines item.line (pointer_loads made.command words) in
-    let all = loads_behind translated.items item exec made in
-    let code = instructions_stand translated assembly first (two ++ loads) all.rest accepts all.is
-    (all_are two loads (calls_are item.line made.command words) (loads_are item.line (pointers_of (row_of made.command).options words))) in
-    let p = parted (whole_of translated) (bases_in_use translated first) (reverse first) code.at two loads code.code code.resolved in
-    record {
-      made = made;
       code = code;
       calls = p.first;
       loads = p.rest;
       split = p.is;
-      called = calls_made (whole_of translated) (bases_in_use translated first) item.line code.at (reverse first) made.command words p.first p.here;
+      here = p.here;
+      called = calls_made (whole_of source) (bases_in_use source first) line code.at (reverse first) command words p.first p.here;
       loaded = p.behind;
     }
-
-pub pointers_are_handed : PointersAreHanded
-unfolding operand_of
-pointers_are_handed register = refl
 
 -- ---- as the assembler resolves them
 load_fields : (c : Context) (register : List ℕ) (fields : Fields) (made : Instruction) → fields_in form.Indexed c (register ∷ codes "DFHEITP" ∷ []) ≡ Ok fields → instruction op.L fields ≡ made
@@ -139,7 +115,7 @@ load_fields c register fields made e is =
 pub loads_are_resolved : LoadsAreResolved
 unfolding resolved
 loads_are_resolved told bases line at before register made cut r =
-    let c = context_of told bases line before (pointer_load register) in
-    let e = resolved_so told bases line at before (pointer_load register) op.L made l_named r in
+    let c = context_of told bases line before (load register) in
+    let e = resolved_so told bases line at before (load register) op.L made l_named r in
     let is = made_ok (instruction op.L) (fields_in (form_of_op op.L) c (operands_of (register ++ codes ",DFHEITP"))) made e in
     load_fields c register is.0 made (sym (ap (λ k. fields_in k c (register ∷ codes "DFHEITP" ∷ [])) l_indexed) ∙ sym (ap (fields_in (form_of_op op.L) c) cut) ∙ is.1) is.2

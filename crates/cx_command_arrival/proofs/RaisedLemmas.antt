@@ -7,7 +7,7 @@ use Rattle.cx_image.specs.Resolved.{AreApart, end_of, is_code}
 use Rattle.cx_second.specs.Statements.{statements_of}
 use Rattle.cx_second.specs.Whole.{whole_of}
 use Rattle.cx_asm.specs.Assembly.{section_of, standing_of}
-use Rattle.cx_command_arrival.specs.InStorage.{CodeIsUnraised, IsUnraised, TextsAreMade}
+use Rattle.cx_command_arrival.proofs.InStorage.{CodeIsUnraised, IsUnraised, TextsAreMade}
 use Rattle.cx_command_arrival.proofs.StandingLemmas.{accepted}
 use Rattle.cx_command_arrival.proofs.HeldLemmas.{HasWord, HaveWords, all_held}
 

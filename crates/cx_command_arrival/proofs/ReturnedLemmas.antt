@@ -1,9 +1,9 @@
 -- The load of a pointer, from where it stands to what it gives.
 use Rattle.std.specs.Prelude.{Err, Result, codes, option_map, reverse, slice_get, slice_set, ℤ}
-use Rattle.std.proofs.Common.{◌≡◌, ◌≤◌, ◌<◌, ℕ, ◌+◌, ◌*◌, ◌^◌, ◌%◌, true, Option, Some, None, Ok, List, [], ◌∷◌, ◌++◌, length, map, refl, sym, ◌∙◌, ap, subst, arith}
+use Rattle.std.proofs.Common.{◌≡◌, ◌≤◌, ◌<◌, ℕ, ◌+◌, ◌^◌, ◌%◌, true, Option, Some, None, Ok, List, [], ◌∷◌, ◌++◌, length, map, refl, sym, ◌∙◌, ap, subst, arith}
 use Rattle.std.specs.Option.{option_map_or, option_to_list}
-use Rattle.std.proofs.lemmas.List.{append_assoc, map-append}
-use Rattle.std.proofs.lemmas.List.Sums.{sum_by-append, sum_by-cons}
+use Rattle.std.proofs.lemmas.List.{append_assoc}
+use Rattle.std.proofs.lemmas.List.Sums.{sum_by-cons}
 use Rattle.cx_arrival.specs.Laws.Pointers.{LoadsGiveWords}
 use Rattle.cx_arrival.specs.Made.{Argument, Statement, argument_address, words_of}
 use Rattle.cx_arrival.specs.Stands.{AreAt, IsMachine, code_length}
@@ -15,7 +15,6 @@ use Rattle.cx_code.specs.Table.{length_of, op_named, ops, row_of}
 use Rattle.cx_command.specs.declared.commands.Command.{Command}
 use Rattle.cx_command.specs.declared.options.CommandOption.{CommandOption}
 use Rattle.cx_command.specs.declared.options.Mark.TheVariants.{Pointer}
-use Rattle.cx_command.specs.Commands.{row_of as row_of_command}
 use Rattle.cx_command.specs.Options.{common_of, option_name}
 use Rattle.cx_command.specs.declared.options.CommonOption.TheVariants.{Resp}
 use Rattle.cx_exec.specs.declared.machine.Step.TheVariants.{Done}
@@ -30,7 +29,6 @@ use Rattle.cx_places.specs.Layout.{aligned}
 use Rattle.cx_places.specs.declared.roles.Role.TheVariants as role
 use Rattle.cx_source.specs.declared.source.Item.{Item}
 use Rattle.cx_source.specs.declared.source.Source.{Source}
-use Rattle.cx_source.specs.declared.source.Stmt.{Stmt}
 use Rattle.cx_source.specs.Lines.{is_letter, is_name, is_name_character}
 use Rattle.cx_source.specs.Marks.{depth_behind, within_behind}
 use Rattle.cx_storage.specs.Address.{along}
@@ -47,12 +45,12 @@ use Rattle.cx_terms.specs.declared.terms.TermKind.TheVariants.{Symbol}
 use Rattle.cx_terms.specs.declared.values.Value.{Value}
 use Rattle.cx_translate.specs.declared.words.Word.{Word}
 use Rattle.cx_translate.specs.Call.{argument_of, labels_of, list_of, operand_by, operand_of, operands_of as arguments_handed, pointer_by, pointers_of}
-use Rattle.cx_translate.specs.Made.{label, made_item, stmt}
+use Rattle.cx_translate.specs.Made.{load, made_item, stmt}
 use Rattle.cx_translate.specs.Sections.{lines}
 use Rattle.cx_operands.specs.Addresses.{address, address_in as addressed_in, displacement_of, implied_address}
 use Rattle.cx_operands.specs.Bases.{Bases}
 use Rattle.cx_operands.specs.Context.{Context, context, worth}
-use Rattle.cx_operands.specs.Forms.{fields_in, form_of_op, operands_of, resolved}
+use Rattle.cx_operands.specs.Forms.{operands_of}
 use Rattle.cx_operands.specs.Judging.{both, judged}
 use Rattle.cx_operands.specs.Storage.{indexed, indexed_in, operand, operand_in}
 use Rattle.cx_operands.specs.declared.addresses.Address.{Address}
@@ -60,23 +58,23 @@ use Rattle.cx_second.specs.Whole.{Whole, whole_of}
 use Rattle.cx_asm.specs.Assembly.{AssemblyParts, assembly_of}
 use Rattle.cx_asm.specs.Resolving.{line as line_at}
 use Rattle.cx_command_arrival.specs.Arguments.{HoldsBase, Sections}
-use Rattle.cx_command_arrival.specs.Arriving.{AreKept}
-use Rattle.cx_command_arrival.specs.Called.{call_statements, words_behind}
-use Rattle.cx_command_arrival.specs.CodeInStorage.{CodeIsLoaded}
-use Rattle.cx_command_arrival.specs.Commands.{AreArguments, ResolvesTo}
-use Rattle.cx_command_arrival.specs.Handed.{block_of}
-use Rattle.cx_command_arrival.specs.InStorage.{TextsAreMade}
-use Rattle.cx_command_arrival.specs.Pointers.{IsPointerLoad, LoadsAreResolved, LoadsPointers, pointer_load}
-use Rattle.cx_command_arrival.specs.Returned.{ComesBack, HaveOnePlace, IsAtLoad, IsPointer, PointersComeBack, PointersHaveOnePlace, load_offset}
-use Rattle.cx_command_arrival.specs.Standing.{AreResolved, IsResolved, bases_in_use, code_lines}
-use Rattle.cx_command_arrival.specs.Stores.{context_of, load_of, store_of}
-use Rattle.cx_command_arrival.proofs.ArgumentLemmas.{Nearest, absolute_is, both_ok, implied_is, judged_ok, made_ok, or_ok}
+use Rattle.cx_command_arrival.proofs.CodeInStorage.{CodeIsLoaded}
+use Rattle.cx_command_arrival.proofs.Commands.{AreArguments, ResolvesTo}
+use Rattle.cx_command_arrival.proofs.Handed.{block_of}
+use Rattle.cx_command_arrival.proofs.InStorage.{TextsAreMade}
+use Rattle.cx_command_arrival.proofs.Resolved.{AreResolved, IsResolved, bases_in_use}
+use Rattle.cx_command_arrival.proofs.Stores.{context_of, load_of, store_of}
+use Rattle.cx_command_arrival.proofs.ArgumentLemmas.{Nearest, absolute_is, both_ok, implied_is, judged_ok, or_ok}
 use Rattle.cx_command_arrival.proofs.CalledLemmas.{HasFirst, first_offset}
 use Rattle.cx_command_arrival.proofs.KeptLemmas.{IsPlaced, code_kept, code_within, is_placed}
 use Rattle.cx_command_arrival.proofs.MadeLemmas.{list_begins, rest_of}
-use Rattle.cx_command_arrival.proofs.PointerLemmas.{Parted, parted}
 use Rattle.cx_command_arrival.proofs.StandingLemmas.{offset_is}
-use Rattle.cx_command_arrival.proofs.StoreLemmas.{l_named, resolved_so}
+use Rattle.cx_arrival.specs.Arrives.{made_length}
+use Rattle.cx_command_arrival.specs.Arriving.{AreKept, ComesBack, IsAtLoad, IsPointer}
+use Rattle.cx_command_arrival.specs.Standing.{Site, code_lines}
+use Rattle.cx_command_arrival.proofs.Called.{call_statements}
+use Rattle.cx_command_arrival.proofs.OptionLemmas.{no_pointer_before}
+use Rattle.cx_command_arrival.proofs.Pointers.{IsPointerLoad, LoadsAreResolved, LoadsPointers, pointer_loads}
 
 -- ---- DFHEITP as an operand
 one_term : terms_of (codes "DFHEITP") ≡ Some (term_of Plus Symbol (codes "DFHEITP") ∷ [])
@@ -111,11 +109,21 @@ one_address near sections regs later bases None number at e first second =
 one_address near sections regs later bases (Some section) number at e first second =
     implied_is near sections regs bases (Some section) number at 0 e first ∙ sym (implied_is near sections later bases (Some section) number at 0 e second)
 
-pub pointers_have_one_place : Nearest → PointersHaveOnePlace
+-- Two storage operands without an index have one base register and one displacement, and so one address wherever that holds its base.
+record HaveOnePlace (bases : Bases) (x y : ℕ) (handed taken : Address) : Type 0 where
+  index : (x ≡ 0) × (y ≡ 0)
+  resolved : handed ≡ taken
+  address : (sections : Sections) (regs later : List ℕ) → HoldsBase sections regs bases handed.base → HoldsBase sections later bases taken.base
+      → effective regs x handed.base handed.displacement ≡ effective later y taken.base taken.displacement
+
+-- what is handed over for a pointer and what its load takes
+pointers_have_one_place : Nearest → (told : Whole) (bases : Bases) (line : ℕ) (before behind : List Item) (register : List ℕ) (x y : ℕ) (handed taken : Address)
+    → indexed_in (context_of told bases line before (load_of (operand_of Pointer register))) (operand_of Pointer register) ≡ Ok (x, handed)
+    → indexed_in (context_of told bases line behind (load register)) (codes "DFHEITP") ≡ Ok (y, taken) → HaveOnePlace bases x y handed taken
 unfolding operand_of
 pointers_have_one_place near told bases line before behind register x y handed taken one other =
     let c = context_of told bases line before (load_of (codes "DFHEITP")) in
-    let d = context_of told bases line behind (pointer_load register) in
+    let d = context_of told bases line behind (load register) in
     let found : ◌≡◌ {A = Result (ℕ × Address) FaultKind} (Ok (x, handed)) (Ok (y, taken)) = sym one ∙ same_operand told.find bases c.here d.here c.literal d.literal ∙ other in
     let pair : ◌≡◌ {A = ℕ × Address} (x, handed) (y, taken) = cc in
     let same : handed ≡ taken = ap (λ (p : ℕ × Address). p.1) pair in
@@ -200,11 +208,7 @@ behind_block : (told : Whole) (bases : Bases) (line : ℕ) (before : List Item) 
 unfolding AreArguments
 behind_block told bases line before block list s are = are.2
 
--- ---- loads among loads
-l_length : length_of op.L ≡ 4
-unfolding row_of
-l_length = refl
-
+-- ---- the load
 load_length : (register base displacement : ℕ) → code_length (instruction op.L (Rx register 0 base displacement) ∷ []) ≡ 4
 unfolding row_of
 load_length register base displacement = refl
@@ -212,26 +216,6 @@ load_length register base displacement = refl
 l_role : (operand : List ℕ) → role_in (stmt [] (codes "L") operand) ≡ role.Instruction (length_of op.L)
 unfolding operation_named op_named ops row_of
 l_role operand = refl
-
-load_is_l : (told : Whole) (bases : Bases) (line at : ℕ) (before : List Item) (register : List ℕ) (i : Instruction) → IsResolved told bases before at (made_item line (pointer_load register)) i → i.op ≡ op.L
-unfolding resolved
-load_is_l told bases line at before register i r =
-    let c = context_of told bases line before (pointer_load register) in
-    let e = resolved_so told bases line at before (pointer_load register) op.L i l_named r in
-    let is = made_ok (instruction op.L) (fields_in (form_of_op op.L) c (operands_of (register ++ codes ",DFHEITP"))) i e in
-    ap (λ (k : Instruction). k.op) (sym is.2)
-
-loads_length : (told : Whole) (bases : Bases) (line : ℕ) (before : List Item) (at : ℕ) (registers : List (List ℕ)) (code : List Instruction)
-    → AreResolved told bases before at (lines line (map pointer_load registers)) code → code_length code ≡ 4 * length registers
-unfolding AreResolved
-loads_length told bases line before at [] [] r = refl
-loads_length told bases line before at [] (i ∷ code) r = absurd r
-loads_length told bases line before at (register ∷ registers) [] r = absurd r
-loads_length told bases line before at (register ∷ registers) (i ∷ code) r =
-    let own : length_of i.op ≡ 4 = ap length_of (load_is_l told bases line at before register i r.0) ∙ l_length in
-    let rest = loads_length told bases line (made_item line (pointer_load register) ∷ before) (at + length_of i.op) registers code r.1 in
-    let sum : code_length (i ∷ code) ≡ length_of i.op + code_length code = sum_by-cons (λ (x : Instruction). length_of x.op) i code in
-    omega (arith, sum, own, rest)
 
 record Begins (told : Whole) (bases : Bases) (before : List Item) (at : ℕ) (item : Item) (code : List Instruction) : Type 0 where
   load : Instruction
@@ -246,9 +230,6 @@ begins told bases before at item items [] r = absurd r
 begins told bases before at item items (i ∷ code) r = record { load = i; rest = code; is = refl; resolved = r.0 }
 
 -- ---- code behind code
-joined : (front code : List Instruction) → code_length (front ++ code) ≡ code_length front + code_length code
-joined front code = sum_by-append (λ (x : Instruction). length_of x.op) front code
-
 at_behind : (s : Storage) (a : ℕ) (front code : List Instruction) → a < 2 ^ 24 → AreAt s a (front ++ code) → AreAt s (along a (code_length front)) code
 unfolding AreAt
 at_behind s a [] code small stands =
@@ -263,7 +244,7 @@ first_at : (s : Storage) (a : ℕ) (i : Instruction) (code : List Instruction) �
 unfolding AreAt
 first_at s a i code stands = (stands.0, stands.1, tt)
 
-lines_behind : (at : ℕ) (front code : List Instruction) → code_lines at (front ++ code) ≡ code_lines at front ++ code_lines (at + code_length front) code
+pub lines_behind : (at : ℕ) (front code : List Instruction) → code_lines at (front ++ code) ≡ code_lines at front ++ code_lines (at + code_length front) code
 unfolding code_lines
 lines_behind at [] code = (let same : at ≡ at + 0 = omega arith in ap (λ n. code_lines n code) same)
 lines_behind at (i ∷ front) code =
@@ -316,111 +297,77 @@ pub record Laws : Type 0 where
   pub spans : SpanIsBytes
   pub gives : LoadsGiveWords
 
-module _ (laws : Laws) (translated : Source) (assembly : AssemblyParts) (item : Item) (exec : Stmt) (accepts : assembly_of translated ≡ Ok assembly)
-    (all : LoadsPointers translated assembly item exec) (before : List CommandOption) (register : List ℕ)
-    (p : IsPointer all.made.command (words_behind exec all.made.named) before register)
+module _ (laws : Laws) (source : Source) (assembly : AssemblyParts) (line : ℕ) (first : List Item) (command : Command) (words : List Word) (accepts : assembly_of source ≡ Ok assembly)
+    (all : LoadsPointers source assembly line first command words) (before : List CommandOption) (register : List ℕ) (p : IsPointer command words before register)
     (cut : operands_of (register ++ codes ",DFHEITP") ≡ register ∷ codes "DFHEITP" ∷ []) where
-  abbrev words : List Word
-  words = words_behind exec all.made.named
-
-  abbrev first : List Item
-  first = all.made.together.before ++ lines item.line (label exec.name)
-
   abbrev told : Whole
-  told = whole_of translated
+  told = whole_of source
 
   abbrev bases : Bases
-  bases = bases_in_use translated first
+  bases = bases_in_use source first
 
   abbrev s : Statement
   s = all.called.statement
 
   -- the argument
-  handed : HasArgument told bases item.line (codes "DFHEITP") s.arguments (length (arguments_handed before words))
+  handed : HasArgument told bases line (codes "DFHEITP") s.arguments (length (arguments_handed before words))
   handed =
-      let behind = list_split all.made.command words before register p in
-      let whole : AreArguments told bases item.line (reverse first) 0 (block_of all.made.command words ∷ rest_of all.made.command words) (words_of s) =
-      subst (λ k. AreArguments told bases item.line (reverse first) 0 k (words_of s)) (list_begins all.made.command words) all.called.is.arguments in
-      let lines_so = made_item item.line (store_of 0) ∷ made_item item.line (load_of (block_of all.made.command words)) ∷ reverse first in
-      let rest = behind_block told bases item.line (reverse first) (block_of all.made.command words) (rest_of all.made.command words) s whole in
-      has_argument told bases item.line lines_so 1 (arguments_handed before words) (codes "DFHEITP") behind.rest s.arguments
-      (subst (λ k. AreArguments told bases item.line lines_so 1 k s.arguments) behind.is rest)
+      let behind = list_split command words before register p in
+      let whole : AreArguments told bases line (reverse first) 0 (block_of command words ∷ rest_of command words) (words_of s) =
+      subst (λ k. AreArguments told bases line (reverse first) 0 k (words_of s)) (list_begins command words) all.called.is.arguments in
+      let lines_so = made_item line (store_of 0) ∷ made_item line (load_of (block_of command words)) ∷ reverse first in
+      let rest = behind_block told bases line (reverse first) (block_of command words) (rest_of command words) s whole in
+      has_argument told bases line lines_so 1 (arguments_handed before words) (codes "DFHEITP") behind.rest s.arguments
+      (subst (λ k. AreArguments told bases line lines_so 1 k s.arguments) behind.is rest)
 
-  -- its load, behind those before it
+  -- its load, right behind the call
   abbrev behind_call : List Item
-  behind_call = reverse (lines item.line (call_statements all.made.command words)) ++ reverse first
-
-  abbrev loads_before : List Item
-  loads_before = lines item.line (map pointer_load (pointers_of before words))
-
-  abbrev loads_behind : List Item
-  loads_behind = lines item.line (map pointer_load (pointers_of p.behind words))
+  behind_call = reverse (lines line (call_statements command words)) ++ reverse first
 
   own : Item
-  own = made_item item.line (pointer_load register)
+  own = made_item line (load register)
 
-  loads_split : lines item.line (map pointer_load (pointers_of (row_of_command all.made.command).options words)) ≡ loads_before ++ own ∷ loads_behind
+  loads_begin : lines line (pointer_loads command words) ≡ own ∷ lines line (map load (pointers_of p.behind words))
   unfolding own
-  loads_split =
-      ap (λ o. lines item.line (map pointer_load (pointers_of o words))) p.is
-      ∙ ap (λ k. lines item.line (map pointer_load k)) (pointers_split before p.option p.behind words register p.marked p.given)
-      ∙ ap (lines item.line) (map-append pointer_load (pointers_of before words) (register ∷ pointers_of p.behind words))
-      ∙ map-append (made_item item.line) (map pointer_load (pointers_of before words)) (map pointer_load (register ∷ pointers_of p.behind words))
+  loads_begin =
+      ap (λ o. lines line (map load (pointers_of o words))) p.is
+      ∙ ap (λ k. lines line (map load k)) (pointers_split before p.option p.behind words register p.marked p.given
+      ∙ ap (λ k. k ++ register ∷ pointers_of p.behind words) (no_pointer_before command words before p.option p.behind p.is p.marked))
 
-  parts : Parted told bases behind_call (all.code.at + code_length all.calls) loads_before (own ∷ loads_behind) all.loads
-  parts =
-      parted told bases behind_call (all.code.at + code_length all.calls) loads_before (own ∷ loads_behind) all.loads
-      (subst (λ k. AreResolved told bases behind_call (all.code.at + code_length all.calls) k all.loads) loads_split all.loaded)
-
-  -- its place
   abbrev place : ℕ
-  place = load_offset all.code.at all.calls words before
+  place = all.code.at + code_length all.calls
 
-  front : List Instruction
-  front = all.calls ++ parts.first
-
-  place_is : all.code.at + code_length front ≡ place
-  unfolding front
-  place_is =
-      let two = joined all.calls parts.first in
-      let each = loads_length told bases item.line behind_call (all.code.at + code_length all.calls) (pointers_of before words) parts.first parts.here in
-      omega (arith, two, each)
-
-  one : Begins told bases (reverse loads_before ++ behind_call) place own parts.rest
+  one : Begins told bases behind_call place own all.loads
   one =
-      let each = loads_length told bases item.line behind_call (all.code.at + code_length all.calls) (pointers_of before words) parts.first parts.here in
-      let same : all.code.at + code_length all.calls + code_length parts.first ≡ place = omega (arith, each) in
-      begins told bases (reverse loads_before ++ behind_call) place own loads_behind parts.rest
-      (subst (λ n. AreResolved told bases (reverse loads_before ++ behind_call) n (own ∷ loads_behind) parts.rest) same parts.behind)
+      begins told bases behind_call place own (lines line (map load (pointers_of p.behind words))) all.loads
+      (subst (λ k. AreResolved told bases behind_call place k all.loads) loads_begin all.loaded)
 
-  code_so : all.code.code ≡ front ++ one.load ∷ one.rest
-  unfolding front
-  code_so =
-      all.split ∙ ap (λ k. all.calls ++ k) (parts.is ∙ ap (λ k. parts.first ++ k) one.is) ∙ sym (append_assoc all.calls parts.first (one.load ∷ one.rest))
+  code_so : all.code.code ≡ all.calls ++ one.load ∷ one.rest
+  code_so = all.split ∙ ap (λ k. all.calls ++ k) one.is
 
   -- what it is resolved to
-  load : IsPointerLoad (context_of told bases item.line (reverse loads_before ++ behind_call) (pointer_load register)) register one.load
+  loads : IsPointerLoad (context_of told bases line behind_call (load register)) register one.load
   unfolding own
-  load = laws.resolved told bases item.line place (reverse loads_before ++ behind_call) register one.load cut one.resolved
+  loads = laws.resolved told bases line place behind_call register one.load cut one.resolved
 
-  one_place : HaveOnePlace bases handed.argument.index load.takes.index (address handed.argument.base handed.argument.displacement) load.takes.address
+  one_place : HaveOnePlace bases handed.argument.index loads.takes.index (address handed.argument.base handed.argument.displacement) loads.takes.address
   unfolding operand_of
   one_place =
-      pointers_have_one_place laws.nearest told bases item.line handed.before (reverse loads_before ++ behind_call) register handed.argument.index load.takes.index
-      (address handed.argument.base handed.argument.displacement) load.takes.address handed.resolves load.takes.operand
+      pointers_have_one_place laws.nearest told bases line handed.before behind_call register handed.argument.index loads.takes.index
+      (address handed.argument.base handed.argument.displacement) loads.takes.address handed.resolves loads.takes.operand
 
-  load_is : one.load ≡ instruction op.L (Rx load.number 0 handed.argument.base handed.argument.displacement)
+  load_is : one.load ≡ instruction op.L (Rx loads.number 0 handed.argument.base handed.argument.displacement)
   load_is =
-      load.takes.is ∙ ap (λ n. instruction op.L (Rx load.number n load.takes.address.base load.takes.address.displacement)) one_place.index.1
-      ∙ ap (λ (a : Address). instruction op.L (Rx load.number 0 a.base a.displacement)) (sym one_place.resolved)
+      loads.takes.is ∙ ap (λ n. instruction op.L (Rx loads.number n loads.takes.address.base loads.takes.address.displacement)) one_place.index.1
+      ∙ ap (λ (a : Address). instruction op.L (Rx loads.number 0 a.base a.displacement)) (sym one_place.resolved)
 
   place_even : place % 2 ≡ 0
   unfolding own
   place_even =
-      let known = known_behind (reverse loads_before ++ behind_call) in
-      let there : HasFirst told bases (reverse loads_before ++ behind_call) place (made_item item.line (pointer_load register)) = record { instruction = one.load; resolved = one.resolved } in
-      let at = first_offset told bases (reverse loads_before ++ behind_call) place item.line (pointer_load register) there in
-      let offset = offset_is (pointer_load register) op.L known (l_role (register ++ codes ",DFHEITP")) in
+      let known = known_behind behind_call in
+      let there : HasFirst told bases behind_call place (made_item line (load register)) = record { instruction = one.load; resolved = one.resolved } in
+      let at = first_offset told bases behind_call place line (load register) there in
+      let offset = offset_is (load register) op.L known (l_role (register ++ codes ",DFHEITP")) in
       ap (λ n. n % 2) (sym at ∙ offset) ∙ even (next_in known)
     where
       even : (n : ℕ) → aligned 2 n % 2 ≡ 0
@@ -428,28 +375,36 @@ module _ (laws : Laws) (translated : Source) (assembly : AssemblyParts) (item : 
 
   place_small : place ≤ 65536
   place_small =
-      let lines_so : assembly.section.resolved ≡ (all.code.front ++ code_lines all.code.at front) ++ code_lines place (one.load ∷ one.rest) ++ all.code.back =
-      all.code.stand ∙ ap (λ k. all.code.front ++ k ++ all.code.back) (ap (code_lines all.code.at) code_so ∙ lines_behind all.code.at front (one.load ∷ one.rest)
-      ∙ ap (λ n. code_lines all.code.at front ++ code_lines n (one.load ∷ one.rest)) place_is)
-      ∙ ap (λ k. k ++ all.code.back) (sym (append_assoc all.code.front (code_lines all.code.at front) (code_lines place (one.load ∷ one.rest)))) in
-      code_within assembly.section (all.code.front ++ code_lines all.code.at front) all.code.back place one.load one.rest (laws.texts translated assembly accepts) lines_so
+      let lines_so : assembly.section.resolved ≡ (all.code.front ++ code_lines all.code.at all.calls) ++ code_lines place (one.load ∷ one.rest) ++ all.code.back =
+      all.code.stand ∙ ap (λ k. all.code.front ++ k ++ all.code.back) (ap (code_lines all.code.at) code_so ∙ lines_behind all.code.at all.calls (one.load ∷ one.rest))
+      ∙ ap (λ k. k ++ all.code.back) (sym (append_assoc all.code.front (code_lines all.code.at all.calls) (code_lines place (one.load ∷ one.rest)))) in
+      code_within assembly.section (all.code.front ++ code_lines all.code.at all.calls) all.code.back place one.load one.rest (laws.texts source assembly accepts) lines_so
 
   -- at a machine
   gets : (storage loaded : Storage) (program : Loaded) (sections : Sections) (regs : List ℕ) (m : Machine) (word : ℕ) → IsFit assembly.section.image
       → IsLoaded storage assembly.section.image program loaded → HoldsBase sections regs bases handed.argument.base
       → IsAtLoad loaded (along program.at place) sections bases handed.argument.base m → word_at m.storage (argument_address regs handed.argument) ≡ Some word
-      → Steps m Done (record m { regs = slice_set m.regs load.number word; next = along m.next 4 })
+      → Steps m Done (record m { regs = slice_set m.regs loads.number word; next = along m.next 4 })
   gets storage loaded program sections regs m word fit done holds ready e =
       let a = handed.argument in
-      let code = subst (AreAt loaded (along program.at all.code.at)) code_so (laws.code translated assembly first _ storage loaded program accepts fit done all.code) in
-      let there : AreAt loaded (along program.at place) (instruction op.L (Rx load.number 0 a.base a.displacement) ∷ []) =
-      subst (λ k. AreAt loaded (along program.at place) (k ∷ [])) load_is (stands_behind loaded program.at all.code.at place front one.load one.rest place_is code) in
-      let later = later_is bases a load.takes.index load.takes.address one_place sections regs m.regs holds ready.holds in
-      load_goes laws.spans laws.gives loaded program.at place load.number a.base a.displacement word m (is_placed storage (length assembly.section.image.text) program.at done.place) place_even place_small
+      let code = subst (AreAt loaded (along program.at all.code.at)) code_so (laws.code source assembly first _ storage loaded program accepts fit done all.code) in
+      let there : AreAt loaded (along program.at place) (instruction op.L (Rx loads.number 0 a.base a.displacement) ∷ []) =
+      subst (λ k. AreAt loaded (along program.at place) (k ∷ [])) load_is (stands_behind loaded program.at all.code.at place all.calls one.load one.rest refl code) in
+      let later = later_is bases a loads.takes.index loads.takes.address one_place sections regs m.regs holds ready.holds in
+      load_goes laws.spans laws.gives loaded program.at place loads.number a.base a.displacement word m (is_placed storage (length assembly.section.image.text) program.at done.place) place_even place_small
       there ready.machine ready.next ready.load (ap (word_at m.storage) (sym later) ∙ e)
 
-  comes_back : ComesBack translated assembly item.line first all.made.command words s place before register
-  comes_back = record { argument = handed.argument; handed = handed.at; number = load.number; named = load.named; gets = gets }
+  abbrev site : Site
+  site = record { source = source; first = first; line = line; command = command; words = words }
 
-pub pointers_come_back : Laws → PointersComeBack
-pointers_come_back laws translated assembly item exec accepts all before register p cut = comes_back laws translated assembly item exec accepts all before register p cut
+  pub comes_back : code_length all.calls ≡ made_length s → ComesBack site assembly.section.image all.code.at s before register
+  comes_back counted =
+      record {
+        argument = handed.argument;
+        handed = handed.at;
+        number = loads.number;
+        named = loads.named;
+        gets = λ storage loaded program sections regs m word fit done holds ready e.
+            gets storage loaded program sections regs m word fit done holds
+            (subst (λ n. IsAtLoad loaded (along program.at (all.code.at + n)) sections bases handed.argument.base m) (sym counted) ready) e;
+      }

@@ -47,11 +47,12 @@ use Rattle.cx_second.specs.Whole.{Whole, directive_context, instruction_context,
 use Rattle.cx_asm.specs.Resolving.{line, standing_from, statement_standing}
 use Rattle.cx_asm.specs.Assembly.{AssemblyParts, assembly_of, made_of, second_fault_of, section_of, size_of, standing_of, unless_refused, unless_too_large, end_line}
 use Rattle.cx_asm.specs.declared.faults.AsmFault.{AsmFault}
-use Rattle.cx_command_arrival.specs.Standing.{AreResolved, InstructionsStand, bases_from, bases_in_use, code_lines, is_instruction, is_instruction_role, placed_from, statements_from}
+use Rattle.cx_command_arrival.specs.Standing.{code_lines}
+use Rattle.cx_command_arrival.proofs.Resolved.{AreResolved, InstructionsStand, bases_from, bases_in_use, is_instruction, is_instruction_role, placed_from, statements_from}
 use Rattle.cx_command_arrival.proofs.BehindLemmas.{control_same, fault_kept, none_first, own_sound, reverse_step, section_sound, statements_are}
 use Rattle.cx_image.specs.Resolved.{AreApart}
 use Rattle.cx_image.specs.Text.{text_of}
-use Rattle.cx_command_arrival.specs.InStorage.{TextsAreMade}
+use Rattle.cx_command_arrival.proofs.InStorage.{TextsAreMade}
 
 -- ---- the statements of a source, in its order
 placed_joined : (xs ys before : List Item) → placed_from before (xs ++ ys) ≡ placed_from before xs ++ placed_from (reverse xs ++ before) ys
@@ -373,11 +374,12 @@ instructions_stand source assembly first items behind e is are =
     let judged = judged_kept told all [] (subst (λ k. (judged_behind told k).fault ≡ None) (sym (append-nil (reverse all))) ok.second) in
     let none : NoFault told none_in_use 0 ((front ++ own) ++ rest) = subst (NoFault told none_in_use 0) split judged.1 in
     let faults = no_fault_behind told front own none_in_use 0 (no_fault_in told (front ++ own) rest none_in_use 0 none) in
-    let code = all_code told all (bases_in_use source first) faults.0 before items (reverse behind) are sound control faults.1 in
+    let code = all_code told all (bases_from told none_in_use front) faults.0 before items (reverse behind) are sound control faults.1 in
+    let same : bases_from told none_in_use front ≡ bases_in_use source first = ap (bases_from told none_in_use) (sym (statements_are (record { items = first }))) in
     record {
       at = aligned 2 (next_in (known_behind before));
       code = code.code;
-      resolved = code.resolved;
+      resolved = subst (λ b. AreResolved told b before (aligned 2 (next_in (known_behind before))) items code.code) same code.resolved;
       front = made_from told all none_in_use front;
       back = (standing_from told all (bases_from told none_in_use (front ++ own)) rest).lines;
       stand =

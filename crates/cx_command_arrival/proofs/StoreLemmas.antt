@@ -31,8 +31,8 @@ use Rattle.cx_operands.specs.Storage.{indexed_in}
 use Rattle.cx_operands.specs.declared.addresses.Address.{Address}
 use Rattle.cx_operands.specs.declared.forms.Form.TheVariants as form
 use Rattle.cx_second.specs.Whole.{Whole}
-use Rattle.cx_command_arrival.specs.Standing.{AreResolved, IsResolved}
-use Rattle.cx_command_arrival.specs.Stores.{AreStores, BranchIsResolved, HasOperand, StoresAreResolved, context_of, entry_in_15, list_of_1, load_of, store_of, word_of_list}
+use Rattle.cx_command_arrival.proofs.Resolved.{AreResolved, IsResolved}
+use Rattle.cx_command_arrival.proofs.Stores.{AreStores, BranchIsResolved, HasOperand, StoresAreResolved, context_of, entry_in_15, list_of_1, load_of, store_of, word_of_list}
 use Rattle.cx_command_arrival.proofs.ArgumentLemmas.{both_ok, made_ok}
 
 -- ---- a text that is one part

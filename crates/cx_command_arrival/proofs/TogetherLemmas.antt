@@ -20,7 +20,8 @@ use Rattle.cx_translate.specs.Refusals.{command_in, fault_in, fault_of, fault_of
 use Rattle.cx_translate.specs.Sections.{bases, bases_behind, begins_exec, begins_section, begins_storage, behind, continued, continuing, eib_before, eib_section, is_end, line_of, lines, name_of, put, put_before, put_behind, storage_before, storage_behind, storage_fields, storage_section, with_bases, with_eib, with_storage}
 use Rattle.cx_translate.specs.Translation.{continues_exec, expanded, expansion, fault_at, fault_in_stmt, first_fault, judged, translated, translation_of}
 use Rattle.cx_translate.specs.Words.{words_of}
-use Rattle.cx_command_arrival.specs.Together.{MadeStandTogether, StandTogether}
+use Rattle.cx_command_arrival.specs.Standing.{HasExec, IsMade}
+use Rattle.cx_command_arrival.proofs.Together.{StandTogether}
 
 -- ---- cutting lists
 take_front : {X : Type 0} (xs ys : List X) (n : ℕ) → n ≤ length xs → take n (xs ++ ys) ≡ take n xs
@@ -386,7 +387,7 @@ has_exec (x ∷ before) item rest e = go (begins_exec x) (has_exec before item r
     go true f = refl
     go false f = f
 
-pub stand_together : MadeStandTogether
+pub stand_together : (source made : Source) (item : Item) (exec : Stmt) → translation_of source ≡ Ok made → HasExec source item exec → IsMade item exec made.items
 unfolding translation_of translated made_of
 stand_together source made item exec e has =
     let any : list_any begins_exec source.items ≡ true = ap (list_any begins_exec) has.is ∙ has_exec has.before item has.behind has.begins in
@@ -394,7 +395,8 @@ stand_together source made item exec e has =
     ≡ judged (first_fault source.items) (record { items = translated source.items }) = rw any refl in
     let answer : judged (first_fault source.items) (record { items = translated source.items }) ≡ Ok made = sym same ∙ e in
     let accepted = accepted_so (first_fault source.items) (translated source.items) made answer in
-    let named = named_so item.line (words_of exec.operand) (faultless item exec has.statement has.begins (no_fault_at has.before item has.behind (ap first_fault (sym has.is) ∙ accepted.0))) in
+    let sound = faultless item exec has.statement has.begins (no_fault_at has.before item has.behind (ap first_fault (sym has.is) ∙ accepted.0)) in
+    let named = named_so item.line (words_of exec.operand) sound in
     let words = drop named.named (drop 1 (words_of exec.operand)) in
     let part = lines item.line (made_in exec.name named.command words) in
     let one : lines item.line (made_of exec.name (words_of exec.operand)) ≡ part = ap (λ k. lines item.line (made_by exec.name (words_of exec.operand) k)) named.found in
@@ -403,11 +405,28 @@ stand_together source made item exec e has =
     let first' : StandTogether part (expanded false source.items) = subst (λ k. StandTogether part (expanded false k)) (sym has.is) first in
     let second = with_storage_keeps part plain item (expanded false source.items) first' in
     let third = with_bases_keeps part plain item (with_storage (expanded false source.items)) second in
-    let last = with_eib_keeps part plain item (with_bases (with_storage (expanded false source.items))) third in
+    let last = subst (StandTogether part) accepted.1 (with_eib_keeps part plain item (with_bases (with_storage (expanded false source.items))) third) in
     record {
       command = named.command;
       named = named.named;
       found = named.found;
-      accepted = named.accepted;
-      together = subst (StandTogether part) accepted.1 last;
+      accepted = sound;
+      before = last.before;
+      behind = last.behind;
+      is = last.is ∙ ap (λ k. last.before ++ k ++ last.behind) (sym one);
     }
+
+-- the words behind the command's name, and what follows of them
+abbrev pub words_behind : Stmt → ℕ → List Word
+words_behind exec named = drop named (drop 1 (words_of exec.operand))
+
+pub made_items : (item : Item) (exec : Stmt) (items : List Item) (made : IsMade item exec items)
+    → items ≡ made.before ++ lines item.line (made_in exec.name made.command (words_behind exec made.named)) ++ made.behind
+unfolding made_of
+made_items item exec items made =
+    made.is ∙ ap (λ k. made.before ++ lines item.line (made_by exec.name (words_of exec.operand) k) ++ made.behind) made.found
+
+pub no_fault_in : (item : Item) (exec : Stmt) (items : List Item) (made : IsMade item exec items)
+    → fault_in item.line made.command (take 1 (words_of exec.operand)) (take made.named (drop 1 (words_of exec.operand))) (words_behind exec made.named) ≡ None
+unfolding fault_of
+no_fault_in item exec items made = sym (ap (fault_of_command item.line (words_of exec.operand)) made.found) ∙ made.accepted

@@ -25,16 +25,16 @@ use Rattle.cx_terms.specs.declared.terms.Sign.TheVariants.{Plus}
 use Rattle.cx_terms.specs.declared.terms.TermKind.TheVariants.{Decimal, Symbol}
 use Rattle.cx_terms.specs.declared.values.Value.{Value}
 use Rattle.cx_storage.specs.Address.{along}
-use Rattle.cx_exec.specs.Machine.{effective}
 use Rattle.cx_operands.specs.Addresses.{address as at_register, address_in, displacement_of, implied_address}
 use Rattle.cx_operands.specs.Bases.{Bases}
 use Rattle.cx_operands.specs.Context.{Context, worth}
 use Rattle.cx_operands.specs.Judging.{both, judged}
 use Rattle.cx_operands.specs.Storage.{indexed, indexed_by, indexed_in, operand, operand_in, plain, plain_in}
 use Rattle.cx_operands.specs.declared.addresses.Address.{Address}
-use Rattle.cx_command_arrival.specs.Arguments.{IsAddressedBy, IsPlaceOf, OperandsAddress}
-use Rattle.cx_command_arrival.specs.Stores.{word_of_list}
-use Rattle.cx_command_arrival.specs.Words.{HasSomeList, LieBehind, LiesBehind, ListIsPlaced, ListLies, WordsLie}
+use Rattle.cx_command_arrival.specs.Arguments.{IsAddressedBy, IsPlaceOf}
+use Rattle.cx_command_arrival.proofs.Arguments.{OperandsAddress}
+use Rattle.cx_command_arrival.proofs.Stores.{word_of_list}
+use Rattle.cx_command_arrival.proofs.Words.{HasSomeList, LieBehind, LiesBehind, ListIsPlaced, ListLies, WordsLie}
 use Rattle.cx_command_arrival.proofs.ArgumentLemmas.{both_ok}
 use Rattle.cx_command_arrival.proofs.PlainLemmas.{ArePlain, decimal_plain, decimal_read, neither, other, plain_part}
 
@@ -217,9 +217,9 @@ lies_at addresses c text section offset n address place written worths e section
     let found : place ≡ Ok a.value = ap (λ o. o.place) own ∙ a.worth in
     let by : IsAddressedBy sections regs c a.value [] 0 address = subst (λ l. IsAddressedBy sections regs c a.value l 0 address) (ap (λ o. o.subfields) (sym own)) a.by in
     let at = worths a.value found in
-    let there : IsPlaceOf sections regs c.bases address.base (Some section) (offset +ℤ pos n) 0 (effective regs 0 address.base address.displacement) =
-    subst (λ v. IsPlaceOf sections regs c.bases address.base (Some section) v 0 (effective regs 0 address.base address.displacement)) at.number
-    (subst (λ s. IsPlaceOf sections regs c.bases address.base s a.value.number 0 (effective regs 0 address.base address.displacement)) at.section by.1) in
+    let there : IsPlaceOf sections regs c.bases (Some section) (offset +ℤ pos n) 0 address =
+    subst (λ v. IsPlaceOf sections regs c.bases (Some section) v 0 address) at.number
+    (subst (λ s. IsPlaceOf sections regs c.bases s a.value.number 0 address) at.section by.1) in
     there holds ∙ ap (λ p. along p 0) (sections.behind section offset n) ∙ modulo (sections.place section offset) n
   where
     modulo : (p n : ℕ) → along (along p n) 0 ≡ along p n

@@ -1,53 +1,50 @@
--- What an operand addresses by its own expression (OS/VS-DOS/VSE-VM/370 Assembler Language, GC33-4010, "Addressing", "Operand
--- Fields and Subfields"; GA22-7000, "Address Generation").
+-- What an operand addresses by its own expression (OS/VS-DOS/VSE-VM/370 Assembler Language, GC33-4010, "Addressing",
+-- "Operand Fields and Subfields"; GA22-7000, "Address Generation").
 use Rattle.std.specs.Prelude.{◌≡◌, ℕ, ℤ, pos, ◌+ℤ◌, true, Ok, Option, Some, None, List, [], ◌∷◌, slice_get}
 use Rattle.cx_storage.specs.Address.{address_in, along}
 use Rattle.cx_exec.specs.Machine.{effective, given}
 use Rattle.cx_terms.specs.declared.values.Value.{Value}
 use Rattle.cx_operands.specs.Bases.{Bases}
 use Rattle.cx_operands.specs.Context.{Context, number_at_most, register_in}
-use Rattle.cx_operands.specs.Storage.{Operand, index_in, indexed_in, operand_in}
+use Rattle.cx_operands.specs.Storage.{Operand, index_in, operand_in}
 use Rattle.cx_operands.specs.declared.addresses.Address.{Address}
 use Rattle.cx_operands.specs.declared.bases.Base.{Base}
 
--- Where sections stand: the address of each offset in a section. An offset so many bytes behind another has the address so
--- many bytes behind.
+-- Where sections stand: the address of each offset in a section. An offset so many bytes behind another has the address
+-- so many bytes behind.
 pub record Sections : Type 0 where
   pub place : List ℕ → ℤ → ℕ
-  pub behind : (section : List ℕ) (offset : ℤ) (n : ℕ) → place section (offset +ℤ pos n) ≡ along (place section offset) n
+  pub behind : (name : List ℕ) (offset : ℤ) (n : ℕ) → place name (offset +ℤ pos n) ≡ along (place name offset) n
 
 -- a register that is in use as a base holds the address of its USING's base
 abbrev pub HoldsBase : Sections → List ℕ → Bases → ℕ → Type 0
-HoldsBase sections regs bases register =
-    (base : Base) → slice_get bases register ≡ Some (Some base) → address_in (given regs register) ≡ sections.place base.section base.number
+HoldsBase sections regs bases register = (base : Base) → slice_get bases register ≡ Some (Some base)
+    → address_in (given regs register) ≡ sections.place base.section base.number
 
--- An address is a value's, with what an index holds: a number itself; the place of an offset in a section, where the base
--- register that was taken holds its base.
-abbrev pub IsPlaceOf : Sections → List ℕ → Bases → ℕ → Option (List ℕ) → ℤ → ℕ → ℕ → Type 0
-IsPlaceOf sections regs bases register None number index at = (n : ℕ) → number ≡ pos n → at ≡ along n index
-IsPlaceOf sections regs bases register (Some section) number index at =
-    HoldsBase sections regs bases register → at ≡ along (sections.place section number) index
+-- Index, base and displacement give a value's address, with what the index holds: a number itself; the place of an offset
+-- in a section, where the base register that was taken holds its base.
+abbrev pub IsPlaceOf : Sections → List ℕ → Bases → Option (List ℕ) → ℤ → ℕ → Address → Type 0
+IsPlaceOf sections regs bases None number x at =
+    (n : ℕ) → number ≡ pos n → effective regs x at.base at.displacement ≡ along n (given regs x)
+IsPlaceOf sections regs bases (Some section) number x at =
+    HoldsBase sections regs bases at.base
+    → effective regs x at.base at.displacement ≡ along (sections.place section number) (given regs x)
 
 -- by what stands in parentheses behind the expression: nothing, an index, an index and a base
 abbrev pub IsAddressedBy : Sections → List ℕ → Context → Value → List (List ℕ) → ℕ → Address → Type 0
-IsAddressedBy sections regs c value [] x address =
-    (x ≡ 0) × IsPlaceOf sections regs c.bases address.base value.section value.number 0 (effective regs x address.base address.displacement)
-IsAddressedBy sections regs c value (index ∷ []) x address =
-    (register_in c index ≡ Ok x)
-    × IsPlaceOf sections regs c.bases address.base value.section value.number (given regs x) (effective regs x address.base address.displacement)
-IsAddressedBy sections regs c value (index ∷ base ∷ []) x address =
-    (index_in c index ≡ Ok x) × (register_in c base ≡ Ok address.base) × (number_at_most 4095 value ≡ Ok address.displacement)
-IsAddressedBy sections regs c value (index ∷ base ∷ other ∷ more) x address = ⊥
+IsAddressedBy sections regs c value [] x at = (x ≡ 0) × IsPlaceOf sections regs c.bases value.section value.number x at
+IsAddressedBy sections regs c value (index ∷ []) x at =
+    (register_in c index ≡ Ok x) × IsPlaceOf sections regs c.bases value.section value.number x at
+IsAddressedBy sections regs c value (index ∷ base ∷ []) x at =
+    (index_in c index ≡ Ok x) × (register_in c base ≡ Ok at.base) × (number_at_most 4095 value ≡ Ok at.displacement)
+IsAddressedBy sections regs c value subfields x at = ⊥
 
--- An operand of an instruction of the format RX, as it is written, and the index, base and displacement that it is resolved to.
-pub record IsAddressed (sections : Sections) (regs : List ℕ) (c : Context) (text : List ℕ) (x : ℕ) (address : Address) : Type 0 where
+-- An operand of an instruction of the format RX, as it is written, and the index, base and displacement that it is
+-- resolved to.
+pub record IsAddressed (sections : Sections) (regs : List ℕ) (c : Context) (text : List ℕ) (x : ℕ)
+    (at : Address) : Type 0 where
   pub operand : Operand
   pub is : operand_in true c text ≡ Some operand
   pub value : Value
   pub worth : operand.place ≡ Ok value
-  pub by : IsAddressedBy sections regs c value operand.subfields x address
-
--- Whatever the sections' places and the registers are, index, base and displacement give the operand's own address.
-abbrev pub OperandsAddress : Type 0
-OperandsAddress = (sections : Sections) (regs : List ℕ) (c : Context) (text : List ℕ) (x : ℕ) (address : Address)
-    → indexed_in c text ≡ Ok (x, address) → IsAddressed sections regs c text x address
+  pub by : IsAddressedBy sections regs c value operand.subfields x at

@@ -1,97 +1,158 @@
--- How EXEC statements of a source that is translated, assembled and loaded come to their commands (Application Programmer's
--- Reference Manual, SC33-0077, the expansion of a command; GA22-7000, "Address Generation"; the argument list is this project's own).
-use Rattle.std.specs.Prelude.{◌≡◌, ◌≢◌, ℕ, pos, ◌+◌, ◌<◌, true, Ok, Option, Some, List, [], ◌∷◌, ◌++◌, is_some, length, reverse}
+-- How EXEC statements of a source that is translated, assembled and loaded come to their commands, and their pointers back
+-- (Application Programmer's Reference Manual, SC33-0077, the expansion of a command, SET of GETMAIN and READQ TS, ADDRESS;
+-- GA22-7000, "Address Generation", "Load"; the instructions, the argument list and DFHEITP are this project's own).
+use Rattle.std.specs.Prelude.{◌≡◌, ◌≢◌, ℕ, pos, ◌+◌, ◌<◌, true, Ok, Some, List, [], ◌∷◌, ◌++◌, codes, is_some, length, map, slice_get, slice_set, take}
 use Rattle.std.specs.List.{AllByRecursion}
 use Rattle.cx_arrival.specs.Arrives.{Arrives, made_length}
-use Rattle.cx_arrival.specs.Made.{Argument, Based, Statement, block_bytes, list_place, made, reached, words_of}
+use Rattle.cx_arrival.specs.Made.{Argument, Based, Statement, argument_address, block_bytes, list_place, made as made_code, reached, words_of}
 use Rattle.cx_arrival.specs.Stands.{IsApart, IsMachine, list_length}
+use Rattle.cx_code.specs.declared.disassembly.Line.{Line}
 use Rattle.cx_code.specs.Spelling.{Instruction}
 use Rattle.cx_command.specs.declared.commands.Command.{Command}
+use Rattle.cx_command.specs.declared.options.CommandOption.{CommandOption}
+use Rattle.cx_command.specs.declared.options.Mark.TheVariants.{Pointer}
+use Rattle.cx_command.specs.Commands.{row_of}
+use Rattle.cx_command.specs.Options.{option_name}
+use Rattle.cx_exec.specs.declared.machine.Step.TheVariants.{Done}
 use Rattle.cx_exec.specs.Machine.{Machine}
+use Rattle.cx_exec.specs.Step.{Steps}
 use Rattle.cx_load.specs.Fault.{IsFit}
 use Rattle.cx_load.specs.Program.{IsLoaded}
+use Rattle.cx_code.specs.declared.image.Image.{Image}
 use Rattle.cx_load.specs.declared.program.Loaded.{Loaded}
 use Rattle.cx_source.specs.declared.source.Item.{Item}
 use Rattle.cx_source.specs.declared.source.Source.{Source}
 use Rattle.cx_source.specs.declared.source.Stmt.{Stmt}
 use Rattle.cx_storage.specs.Address.{along}
 use Rattle.cx_storage.specs.Storage.{Storage, byte_at, span}
+use Rattle.cx_storage.specs.Word.{word_at}
+use Rattle.cx_terms.specs.Names.{symbol_name}
 use Rattle.cx_translate.specs.declared.words.Word.{Word}
-use Rattle.cx_translate.specs.Call.{list_of}
-use Rattle.cx_translate.specs.Made.{label, made_item}
-use Rattle.cx_translate.specs.Sections.{lines}
+use Rattle.cx_translate.specs.Call.{argument_of, listed_of, operands_of as arguments_handed, pointers_of}
+use Rattle.cx_translate.specs.Made.{load, stmt, stores}
+use Rattle.cx_translate.specs.Refusals.{first_byte, second_byte}
 use Rattle.cx_translate.specs.Translation.{translation_of}
+use Rattle.cx_places.specs.Given.{location_counter}
 use Rattle.cx_operands.specs.Addresses.{address}
 use Rattle.cx_operands.specs.Bases.{Bases}
-use Rattle.cx_second.specs.Whole.{Whole, whole_of}
+use Rattle.cx_operands.specs.Context.{register_in}
+use Rattle.cx_operands.specs.Forms.{operands_of}
+use Rattle.cx_second.specs.Whole.{whole_of}
 use Rattle.cx_asm.specs.Assembly.{AssemblyParts, assembly_of}
 use Rattle.cx_command_arrival.specs.Arguments.{HoldsBase, IsAddressed, Sections}
-use Rattle.cx_command_arrival.specs.Called.{CallStands, words_behind}
-use Rattle.cx_command_arrival.specs.Commands.{IsStatement}
-use Rattle.cx_command_arrival.specs.Standing.{bases_in_use}
-use Rattle.cx_command_arrival.specs.Stores.{context_of, load_of, store_of}
-use Rattle.cx_command_arrival.specs.Together.{HasExec}
+use Rattle.cx_command_arrival.specs.Standing.{AreResolved, HasExec, IsMade, Site, bases_of, behind, call_of, code_lines, context_in, list_in, site_of}
 
+-- ---- the statement
+-- The statement that a call is of, which stands at an offset: what the translator has put into the block, and the addresses
+-- that the made statements are resolved to.
+pub record IsStatement (site : Site) (at : ℕ) (s : Statement) : Type 0 where
+  pub command : s.command ≡ site.command
+  pub first : s.first ≡ first_byte site.command site.words
+  pub second : s.second ≡ second_byte site.words
+  pub conditions : s.conditions ≡ listed_of site.words
+  pub resolved : AreResolved site (behind site []) at (call_of site) (made_code s)
+
+-- There is one.
+abbrev pub StatementsDecide : Type 0
+StatementsDecide = (site : Site) (at other : ℕ) (s t : Statement) → IsStatement site at s → IsStatement site other t
+    → s ≡ t
+
+-- ---- arriving
 -- so many bytes from an address on are in one storage what they are in another
 abbrev pub AreKept : Storage → Storage → ℕ → ℕ → Type 0
 AreKept before now a n = (k : ℕ) → k < n → byte_at now (along a k) ≡ byte_at before (along a k)
-
--- the control section stands where the program was loaded
-abbrev pub AreLoaded : Sections → Option (List ℕ) → ℕ → Type 0
-AreLoaded sections control at = (name : List ℕ) (offset : ℕ) → control ≡ Some name → sections.place name (pos offset) ≡ along at offset
 
 -- an implied address has a base register, which holds its USING's base
 abbrev pub HasBase : Sections → List ℕ → Bases → Based → Type 0
 HasBase sections regs bases place = (place.base ≢ 0) × HoldsBase sections regs bases place.base
 
--- A machine that is about to perform a statement's instructions, of which the first stands at an address: storage holds them, the
--- block and the entry's word as they were loaded; the base registers around the arguments hold their bases, and that of the
--- entry's word isn't 1; DFHEIPL is in storage, and no byte of the instructions, of the block or of the entry's word lies in it.
-pub record IsReady (loaded : Storage) (at : ℕ) (sections : Sections) (bases : Bases) (m : Machine) (s : Statement) : Type 0 where
+-- A machine that is about to perform a statement's instructions, of which the first stands at an offset. The control section
+-- stands where the program was loaded; the base registers around the arguments hold their bases, and that of the entry's
+-- word isn't 1; DFHEIPL is in storage; and so are, as they were loaded, the instructions, the block and the entry's word, no
+-- byte of which lies in DFHEIPL.
+pub record IsReady (loaded : Storage) (program : ℕ) (sections : Sections) (site : Site) (at : ℕ) (s : Statement)
+    (m : Machine) : Type 0 where
+  pub machine : IsMachine m
+  pub next : m.next ≡ along program at
+  pub control : (name : List ℕ) (offset : ℕ) → (whole_of site.source).control ≡ Some name
+      → sections.place name (pos offset) ≡ along program offset
+  pub bases : AllByRecursion (HasBase sections m.regs (bases_of site))
+      (s.block ∷ s.last ∷ s.list ∷ s.entry ∷ map (λ a. a.word) (words_of s))
+  pub other : s.entry.base ≢ 1
+  pub there : is_some (span m.storage (list_place m.regs s) list_length) ≡ true
+  pub kept : AllByRecursion (λ (part : ℕ × ℕ). AreKept loaded m.storage part.0 part.1
+      × IsApart (list_place m.regs s) part.0 part.1)
+      ((m.next, made_length s) ∷ (reached m.regs s.block, length (block_bytes s)) ∷ (reached m.regs s.entry, 4) ∷ [])
+
+-- ---- pointers
+-- A pointer that is given with a command: an option of it, behind these, that has this register as its argument.
+pub record IsPointer (command : Command) (words : List Word) (earlier : List CommandOption)
+    (register : List ℕ) : Type 0 where
+  pub option : CommandOption
+  pub behind : List CommandOption
+  pub is : (row_of command).options ≡ earlier ++ option ∷ behind
+  pub marked : option.mark ≡ Pointer
+  pub given : argument_of words (option_name option.name) ≡ Some register
+
+-- A machine that is about to perform a load, which stands at an address: storage holds the load's four bytes as they were
+-- loaded, and a register that is in use as a base holds its USING's base.
+pub record IsAtLoad (loaded : Storage) (at : ℕ) (sections : Sections) (bases : Bases) (base : ℕ)
+    (m : Machine) : Type 0 where
   pub machine : IsMachine m
   pub next : m.next ≡ at
-  pub instructions : AreKept loaded m.storage at (made_length s)
-  pub block : AreKept loaded m.storage (reached m.regs s.block) (length (block_bytes s))
-  pub entry : AreKept loaded m.storage (reached m.regs s.entry) 4
-  pub block_base : HasBase sections m.regs bases s.block
-  pub word_bases : AllByRecursion (λ a. HasBase sections m.regs bases a.word) (words_of s)
-  pub last_base : HasBase sections m.regs bases s.last
-  pub list_base : HasBase sections m.regs bases s.list
-  pub entry_base : HasBase sections m.regs bases s.entry
-  pub entry_other : s.entry.base ≢ 1
-  pub list_there : is_some (span m.storage (list_place m.regs s) list_length) ≡ true
-  pub instructions_apart : IsApart (list_place m.regs s) at (made_length s)
-  pub block_apart : IsApart (list_place m.regs s) (reached m.regs s.block) (length (block_bytes s))
-  pub entry_apart : IsApart (list_place m.regs s) (reached m.regs s.entry) 4
+  pub load : AreKept loaded m.storage at 4
+  pub holds : HoldsBase sections m.regs bases base
 
--- each argument has, with these registers, the address of its own expression
-unfoldable pub AreAddressed : Sections → List ℕ → Whole → Bases → ℕ → List Item → ℕ → List (List ℕ) → List Argument → Type 0
-AreAddressed sections regs told bases line before k [] [] = Unit {0}
-AreAddressed sections regs told bases line before k (text ∷ list) (a ∷ arguments) =
-    IsAddressed sections regs (context_of told bases line before (load_of text)) text a.index (address a.base a.displacement)
-    × AreAddressed sections regs told bases line (made_item line (store_of k) ∷ made_item line (load_of text) ∷ before) (k + 1) list arguments
-AreAddressed sections regs told bases line before k list arguments = ⊥
+-- Of a pointer that a statement hands over: its argument, behind those of the options before it, and the number of the
+-- register that it names. Where the program is loaded, and a machine is at the pointer's load, which stands right behind the
+-- call, since a command has one pointer at most, that register gets the word at the address that the argument had when it
+-- was handed over, with the registers of then, and all else stays.
+pub record ComesBack (site : Site) (image : Image) (at : ℕ) (s : Statement) (earlier : List CommandOption)
+    (register : List ℕ) : Type 0 where
+  pub argument : Argument
+  pub handed : slice_get s.arguments (length (arguments_handed earlier site.words)) ≡ Some argument
+  pub number : ℕ
+  pub named : register_in (context_in site (behind site (call_of site)) (load register)) register ≡ Ok number
+  pub gets : (storage loaded : Storage) (program : Loaded) (sections : Sections) (regs : List ℕ) (m : Machine) (word : ℕ)
+      → IsFit image → IsLoaded storage image program loaded → HoldsBase sections regs (bases_of site) argument.base
+      → IsAtLoad loaded (along program.at (at + made_length s)) sections (bases_of site) argument.base m
+      → word_at m.storage (argument_address regs argument) ≡ Some word
+      → Steps m Done (record m { regs = slice_set m.regs number word; next = along m.next 4 })
 
--- Instructions of an accepted translation that stand in its code at an offset, behind these first lines, made of a statement with
--- this command and these words. Each argument's address is that of its own expression, whatever the sections' places and the
--- registers are. Where the program is loaded, a machine that is about to perform the instructions arrives at the command.
-pub record ReachCommand (translated : Source) (assembly : AssemblyParts) (line : ℕ) (first : List Item) (command : Command) (words : List Word) (at : ℕ) (code : List Instruction) : Type 0 where
+-- ---- an EXEC statement
+-- A call of an accepted translation stands in the code, at an offset that this name stands for, and right behind it the loads
+-- of its pointers. Each argument's address is that of its own expression, whatever the sections' places and the registers are.
+-- Where the program is loaded, a machine that is about to perform the instructions arrives at the command; and each
+-- pointer comes back, if its register is an operand by itself.
+pub record CallArrives (site : Site) (assembly : AssemblyParts) (name : List ℕ) : Type 0 where
+  pub at : ℕ
   pub statement : Statement
-  pub is : IsStatement (whole_of translated) (bases_in_use translated first) line (reverse first) command words statement
-  pub made : code ≡ made statement
-  pub places : (sections : Sections) (regs : List ℕ)
-      → AreAddressed sections regs (whole_of translated) (bases_in_use translated first) line (reverse first) 0 (list_of command words) (words_of statement)
-  pub arrives : (storage loaded : Storage) (program : Loaded) (sections : Sections) (m : Machine) → IsFit assembly.section.image
-      → IsLoaded storage assembly.section.image program loaded → AreLoaded sections (whole_of translated).control program.at
-      → IsReady loaded (along program.at at) sections (bases_in_use translated first) m statement → (after : Machine) × Arrives m statement after
+  pub is : IsStatement site at statement
+  pub loads : List Instruction
+  pub loaded : AreResolved site (behind site (call_of site)) (at + made_length statement)
+      (map load (pointers_of (row_of site.command).options site.words)) loads
+  pub front : List Line
+  pub back : List Line
+  pub stand : assembly.section.resolved ≡ front ++ code_lines at (made_code statement ++ loads) ++ back
+  pub named : (symbol : List ℕ) → symbol_name name ≡ Some symbol
+      → (whole_of site.source).find symbol ≡ location_counter (whole_of site.source).control at 2
+  pub places : (sections : Sections) (regs : List ℕ) (k : ℕ) (text : List ℕ) (a : Argument)
+      → slice_get (list_in site) k ≡ Some text → slice_get (words_of statement) k ≡ Some a
+      → IsAddressed sections regs (context_in site (behind site (stores 0 (take k (list_in site))))
+      (stmt [] (codes "LA") (codes "0," ++ text))) text a.index (address a.base a.displacement)
+  pub arrives : (storage loaded : Storage) (program : Loaded) (sections : Sections) (m : Machine)
+      → IsFit assembly.section.image → IsLoaded storage assembly.section.image program loaded
+      → IsReady loaded program.at sections site at statement m → (after : Machine) × Arrives m statement after
+  pub returns : (earlier : List CommandOption) (register : List ℕ) → IsPointer site.command site.words earlier register
+      → operands_of (register ++ codes ",DFHEITP") ≡ register ∷ codes "DFHEITP" ∷ []
+      → ComesBack site assembly.section.image at statement earlier register
 
--- An EXEC statement's call stands in the code, and its instructions reach its command.
 pub record CommandArrives (translated : Source) (assembly : AssemblyParts) (item : Item) (exec : Stmt) : Type 0 where
-  pub call : CallStands translated item exec assembly.section.resolved
-  pub reaches : ReachCommand translated assembly item.line (call.made.together.before ++ lines item.line (label exec.name)) call.made.command
-      (words_behind exec call.made.named) call.code.at call.code.code
+  pub made : IsMade item exec translated.items
+  pub call : CallArrives (site_of translated made) assembly exec.name
 
+-- So arrives each EXEC statement.
 abbrev pub CommandsArrive : Type 0
-CommandsArrive = (source translated : Source) (assembly : AssemblyParts) (item : Item) (exec : Stmt) → translation_of source ≡ Ok translated
-    → assembly_of translated ≡ Ok assembly → HasExec source item exec
+CommandsArrive = (source translated : Source) (assembly : AssemblyParts) (item : Item) (exec : Stmt)
+    → translation_of source ≡ Ok translated → assembly_of translated ≡ Ok assembly → HasExec source item exec
     → CommandArrives translated assembly item exec

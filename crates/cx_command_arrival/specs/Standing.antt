@@ -1,87 +1,107 @@
--- Where the instructions of statements stand in an assembly (OS/VS-DOS/VSE-VM/370 Assembler Language, GC33-4010, "Location
--- Counter Reference", "USING -- Use Base Address Register"; that they are resolved lines is this project's own).
-use Rattle.std.specs.Prelude.{◌≡◌, ℕ, ◌+◌, true, false, Bool, Ok, Option, Some, None, List, [], ◌∷◌, ◌++◌, reverse}
-use Rattle.std.specs.List.{AllByRecursion, filter_map}
+-- The statements made of an EXEC statement: which they are, what they are resolved to, and where they stand in an assembly
+-- (OS/VS-DOS/VSE-VM/370 Assembler Language, GC33-4010, "Location Counter Reference", "USING -- Use Base Address Register";
+-- that they are resolved lines is this project's own).
+use Rattle.std.specs.Prelude.{◌≡◌, ℕ, ◌+◌, ◌-◌, true, Ok, Some, None, option_map, List, [], ◌∷◌, ◌++◌, drop, fold, length, reverse}
 use Rattle.cx_code.specs.declared.disassembly.Line.{Line}
 use Rattle.cx_code.specs.declared.disassembly.What.TheVariants.{Code}
 use Rattle.cx_code.specs.Spelling.{Instruction}
 use Rattle.cx_code.specs.Table.{length_of}
+use Rattle.cx_command.specs.declared.commands.Command.{Command}
 use Rattle.cx_source.specs.declared.source.Item.{Item}
 use Rattle.cx_source.specs.declared.source.Source.{Source}
 use Rattle.cx_source.specs.declared.source.Stmt.{Stmt}
+use Rattle.cx_translate.specs.declared.words.Word.{Word}
+use Rattle.cx_translate.specs.Call.{list_of}
+use Rattle.cx_translate.specs.Made.{call, label, made_item, made_of, stores}
+use Rattle.cx_translate.specs.Refusals.{command_in, fault_of}
+use Rattle.cx_translate.specs.Sections.{begins_exec, lines}
+use Rattle.cx_translate.specs.Words.{words_of}
 use Rattle.cx_operations.specs.Operations.{operation_named}
-use Rattle.cx_operations.specs.declared.operations.Operation.{Operation}
-use Rattle.cx_places.specs.Known.{known_behind, place_in, role_in}
-use Rattle.cx_places.specs.declared.roles.Role.{Role}
-use Rattle.cx_places.specs.declared.roles.Role.TheVariants as role
+use Rattle.cx_places.specs.Known.{known_behind, place_in}
 use Rattle.cx_operands.specs.Bases.{Bases, none_in_use}
+use Rattle.cx_operands.specs.Context.{Context}
 use Rattle.cx_operands.specs.Forms.{resolved}
-use Rattle.cx_second.specs.Statements.{PlacedItem, Stated, place_for, placed_item, stated, stated_in}
-use Rattle.cx_second.specs.Whole.{Whole, instruction_context, whole_of}
+use Rattle.cx_second.specs.Statements.{stated, statements_of}
+use Rattle.cx_second.specs.Whole.{instruction_context, whole_of}
 use Rattle.cx_second.specs.SecondFaults.{bases_after}
 use Rattle.cx_asm.specs.Resolving.{line}
-use Rattle.cx_asm.specs.Assembly.{AssemblyParts, assembly_of}
 
--- an instruction's statement begins on a line
-abbrev pub is_instruction_role : Role → Bool
-is_instruction_role (role.Instruction size) = true
-is_instruction_role _ = false
+-- ---- which they are
+-- an EXEC statement that begins on a line of a source
+pub record HasExec (source : Source) (item : Item) (exec : Stmt) : Type 0 where
+  pub before : List Item
+  pub behind : List Item
+  pub is : source.items ≡ before ++ item ∷ behind
+  pub statement : item.stmt ≡ Some exec
+  pub begins : begins_exec item ≡ true
 
-abbrev pub is_instruction : Option Stmt → Bool
-is_instruction None = false
-is_instruction (Some stmt) = is_instruction_role (role_in stmt)
+-- Its command, whose name has so many words; it has no fault; and the statements made of it stand together, with its
+-- line.
+pub record IsMade (item : Item) (exec : Stmt) (items : List Item) : Type 0 where
+  pub command : Command
+  pub named : ℕ
+  pub found : command_in (words_of exec.operand) ≡ Some (command, named)
+  pub accepted : fault_of item.line (words_of exec.operand) ≡ None
+  pub before : List Item
+  pub behind : List Item
+  pub is : items ≡ before ++ lines item.line (made_of exec.name (words_of exec.operand)) ++ behind
 
--- the statements of lines, in their order, with their places; `before` are the lines before them, the latest first
-abbrev pub placed_from : List Item → List Item → List PlacedItem
-placed_from before [] = []
-placed_from before (item ∷ items) = placed_item item (place_for item.stmt (known_behind before)) ∷ placed_from (item ∷ before) items
+-- What made instructions are of: a source that was translated, its lines before the first of them, the line that they
+-- have, the command, and the words behind its name.
+pub record Site : Type 0 where
+  pub source : Source
+  pub first : List Item
+  pub line : ℕ
+  pub command : Command
+  pub words : List Word
 
-abbrev pub statements_from : List Item → List Item → List Stated
-statements_from before items = filter_map stated_in (placed_from before items)
+abbrev pub site_of : {item : Item} {exec : Stmt} (source : Source) → IsMade item exec source.items → Site
+site_of {item} {exec} source made =
+    record {
+      source = source;
+      first = made.before ++ lines item.line (label exec.name);
+      line = item.line;
+      command = made.command;
+      words = drop made.named (drop 1 (words_of exec.operand));
+    }
 
--- the bases in use behind statements
-abbrev pub bases_from : Whole → Bases → List Stated → Bases
-bases_from told bases [] = bases
-bases_from told bases (s ∷ statements) = bases_from told (bases_after told bases s) statements
+-- the words of the argument list, and the statements of a call: their stores, and the call with the last word's mark
+abbrev pub list_in : Site → List (List ℕ)
+list_in site = list_of site.command site.words
 
--- those in use behind the first lines of a source
-abbrev pub bases_in_use : Source → List Item → Bases
-bases_in_use source first = bases_from (whole_of source) none_in_use (statements_from [] first)
+abbrev pub call_of : Site → List Stmt
+call_of site = stores 0 (list_in site) ++ call (length (list_in site) - 1)
 
--- The statement of a line, which stands at an offset, is resolved to an instruction by these bases.
-pub record IsResolved (told : Whole) (bases : Bases) (before : List Item) (at : ℕ) (item : Item) (instruction : Instruction) : Type 0 where
-  pub statement : Stmt
-  pub begins : item.stmt ≡ Some statement
-  pub place : (place_in statement (known_behind before)).offset ≡ at
-  pub operation : Operation
-  pub named : operation_named statement.operation ≡ Some operation
-  pub resolves : resolved operation (instruction_context told bases (stated item.line statement (place_in statement (known_behind before)))) statement.operand
-      ≡ Ok instruction
+-- ---- what they are resolved to
+-- the bases in use behind the first lines
+abbrev pub bases_of : Site → Bases
+bases_of site = fold (bases_after (whole_of site.source)) none_in_use (statements_of (record { items = site.first }))
 
--- So are the statements of lines, each right behind the one before it.
-unfoldable pub AreResolved : Whole → Bases → List Item → ℕ → List Item → List Instruction → Type 0
-AreResolved told bases before at [] [] = Unit {0}
-AreResolved told bases before at [] (i ∷ code) = ⊥
-AreResolved told bases before at (item ∷ items) [] = ⊥
-AreResolved told bases before at (item ∷ items) (i ∷ code) =
-    IsResolved told bases before at item i × AreResolved told bases (item ∷ before) (at + length_of i.op) items code
+-- the lines behind these statements, the latest first
+abbrev pub behind : Site → List Stmt → List Item
+behind site statements = reverse (lines site.line statements) ++ reverse site.first
 
+-- what the operand of a statement behind such lines is read by
+abbrev pub context_in : Site → List Item → Stmt → Context
+context_in site before s =
+    instruction_context (whole_of site.source) (bases_of site) (stated site.line s (place_in s (known_behind before)))
+
+-- The statement stands at an offset, and is resolved to an instruction.
+abbrev pub IsResolved : Site → List Item → ℕ → Stmt → Instruction → Type 0
+IsResolved site before at s made =
+    ((place_in s (known_behind before)).offset ≡ at)
+    × (option_map (λ o. resolved o (context_in site before s) s.operand) (operation_named s.operation) ≡ Some (Ok made))
+
+-- So are statements, each right behind the one before it.
+unfoldable pub AreResolved : Site → List Item → ℕ → List Stmt → List Instruction → Type 0
+AreResolved site before at [] [] = Unit {0}
+AreResolved site before at (s ∷ statements) (i ∷ code) =
+    IsResolved site before at s i
+    × AreResolved site (made_item site.line s ∷ before) (at + length_of i.op) statements code
+AreResolved site before at statements code = ⊥
+
+-- ---- where they stand
 -- instructions as resolved lines, one right behind the other
 unfoldable pub code_lines : ℕ → List Instruction → List Line
 code_lines at [] = []
 code_lines at (i ∷ code) = line at (Code i) ∷ code_lines (at + length_of i.op) code
-
--- Lines of a source behind its first ones: their statements' instructions are resolved lines one right behind the other.
-pub record StandInCode (source : Source) (first items : List Item) (lines : List Line) : Type 0 where
-  pub at : ℕ
-  pub code : List Instruction
-  pub resolved : AreResolved (whole_of source) (bases_in_use source first) (reverse first) at items code
-  pub front : List Line
-  pub back : List Line
-  pub stand : lines ≡ front ++ code_lines at code ++ back
-
--- In an accepted source this holds of all lines with nothing but instructions on them.
-abbrev pub InstructionsStand : Type 0
-InstructionsStand = (source : Source) (assembly : AssemblyParts) (first items behind : List Item) → assembly_of source ≡ Ok assembly
-    → source.items ≡ first ++ items ++ behind → AllByRecursion (λ item. is_instruction item.stmt ≡ true) items
-    → StandInCode source first items assembly.section.resolved

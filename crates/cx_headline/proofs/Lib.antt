@@ -5,5 +5,4 @@ mod EntryLemmas
 mod SourceLemmas
 mod DueLemmas
 mod OptionLemmas
-mod LoadLemmas
 mod PointerLemmas

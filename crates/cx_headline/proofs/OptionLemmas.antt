@@ -1,4 +1,4 @@
--- What a command reads for an option is the argument that was handed over for it, and one option at most has a pointer.
+-- What a command reads for an option is the argument that was handed over for it.
 use Rattle.std.proofs.Common.{◌≡◌, ℕ, Bool, true, false, cond, not, ◌&&◌, ◌||◌, List, [], ◌∷◌, ◌++◌, length, Option, Some, None, refl, sym, subst, ◌∙◌, ap, bit_or}
 use Rattle.std.specs.Prelude.{fold, is_some, slice_get}
 use Rattle.std.specs.List.{AllByRecursion, filter, list_all, list_any}
@@ -8,7 +8,6 @@ use Rattle.std.proofs.lemmas.Slice.Eq.{bytes_eq-Decides}
 use Rattle.cx_command.specs.declared.commands.Command.{Command}
 use Rattle.cx_command.specs.declared.options.CommandOption.{CommandOption}
 use Rattle.cx_command.specs.declared.options.Mark.{Mark}
-use Rattle.cx_command.specs.declared.options.Mark.TheVariants as mark
 use Rattle.cx_command.specs.Arguments.{arguments_in, is_argument, takes_argument}
 use Rattle.cx_command.specs.Commands.{row_of}
 use Rattle.cx_command.specs.Facts.Commands.{each_command}
@@ -21,7 +20,7 @@ use Rattle.cx_translate.specs.declared.faults.TransFault.TheVariants.{BadArgumen
 use Rattle.cx_translate.specs.declared.words.Argument.{Argument}
 use Rattle.cx_translate.specs.declared.words.Argument.TheVariants.{Absent, Given, Bad}
 use Rattle.cx_translate.specs.declared.words.Word.{Word}
-use Rattle.cx_translate.specs.Call.{argument_of, operand_by, operands_of, pointer_by, pointers_of, text_in}
+use Rattle.cx_translate.specs.Call.{argument_of, operand_by, operands_of, text_in}
 use Rattle.cx_translate.specs.Due.{common_due, condition_due, due_of, option_called, suits}
 use Rattle.cx_translate.specs.Refusals.{conditions_in, fault_in, first_byte, has_argument, has_unknown, has_wrong, is_given, is_wrong, with_option}
 
@@ -190,55 +189,3 @@ option_is_read line c cics named words before option behind text none split give
         let its = are_read c words byte (row_of c).options (right line c cics named words none) (all_fit c) (told words (row_of c).options 0 [] (all_tell c)).own in
         let there = at_its_place words byte before option behind text (subst (AllByRecursion (IsRead words byte)) split its) given in
         rw e (subst (λ (k : List CommandOption). slice_get (filter (is_argument byte) k) (length (operands_of before words)) ≡ Some option) (sym split) there)
-
--- ---- one pointer
-abbrev is_pointer : Mark → Bool
-is_pointer mark.Pointer = true
-is_pointer _ = false
-
--- none behind the first
-abbrev is_one : List CommandOption → Bool
-is_one [] = true
-is_one (o ∷ rest) = cond (is_pointer o.mark) (list_all (λ p. not (is_pointer p.mark)) rest) (is_one rest)
-
-all_one : (c : Command) → is_one (row_of c).options ≡ true
-all_one = each_command (λ c. is_one (row_of c).options) refl
-
-no_pointer : (m : Mark) (a : Option (List ℕ)) → is_pointer m ≡ false → pointer_by m a ≡ []
-no_pointer mark.Pointer a e = absurd (cc)
-no_pointer mark.Flag a e = refl
-no_pointer mark.Address a e = refl
-no_pointer mark.BytesRead a e = refl
-no_pointer mark.BytesWritten a e = refl
-no_pointer mark.BytesOrAddress a e = refl
-no_pointer mark.Byte a e = refl
-no_pointer mark.Name4 a e = refl
-no_pointer mark.Name8 a e = refl
-no_pointer mark.Halfword a e = refl
-no_pointer mark.HalfwordBothWays a e = refl
-no_pointer mark.HalfwordBothWaysWithoutSet a e = refl
-no_pointer mark.HalfwordOut a e = refl
-no_pointer mark.HalfwordOutWithoutRewrite a e = refl
-
-all_of : (before : List CommandOption) (option : CommandOption) (behind : List CommandOption)
-    → list_all (λ p. not (is_pointer p.mark)) (before ++ option ∷ behind) ≡ true → is_pointer option.mark ≡ false
-all_of [] option behind h = sym (not_true (is_pointer option.mark) (and_parts (not (is_pointer option.mark)) (list_all (λ p. not (is_pointer p.mark)) behind) h).0)
-all_of (o ∷ before) option behind h = all_of before option behind (and_parts (not (is_pointer o.mark)) (list_all (λ p. not (is_pointer p.mark)) (before ++ option ∷ behind)) h).1
-
-none_before : (words : List Word) (before : List CommandOption) (option : CommandOption) (behind : List CommandOption) → is_one (before ++ option ∷ behind) ≡ true
-    → is_pointer option.mark ≡ true → pointers_of before words ≡ []
-none_before words [] option behind one is = refl
-none_before words (o ∷ before) option behind one is = by_mark (is_pointer o.mark) refl one (λ h. none_before words before option behind h is)
-  where
-    by_mark : (b : Bool) → is_pointer o.mark ≡ b
-        → cond b (list_all (λ p. not (is_pointer p.mark)) (before ++ option ∷ behind)) (is_one (before ++ option ∷ behind)) ≡ true
-        → (is_one (before ++ option ∷ behind) ≡ true → pointers_of before words ≡ [])
-        → pointer_by o.mark (argument_of words (option_name o.name)) ++ pointers_of before words ≡ []
-    by_mark true e h more = let no = all_of before option behind h in absurd (cc)
-    by_mark false e h more = rw (no_pointer o.mark (argument_of words (option_name o.name)) e) (more h)
-
--- Before a command's pointer there is no other.
-pub no_pointer_before : (c : Command) (words : List Word) (before : List CommandOption) (option : CommandOption) (behind : List CommandOption)
-    → (row_of c).options ≡ before ++ option ∷ behind → option.mark ≡ mark.Pointer → pointers_of before words ≡ []
-no_pointer_before c words before option behind split marked =
-    none_before words before option behind (subst (λ (k : List CommandOption). is_one k ≡ true) split (all_one c)) (ap is_pointer marked)

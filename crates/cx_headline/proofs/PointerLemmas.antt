@@ -1,6 +1,6 @@
 -- A pointer comes back, from the EXEC statement to the load behind it.
-use Rattle.std.proofs.Common.{◌≡◌, ◌≢◌, ℕ, ◌+◌, ◌<◌, Bool, true, false, cond, nat_eq, List, [], ◌∷◌, ◌++◌, length, Some, Ok, refl, sym, subst, ◌∙◌, ap, arith}
-use Rattle.std.specs.Prelude.{Result, codes, option_map, slice_get, slice_index, slice_set}
+use Rattle.std.proofs.Common.{◌≡◌, ◌≢◌, ℕ, ◌+◌, ◌<◌, None, Bool, true, false, cond, nat_eq, List, [], ◌∷◌, ◌++◌, length, Some, Ok, refl, sym, subst, ◌∙◌, ap, arith}
+use Rattle.std.specs.Prelude.{Result, codes, drop, option_map, slice_get, take, slice_index, slice_set}
 use Rattle.std.proofs.lemmas.Bool.{true≢false}
 use Rattle.std.proofs.lemmas.Option.{slice_get-map}
 use Rattle.cx_command.specs.declared.commands.Command.{Command}
@@ -22,32 +22,26 @@ use Rattle.cx_call.specs.declared.outputs.Output.{Output}
 use Rattle.cx_call.specs.declared.outputs.Source.TheVariants.{Word}
 use Rattle.cx_call.specs.Call.{Call, place_of}
 use Rattle.cx_arrival.specs.Arrives.{Arrives, made_length}
-use Rattle.cx_arrival.specs.Laws.Entry.{MadeAreCounted}
 use Rattle.cx_arrival.specs.Made.{Argument, Statement, argument_address, call_made}
-use Rattle.cx_arrival.specs.Stands.{code_length}
 use Rattle.cx_source.specs.declared.source.Item.{Item}
 use Rattle.cx_source.specs.declared.source.Source.{Source}
 use Rattle.cx_source.specs.declared.source.Stmt.{Stmt}
-use Rattle.cx_translate.specs.declared.words.Word.{Word as Written}
 use Rattle.cx_translate.specs.Call.{operands_of as arguments_handed}
-use Rattle.cx_translate.specs.Made.{label}
-use Rattle.cx_translate.specs.Refusals.{first_byte}
-use Rattle.cx_translate.specs.Sections.{lines}
+use Rattle.cx_translate.specs.Refusals.{fault_in, fault_of, fault_of_command, first_byte}
+use Rattle.cx_translate.specs.Words.{words_of}
 use Rattle.cx_operands.specs.Bases.{Bases}
 use Rattle.cx_operands.specs.Forms.{operands_of}
-use Rattle.cx_asm.specs.Assembly.{AssemblyParts, assembly_of}
+use Rattle.cx_asm.specs.Assembly.{AssemblyParts}
 use Rattle.cx_command_arrival.specs.Arguments.{HoldsBase, Sections}
-use Rattle.cx_command_arrival.specs.Called.{words_behind}
-use Rattle.cx_command_arrival.specs.Arriving.{CommandArrives}
-use Rattle.cx_command_arrival.specs.Returned.{ComesBack, IsAtLoad, IsPointer}
-use Rattle.cx_command_arrival.specs.Standing.{bases_in_use}
+use Rattle.cx_command_arrival.specs.Arriving.{CommandArrives, ComesBack, IsAtLoad, IsPointer}
+use Rattle.cx_command_arrival.specs.Standing.{IsMade, Site, bases_of, site_of}
 use Rattle.cx_rows.specs.Common.{output as output_of}
 use Rattle.cx_state.specs.State.{Reach}
 use Rattle.cx_state.specs.Verdicts.{handed_over}
 use Rattle.cx_task.specs.Turn.{machine_of}
 use Rattle.cx_task_laws.specs.Laws.Pointers.{HasPutOut, OutputsStay, ProgramsGoOn, is_written_again}
 use Rattle.cx_headline.specs.Laws.Pointers.{GetsPointer, IsPerformed, PointersAreGiven}
-use Rattle.cx_headline.proofs.LoadLemmas.{LoadLaws, comes_back, option_read}
+use Rattle.cx_headline.proofs.OptionLemmas.{option_is_read}
 
 -- what the laws say
 abbrev pub ArgumentsAreFound : Type 0
@@ -55,11 +49,22 @@ ArgumentsAreFound = (command : Command) (first k : ℕ) (option : CommandOption)
     → slice_get (arguments_in (row_of command).options first) k ≡ Some option → argument_index command first option.name ≡ Some k
 
 pub record Laws : Type 0 where
-  pub loads : LoadLaws
   pub go_on : ProgramsGoOn
   pub stay : OutputsStay
   pub found : ArgumentsAreFound
-  pub counted : MadeAreCounted
+
+-- ---- the option is read where its argument is handed over
+option_read : (item : Item) (exec : Stmt) (items : List Item) (made : IsMade item exec items) (options : List CommandOption) (register : List ℕ)
+    → (pointer : IsPointer made.command (drop made.named (drop 1 (words_of exec.operand))) options register)
+    → slice_get (arguments_in (row_of made.command).options (first_byte made.command (drop made.named (drop 1 (words_of exec.operand)))))
+    (length (arguments_handed options (drop made.named (drop 1 (words_of exec.operand))))) ≡ Some pointer.option
+unfolding fault_of
+option_read item exec items made options register pointer =
+    let cics = take 1 (words_of exec.operand) in
+    let named = take made.named (drop 1 (words_of exec.operand)) in
+    let words = drop made.named (drop 1 (words_of exec.operand)) in
+    let accepted : fault_in item.line made.command cics named words ≡ None = sym (ap (fault_of_command item.line (words_of exec.operand)) made.found) ∙ made.accepted in
+    option_is_read item.line made.command cics named words options pointer.option pointer.behind register accepted pointer.is pointer.given
 
 -- ---- the place of an option is that of its argument
 place_is : ArgumentsAreFound → (regs : List ℕ) (s : Statement) (c : Command) (first k : ℕ) (option : CommandOption) (a : Argument) → s.command ≡ c → s.first ≡ first
@@ -69,8 +74,8 @@ unfolding place_of call_made
 place_is found regs s c first k option a is byte at given = rw (is, byte, found c first k option at) (slice_get-map (argument_address regs) s.arguments k ∙ ap (option_map (argument_address regs)) given)
 
 -- ---- the address in register 14
-behind_call : (at c n l : ℕ) → n ≡ l → along (along at c) n ≡ along at (c + l)
-behind_call at c n l e = omega (arith, e)
+behind_call : (at c n : ℕ) → along (along at c) n ≡ along at (c + n)
+behind_call at c n = omega arith
 
 -- ---- the base register
 holds_still : (sections : Sections) (bases : Bases) (base : ℕ) (s : Statement) (m now : Machine) (regs : List ℕ) → Arrives m s now → regs ≡ now.regs → base ≢ 1 → base ≢ 14 → base ≢ 15
@@ -81,53 +86,43 @@ holds_still sections bases base s m now regs arrives is one link entry holds b e
     same true e = refl
     same false e = arrives.kept base (λ n. let own : nat_eq base 0 ≡ true = ap (λ k. nat_eq k 0) n in true≢false (sym own ∙ e)) one link entry
 
-module _ (laws : Laws) (translated : Source) (assembly : AssemblyParts) (item : Item) (exec : Stmt) (accepts : assembly_of translated ≡ Ok assembly)
-    (arrives : CommandArrives translated assembly item exec) (options : List CommandOption) (register : List ℕ)
-    (pointer : IsPointer arrives.call.made.command (words_behind exec arrives.call.made.named) options register)
+module _ (laws : Laws) (translated : Source) (assembly : AssemblyParts) (item : Item) (exec : Stmt) (arrives : CommandArrives translated assembly item exec)
+    (options : List CommandOption) (register : List ℕ) (pointer : IsPointer arrives.made.command (site_of translated arrives.made).words options register)
     (cut : operands_of (register ++ codes ",DFHEITP") ≡ register ∷ codes "DFHEITP" ∷ []) where
-  abbrev command : Command
-  command = arrives.call.made.command
-
-  abbrev words : List Written
-  words = words_behind exec arrives.call.made.named
+  abbrev site : Site
+  site = site_of translated arrives.made
 
   abbrev s : Statement
-  s = arrives.reaches.statement
+  s = arrives.call.statement
 
   abbrev at : ℕ
-  at = arrives.call.code.at + code_length arrives.call.code.code
+  at = arrives.call.at + made_length s
 
-  abbrev bases : Bases
-  bases = bases_in_use translated (arrives.call.made.together.before ++ lines item.line (label exec.name))
+  abbrev back : ComesBack site assembly.section.image arrives.call.at s options register
+  back = arrives.call.returns options register pointer cut
 
-  abbrev Back : Type 0
-  Back = ComesBack translated assembly item.line (arrives.call.made.together.before ++ lines item.line (label exec.name)) command words s at options register
-
-  calls_length : made_length s ≡ code_length arrives.call.code.code
-  calls_length = sym (laws.counted s).1 ∙ ap code_length (sym arrives.reaches.made)
-
-  module _ (back : Back) (storage loaded : Storage) (program : Loaded) (sections : Sections) (m : Machine) (before : Reach) (condition : Condition) (after : Reach)
+  module _ (storage loaded : Storage) (program : Loaded) (sections : Sections) (m : Machine) (before : Reach) (condition : Condition) (after : Reach)
       (fit : IsFit assembly.section.image) (stored : IsLoaded storage assembly.section.image program loaded)
-      (performed : IsPerformed loaded (along program.at arrives.call.code.at) (along program.at at) sections bases back.argument.base s m before condition after) where
+      (performed : IsPerformed loaded (along program.at arrives.call.at) (along program.at at) sections (bases_of site) back.argument.base s m before condition after) where
     abbrev put : HasPutOut condition before after
     put = laws.stay before after condition performed.storage performed.task performed.half_turn
 
     next_is : after.task.next ≡ along program.at at
     next_is =
         (laws.go_on before after condition performed.half_turn).next ∙ performed.arrives.link ∙ ap (λ n. along n (made_length s)) performed.next
-        ∙ behind_call program.at arrives.call.code.at (made_length s) (code_length arrives.call.code.code) calls_length
+        ∙ behind_call program.at arrives.call.at (made_length s)
 
     call_is : put.call ≡ call_made m.regs s
     call_is = (let same : ◌≡◌ {A = Result Call CallFault} (Ok put.call) (Ok (call_made m.regs s)) = sym put.reads ∙ performed.arrives.call in cc)
 
-    at_load : IsAtLoad loaded (along program.at at) sections bases back.argument.base (machine_of after)
+    at_load : IsAtLoad loaded (along program.at at) sections (bases_of site) back.argument.base (machine_of after)
     at_load =
         record {
           machine = performed.machine;
           next = next_is;
           load = performed.kept;
           holds =
-              holds_still sections bases back.argument.base s m (machine_of before) after.task.regs performed.arrives (laws.go_on before after condition performed.half_turn).regs
+              holds_still sections (bases_of site) back.argument.base s m (machine_of before) after.task.regs performed.arrives (laws.go_on before after condition performed.half_turn).regs
               performed.stays.0 performed.stays.1 performed.stays.2 performed.holds;
         }
 
@@ -136,24 +131,17 @@ module _ (laws : Laws) (translated : Source) (assembly : AssemblyParts) (item : 
         → Steps (machine_of after) Done (record (machine_of after) { regs = slice_set after.task.regs back.number given; next = along (along program.at at) 4 })
     loads_it front behind given split apart =
         let place = argument_address m.regs back.argument in
-        let read = option_read item exec translated.items arrives.call.made options register pointer in
+        let read = option_read item exec translated.items arrives.made options register pointer in
         let there : place_of put.call pointer.option.name ≡ Some place =
         ap (λ (c : Call). place_of c pointer.option.name) call_is
-        ∙ place_is laws.found m.regs s command (first_byte command words) (length (arguments_handed options words)) pointer.option back.argument
-        arrives.reaches.is.for_command arrives.reaches.is.first read back.handed in
+        ∙ place_is laws.found m.regs s site.command (first_byte site.command site.words) (length (arguments_handed options site.words)) pointer.option back.argument
+        arrives.call.is.command arrives.call.is.first read back.handed in
         let word : word_at after.shared.storage place ≡ Some given = put.pointers front behind pointer.option.name place given split there apart in
         subst (λ n. Steps (machine_of after) Done (record (machine_of after) { regs = slice_set after.task.regs back.number given; next = along n 4 })) next_is
         (back.gets storage loaded program sections m.regs (machine_of after) given fit stored performed.holds at_load word)
 
-    gets_pointer : GetsPointer (along program.at at) (argument_address m.regs back.argument) back.number pointer.option.name s m before condition after
+    pub gets_pointer : GetsPointer (along program.at at) (argument_address m.regs back.argument) back.number pointer.option.name s m before condition after
     gets_pointer = record { next = next_is; put = put; call = call_is; gets = loads_it }
 
 pub pointers_are_given : Laws → PointersAreGiven
-pointers_are_given laws translated assembly item exec accepts arrives options register pointer cut =
-    let its = comes_back laws.loads translated assembly item exec accepts arrives options register pointer cut in
-    record {
-      load = arrives.call.code.at + code_length arrives.call.code.code;
-      behind = refl;
-      back = its;
-      gives = gets_pointer laws translated assembly item exec accepts arrives options register pointer cut its;
-    }
+pointers_are_given laws translated assembly item exec arrives options register pointer cut = gets_pointer laws translated assembly item exec arrives options register pointer cut

@@ -98,11 +98,5 @@ pub fn a_pointer_comes_back()
     ensures { PointersAreGiven }
 {
     cx_command::laws::arguments_are_found_by_name();
-    cx_arrival::laws::made_are_counted();
-    cx_command_arrival::laws::instructions_stand_one_behind_the_other();
-    cx_command_arrival::laws::calls_are_instructions();
-    cx_command_arrival::laws::calls_are_made();
-    cx_command_arrival::laws::a_statement_is_one();
-    cx_command_arrival::laws::pointers_come_back();
     cx_task_laws::laws::a_pointer_stays();
 }

@@ -1,7 +1,7 @@
 -- What a program gets of a pointer that its command gives, from the EXEC statement to the load behind it (Application
 -- Programmer's Reference Manual, SC33-0077, SET of GETMAIN and READQ TS, ADDRESS; that pointers are handed over in DFHEITP is
 -- this product's own).
-use Rattle.std.specs.Prelude.{◌≡◌, ◌≢◌, ℕ, ◌+◌, ◌<◌, false, List, [], ◌∷◌, ◌++◌, codes, slice_set, Ok}
+use Rattle.std.specs.Prelude.{◌≡◌, ◌≢◌, ℕ, ◌+◌, ◌<◌, false, List, [], ◌∷◌, ◌++◌, codes, slice_set}
 use Rattle.cx_command.specs.declared.conditions.Condition.{Condition}
 use Rattle.cx_command.specs.declared.options.CommandOption.{CommandOption}
 use Rattle.cx_command.specs.declared.options.OptionName.{OptionName}
@@ -15,22 +15,18 @@ use Rattle.cx_exec.specs.Step.{Steps}
 use Rattle.cx_exec.specs.declared.machine.Step.TheVariants.{Done}
 use Rattle.cx_call.specs.declared.outputs.Output.{Output}
 use Rattle.cx_call.specs.declared.outputs.Source.TheVariants.{Word}
-use Rattle.cx_arrival.specs.Arrives.{Arrives}
+use Rattle.cx_arrival.specs.Arrives.{Arrives, made_length}
 use Rattle.cx_arrival.specs.Made.{Statement, argument_address, call_made}
-use Rattle.cx_arrival.specs.Stands.{IsMachine, code_length}
+use Rattle.cx_arrival.specs.Stands.{IsMachine}
 use Rattle.cx_source.specs.declared.source.Item.{Item}
 use Rattle.cx_source.specs.declared.source.Source.{Source}
 use Rattle.cx_source.specs.declared.source.Stmt.{Stmt}
-use Rattle.cx_translate.specs.Made.{label}
-use Rattle.cx_translate.specs.Sections.{lines}
 use Rattle.cx_operands.specs.Bases.{Bases}
 use Rattle.cx_operands.specs.Forms.{operands_of}
-use Rattle.cx_asm.specs.Assembly.{AssemblyParts, assembly_of}
+use Rattle.cx_asm.specs.Assembly.{AssemblyParts}
 use Rattle.cx_command_arrival.specs.Arguments.{HoldsBase, Sections}
-use Rattle.cx_command_arrival.specs.Arriving.{AreKept, CommandArrives}
-use Rattle.cx_command_arrival.specs.Called.{words_behind}
-use Rattle.cx_command_arrival.specs.Returned.{ComesBack, IsPointer}
-use Rattle.cx_command_arrival.specs.Standing.{bases_in_use}
+use Rattle.cx_command_arrival.specs.Arriving.{AreKept, CommandArrives, ComesBack, IsPointer}
+use Rattle.cx_command_arrival.specs.Standing.{Site, bases_of, site_of}
 use Rattle.cx_rows.specs.Common.{output as output_of}
 use Rattle.cx_state.specs.State.{Reach}
 use Rattle.cx_state.specs.Verdicts.{handed_over}
@@ -67,29 +63,24 @@ pub record GetsPointer (load place number : ℕ) (option : OptionName) (s : Stat
       → Steps (machine_of after) Done
       (record (machine_of after) { regs = slice_set after.task.regs number pointer; next = along load 4 })
 
--- So gets a program that is loaded the pointer of an EXEC statement that arrives at its command. The load stands right behind the
--- call, since a command has one pointer at most. Which argument was handed over for it, and which register is named, `back` says.
-pub record GivesPointer (translated : Source) (assembly : AssemblyParts) (item : Item) (exec : Stmt)
-    (arrives : CommandArrives translated assembly item exec) (earlier : List CommandOption) (register : List ℕ)
-    (pointer : IsPointer arrives.call.made.command (words_behind exec arrives.call.made.named) earlier register) : Type 0 where
-  pub load : ℕ
-  pub behind : load ≡ arrives.call.code.at + code_length arrives.call.code.code
-  pub back : ComesBack translated assembly item.line (arrives.call.made.together.before ++ lines item.line (label exec.name))
-      arrives.call.made.command (words_behind exec arrives.call.made.named) arrives.reaches.statement load earlier register
-  pub gives : (storage loaded : Storage) (program : Loaded) (sections : Sections) (m : Machine) (before : Reach)
-      (condition : Condition) (after : Reach) → IsFit assembly.section.image
-      → IsLoaded storage assembly.section.image program loaded
-      → IsPerformed loaded (along program.at arrives.call.code.at) (along program.at load) sections
-      (bases_in_use translated (arrives.call.made.together.before ++ lines item.line (label exec.name))) back.argument.base
-      arrives.reaches.statement m before condition after
-      → GetsPointer (along program.at load) (argument_address m.regs back.argument) back.number pointer.option.name
-      arrives.reaches.statement m before condition after
+-- So gets a program that is loaded the pointer of a call that stands at an offset and comes to its command. Which argument was
+-- handed over for it, and which register is named, `back` says.
+abbrev pub GivesPointer : {earlier : List CommandOption} {register : List ℕ} (site : Site) (assembly : AssemblyParts)
+    (at : ℕ) (s : Statement) (option : OptionName) → ComesBack site assembly.section.image at s earlier register → Type 0
+GivesPointer site assembly at s option back =
+    (storage loaded : Storage) (program : Loaded) (sections : Sections) (m : Machine) (before : Reach)
+    (condition : Condition) (after : Reach) → IsFit assembly.section.image
+    → IsLoaded storage assembly.section.image program loaded
+    → IsPerformed loaded (along program.at at) (along program.at (at + made_length s)) sections (bases_of site)
+    back.argument.base s m before condition after
+    → GetsPointer (along program.at (at + made_length s)) (argument_address m.regs back.argument) back.number option
+    s m before condition after
 
--- So does each EXEC statement of an accepted translation for its pointer, if the register is an operand by itself.
+-- So does each EXEC statement that arrives for its pointer, if the register is an operand by itself.
 abbrev pub PointersAreGiven : Type 0
 PointersAreGiven = (translated : Source) (assembly : AssemblyParts) (item : Item) (exec : Stmt)
-    → assembly_of translated ≡ Ok assembly
-    → (arrives : CommandArrives translated assembly item exec) (earlier : List CommandOption) (register : List ℕ)
-    → (pointer : IsPointer arrives.call.made.command (words_behind exec arrives.call.made.named) earlier register)
-    → operands_of (register ++ codes ",DFHEITP") ≡ register ∷ codes "DFHEITP" ∷ []
-    → GivesPointer translated assembly item exec arrives earlier register pointer
+    (arrives : CommandArrives translated assembly item exec) (earlier : List CommandOption) (register : List ℕ)
+    (pointer : IsPointer arrives.made.command (site_of translated arrives.made).words earlier register)
+    (cut : operands_of (register ++ codes ",DFHEITP") ≡ register ∷ codes "DFHEITP" ∷ [])
+    → GivesPointer (site_of translated arrives.made) assembly arrives.call.at arrives.call.statement pointer.option.name
+    (arrives.call.returns earlier register pointer cut)

@@ -1,31 +1,60 @@
 -- Commands that are reached.
+use Rattle.cx_command_arrival.proofs.ArgumentLemmas.{operands_address}
+use Rattle.cx_command_arrival.proofs.Arguments.{OperandsAddress}
 use Rattle.cx_command_arrival.proofs.ArrivingLemmas.{Laws, commands_arrive}
+use Rattle.cx_command_arrival.proofs.CallLemmas.{mark_resolved}
+use Rattle.cx_command_arrival.proofs.CodeInStorage.{CodeIsLoaded}
+use Rattle.cx_command_arrival.proofs.CodeLemmas.{code_loaded}
+use Rattle.cx_command_arrival.proofs.HandedLemmas.{block_stands, entry_stands, literals_loaded}
+use Rattle.cx_command_arrival.proofs.InStorage.{LinesAreLoaded, TextsAreMade}
 use Rattle.cx_command_arrival.proofs.LegalLemmas.{Accepts}
+use Rattle.cx_command_arrival.proofs.LiteralLemmas.{Knows, literals_stand}
+use Rattle.cx_command_arrival.proofs.Literals.{LiteralsStand}
+use Rattle.cx_command_arrival.proofs.LoadedLemmas.{Known, all_loaded}
+use Rattle.cx_command_arrival.proofs.MadeLemmas.{calls_made}
+use Rattle.cx_command_arrival.proofs.PointerLemmas.{loads_are_resolved}
+use Rattle.cx_command_arrival.proofs.RaisedLemmas.{no_code_raised}
+use Rattle.cx_command_arrival.proofs.ReturnedLemmas.{Laws as ReturnLaws}
+use Rattle.cx_command_arrival.proofs.StandingLemmas.{texts_are_made}
+use Rattle.cx_command_arrival.proofs.StoreLemmas.{branch_resolved, stores_resolved}
+use Rattle.cx_command_arrival.proofs.WordLemmas.{list_lies, list_placed, words_lie}
 use Rattle.cx_command_arrival.proofs.laws.commands_arrive.Goals as goal
 
 pub returns : goal.returns
 returns c =
+    let near = c.an_implied_address_is_nearest.ensures in
+    let spans = c.span_is_bytes.ensures in
+    let bytes = c.accepted_bytes_are_legal.ensures in
+    let apart = c.an_assembly_stands_apart.ensures in
     let accepts : Accepts = record {
-      bytes = c.accepted_bytes_are_legal.ensures;
+      bytes = bytes;
       conditions = c.accepted_conditions_are_legal.ensures;
       number = c.accepted_conditions_are_counted.ensures.number;
       none = c.accepted_conditions_are_counted.ensures.others;
       room = c.accepted_lists_have_room.ensures;
       read = c.accepted_lists_are_read.ensures;
     } in
+    let known : Known = record { text = c.the_text_is_told_by_its_bytes.ensures.is; others = c.relocation.ensures.others; spans = spans } in
+    let addresses : OperandsAddress = operands_address near in
+    let texts : TextsAreMade = texts_are_made apart.short apart.size apart.lines in
+    let lines : LinesAreLoaded = all_loaded known in
+    let knows : Knows = record { addresses = addresses; size = apart.size; short = apart.short; apart = apart.lines } in
+    let literals : LiteralsStand = literals_stand knows in
+    let code : CodeIsLoaded = code_loaded c.what_is_resolved_is_well_formed.ensures c.every_spelling.ensures.length texts lines (no_code_raised texts) in
     let laws : Laws = record {
       accepts = accepts;
-      addresses = c.operands_address_their_places.ensures;
-      placed = c.words_lie_in_the_list.ensures.placed;
-      list = c.words_lie_in_the_list.ensures.list;
-      words = c.words_lie_in_the_list.ensures.words;
-      block = c.what_a_call_needs_stands.ensures.block;
-      entry = c.what_a_call_needs_stands.ensures.entry;
-      loaded = c.what_a_call_needs_stands.ensures.loaded;
-      code = c.code_is_loaded.ensures;
-      texts = c.texts_are_made.ensures;
-      spans = c.span_is_bytes.ensures;
+      addresses = addresses;
+      placed = list_placed;
+      list = list_lies addresses;
+      words = words_lie addresses;
+      block = block_stands bytes literals;
+      entry = entry_stands literals;
+      loaded = literals_loaded texts lines;
+      code = code;
+      texts = texts;
+      spans = spans;
       counted = c.made_are_counted.ensures;
       reaches = c.reaches_entry.ensures;
     } in
-    commands_arrive laws c.calls_stand.ensures c.calls_are_made.ensures
+    let returns : ReturnLaws = record { nearest = near; resolved = loads_are_resolved; code = code; texts = texts; spans = spans; gives = c.loads_give_words.ensures } in
+    commands_arrive laws returns (calls_made stores_resolved (mark_resolved branch_resolved))

@@ -15,10 +15,10 @@ use Rattle.cx_operands.specs.Addresses.{address}
 use Rattle.cx_operands.specs.Bases.{Bases}
 use Rattle.cx_operands.specs.Storage.{indexed_in, plain_in}
 use Rattle.cx_second.specs.Whole.{Whole}
-use Rattle.cx_command_arrival.specs.Called.{call_statements}
-use Rattle.cx_command_arrival.specs.Calls.{mark_of}
-use Rattle.cx_command_arrival.specs.Standing.{AreResolved}
-use Rattle.cx_command_arrival.specs.Stores.{context_of, entry_in_15, list_of_1, load_of, store_of, word_of_list}
+use Rattle.cx_command_arrival.proofs.Called.{call_statements}
+use Rattle.cx_command_arrival.proofs.Calls.{mark_of}
+use Rattle.cx_command_arrival.proofs.Resolved.{AreResolved}
+use Rattle.cx_command_arrival.proofs.Stores.{context_of, entry_in_15, list_of_1, load_of, store_of, word_of_list}
 
 -- index, base and displacement are what a storage operand of a made statement is resolved to
 abbrev pub ResolvesTo : Whole → Bases → ℕ → List Item → Stmt → List ℕ → ℕ → ℕ → ℕ → Type 0
@@ -49,7 +49,7 @@ behind_list line before command words = made_item line list_of_1 ∷ behind_mark
 
 -- The statement of a command with these words, whose made statements stand behind these lines: what the translator has put
 -- into the block, and what the operands are resolved to.
-pub record IsStatement (told : Whole) (bases : Bases) (line : ℕ) (before : List Item) (command : Command) (words : List Word) (s : Statement) : Type 0 where
+pub record IsStatementOf (told : Whole) (bases : Bases) (line : ℕ) (before : List Item) (command : Command) (words : List Word) (s : Statement) : Type 0 where
   pub for_command : s.command ≡ command
   pub first : s.first ≡ first_byte command words
   pub second : s.second ≡ second_byte words
@@ -60,15 +60,10 @@ pub record IsStatement (told : Whole) (bases : Bases) (line : ℕ) (before : Lis
   pub list : ResolvesTo told bases line (behind_mark line before command words) list_of_1 (codes "DFHEIPL") 0 s.list.base s.list.displacement
   pub entry : ResolvesTo told bases line (behind_list line before command words) entry_in_15 (codes "=V(DFHEI1)") 0 s.entry.base s.entry.displacement
 
--- There is one such statement.
-abbrev pub StatementsDecide : Type 0
-StatementsDecide = (told : Whole) (bases : Bases) (line : ℕ) (before : List Item) (command : Command) (words : List Word) (s t : Statement)
-    → IsStatement told bases line before command words s → IsStatement told bases line before command words t → s ≡ t
-
 -- Instructions that are made of such a statement.
 pub record AreMade (told : Whole) (bases : Bases) (line : ℕ) (before : List Item) (command : Command) (words : List Word) (code : List Instruction) : Type 0 where
   pub statement : Statement
-  pub is : IsStatement told bases line before command words statement
+  pub is : IsStatementOf told bases line before command words statement
   pub made : code ≡ made statement
 
 -- The statements made to call a command, resolved, are these.

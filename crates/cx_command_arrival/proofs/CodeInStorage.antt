@@ -9,7 +9,7 @@ use Rattle.cx_source.specs.declared.source.Source.{Source}
 use Rattle.cx_storage.specs.Address.{along}
 use Rattle.cx_storage.specs.Storage.{Storage}
 use Rattle.cx_asm.specs.Assembly.{AssemblyParts, assembly_of}
-use Rattle.cx_command_arrival.specs.Standing.{StandInCode}
+use Rattle.cx_command_arrival.proofs.Resolved.{StandInCode}
 
 -- Instructions of an accepted source that stand in its code are well formed, and their spellings stand in storage, one behind the
 -- other from their place on, when the program is loaded.

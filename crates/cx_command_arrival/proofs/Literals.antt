@@ -18,10 +18,10 @@ use Rattle.cx_operands.specs.declared.addresses.Address.{Address}
 use Rattle.cx_second.specs.Whole.{Whole, item_made, whole_of}
 use Rattle.cx_asm.specs.Resolving.{copies, line}
 use Rattle.cx_asm.specs.Assembly.{AssemblyParts, assembly_of}
-use Rattle.cx_command_arrival.specs.InStorage.{IsUnraised}
-use Rattle.cx_command_arrival.specs.Standing.{is_instruction_role}
-use Rattle.cx_command_arrival.specs.Stores.{context_of}
-use Rattle.cx_command_arrival.specs.Words.{LiesBehind}
+use Rattle.cx_command_arrival.proofs.InStorage.{IsUnraised}
+use Rattle.cx_command_arrival.proofs.Resolved.{is_instruction_role}
+use Rattle.cx_command_arrival.proofs.Stores.{context_of}
+use Rattle.cx_command_arrival.proofs.Words.{LiesBehind}
 
 -- A literal's text, behind its equals sign, and the bytes of all its copies: at each place the same ones, and no word that
 -- loading raises.

@@ -20,8 +20,8 @@ use Rattle.cx_operands.specs.Storage.{indexed_in}
 use Rattle.cx_operands.specs.declared.addresses.Address.{Address}
 use Rattle.cx_second.specs.Whole.{whole_of}
 use Rattle.cx_asm.specs.Assembly.{AssemblyParts, assembly_of}
-use Rattle.cx_command_arrival.specs.Literals.{StandsInSection}
-use Rattle.cx_command_arrival.specs.Stores.{context_of, entry_in_15, load_of}
+use Rattle.cx_command_arrival.proofs.Literals.{StandsInSection}
+use Rattle.cx_command_arrival.proofs.Stores.{context_of, entry_in_15, load_of}
 
 -- the operand that loads the block's address
 abbrev pub block_of : Command → List Word → List ℕ

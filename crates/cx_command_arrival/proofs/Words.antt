@@ -9,7 +9,7 @@ use Rattle.cx_operands.specs.Context.{Context}
 use Rattle.cx_operands.specs.Storage.{indexed_in, plain_in}
 use Rattle.cx_operands.specs.declared.addresses.Address.{Address}
 use Rattle.cx_command_arrival.specs.Arguments.{HoldsBase, Sections}
-use Rattle.cx_command_arrival.specs.Stores.{word_of_list}
+use Rattle.cx_command_arrival.proofs.Stores.{word_of_list}
 
 -- In a table of symbols the list's symbol stands for a place in a section.
 pub record HasList (find : List ℕ → Option Value) (section : List ℕ) (offset : ℤ) : Type 0 where

@@ -16,7 +16,7 @@ use Rattle.cx_operands.specs.Storage.{indexed_in}
 use Rattle.cx_operands.specs.declared.addresses.Address.{Address}
 use Rattle.cx_second.specs.Statements.{stated}
 use Rattle.cx_second.specs.Whole.{Whole, instruction_context}
-use Rattle.cx_command_arrival.specs.Standing.{AreResolved}
+use Rattle.cx_command_arrival.proofs.Resolved.{AreResolved}
 
 -- what a made statement's operand is read by, behind lines, the latest first
 abbrev pub context_of : Whole → Bases → ℕ → List Item → Stmt → Context

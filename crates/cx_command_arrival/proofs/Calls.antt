@@ -14,8 +14,8 @@ use Rattle.cx_operands.specs.Context.{Context}
 use Rattle.cx_operands.specs.Storage.{plain_in}
 use Rattle.cx_operands.specs.declared.addresses.Address.{Address}
 use Rattle.cx_second.specs.Whole.{Whole}
-use Rattle.cx_command_arrival.specs.Standing.{AreResolved}
-use Rattle.cx_command_arrival.specs.Stores.{IsBranch, context_of, word_of_list}
+use Rattle.cx_command_arrival.proofs.Resolved.{AreResolved}
+use Rattle.cx_command_arrival.proofs.Stores.{IsBranch, context_of, word_of_list}
 
 -- An instruction with a storage operand and an immediate byte, whose base and displacement are those that its text resolves to.
 pub record HasByte (op : Op) (byte : ℕ) (c : Context) (text : List ℕ) (made : Instruction) : Type 0 where
