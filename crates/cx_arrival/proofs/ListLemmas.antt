@@ -1,5 +1,5 @@
 -- The list that was built is read as the statement's call.
-use Rattle.std.proofs.Common.{◌≡◌, ◌≢◌, ℕ, zero, suc, ◌+◌, ◌*◌, ◌^◌, ◌<◌, ◌≤◌, List, [], ◌∷◌, length, map, Bool, true, false, Some, slice_index, ◌==◌, refl, sym, ◌∙◌, ap, arith}
+use Rattle.std.proofs.Common.{flat_map, ◌≡◌, ◌≢◌, ℕ, zero, suc, ◌+◌, ◌*◌, ◌^◌, ◌<◌, ◌≤◌, List, [], ◌∷◌, length, map, Bool, true, false, Some, slice_index, ◌==◌, refl, sym, ◌∙◌, ap, arith}
 use Rattle.std.specs.Prelude.{MatchBool, IsTrue}
 use Rattle.std.specs.Option.{option_map}
 use Rattle.std.proofs.lemmas.Bool.{eq-eqb, ne_eqb, le-leb, lt-leb}
@@ -13,7 +13,8 @@ use Rattle.cx_storage.specs.Word.{word_at}
 use Rattle.cx_storage.specs.Facts.Spans.{span_at, span_from}
 use Rattle.cx_call.specs.Call.{has_high_bit, listed_in}
 use Rattle.cx_call.specs.Laws.Calls.{IsCallAt, bytes_of_block}
-use Rattle.cx_arrival.specs.Made.{Statement, block_argument, words_of, condition_bytes, block_bytes, reached, argument_address, call_made}
+use Rattle.cx_exec.specs.Machine.{effective}
+use Rattle.cx_arrival.specs.Made.{Statement, words_of, block_bytes, reached, argument_address, call_made}
 use Rattle.cx_arrival.specs.Stands.{IsLegal}
 use Rattle.cx_arrival.proofs.StoreLemmas.{reaches}
 
@@ -39,6 +40,9 @@ rest_of_span s a b0 b1 b2 b3 rest la e = span_from s (along a 4) (length rest) r
     rw at (span_at s a (length (b0 ∷ b1 ∷ b2 ∷ b3 ∷ rest)) (b0 ∷ b1 ∷ b2 ∷ b3 ∷ rest) (suc (suc (suc (suc k)))) la e (omega (arith, few))))
 
 -- the conditions' bytes are read as the conditions
+abbrev condition_bytes : List ListedCondition → List ℕ
+condition_bytes listed = flat_map (λ (l : ListedCondition). l.number ∷ l.label ∷ []) listed
+
 condition_length : (listed : List ListedCondition) → length (condition_bytes listed) ≡ 2 * length listed
 condition_length [] = refl
 condition_length (l ∷ rest) = let more = condition_length rest in omega (arith, more)
@@ -96,7 +100,7 @@ is_call s first list statement ll legal based block words = record {
     size : length (map (argument_address first) statement.arguments) ≡ length statement.arguments
     size = length-map statement.arguments (argument_address first)
 
-    first_word : ListWord s list (length statement.arguments) 0 (argument_address first (block_argument statement))
+    first_word : ListWord s list (length statement.arguments) 0 (effective first 0 statement.block.base statement.block.displacement)
     first_word = words 0 (omega arith)
 
     head : word_at s list ≡ Some first_word.word

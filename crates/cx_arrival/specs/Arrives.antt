@@ -25,4 +25,5 @@ pub record Arrives (m : Machine) (s : Statement) (after : Machine) : Type 0 wher
   pub call : call_of after.storage (address_in (reg after 1)) ≡ Ok (call_made m.regs s)
   pub kept : (r : ℕ) → r ≢ 0 → r ≢ 1 → r ≢ 14 → r ≢ 15 → reg after r ≡ reg m r
   pub link : address_in (reg after 14) ≡ along m.next (made_length s)
-  pub others : (x : ℕ) → x < 2 ^ 24 → 4 * word_count s ≤ distance (list_place m.regs s) x → byte_at after.storage x ≡ byte_at m.storage x
+  pub others : (x : ℕ) → x < 2 ^ 24 → 4 * word_count s ≤ distance (list_place m.regs s) x
+      → byte_at after.storage x ≡ byte_at m.storage x

@@ -1,11 +1,12 @@
 -- The instructions made of an EXEC statement, as the assembler has resolved them (Application Programmer's Reference Manual,
 -- SC33-0077, the expansion of a command; the instructions are those of GA22-7000; which ones are made, the argument
 -- list and the block are this project's own).
-use Rattle.std.specs.Prelude.{ℕ, ◌+◌, ◌/◌, ◌%◌, List, [], ◌∷◌, ◌++◌, length, map, slice_index}
+use Rattle.std.specs.Prelude.{ℕ, ◌+◌, ◌/◌, ◌%◌, List, [], ◌∷◌, ◌++◌, flat_map, length, map, slice_index}
 use Rattle.cx_command.specs.declared.commands.Command.{Command}
 use Rattle.cx_command.specs.declared.legal.ListedCondition.{ListedCondition}
 use Rattle.cx_command.specs.Commands.{row_of}
 use Rattle.cx_storage.specs.Address.{address_in}
+use Rattle.cx_code.specs.declared.table.Op.{Op}
 use Rattle.cx_code.specs.declared.table.Op.TheVariants as op
 use Rattle.cx_code.specs.declared.instruction.Fields.TheVariants.{Rr, Rx, Si}
 use Rattle.cx_code.specs.Spelling.{Instruction, instruction}
@@ -39,25 +40,25 @@ pub record Statement : Type 0 where
   pub list : Based
   pub entry : Based
 
--- the block's address is handed over as an argument is, in word 0
-abbrev pub block_argument : Statement → Argument
-block_argument s = record { index = 0; base = s.block.base; displacement = s.block.displacement; word = s.head }
-
--- what the words of the list hold: the block, and the arguments
+-- what the words of the list hold: the block, whose address is handed over as an argument is, and the arguments
 abbrev pub words_of : Statement → List Argument
-words_of s = block_argument s ∷ s.arguments
+words_of s =
+    record { index = 0; base = s.block.base; displacement = s.block.displacement; word = s.head } ∷ s.arguments
+
+-- an instruction with a register and an implied address
+abbrev pub of_place : Op → ℕ → Based → Instruction
+of_place op register place = instruction op (Rx register 0 place.base place.displacement)
 
 -- LA 0 of the address and ST 0 into its word, for each of them
 abbrev pub stores : List Argument → List Instruction
 stores [] = []
-stores (a ∷ rest) =
-    instruction op.La (Rx 0 a.index a.base a.displacement) ∷ instruction op.St (Rx 0 0 a.word.base a.word.displacement) ∷ stores rest
+stores (a ∷ rest) = instruction op.La (Rx 0 a.index a.base a.displacement) ∷ of_place op.St 0 a.word ∷ stores rest
 
 -- OI of the last word's first byte with 80, LA 1 of the list, L 15 of the entry's address, BALR 14,15
 abbrev pub branch : Statement → List Instruction
 branch s =
-    instruction op.Oi (Si 0x80 s.last.base s.last.displacement) ∷ instruction op.La (Rx 1 0 s.list.base s.list.displacement)
-    ∷ instruction op.L (Rx 15 0 s.entry.base s.entry.displacement) ∷ instruction op.Balr (Rr 14 15) ∷ []
+    instruction op.Oi (Si 0x80 s.last.base s.last.displacement) ∷ of_place op.La 1 s.list ∷ of_place op.L 15 s.entry
+    ∷ instruction op.Balr (Rr 14 15) ∷ []
 
 -- the instructions made
 unfoldable pub made : Statement → List Instruction
@@ -68,13 +69,10 @@ abbrev pub word_count : Statement → ℕ
 word_count s = 1 + length s.arguments
 
 -- the block: the function value, the option bytes, and two bytes for each condition
-abbrev pub condition_bytes : List ListedCondition → List ℕ
-condition_bytes [] = []
-condition_bytes (listed ∷ rest) = listed.number ∷ listed.label ∷ condition_bytes rest
-
 unfoldable pub block_bytes : Statement → List ℕ
 block_bytes s =
-    (row_of s.command).function / 256 ∷ (row_of s.command).function % 256 ∷ s.first ∷ s.second ∷ condition_bytes s.conditions
+    (row_of s.command).function / 256 ∷ (row_of s.command).function % 256 ∷ s.first ∷ s.second
+    ∷ flat_map (λ listed. listed.number ∷ listed.label ∷ []) s.conditions
 
 -- where an implied address reaches, with these registers: what the base register holds, and the displacement
 abbrev pub reached : List ℕ → Based → ℕ

@@ -27,13 +27,14 @@ pub record IsLegal (s : Statement) : Type 0 where
   pub conditions : MatchBool (lists_conditions s.command)
       ((s.first ≡ length s.conditions) × IsTrue (is_legal_list s.command s.conditions))
       (s.conditions ≡ [])
-  pub count : length s.arguments ≡ length (arguments_in (row_of s.command).options s.first) + count_by has_label s.conditions
-      + (if has_resp s.second then 1 else 0)
+  pub count : length s.arguments ≡ length (arguments_in (row_of s.command).options s.first)
+      + count_by has_label s.conditions + (if has_resp s.second then 1 else 0)
 
 -- the spellings of well-formed instructions stand in storage from an address on, one behind the other
 unfoldable pub AreAt : Storage → ℕ → List Instruction → Type 0
 AreAt s a [] = ⊤
-AreAt s a (i ∷ rest) = IsWellFormed i × (span s a (length_of i.op) ≡ Some (spelling i)) × AreAt s (along a (length_of i.op)) rest
+AreAt s a (i ∷ rest) =
+    IsWellFormed i × (span s a (length_of i.op) ≡ Some (spelling i)) × AreAt s (along a (length_of i.op)) rest
 
 -- The instructions stand at the next address, the block at its place, and the entry's address in its word.
 pub record Stands (m : Machine) (s : Statement) : Type 0 where
@@ -50,8 +51,8 @@ unfoldable pub HaveWords : List ℕ → ℕ → ℕ → List Argument → Type 0
 HaveWords regs list k [] = ⊤
 HaveWords regs list k (a ∷ rest) = IsWord regs list k a.word × HaveWords regs list (k + 1) rest
 
--- The base registers of what is made around the arguments are not 0, and that of the entry's word is not 1, which gets the
--- list's address before; and with what they hold, each word of the list is reached.
+-- The base registers of what is made around the arguments are not 0, and that of the entry's word is not 1, which gets
+-- the list's address before; and with what they hold, each word of the list is reached.
 pub record IsAddressed (m : Machine) (s : Statement) : Type 0 where
   pub block : s.block.base ≢ 0
   pub words : HaveWords m.regs (list_place m.regs s) 0 (words_of s)

@@ -1,8 +1,7 @@
 -- An accepted statement's block is that of a legal call.
-use Rattle.std.specs.Prelude.{◌≤◌, IsTrue, MatchBool, count_by, if◌then◌else◌, ◌/◌, ◌%◌}
-use Rattle.std.proofs.Common.{◌≡◌, ℕ, ◌+◌, Bool, true, false, None, List, [], ◌∷◌, length, refl, ap, arith}
-use Rattle.std.specs.List.{flat_map}
-use Rattle.cx_arrival.specs.Made.{Statement, block_bytes as statement_bytes, condition_bytes, word_count, words_of}
+use Rattle.std.specs.Prelude.{◌≤◌, IsTrue, MatchBool, count_by, if◌then◌else◌}
+use Rattle.std.proofs.Common.{◌≡◌, ℕ, ◌+◌, Bool, true, false, None, List, [], ◌∷◌, length, refl, arith}
+use Rattle.cx_arrival.specs.Made.{Statement, block_bytes as statement_bytes, word_count, words_of}
 use Rattle.cx_arrival.specs.Stands.{IsLegal}
 use Rattle.cx_call.specs.Call.{has_label, has_resp}
 use Rattle.cx_command.specs.Arguments.{arguments_in}
@@ -11,7 +10,7 @@ use Rattle.cx_command.specs.Legal.{is_legal, is_legal_list, lists_conditions}
 use Rattle.cx_command.specs.declared.commands.Command.{Command}
 use Rattle.cx_command.specs.declared.legal.ListedCondition.{ListedCondition}
 use Rattle.cx_source.specs.declared.source.Item.{Item}
-use Rattle.cx_translate.specs.Call.{block_bytes, list_of, listed_of, two_bytes}
+use Rattle.cx_translate.specs.Call.{block_bytes, list_of, listed_of}
 use Rattle.cx_translate.specs.Laws.Read.{words_read}
 use Rattle.cx_translate.specs.Refusals.{fault_in, first_byte, second_byte}
 use Rattle.cx_translate.specs.declared.words.Word.{Word}
@@ -64,16 +63,11 @@ legal_so known told bases line before command cics named words s accepted is =
     }
 
 -- ---- the block's bytes
-same_conditions : (conditions : List ListedCondition) → condition_bytes conditions ≡ flat_map two_bytes conditions
-same_conditions [] = refl
-same_conditions (listed ∷ conditions) = ap (λ k. listed.number ∷ listed.label ∷ k) (same_conditions conditions)
-
 pub same_bytes : (told : Whole) (bases : Bases) (line : ℕ) (before : List Item) (command : Command) (words : List Word) (s : Statement) → IsStatementOf told bases line before command words s
     → statement_bytes s ≡ block_bytes command words
 unfolding statement_bytes block_bytes
 same_bytes told bases line before command words s is =
-    rw (is.for_command, is.first, is.second, is.conditions)
-    (ap (λ k. (row_of command).function / 256 ∷ (row_of command).function % 256 ∷ first_byte command words ∷ second_byte words ∷ k) (same_conditions (listed_of words)))
+    rw (is.for_command, is.first, is.second, is.conditions) refl
 
 -- ---- how many words
 pub same_words : Accepts → (told : Whole) (bases : Bases) (line : ℕ) (before : List Item) (command : Command) (cics named words : List Word) (s : Statement)

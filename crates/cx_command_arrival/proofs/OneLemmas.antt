@@ -1,7 +1,7 @@
 -- A statement is determined by where its made statements stand and what they are made of.
 use Rattle.std.proofs.Common.{◌≡◌, ℕ, ◌+◌, Some, Ok, List, [], ◌∷◌, ◌++◌, refl, sym, ◌∙◌, ap}
 use Rattle.std.specs.Prelude.{Option, Result}
-use Rattle.cx_arrival.specs.Made.{Argument, Based, Statement, block_argument, made, stores, words_of}
+use Rattle.cx_arrival.specs.Made.{Argument, Based, Statement, made, stores, words_of}
 use Rattle.cx_code.specs.declared.instruction.Fields.{Fields}
 use Rattle.cx_code.specs.declared.instruction.Fields.TheVariants.{Rx, Si}
 use Rattle.cx_code.specs.declared.table.Op.{Op}
@@ -18,6 +18,9 @@ use Rattle.cx_command_arrival.specs.Arriving.{StatementsDecide}
 use Rattle.cx_command_arrival.specs.Standing.{AreResolved, Site, behind, call_of}
 
 -- ---- records with equal fields
+abbrev block_argument : Statement → Argument
+block_argument s = record { index = 0; base = s.block.base; displacement = s.block.displacement; word = s.head }
+
 abbrev based_of : ℕ → ℕ → Based
 based_of base displacement = record { base = base; displacement = displacement }
 

@@ -113,8 +113,8 @@ pub record ComesBack (site : Site) (image : Image) (at : ℕ) (s : Statement) (e
   pub handed : slice_get s.arguments (length (arguments_handed earlier site.words)) ≡ Some argument
   pub number : ℕ
   pub named : register_in (context_in site (behind site (call_of site)) (load register)) register ≡ Ok number
-  pub gets : (storage loaded : Storage) (program : Loaded) (sections : Sections) (regs : List ℕ) (m : Machine) (word : ℕ)
-      → IsFit image → IsLoaded storage image program loaded → HoldsBase sections regs (bases_of site) argument.base
+  pub gets : (before loaded : Storage) (program : Loaded) (sections : Sections) (regs : List ℕ) (m : Machine) (word : ℕ)
+      → IsFit image → IsLoaded before image program loaded → HoldsBase sections regs (bases_of site) argument.base
       → IsAtLoad loaded (along program.at (at + made_length s)) sections (bases_of site) argument.base m
       → word_at m.storage (argument_address regs argument) ≡ Some word
       → Steps m Done (record m { regs = slice_set m.regs number word; next = along m.next 4 })

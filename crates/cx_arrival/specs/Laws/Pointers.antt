@@ -12,5 +12,6 @@ use Rattle.cx_arrival.specs.Stands.{AreAt, IsMachine}
 
 -- L that stands at the next address gives its register the word that its operand addresses, and changes nothing else.
 abbrev pub LoadsGiveWords : Type 0
-LoadsGiveWords = (m : Machine) (r b d word : ℕ) → IsMachine m → m.next % 2 ≡ 0 → m.next ≢ entry → AreAt m.storage m.next (instruction op.L (Rx r 0 b d) ∷ [])
-    → word_at m.storage (effective m.regs 0 b d) ≡ Some word → Steps m Done (record m { regs = slice_set m.regs r word; next = along m.next 4 })
+LoadsGiveWords = (m : Machine) (r b d w : ℕ) → IsMachine m → m.next % 2 ≡ 0 → m.next ≢ entry
+    → AreAt m.storage m.next (instruction op.L (Rx r 0 b d) ∷ []) → word_at m.storage (effective m.regs 0 b d) ≡ Some w
+    → Steps m Done (record m { regs = slice_set m.regs r w; next = along m.next 4 })

@@ -57,23 +57,23 @@ pub record GetsPointer (load place number : ℕ) (option : OptionName) (s : Stat
   pub next : after.task.next ≡ load
   pub put : HasPutOut condition before after
   pub call : put.call ≡ call_made m.regs s
-  pub gets : (front behind : List Output) (pointer : ℕ) → put.outputs ≡ front ++ output_of option (Word pointer) ∷ behind
+  pub gets : (front behind : List Output) (given : ℕ) → put.outputs ≡ front ++ output_of option (Word given) ∷ behind
       → ((k : ℕ) → k < 4
       → is_written_again (along place k) before.task.eib put.call (handed_over put.change before) behind ≡ false)
       → Steps (machine_of after) Done
-      (record (machine_of after) { regs = slice_set after.task.regs number pointer; next = along load 4 })
+      (record (machine_of after) { regs = slice_set after.task.regs number given; next = along load 4 })
 
 -- So gets a program that is loaded the pointer of a call that stands at an offset and comes to its command. Which argument was
 -- handed over for it, and which register is named, `back` says.
 abbrev pub GivesPointer : {earlier : List CommandOption} {register : List ℕ} (site : Site) (assembly : AssemblyParts)
-    (at : ℕ) (s : Statement) (option : OptionName) → ComesBack site assembly.section.image at s earlier register → Type 0
-GivesPointer site assembly at s option back =
+    (at : ℕ) (s : Statement) (name : OptionName) → ComesBack site assembly.section.image at s earlier register → Type 0
+GivesPointer site assembly at s name back =
     (storage loaded : Storage) (program : Loaded) (sections : Sections) (m : Machine) (before : Reach)
     (condition : Condition) (after : Reach) → IsFit assembly.section.image
     → IsLoaded storage assembly.section.image program loaded
     → IsPerformed loaded (along program.at at) (along program.at (at + made_length s)) sections (bases_of site)
     back.argument.base s m before condition after
-    → GetsPointer (along program.at (at + made_length s)) (argument_address m.regs back.argument) back.number option
+    → GetsPointer (along program.at (at + made_length s)) (argument_address m.regs back.argument) back.number name
     s m before condition after
 
 -- So does each EXEC statement that arrives for its pointer, if the register is an operand by itself.
