@@ -235,23 +235,71 @@ def function_start(tokens, at):
 
 
 def has_gained(path, old, new, of_source):
-    """Tells whether a file of a crate, as `of_source` reads a source of it, is the old one but for functions or definitions that it has
-    more. Who may call a function is no matter."""
+    """Tells whether a file of a crate, as `of_source` reads a source of it, is the old one but for functions, types, modules or
+    definitions that it has more. Who may call a function is no matter."""
     if not path.endswith(".rt"):
         return definitions_have_gained(antt_text(old), antt_text(new))
     old, new = of_source(old), of_source(new)
     try:
         before = {it[2] for it in functions_at(old)}
-        more = [it[:2] for it in functions_at(new) if it[2] not in before]
-        return told_of(old) == told_of(without(new, more))
+        more = without(new, [it[:2] for it in functions_at(new) if it[2] not in before])
+        return told_of(old) == told_of(without(more, added_items(old, more)))
     except (Unclear, IndexError):
         return old == new
 
 
 def told_of(source):
-    """Returns a source without what no verdict rests on: imports that nothing cites, a function's visibility, layout."""
-    source = re.sub(r"\bpub(?:\(crate\))? (?=(?:const )?fn\b)", "", without_unused(source))
-    return filled_lines(re.sub(r"(?<=::){(\w+)}", r"\1", source))
+    """Returns a source without what no verdict rests on: imports that nothing cites, who may name an item, layout."""
+    source = re.sub(r"(?m)^ghost use Rattle\.std\.specs\.Prelude\.{[^}]*};\n", "", without_unused(source))
+    return spelled(re.sub(r"(?<=::){(\w+)}", r"\1", source))
+
+
+def spelled(source):
+    """Returns the words of a source, without who may name an item and a comma that layout alone asks for."""
+    source = re.sub(r"\bpub(?:\(crate\))? (?=(?:(?:const )?fn|const)\b)", "", source)
+    return re.sub(r", (?=[)\]}>])", "", " ".join(it[0] for it in tokens_of(source)[0]))
+
+
+def items_at(text):
+    """Returns the outermost items of a source but functions: the place of each from its attributes on, its kind and its name; an impl's
+    name is that of its type."""
+    tokens, at, found = tokens_of(text)[0], 0, []
+    while at < len(tokens):
+        word = tokens[at][0]
+        if word in ("trait", "macro_rules"):
+            at = block_end(tokens, next_block(tokens, at))
+        elif word in ("struct", "enum", "mod", "const", "use", "impl") and tokens[at + 1][0] != "fn":
+            start, ghost = function_start(tokens, at), tokens[at - 1][0] == "ghost"
+            name = None
+            if word == "impl":
+                end = header_end(tokens, at)
+                name = tuple(sorted(impl_head([it[0] for it in tokens[at + 1 : end]])[0]))
+            end = at + 1
+            while tokens[end][0] not in ("{", ";") or word in ("use", "const") and tokens[end][0] == "{":
+                end = block_end(tokens, end) if tokens[end][0] in CLOSES else end + 1
+            end = block_end(tokens, end) if tokens[end][0] == "{" else end + 1
+            found += [] if ghost else [(tokens[start][1], tokens[end - 1][2], word, name or tokens[at + 1][0])]
+            at = end
+        elif word == "fn" and re.match(r"[^\W\d]", tokens[at + 1][0]):
+            at = clauses_at(tokens, at)[1]
+        else:
+            at = block_end(tokens, at) if word in CLOSES else at + 1
+    return found
+
+
+def added_items(old, new):
+    """Returns the places in a source of the types with their impls, the modules, the constants and the words passed on that it has more."""
+    before = {spelled(old[it[0] : it[1]]) for it in items_at(old)}
+    names = {it[3] for it in items_at(old) if it[2] in ("struct", "enum")}
+    more = [it for it in items_at(new) if spelled(new[it[0] : it[1]]) not in before]
+    types = {it[3] for it in more if it[2] in ("struct", "enum")} - names
+    is_added = lambda it: it[2] in ("mod", "const") or it[3] in types or it[2] == "impl" and types & {*it[3]} or says_nothing(new[it[0] : it[1]])
+    return [it[:2] for it in more if is_added(it)]
+
+
+def says_nothing(text):
+    """Tells whether an item is an impl of no trait and no functions, or passes words on."""
+    return re.match(r"(?:#\[doc\(hidden\)\]\s*)?pub use [^*]*;$|impl\b(?!.*\bfor\b)[^{]*{\s*}$", text) is not None
 
 
 DEFINED = re.compile(r"(?:(?:abbrev|unfoldable|pub|record|data) )*([^\W\d][\w'-]*)")
@@ -273,7 +321,9 @@ def definitions_in(text):
 
 def definitions_have_gained(old, new):
     before = {name for name, _ in definitions_in(old)}
-    left = [text for name, text in definitions_in(new) if name in before]
+    lines = {*old.splitlines()}
+    is_more = lambda name, text: name not in before or re.match(r"(?:pub )?mod |pub use ", text) and text.strip() not in lines
+    left = [text for name, text in definitions_in(new) if not is_more(name, text)]
     imports = lambda parts: {(use[2].strip(), it.strip()) for text in parts for use in IMPORT.finditer(text) for it in (use[3] or " ").split(",") if it}
     rest = lambda parts: filled_lines("".join(IMPORT.sub("", it) for it in parts))
     parts = [text for _, text in definitions_in(old)]
