@@ -19,24 +19,25 @@ use Rattle.cx_script.specs.Laws.Inputs.{was_stopped}
 use Rattle.cx_look_stage.specs.Laws.Looks.{LooksChangeNothing, plain_of, written_of}
 use Rattle.cx_look_stage.specs.Looking.{LookPerforms}
 use Rattle.cx_look_stage.specs.Reading.{look_language}
+use Rattle.cx_look_stage.specs.State.{fresh_looked}
 use Rattle.cx_headline.specs.Laws.Looks.{ScriptsAreLookedOver}
 use Rattle.cx_headline.specs.Laws.Runs.{IsDoneOf, OfEachRun, OfEachScript, WasWritten}
 
 -- what was done of a script of a language: the first of its actions, and what these wrote
-record Done {A : Type 0} (performs : EdfState → A → List ℕ → EdfState → Type 0) (script : Script A) (answer : Result Summary RunFault) (before after : Option (List ℕ)) : Type 0 where
+record Done {A S : Type 0} (performs : S → A → List ℕ → S → Type 0) (begin : S) (script : Script A) (answer : Result Summary RunFault) (before after : Option (List ℕ)) : Type 0 where
   count : ℕ
   actions : List A
   first : actions ≡ take count script.actions
   all : was_stopped answer ≡ false → actions ≡ script.actions
   text : List ℕ
   written : WasWritten answer before after text
-  new : EdfState
-  runs : Runs performs fresh_state actions text new
+  new : S
+  runs : Runs performs begin actions text new
 
 -- all of its actions
-of_whole : {A : Type 0} (performs : EdfState → A → List ℕ → EdfState → Type 0) (script : Script A) (answer : Result Summary RunFault) (before after : Option (List ℕ))
-    (w : WroteAll performs fresh_state script.actions before after) → WasWritten answer before after w.text → Done performs script answer before after
-of_whole performs script answer before after w written =
+of_whole : {A S : Type 0} (performs : S → A → List ℕ → S → Type 0) (begin : S) (script : Script A) (answer : Result Summary RunFault) (before after : Option (List ℕ))
+    (w : WroteAll performs begin script.actions before after) → WasWritten answer before after w.text → Done performs begin script answer before after
+of_whole performs begin script answer before after w written =
     record {
       count = length script.actions;
       actions = script.actions;
@@ -48,16 +49,16 @@ of_whole performs script answer before after w written =
       runs = w.runs;
     }
 
-done_in : {A : Type 0} (language : Language A) (performs : EdfState → A → List ℕ → EdfState → Type 0) (ending : Ending) (bytes : List ℕ) (answer : Result Summary RunFault)
-    (before after : Option (List ℕ)) → Ends language performs fresh_state ending bytes answer before after → Done performs (script_in language ending bytes) answer before after
+done_in : {A S : Type 0} (language : Language A) (performs : S → A → List ℕ → S → Type 0) (begin : S) (ending : Ending) (bytes : List ℕ) (answer : Result Summary RunFault)
+    (before after : Option (List ℕ)) → Ends language performs begin ending bytes answer before after → Done performs begin (script_in language ending bytes) answer before after
 unfolding Stops script_in
-done_in language performs ending bytes (Ok summary) before after e = of_whole performs (script_in language ending bytes) (Ok summary) before after e.2 e.2.written
-done_in language performs ending bytes (Err (BadLine n)) before after e = of_whole performs (script_in language ending bytes) (Err (BadLine n)) before after e.1 e.1.written
-done_in language performs ending bytes (Err (Source n which)) before after e =
-    of_whole performs (script_in language ending bytes) (Err (Source n which)) before after e.1 e.1.written
-done_in language performs ending bytes (Err Read) before after e = of_whole performs (script_in language ending bytes) (Err Read) before after e.1 e.1.written
-done_in language performs ending bytes (Err ReadBound) before after e = of_whole performs (script_in language ending bytes) (Err ReadBound) before after e.1 e.1.written
-done_in {A} language performs ending bytes (Err Memory) before after e =
+done_in language performs begin ending bytes (Ok summary) before after e = of_whole performs begin (script_in language ending bytes) (Ok summary) before after e.2 e.2.written
+done_in language performs begin ending bytes (Err (BadLine n)) before after e = of_whole performs begin (script_in language ending bytes) (Err (BadLine n)) before after e.1 e.1.written
+done_in language performs begin ending bytes (Err (Source n which)) before after e =
+    of_whole performs begin (script_in language ending bytes) (Err (Source n which)) before after e.1 e.1.written
+done_in language performs begin ending bytes (Err Read) before after e = of_whole performs begin (script_in language ending bytes) (Err Read) before after e.1 e.1.written
+done_in language performs begin ending bytes (Err ReadBound) before after e = of_whole performs begin (script_in language ending bytes) (Err ReadBound) before after e.1 e.1.written
+done_in {A} language performs begin ending bytes (Err Memory) before after e =
     let actions : List A = (front_of language (lines_met ending bytes) e.line).actions in
     record {
       count = length actions;
@@ -69,7 +70,7 @@ done_in {A} language performs ending bytes (Err Memory) before after e =
       new = e.done.new;
       runs = e.done.runs;
     }
-done_in {A} language performs ending bytes (Err Write) before after e =
+done_in {A} language performs begin ending bytes (Err Write) before after e =
     let actions : List A = take e.0 (script_in language ending bytes).actions in
     record {
       count = e.0;
@@ -85,7 +86,7 @@ done_in {A} language performs ending bytes (Err Write) before after e =
 done_of : ScriptsRunTheirEvents → (ending : Ending) (bytes : List ℕ) (answer : Result Summary RunFault) (before after : Option (List ℕ))
     → Ends edf_language Performs fresh_state ending bytes answer before after → IsDoneOf (script_of ending bytes) answer before after
 done_of law ending bytes answer before after e =
-    let d = done_in edf_language Performs ending bytes answer before after e in
+    let d = done_in edf_language Performs fresh_state ending bytes answer before after e in
     record {
       count = d.count;
       actions = d.actions;
@@ -106,8 +107,8 @@ of_scripts law Holds each left left_after failed answer before after ran =
 -- ---- scripts with looks
 pub looked_over : ScriptsRunTheirEvents → LooksChangeNothing → ScriptsAreLookedOver
 looked_over law change left left_after failed answer before after ran =
-    let d = done_in look_language LookPerforms ran.ending ran.bytes answer before after ran.ends in
-    let c = change fresh_state d.actions d.text d.new d.runs in
+    let d = done_in look_language LookPerforms fresh_looked ran.ending ran.bytes answer before after ran.ends in
+    let c = change fresh_looked d.actions d.text d.new d.runs in
     record {
       count = d.count;
       actions = d.actions;
@@ -117,5 +118,5 @@ looked_over law change left left_after failed answer before after ran =
       written = d.written;
       new = d.new;
       unchanged = c;
-      did = law fresh_state (flat_map plain_of c.parts) (flat_map written_of c.parts) d.new c.runs;
+      did = law fresh_state (flat_map plain_of c.parts) (flat_map written_of c.parts) d.new.edf c.runs;
     }

@@ -64,7 +64,7 @@ option_named option.Rewrite = refl
 option_named option.Set = refl
 option_named option.Transid = refl
 
-condition_named : (c : Condition) → IsWord (entry_of c).name
+pub condition_named : (c : Condition) → IsWord (entry_of c).name
 condition_named condition.Normal = refl
 condition_named condition.Error = refl
 condition_named condition.Invreq = refl

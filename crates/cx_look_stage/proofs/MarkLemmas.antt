@@ -7,6 +7,7 @@ use Rattle.cx_look_task.specs.Facts.Marked.{task_marked}
 use Rattle.cx_look_tasks.specs.Laws.{ResourcesTextsDecide, TasksTextsDecide}
 use Rattle.cx_look_stage.specs.Looking.{IsLookText}
 use Rattle.cx_look_stage.specs.Laws.Looks.{LooksAreMarked, LooksAreToldOnce}
+use Rattle.cx_look_stage.proofs.AbendMarks.{an_abend}
 use Rattle.cx_look_stage.proofs.CommandMarks.{a_command}
 use Rattle.cx_look_stage.proofs.TableMarks.{a_queue, all_programs, all_queues, an_item}
 use Rattle.cx_look_stage.proofs.TaskMarks.{resources_marked, tasks_marked}
@@ -16,18 +17,18 @@ marked text is e p = subst IsOfLooks (sym e) p
 
 pub looks_are_marked : LooksAreMarked
 unfolding IsLookText
-looks_are_marked look.Queues state text e = marked text _ e (all_queues state.region.queues)
-looks_are_marked (look.Queue name) state text e = marked text _ e (a_queue state.region.queues name)
-looks_are_marked (look.Item name n) state text e = marked text _ e (an_item state.region.queues name n)
-looks_are_marked look.Programs state text e = marked text _ e (all_programs state.region.programs state.region.transactions)
-looks_are_marked look.Tasks state text is = tasks_marked state.region text is
-looks_are_marked look.Resources state text is = resources_marked state.region text is
-looks_are_marked (look.Command name) state text e = marked text _ e (a_command state.region name)
-looks_are_marked (look.Storage at n) state text e = marked text _ e (storage_marked state.region at n)
-looks_are_marked look.Areas state text e = marked text _ e (areas_marked state.region)
-looks_are_marked (look.AreasOf name) state text e = marked text _ e (task_areas_marked state.region name)
-looks_are_marked (look.Task name) state text e = marked text _ e (task_marked state.region name)
-looks_are_marked (look.Abend name) state text is = absurd is
+looks_are_marked look.Queues state text e = marked text _ e (all_queues state.edf.region.queues)
+looks_are_marked (look.Queue name) state text e = marked text _ e (a_queue state.edf.region.queues name)
+looks_are_marked (look.Item name n) state text e = marked text _ e (an_item state.edf.region.queues name n)
+looks_are_marked look.Programs state text e = marked text _ e (all_programs state.edf.region.programs state.edf.region.transactions)
+looks_are_marked look.Tasks state text is = tasks_marked state.edf.region text is
+looks_are_marked look.Resources state text is = resources_marked state.edf.region text is
+looks_are_marked (look.Command name) state text e = marked text _ e (a_command state.edf.region name)
+looks_are_marked (look.Storage at n) state text e = marked text _ e (storage_marked state.edf.region at n)
+looks_are_marked look.Areas state text e = marked text _ e (areas_marked state.edf.region)
+looks_are_marked (look.AreasOf name) state text e = marked text _ e (task_areas_marked state.edf.region name)
+looks_are_marked (look.Task name) state text e = marked text _ e (task_marked state.edf.region name)
+looks_are_marked (look.Abend name) state text e = marked text _ e (an_abend state.abends name)
 
 pub looks_are_told_once : TasksTextsDecide → ResourcesTextsDecide → LooksAreToldOnce
 unfolding IsLookText
@@ -35,11 +36,11 @@ looks_are_told_once tasks resources look.Queues state one other p q = p ∙ sym 
 looks_are_told_once tasks resources (look.Queue name) state one other p q = p ∙ sym q
 looks_are_told_once tasks resources (look.Item name n) state one other p q = p ∙ sym q
 looks_are_told_once tasks resources look.Programs state one other p q = p ∙ sym q
-looks_are_told_once tasks resources look.Tasks state one other p q = tasks state.region one other p q
-looks_are_told_once tasks resources look.Resources state one other p q = resources state.region one other p q
+looks_are_told_once tasks resources look.Tasks state one other p q = tasks state.edf.region one other p q
+looks_are_told_once tasks resources look.Resources state one other p q = resources state.edf.region one other p q
 looks_are_told_once tasks resources (look.Command name) state one other p q = p ∙ sym q
 looks_are_told_once tasks resources (look.Storage at n) state one other p q = p ∙ sym q
 looks_are_told_once tasks resources look.Areas state one other p q = p ∙ sym q
 looks_are_told_once tasks resources (look.AreasOf name) state one other p q = p ∙ sym q
 looks_are_told_once tasks resources (look.Task name) state one other p q = p ∙ sym q
-looks_are_told_once tasks resources (look.Abend name) state one other p q = absurd p
+looks_are_told_once tasks resources (look.Abend name) state one other p q = p ∙ sym q

@@ -24,6 +24,8 @@ use Rattle.cx_script.specs.Script.{Script, before, led_to, script_from, script_i
 use Rattle.cx_script.specs.Transcript.{Runs}
 use Rattle.cx_look_stage.specs.Laws.Scripts.{ActionsStay, HasNoBadLine, ScriptsStay, script_here}
 use Rattle.cx_look_stage.specs.Looking.{LookPerforms}
+use Rattle.cx_look_stage.specs.State.{Looked}
+use Rattle.cx_look_stage.proofs.LawLemmas.{performs}
 use Rattle.cx_look_stage.specs.Reading.{line_by, look_language, look_line_of, own_line, scripted}
 use Rattle.cx_look_stage.specs.declared.action.LookAction.{LookAction}
 use Rattle.cx_look_stage.specs.declared.action.LookAction.TheVariants as action
@@ -133,5 +135,6 @@ scripts_stay ending bytes good = from_here ending 1 None (lines_met ending bytes
 
 pub actions_stay : ActionsStay
 unfolding Runs LookPerforms
-actions_stay old [] text new p = p
-actions_stay old (a ∷ actions) text new p = (p.0, p.1, p.2, p.3, actions_stay p.0 actions p.2 new p.4, p.5)
+actions_stay old [] text new p = (p.0, ap (λ (s : Looked). s.edf) p.1)
+actions_stay old (a ∷ actions) text new p =
+    (p.0.edf, p.1, p.2, performs old a p.1 p.0 p.3, actions_stay p.0 actions p.2 new p.4, p.5)

@@ -1,4 +1,5 @@
 -- The definitions, in reading order.
+pub mod State
 pub mod Reading
 pub mod Allowed
 pub mod Runs
@@ -24,3 +25,6 @@ pub use Rattle.cx_look_commands.specs.Commands
 pub use Rattle.cx_look_commands.specs.Looks as LooksAtCommands
 pub use Rattle.cx_look_tasks.specs.Activities
 pub use Rattle.cx_look_tasks.specs.Tasks
+pub use Rattle.cx_look_abend.specs.Abends as LastAbends
+pub use Rattle.cx_look_abend.specs.Noting
+pub use Rattle.cx_look_abend.specs.Texts as AbendTexts

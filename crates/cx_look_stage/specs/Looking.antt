@@ -1,7 +1,10 @@
 -- What an action of a script with looks does, and what is written for it (own).
 use Rattle.std.specs.Prelude.{◌≡◌, ℕ, List}
-use Rattle.cx_edf.specs.State.{EdfState}
+use Rattle.cx_edf.specs.declared.answers.Answer.{Answer}
 use Rattle.cx_actions.specs.Effects.{Performs}
+use Rattle.cx_actions.specs.Texts.{answer_text}
+use Rattle.cx_actions.specs.declared.actions.Action.{Action}
+use Rattle.cx_actions.specs.declared.actions.Action.TheVariants as edf_action
 use Rattle.cx_look.specs.declared.look.Look.{Look}
 use Rattle.cx_look.specs.declared.look.Look.TheVariants as look
 use Rattle.cx_look_tables.specs.Queues.{item_text, queue_text, queues_text}
@@ -11,27 +14,34 @@ use Rattle.cx_look_storage.specs.Areas.{areas_text, task_areas_text}
 use Rattle.cx_look_storage.specs.Bytes.{storage_text}
 use Rattle.cx_look_task.specs.Tasks.{task_text}
 use Rattle.cx_look_tasks.specs.Tasks.{ResourcesText, TasksText}
-use Rattle.cx_look_stage.specs.Runs.{RunsOn}
+use Rattle.cx_look_abend.specs.Texts.{abend_text}
+use Rattle.cx_look_stage.specs.State.{Looked}
+use Rattle.cx_look_stage.specs.Runs.{HappensLooked, RunsOn}
 use Rattle.cx_look_stage.specs.declared.action.LookAction.{LookAction}
 use Rattle.cx_look_stage.specs.declared.action.LookAction.TheVariants as action
 
--- What is written for a look at a state. No script has the others.
-unfoldable pub IsLookText : Look → EdfState → List ℕ → Type 0
-IsLookText look.Queues state text = text ≡ queues_text state.region.queues
-IsLookText (look.Queue name) state text = text ≡ queue_text state.region.queues name
-IsLookText (look.Item name n) state text = text ≡ item_text state.region.queues name n
-IsLookText look.Programs state text = text ≡ programs_text state.region.programs state.region.transactions
-IsLookText look.Tasks state text = TasksText state.region text
-IsLookText look.Resources state text = ResourcesText state.region text
-IsLookText (look.Command name) state text = text ≡ command_text state.region name
-IsLookText (look.Task name) state text = text ≡ task_text state.region name
-IsLookText look.Areas state text = text ≡ areas_text state.region
-IsLookText (look.AreasOf name) state text = text ≡ task_areas_text state.region name
-IsLookText (look.Storage at n) state text = text ≡ storage_text state.region at n
-IsLookText _ state text = ⊥
+-- What is written for a look at a state.
+unfoldable pub IsLookText : Look → Looked → List ℕ → Type 0
+IsLookText look.Queues state text = text ≡ queues_text state.edf.region.queues
+IsLookText (look.Queue name) state text = text ≡ queue_text state.edf.region.queues name
+IsLookText (look.Item name n) state text = text ≡ item_text state.edf.region.queues name n
+IsLookText look.Programs state text = text ≡ programs_text state.edf.region.programs state.edf.region.transactions
+IsLookText look.Tasks state text = TasksText state.edf.region text
+IsLookText look.Resources state text = ResourcesText state.edf.region text
+IsLookText (look.Command name) state text = text ≡ command_text state.edf.region name
+IsLookText (look.Task name) state text = text ≡ task_text state.edf.region name
+IsLookText look.Areas state text = text ≡ areas_text state.edf.region
+IsLookText (look.AreasOf name) state text = text ≡ task_areas_text state.edf.region name
+IsLookText (look.Storage at n) state text = text ≡ storage_text state.edf.region at n
+IsLookText (look.Abend name) state text = text ≡ abend_text state.abends name
+
+-- an action of `cicsedf`: an event as its answer tells, and the abend that it led to is kept; any other leaves what is kept
+unfoldable pub NotedPerforms : Looked → Action → List ℕ → Looked → Type 0
+NotedPerforms old (edf_action.Event e) text new = (given : Answer) × HappensLooked old e given new × (text ≡ answer_text e given)
+NotedPerforms old a text new = Performs old.edf a text new.edf × (new.abends ≡ old.abends)
 
 -- One action: the state before, the action, what is written for it, and the state after.
-unfoldable pub LookPerforms : EdfState → LookAction → List ℕ → EdfState → Type 0
-LookPerforms old (action.Script a) text new = Performs old a text new
+unfoldable pub LookPerforms : Looked → LookAction → List ℕ → Looked → Type 0
+LookPerforms old (action.Script a) text new = NotedPerforms old a text new
 LookPerforms old (action.Run name n) text new = RunsOn old name n text new
 LookPerforms old (action.Look l) text new = IsLookText l old text × (new ≡ old)

@@ -1,5 +1,5 @@
 -- What a line of a script with looks asks (own).
-use Rattle.std.specs.Prelude.{ℕ, Bool, true, false, if◌then◌else◌, Option, Some, None, List, codes}
+use Rattle.std.specs.Prelude.{ℕ, if◌then◌else◌, Option, Some, None, List, codes}
 use Rattle.std.specs.Option.{option_and_then, option_map}
 use Rattle.std.specs.Str.{bytes_eq}
 use Rattle.cx_ebcdic.specs.Names.{name_of}
@@ -10,8 +10,6 @@ use Rattle.cx_actions.specs.declared.actions.Action.{Action}
 use Rattle.cx_actions.specs.declared.actions.Line.{Line}
 use Rattle.cx_actions.specs.declared.actions.Line.TheVariants as line
 use Rattle.cx_look.specs.Looks.{count_of, look_of}
-use Rattle.cx_look.specs.declared.look.Look.{Look}
-use Rattle.cx_look.specs.declared.look.Look.TheVariants as look
 use Rattle.cx_look_stage.specs.declared.action.LookAction.{LookAction}
 use Rattle.cx_look_stage.specs.declared.action.LookAction.TheVariants as action
 
@@ -23,17 +21,9 @@ turns_of name (Some text) = option_map (λ n. action.Run name n) (count_of 4096 
 abbrev pub run_of : List ℕ → Option LookAction
 run_of text = option_and_then (λ name. turns_of name (behind text)) (name_of 4 (word text))
 
--- the looks that a script may have
-abbrev pub is_written : Look → Bool
-is_written (look.Abend name) = false
-is_written _ = true
-
-abbrev pub looks : Look → Option LookAction
-looks l = if is_written l then Some (action.Look l) else None
-
 -- RUN, or a look
 unfoldable pub own_line : List ℕ → Option LookAction
-own_line text = if bytes_eq (word text) (codes "RUN") then option_and_then run_of (behind text) else option_and_then looks (look_of text)
+own_line text = if bytes_eq (word text) (codes "RUN") then option_and_then run_of (behind text) else option_map (λ l. action.Look l) (look_of text)
 
 -- a line of `cicsedf`'s scripts as one of these
 abbrev pub scripted : Line Action → Line LookAction

@@ -9,9 +9,10 @@ use Rattle.cx_edf.specs.declared.answers.Answer.TheVariants as answer
 use Rattle.cx_edf.specs.declared.answers.EdfEvent.{EdfEvent}
 use Rattle.cx_edf.specs.declared.answers.EdfEvent.TheVariants as edf_event
 use Rattle.cx_edf.specs.State.{EdfState, stopped_at}
-use Rattle.cx_edf.specs.Steps.{EdfHappens}
 use Rattle.cx_actions.specs.Texts.{answer_text}
 use Rattle.cx_look_words.specs.Words.{look_line}
+use Rattle.cx_look_abend.specs.Noting.{HappensNoted}
+use Rattle.cx_look_stage.specs.State.{Looked}
 
 -- the task goes on with another turn: it is due at a command, or one was performed, or taken by a label or an exit
 abbrev pub is_midway : Answer → Bool
@@ -34,10 +35,14 @@ turn_of name = edf_event.Plain (event.Turn name)
 abbrev pub still_running : List ℕ → List ℕ
 still_running name = look_line (codes "RUN" ∷ shown_name name ∷ codes "STILL" ∷ codes "RUNNING" ∷ [])
 
+-- an event at a region that is looked at: its answer, the region after it, and the last abends that are kept
+abbrev pub HappensLooked : Looked → EdfEvent → Answer → Looked → Type 0
+HappensLooked old e given new = HappensNoted old.edf old.abends e given new.edf new.abends
+
 -- At most so many turns of a terminal, one after another: the state before, what is written for them, and the state after.
-unfoldable pub RunsOn : EdfState → List ℕ → ℕ → List ℕ → EdfState → Type 0
+unfoldable pub RunsOn : Looked → List ℕ → ℕ → List ℕ → Looked → Type 0
 RunsOn old name zero text new = (text ≡ still_running name) × (new ≡ old)
 RunsOn old name (suc n) text new =
-    (given : Answer) × (between : EdfState) × (rest : List ℕ) × EdfHappens old (turn_of name) given between
-    × MatchBool (goes_on between name given) (RunsOn between name n rest new) ((rest ≡ []) × (new ≡ between))
+    (given : Answer) × (between : Looked) × (rest : List ℕ) × HappensLooked old (turn_of name) given between
+    × MatchBool (goes_on between.edf name given) (RunsOn between name n rest new) ((rest ≡ []) × (new ≡ between))
     × (text ≡ answer_text (turn_of name) given ++ rest)

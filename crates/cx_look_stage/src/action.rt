@@ -4,7 +4,7 @@ ghost use Rattle.std.specs.Option.{option_copied};
 ghost use Rattle.cx_actions.specs.Allowed.{IsAllowed, IsAllowedLine};
 ghost use Rattle.cx_look.specs.Looks.{count_of};
 ghost use Rattle.cx_look_stage.specs.Allowed.{IsAllowedLook};
-ghost use Rattle.cx_look_stage.specs.Reading.{is_written, look_language, look_line_of, own_line, run_of, scripted, turns_of};
+ghost use Rattle.cx_look_stage.specs.Reading.{look_language, look_line_of, own_line, run_of, scripted, turns_of};
 
 use cx_actions::{Action, Line, ScriptAction, line_of, name4, number, split_word};
 use cx_ebcdic::Name4;
@@ -62,13 +62,6 @@ fn run_of(text: &[u8]) -> Option<LookAction>
     turns_of(name, rest)
 }
 
-/// Whether something is written for a look.
-fn is_written(look: Look) -> bool
-    ensures { result ≡ is_written look }
-{
-    !matches!(look, Look::Abend(_))
-}
-
 /// What a line asks that a script of `cicsedf` doesn't have.
 #[tactic(auto, unfolding(crate::specs::Reading::own_line))]
 fn own_line(text: &[u8]) -> Option<LookAction>
@@ -80,11 +73,7 @@ fn own_line(text: &[u8]) -> Option<LookAction>
         return run_of(rest?);
     }
     let look = look_of(text)?;
-    if is_written(look) {
-        Some(LookAction::Look(look))
-    } else {
-        None
-    }
+    Some(LookAction::Look(look))
 }
 
 /// A line of `cicsedf`'s scripts as one of these.

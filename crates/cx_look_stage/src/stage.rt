@@ -1,39 +1,79 @@
 //! What a script with looks is performed on.
-ghost use Rattle.std.specs.Prelude.{◌≡◌, IfOk};
-ghost use Rattle.cx_actions.specs.Effects.{fresh_state};
-ghost use Rattle.cx_look_stage.specs.Looking.{LookPerforms};
+ghost use Rattle.std.specs.Prelude.{◌≡◌, [], IfOk};
+ghost use Rattle.cx_edf.specs.Runs.{IsAllowedEdf};
+ghost use Rattle.cx_actions.specs.Allowed.{IsAllowed};
+ghost use Rattle.cx_actions.specs.declared.actions.Action.TheVariants as edf_action;
+ghost use Rattle.cx_look_stage.specs.Looking.{LookPerforms, NotedPerforms};
+ghost use Rattle.cx_look_stage.specs.Runs.{HappensLooked};
+ghost use Rattle.cx_look_stage.specs.State.{fresh_looked};
 
 use crate::action::LookAction;
 use crate::looks::look_text;
 use crate::turns::run;
-use cx_actions::Stage;
-use cx_edf::Debugged;
+use cx_actions::{Action, Stage, answer_text};
+use cx_edf::{Answer, Debugged, EdfEvent};
+use cx_look_abend::{LastAbends, happen_noted};
 use cx_pages::PagedStore;
 use cx_script::edf_stage;
 use cx_storage::Store;
+use indexmap::IndexMap;
 use std::alloc::{AllocError, Global};
 use std::marker::Model;
 
-/// A region under EDF that is looked at.
+/// A region under EDF that is looked at, with each terminal's last abend.
 #[derive(Drop)]
 pub struct Looking<S: Store + Drop> {
-    state: Debugged<S>,
+    pub(crate) state: Debugged<S>,
+    pub(crate) abends: LastAbends,
 }
 
 impl<S: Store + Drop> Model for Looking<S> {
-    ghost use Rattle.cx_edf.specs.State.{EdfState};
+    ghost use Rattle.cx_look_stage.specs.State.{Looked};
 
-    ghost Value = { EdfState };
+    ghost Value = { Looked };
 
-    ghost view = { λ looking. looking.state };
+    ghost view = { λ looking. record { edf = looking.state; abends = looking.abends.entries } };
 }
 
 impl<S: Store + Drop> Looking<S> {
-    /// A region under EDF, to be looked at. It takes no memory.
-    pub fn new(state: Debugged<S>) -> Looking<S>
-        ensures { result ≡ state }
+    /// A region under EDF without a terminal, to be looked at. It takes no memory.
+    pub fn new(alloc: Global, state: Debugged<S>) -> Looking<S>
+        ensures { result ≡ record { edf = state; abends = [] } }
     {
-        Looking { state }
+        Looking {
+            state,
+            abends: IndexMap::new(alloc),
+        }
+    }
+
+    /// Does an event, and keeps the abend that it led to.
+    pub(crate) fn happen(&mut self, event: &EdfEvent) -> Result<Answer, AllocError>
+        requires { IsAllowedEdf event.now }
+        ensures { IfOk result (λ given. HappensLooked self.old event.now given self.new) }
+    {
+        happen_noted(&mut self.state, &mut self.abends, event)
+    }
+
+    /// Does an event, and gives the text of its answer.
+    #[tactic(auto, unfolding(crate::specs::Looking::NotedPerforms))]
+    fn do_event(&mut self, alloc: Global, event: &EdfEvent) -> Result<Vec<u8>, AllocError>
+        requires { IsAllowedEdf event.now }
+        ensures { IfOk result (λ text. NotedPerforms self.old (edf_action.Event event.now) text.items self.new) }
+    {
+        let answer = self.happen(event)?;
+        answer_text(alloc, event, answer)
+    }
+
+    /// Does what a script of `cicsedf` asks too.
+    #[tactic(auto, unfolding(crate::specs::Looking::NotedPerforms))]
+    fn do_action(&mut self, alloc: Global, action: Action) -> Result<Vec<u8>, AllocError>
+        requires { IsAllowed action }
+        ensures { IfOk result (λ text. NotedPerforms self.old action text.items self.new) }
+    {
+        if let Action::Event(event) = &action {
+            return self.do_event(alloc, event);
+        }
+        self.state.perform(alloc, action)
     }
 }
 
@@ -42,9 +82,9 @@ pub type LookStage = Looking<PagedStore>;
 
 /// The stage on which a script of `cicslook` begins: a fresh region, with EDF Off at each terminal.
 pub fn look_stage(alloc: Global) -> Result<LookStage, AllocError>
-    ensures { IfOk result (λ stage. stage ≡ fresh_state) }
+    ensures { IfOk result (λ stage. stage ≡ fresh_looked) }
 {
-    Ok(Looking::new(edf_stage(alloc)?))
+    Ok(Looking::new(alloc, edf_stage(alloc)?))
 }
 
 impl<S: Store + Drop> Stage for Looking<S> {
@@ -55,9 +95,9 @@ impl<S: Store + Drop> Stage for Looking<S> {
     #[tactic(auto, unfolding(crate::specs::Looking::LookPerforms))]
     fn perform(&mut self, alloc: Global, action: LookAction) -> Result<Vec<u8>, AllocError> {
         match action {
-            LookAction::Script(action) => self.state.perform(alloc, action),
-            LookAction::Run(name, n) => run(&mut self.state, alloc, name, n),
-            LookAction::Look(look) => look_text(alloc, &self.state, look),
+            LookAction::Script(action) => self.do_action(alloc, action),
+            LookAction::Run(name, n) => run(self, alloc, name, n),
+            LookAction::Look(look) => look_text(alloc, self, look),
         }
     }
 }

@@ -3,6 +3,7 @@ ghost use Rattle.std.specs.Prelude.{◌≡◌, ◌∷◌, [], IfOk};
 ghost use Rattle.cx_look_stage.specs.Runs.{RunsOn, goes_on, is_midway, still_running};
 ghost use Rattle.cx_look_stage.specs.Parts.Turns.{TurnsOnce};
 
+use crate::stage::Looking;
 use cx_actions::answer_text;
 use cx_ebcdic::Name4;
 use cx_edf::{Answer, Debugged, EdfEvent};
@@ -38,17 +39,17 @@ fn goes_on<S: Store + Drop>(region: &Debugged<S>, name: Name4, answer: &Answer) 
 
 /// Does one turn of a terminal, and puts its text behind those before; tells whether RUN goes on.
 fn turn<S: Store + Drop>(
-    region: &mut Debugged<S>,
+    looking: &mut Looking<S>,
     alloc: Global,
     name: Name4,
     text: &mut Vec<u8>,
 ) -> Result<bool, AllocError>
-    ensures { IfOk result (λ on. TurnsOnce region.old name text.old.items on text.new.items region.new) }
+    ensures { IfOk result (λ on. TurnsOnce looking.old name text.old.items on text.new.items looking.new) }
 {
     let event = EdfEvent::Plain(Event::Turn(name));
-    let answer = region.happen(&event)?;
+    let answer = looking.happen(&event)?;
     text.extend_from_slice(&answer_text(alloc, &event, answer)?)?;
-    Ok(goes_on(region, name, &answer))
+    Ok(goes_on(&looking.state, name, &answer))
 }
 
 /// The line that tells that the number of turns ended RUN.
@@ -62,16 +63,16 @@ fn still_running(alloc: Global, name: Name4) -> Result<Vec<u8>, AllocError>
 /// Does turns of a terminal, at most so many, until one is not to be followed by another; gives what is written for them.
 #[tactic(auto, using(crate::proofs::TurnLemmas::left_first))]
 pub(crate) fn run<S: Store + Drop>(
-    region: &mut Debugged<S>,
+    looking: &mut Looking<S>,
     alloc: Global,
     name: Name4,
     n: u16,
 ) -> Result<Vec<u8>, AllocError>
-    ensures { IfOk result (λ text. RunsOn region.old name n text.items region.new) }
+    ensures { IfOk result (λ text. RunsOn looking.old name n text.items looking.new) }
 {
     let mut text = Vec::new(alloc);
     'turns: for _done in 0..n {
-        let on = turn(region, alloc, name, &mut text)?;
+        let on = turn(looking, alloc, name, &mut text)?;
         if !on {
             return Ok(text);
         }

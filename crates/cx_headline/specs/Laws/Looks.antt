@@ -1,7 +1,6 @@
 -- A look changes nothing: what was done of each script with looks that ran.
 use Rattle.std.specs.Prelude.{◌≡◌, ℕ, Bool, false, List, take, Option, Result}
 use Rattle.std.specs.List.{flat_map}
-use Rattle.cx_edf.specs.State.{EdfState}
 use Rattle.cx_actions.specs.Effects.{fresh_state}
 use Rattle.cx_blocks.specs.declared.faults.RunFault.{RunFault}
 use Rattle.cx_blocks.specs.declared.faults.Summary.{Summary}
@@ -12,6 +11,7 @@ use Rattle.cx_script.specs.Laws.Inputs.{was_stopped}
 use Rattle.cx_look_stage.specs.Laws.Looks.{ChangesNothing, plain_of, written_of}
 use Rattle.cx_look_stage.specs.Looking.{LookPerforms}
 use Rattle.cx_look_stage.specs.Reading.{look_language}
+use Rattle.cx_look_stage.specs.State.{Looked, fresh_looked}
 use Rattle.cx_look_stage.specs.declared.action.LookAction.{LookAction}
 use Rattle.cx_headline.specs.Laws.Runs.{WasWritten}
 
@@ -25,13 +25,13 @@ pub record IsLookedOver (script : Script LookAction) (answer : Result Summary Ru
   pub all : was_stopped answer ≡ false → actions ≡ script.actions
   pub text : List ℕ
   pub written : WasWritten answer before after text
-  pub new : EdfState
-  pub unchanged : ChangesNothing fresh_state actions text new
-  pub did : IsRun fresh_state (flat_map plain_of unchanged.parts) (flat_map written_of unchanged.parts) new
+  pub new : Looked
+  pub unchanged : ChangesNothing fresh_looked actions text new
+  pub did : IsRun fresh_state (flat_map plain_of unchanged.parts) (flat_map written_of unchanged.parts) new.edf
 
 -- so it is of each script that ran: the premise is what `run_script_on` ensures of `cicslook`'s stage
 abbrev pub ScriptsAreLookedOver : Type 0
 ScriptsAreLookedOver = (left left_after : Option (List ℕ)) (failed : Bool) (answer : Result Summary RunFault)
     (before after : Option (List ℕ))
-    (ran : RanIn look_language LookPerforms fresh_state left left_after failed answer before after)
+    (ran : RanIn look_language LookPerforms fresh_looked left left_after failed answer before after)
     → IsLookedOver (script_in look_language ran.ending ran.bytes) answer before after

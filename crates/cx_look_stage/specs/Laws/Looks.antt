@@ -1,15 +1,15 @@
 -- A look changes nothing (own).
 use Rattle.std.specs.Prelude.{◌≡◌, ◌⊎◌, ℕ, ◌≤◌, List, [], ◌∷◌, ◌++◌, replicate}
 use Rattle.std.specs.List.{flat_map}
-use Rattle.cx_edf.specs.State.{EdfState}
 use Rattle.cx_actions.specs.Effects.{Performs}
 use Rattle.cx_actions.specs.declared.actions.Action.{Action}
 use Rattle.cx_actions.specs.declared.actions.Action.TheVariants as edf_action
 use Rattle.cx_script.specs.Transcript.{Runs}
 use Rattle.cx_look_words.specs.Marked.{IsOfLooks}
 use Rattle.cx_look.specs.declared.look.Look.{Look}
-use Rattle.cx_look_stage.specs.Looking.{IsLookText, LookPerforms}
+use Rattle.cx_look_stage.specs.Looking.{IsLookText, LookPerforms, NotedPerforms}
 use Rattle.cx_look_stage.specs.Runs.{still_running, turn_of}
+use Rattle.cx_look_stage.specs.State.{Looked}
 use Rattle.cx_look_stage.specs.declared.action.LookAction.{LookAction}
 use Rattle.cx_look_stage.specs.declared.action.LookAction.TheVariants as action
 
@@ -26,16 +26,16 @@ pub record IsPartOfRun (name : List ℕ) (n : ℕ) (part : Part) : Type 0 where
   pub ended : ((turns ≤ n) × (part.looked ≡ [])) ⊎ ((turns ≡ n) × (part.looked ≡ still_running name))
 
 -- an action of `cicsedf` is itself, and a look is none: its text is that of the state there
-abbrev pub IsPart : EdfState → LookAction → Part → Type 0
+abbrev pub IsPart : Looked → LookAction → Part → Type 0
 IsPart there (action.Script a) part = (part.plain ≡ a ∷ []) × (part.looked ≡ [])
 IsPart there (action.Run name n) part = IsPartOfRun name n part
 IsPart there (action.Look look) part = (part.plain ≡ []) × IsLookText look there part.looked
 
--- a part for each action, from the state that those before leave
-unfoldable pub ArePartsOf : EdfState → List LookAction → List Part → EdfState → Type 0
+-- a part for each action, from the state that those before leave, with the last abends that their events lead to
+unfoldable pub ArePartsOf : Looked → List LookAction → List Part → Looked → Type 0
 ArePartsOf old [] [] new = new ≡ old
 ArePartsOf old (a ∷ actions) (part ∷ parts) new =
-    (between : EdfState) × IsPart old a part × Runs Performs old part.plain part.written between × ArePartsOf between actions parts new
+    (between : Looked) × IsPart old a part × Runs NotedPerforms old part.plain part.written between × ArePartsOf between actions parts new
 ArePartsOf old _ _ new = ⊥
 
 abbrev pub plain_of : Part → List Action
@@ -50,20 +50,20 @@ text_of part = part.written ++ part.looked
 
 -- There is a part for each action so that: the actions of all parts are a run of `cicsedf`, from the same state to the same
 -- state; and the text is what this writes, with that of each look where it stands.
-pub record ChangesNothing (old : EdfState) (actions : List LookAction) (text : List ℕ) (new : EdfState) : Type 0 where
+pub record ChangesNothing (old : Looked) (actions : List LookAction) (text : List ℕ) (new : Looked) : Type 0 where
   pub parts : List Part
   pub each : ArePartsOf old actions parts new
-  pub runs : Runs Performs old (flat_map plain_of parts) (flat_map written_of parts) new
+  pub runs : Runs Performs old.edf (flat_map plain_of parts) (flat_map written_of parts) new.edf
   pub whole : text ≡ flat_map text_of parts
 
 abbrev pub LooksChangeNothing : Type 0
-LooksChangeNothing = (old : EdfState) (actions : List LookAction) (text : List ℕ) (new : EdfState)
+LooksChangeNothing = (old : Looked) (actions : List LookAction) (text : List ℕ) (new : Looked)
     → Runs LookPerforms old actions text new → ChangesNothing old actions text new
 
 -- what is written for a look is lines of looks
 abbrev pub LooksAreMarked : Type 0
-LooksAreMarked = (look : Look) (state : EdfState) (text : List ℕ) → IsLookText look state text → IsOfLooks text
+LooksAreMarked = (look : Look) (state : Looked) (text : List ℕ) → IsLookText look state text → IsOfLooks text
 
 -- the text of a look is a function of the state
 abbrev pub LooksAreToldOnce : Type 0
-LooksAreToldOnce = (look : Look) (state : EdfState) (one other : List ℕ) → IsLookText look state one → IsLookText look state other → one ≡ other
+LooksAreToldOnce = (look : Look) (state : Looked) (one other : List ℕ) → IsLookText look state one → IsLookText look state other → one ≡ other

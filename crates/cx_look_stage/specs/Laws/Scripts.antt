@@ -1,6 +1,5 @@
 -- A script of `cicsedf` is one of `cicslook`, and does the same.
 use Rattle.std.specs.Prelude.{◌≡◌, ℕ, List, map, Some}
-use Rattle.cx_edf.specs.State.{EdfState}
 use Rattle.cx_actions.specs.Effects.{Performs}
 use Rattle.cx_actions.specs.declared.actions.Action.{Action}
 use Rattle.cx_blocks.specs.declared.faults.RunFault.TheVariants.{BadLine}
@@ -9,6 +8,7 @@ use Rattle.cx_script.specs.Script.{Script, script_in, script_of}
 use Rattle.cx_script.specs.Transcript.{Runs}
 use Rattle.cx_look_stage.specs.Looking.{LookPerforms}
 use Rattle.cx_look_stage.specs.Reading.{look_language}
+use Rattle.cx_look_stage.specs.State.{Looked}
 use Rattle.cx_look_stage.specs.declared.action.LookAction.{LookAction}
 use Rattle.cx_look_stage.specs.declared.action.LookAction.TheVariants as action
 
@@ -29,5 +29,5 @@ ScriptsStay = (ending : Ending) (bytes : List ℕ) → HasNoBadLine (script_of e
 
 -- and its actions write the same, from the same state to the same state
 abbrev pub ActionsStay : Type 0
-ActionsStay = (old : EdfState) (actions : List Action) (text : List ℕ) (new : EdfState)
-    → Runs LookPerforms old (here actions) text new → Runs Performs old actions text new
+ActionsStay = (old : Looked) (actions : List Action) (text : List ℕ) (new : Looked)
+    → Runs LookPerforms old (here actions) text new → Runs Performs old.edf actions text new.edf

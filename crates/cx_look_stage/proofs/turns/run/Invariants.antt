@@ -3,4 +3,4 @@ use Rattle.cx_look_stage.specs.Parts.Turns.{Left}
 use Rattle.cx_look_stage.proofs.turns.run.Given as goal
 
 abbrev pub invariant-turns : goal.invariant-turns
-invariant-turns g l = Left l.initial.region l.name l.n l.region (l.n - l._done) l.text.items
+invariant-turns g l = Left l.initial.looking l.name l.n l.looking (l.n - l._done) l.text.items
