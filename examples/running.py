@@ -21,6 +21,7 @@ SECONDS = 20  # no run may take longer, but one that is given more, and no sessi
 BYTES = 1 << 25  # no run may write more to a file: the system ends it
 ANSWERED = 1 << 20  # nor may a session answer more
 CLOCK, CLOCK_SET = "CLOCK 000000 00000", "CLOCK SET"
+OF_CICSLOOK = {"RUN", "QUEUES", "QUEUE", "PROGRAMS", "TASKS", "RESOURCES", "COMMAND", "TASK", "AREAS", "STORAGE", "ABEND"}
 
 os.chdir(FOLDER)
 resource.setrlimit(resource.RLIMIT_FSIZE, (BYTES, resource.getrlimit(resource.RLIMIT_FSIZE)[1]))
@@ -82,13 +83,26 @@ def examples():
     return names or sys.exit(f"no example stands in {FOLDER}")
 
 
-def lessons():
-    """The names of the examples that are lessons. They are long, and what they do the others do too: only `run` takes them."""
-    return [path.removesuffix(".script") for path in sorted(glob.glob("lessons/*/*.script"))]
+def has_looks(name):
+    """Whether an example has a look or RUN outside its blocks: it is a script of `cicslook` alone."""
+    is_inside = False
+    for line in lines_of(read(f"{name}.script").decode()):
+        word = line.split(" ")[0]
+        if not is_inside and word in OF_CICSLOOK:
+            return True
+        is_inside = line != "/*" and (is_inside or word in ("IMAGE", "SOURCE"))
+    return False
+
+
+def lessons(*, with_looks=False):
+    """The names of the examples that are lessons, scripts of `cicsedf`, or those with looks. They are long, and what they do the
+    others do too: few checks take them."""
+    names = [path.removesuffix(".script") for path in sorted(glob.glob("lessons/*/*.script"))]
+    return [name for name in names if has_looks(name) == with_looks]
 
 
 def looks():
-    """The names of the examples with looks, which are scripts of `cicslook` alone."""
+    """The names of the examples with looks, which are scripts of `cicslook` alone; of lessons `lessons` has them."""
     return [path.removesuffix(".script") for path in sorted(glob.glob("looks/*.script"))]
 
 
