@@ -255,8 +255,8 @@ def told_of(source):
 
 
 def spelled(source):
-    """Returns the words of a source, without who may name an item and a comma that layout alone asks for."""
-    source = re.sub(r"\bpub(?:\(crate\))? (?=(?:(?:const )?fn|const)\b)", "", source)
+    """Returns the words of a source, without who may name an item, whether a call stands in line, and a comma that layout alone asks for."""
+    source = re.sub(r"\bpub(?:\(crate\))? (?=(?:(?:const )?fn|const)\b)|#\[inline(?:\(\w+\))?\]", "", source)
     return re.sub(r", (?=[)\]}>])", "", " ".join(it[0] for it in tokens_of(source)[0]))
 
 
