@@ -1,11 +1,11 @@
 -- Operands of an instruction, one after the other.
-use Rattle.std.specs.Prelude.{◌||◌, ◌&&◌, not, is_ok, Result, Ok, Err}
-use Rattle.std.proofs.Common.{◌≡◌, ◌<◌, ℕ, zero, suc, Bool, true, false, Option, Some, None, List, [], ◌∷◌, length, get_or, map, take, refl, arith, Bor}
-use Rattle.std.specs.List.{list_any}
-use Rattle.std.proofs.lemmas.Bool.{cond-true}
+use Rattle.std.specs.Prelude.{if◌then◌else◌, Result, Ok, Err}
+use Rattle.std.specs.Option.{option_map_or}
+use Rattle.std.proofs.Common.{◌≡◌, ◌<◌, ℕ, zero, suc, Bool, true, false, Option, Some, None, List, [], ◌∷◌, ◌++◌, ◌≤◌, length, length-append, get_or, map, take, refl, ap, arith, Bor}
 use Rattle.cx_terms.specs.Items.{Constant, constant_in}
 use Rattle.cx_terms.specs.declared.faults.FaultKind.{FaultKind}
-use Rattle.cx_pools.specs.Pools.{Pooled, is_new_in, is_new_text, is_pooled, literal_text, with_constant, with_part, with_parts, with_text}
+use Rattle.cx_pools.specs.Pools.{Pooled, is_pooled, literal_text, with_constant, with_literal, with_part, with_parts}
+use Rattle.cx_pools.specs.declared.open.Used.{Used}
 
 pub one_more : (user : ℕ) (pool : Pooled) (operands : List (Bor (List ℕ))) (i : ℕ) (d : Bor (List ℕ)) → i < length operands
     → with_parts user pool (map (λ part. part.now) (take (suc i) operands)) ≡ with_part user (with_parts user pool (map (λ part. part.now) (take i operands))) (get_or operands i d).now
@@ -13,26 +13,49 @@ one_more user pool [] i d h = absurd (omega (arith, h))
 one_more user pool (part ∷ operands) zero d h = refl
 one_more user pool (part ∷ operands) (suc i) d h = one_more user (with_part user pool part.now) operands i d (omega (arith, h))
 
-either : (a b : Bool) → (a || b) ≡ false → (a ≡ false) × (b ≡ false)
-either true b e = cc
-either false b e = (refl, e)
+-- ---- operands that put nothing in
+-- A pool is no shorter with more, and where it isn't longer it is the same.
+abbrev Grows : Pooled → Pooled → Type 0
+Grows pool new = (length pool ≤ length new) × (length new ≤ length pool → new ≡ pool)
 
-pub none_new : (pool : Pooled) (part : List ℕ) (operands : List (List ℕ)) → list_any (is_new_in pool) (part ∷ operands) ≡ false
-    → (is_new_in pool part ≡ false) × (list_any (is_new_in pool) operands ≡ false)
-none_new pool part operands e = either (is_new_in pool part) (list_any (is_new_in pool) operands) e
+pub not_itself : (pool : Pooled) (e : List ℕ × Used) → pool ++ e ∷ [] ≡ pool → ⊥
+not_itself pool e same =
+    let long = length-append pool (e ∷ []) in
+    let equal = ap (λ (p : Pooled). length p) same in
+    omega (arith, long, equal)
 
-pooled_by : (pooled : Bool) → not pooled ≡ false → pooled ≡ true
-pooled_by true e = refl
-pooled_by false e = cc
+literal_grows : (pool : Pooled) (text : List ℕ) (used : Used) → Grows pool (with_literal pool text used)
+literal_grows pool text used = go (is_pooled text pool)
+  where
+    go : (b : Bool) → Grows pool (if b then pool else pool ++ (text, used) ∷ [])
+    go true = (omega arith, λ short. refl)
+    go false = let long = length-append pool ((text, used) ∷ []) in (omega (arith, long), λ short. absurd (omega (arith, long, short)))
 
-kept_constant : (user : ℕ) (pool : Pooled) (text : List ℕ) (read : Result Constant FaultKind) → (is_ok read && not (is_pooled text pool)) ≡ false → with_constant user pool text read ≡ pool
-kept_constant user pool text (Ok constant) e = cond-true _ _ _ (pooled_by (is_pooled text pool) e)
-kept_constant user pool text (Err fault) e = refl
+constant_grows : (user : ℕ) (pool : Pooled) (text : List ℕ) (read : Result Constant FaultKind) → Grows pool (with_constant user pool text read)
+constant_grows user pool text (Ok constant) = literal_grows pool text _
+constant_grows user pool text (Err fault) = (omega arith, λ short. refl)
 
-kept_text : (user : ℕ) (pool : Pooled) (text : Option (List ℕ)) → is_new_text pool text ≡ false → with_text user pool text ≡ pool
-kept_text user pool None e = refl
-kept_text user pool (Some text) e = kept_constant user pool text (constant_in false text) e
+text_grows : (user : ℕ) (pool : Pooled) (text : Option (List ℕ)) → Grows pool (option_map_or (λ it. with_constant user pool it (constant_in false it)) text pool)
+text_grows user pool None = (omega arith, λ short. refl)
+text_grows user pool (Some text) = constant_grows user pool text (constant_in false text)
 
--- an operand without a new literal changes nothing
-pub kept_part : (user : ℕ) (pool : Pooled) (part : List ℕ) → is_new_in pool part ≡ false → with_part user pool part ≡ pool
-kept_part user pool part e = kept_text user pool (literal_text part) e
+part_grows : (user : ℕ) (pool : Pooled) (part : List ℕ) → Grows pool (with_part user pool part)
+part_grows user pool part = text_grows user pool (literal_text part)
+
+parts_longer : (user : ℕ) (pool : Pooled) (parts : List (List ℕ)) → length pool ≤ length (with_parts user pool parts)
+parts_longer user pool [] = omega arith
+parts_longer user pool (part ∷ parts) =
+    let one = (part_grows user pool part).0 in
+    let more = parts_longer user (with_part user pool part) parts in
+    omega (arith, one, more)
+
+-- Where operands put nothing in the first of them puts nothing in.
+pub first_kept : (user : ℕ) (pool : Pooled) (part : List ℕ) (parts : List (List ℕ)) → with_parts user pool (part ∷ parts) ≡ pool → with_part user pool part ≡ pool
+first_kept user pool part parts same =
+    let more = parts_longer user (with_part user pool part) parts in
+    let equal = ap (λ (p : Pooled). length p) same in
+    (part_grows user pool part).1 (omega (arith, more, equal))
+
+-- a text that isn't pooled puts itself in
+pub put_new : (pool : Pooled) (text : List ℕ) (used : Used) → is_pooled text pool ≡ false → with_literal pool text used ≡ pool → ⊥
+put_new pool text used none same = not_itself pool (text, used) (rw none at same)

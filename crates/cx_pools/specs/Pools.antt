@@ -1,7 +1,8 @@
 -- Literals and their pools (GC33-4010, "Literals" and "Literal Pool").
-use Rattle.std.specs.Prelude.{◌≡◌, ℕ, ◌+◌, ◌%◌, Bool, false, ◌==◌, nat_le, if◌then◌else◌, ◌&&◌, not, is_ok, is_some, Option, Some, None, option_and_then, Result, Ok, Err, List, [], ◌∷◌, ◌++◌, map, take, drop, slice_index, sum_by}
+use Rattle.std.specs.Prelude.{◌≡◌, ℕ, ◌+◌, ◌%◌, Bool, false, ◌==◌, nat_le, if◌then◌else◌, is_some, Option, Some, None, option_and_then, Result, Ok, Err, List, [], ◌∷◌, ◌++◌, map, take, drop, slice_index, sum_by}
 use Rattle.std.specs.List.{filter}
 use Rattle.std.specs.Map.{lookup}
+use Rattle.std.specs.Option.{option_map_or}
 use Rattle.std.specs.Result.{result_err}
 use Rattle.std.specs.Str.{bytes_eq}
 use Rattle.std.specs.Borrow.{Bor}
@@ -36,26 +37,15 @@ abbrev pub with_constant : ℕ → Pooled → List ℕ → Result Constant Fault
 with_constant user pool text (Ok constant) = with_literal pool text (record { size = size_of constant; user = user })
 with_constant user pool text (Err fault) = pool
 
-abbrev pub with_text : ℕ → Pooled → Option (List ℕ) → Pooled
-with_text user pool None = pool
-with_text user pool (Some text) = with_constant user pool text (constant_in false text)
-
 -- with an operand of the statement of this number
 abbrev pub with_part : ℕ → Pooled → List ℕ → Pooled
-with_part user pool part = with_text user pool (literal_text part)
+with_part user pool part =
+    option_map_or (λ text. with_constant user pool text (constant_in false text)) (literal_text part) pool
 
 -- with all operands of the statement
 abbrev pub with_parts : ℕ → Pooled → List (List ℕ) → Pooled
 with_parts user pool [] = pool
 with_parts user pool (part ∷ parts) = with_parts user (with_part user pool part) parts
-
--- an operand is a literal whose text isn't pooled yet
-abbrev pub is_new_text : Pooled → Option (List ℕ) → Bool
-is_new_text pool None = false
-is_new_text pool (Some text) = is_ok (constant_in false text) && not (is_pooled text pool)
-
-abbrev pub is_new_in : Pooled → List ℕ → Bool
-is_new_in pool part = is_new_text pool (literal_text part)
 
 -- what is wrong with an operand that is a literal: it is no constant, or its lengths are outside their limits
 abbrev pub part_fault : List ℕ → Option FaultKind

@@ -91,7 +91,8 @@ fn put_all<'a>(
 ) -> Result<(), AllocError>
     requires offset { offset ≤ bound + 8 }
     requires once { IsDistinct bytes_eq (keys_of (by_text table.old.entries) ++ keys_of (by_text list.now)) }
-    ensures { OnOk result (by_text table.new.entries ≡ by_text table.old.entries ++ placed_from offset (by_text list.now)) }
+    ensures { let placed = placed_from offset (by_text list.now) in
+        OnOk result (by_text table.new.entries ≡ by_text table.old.entries ++ placed) }
 {
     let mut at = offset;
     for entry in list {

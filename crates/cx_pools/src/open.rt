@@ -1,10 +1,10 @@
 //! A pool that takes literals.
 
-ghost use Rattle.std.specs.Prelude.{◌≡◌, ◌≤◌, ◌+◌, [], ◌∷◌, ◌++◌, false, IsOk, IsTrue, OnOk, OnErr, IfOk, map, option_map, sum_by};
-ghost use Rattle.std.specs.List.{IsDistinct, list_any};
+ghost use Rattle.std.specs.Prelude.{◌≡◌, ◌≤◌, ◌+◌, [], ◌∷◌, ◌++◌, IsOk, OnOk, OnErr, IfOk, map, option_map, sum_by};
+ghost use Rattle.std.specs.List.{IsDistinct};
 ghost use Rattle.std.specs.Map.{keys_of, lookup};
 ghost use Rattle.std.specs.Str.{bytes_eq};
-ghost use Rattle.cx_pools.specs.Pools.{UsesFirst, capped, is_new_in, is_pooled, literal_text, lowest_part, part_fault, pool_extent, pool_size, with_literal, with_part, with_parts, by_text};
+ghost use Rattle.cx_pools.specs.Pools.{UsesFirst, capped, literal_text, lowest_part, part_fault, pool_extent, pool_size, with_literal, with_part, with_parts, by_text};
 ghost use Rattle.cx_terms.specs.Digits.{bound};
 
 use crate::texts::push_used;
@@ -129,10 +129,11 @@ impl<'a> OpenPool<'a> {
     }
 
     /// Puts a literal behind the others, unless its text is pooled already.
+    #[tactic(auto, using(crate::proofs::PartLemmas::put_new))]
     fn put(&mut self, text: &'a [u8], used: Used) -> Result<(), AllocError>
         ensures put { OnOk result (self.new ≡ with_literal self.old text.now used) }
         ensures err { OnErr result (self.new ≡ self.old) }
-        ensures known { IsTrue (is_pooled text.now self.old) → IsOk result }
+        ensures known { with_literal self.old text.now used ≡ self.old → IsOk result }
     {
         if self.find(text).is_none() {
             push_used(&mut self.literals, text, used)?;
@@ -145,7 +146,7 @@ impl<'a> OpenPool<'a> {
     fn use_part(&mut self, part: &'a [u8], user: usize) -> Result<(), AllocError>
         ensures used { OnOk result (self.new ≡ with_part user self.old part.now) }
         ensures err { OnErr result (self.new ≡ self.old) }
-        ensures known { is_new_in self.old part.now ≡ false → IsOk result }
+        ensures known { with_part user self.old part.now ≡ self.old → IsOk result }
     {
         let Some(text) = literal_text(part) else {
             return Ok(());
@@ -164,7 +165,8 @@ impl<'a> OpenPool<'a> {
     /// Puts the literals among the operands of an instruction in, in turn, and answers the lowest of their faults, if there
     /// is any; `user` is the number of the statement. A faulty literal isn't put in.
     ///
-    /// An error comes only where a growth was refused; then those of the first operands are in, perhaps none.
+    /// An error comes only where a growth was refused; then those of the first operands are in, perhaps none. Where none of
+    /// them puts a literal in it takes no memory.
     pub fn use_parts(
         &mut self,
         parts: &[&'a [u8]],
@@ -173,7 +175,7 @@ impl<'a> OpenPool<'a> {
         ensures used { OnOk result (self.new ≡ with_parts user self.old (map (λ part. part.now) parts.now)) }
         ensures fault { IfOk result (λ fault. fault ≡ lowest_part (map (λ part. part.now) parts.now)) }
         ensures err { OnErr result (UsesFirst user (map (λ part. part.now) parts.now) self.old self.new) }
-        ensures known { list_any (is_new_in self.old) (map (λ part. part.now) parts.now) ≡ false → IsOk result }
+        ensures known { with_parts user self.old (map (λ part. part.now) parts.now) ≡ self.old → IsOk result }
     {
         let mut fault = None;
         for part in parts {

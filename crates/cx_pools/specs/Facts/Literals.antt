@@ -3,6 +3,7 @@ use Rattle.std.specs.Prelude.{◌⊎◌, if◌then◌else◌, ◌==◌, ◌%◌,
 use Rattle.std.proofs.Common.{◌≡◌, ◌≤◌, ℕ, ◌+◌, Bool, true, false, cond, Option, Some, None, List, [], ◌∷◌, ◌++◌, refl, sym, ◌∙◌, ap, subst, inl, inr, ⊎_elim, append_assoc, arith}
 use Rattle.std.specs.List.{AllByRecursion, IsDistinct}
 use Rattle.std.specs.Map.{lookup, keys_of}
+use Rattle.std.specs.Option.{option_map_or}
 use Rattle.std.specs.Str.{bytes_eq}
 use Rattle.std.proofs.lemmas.Bool.{cases_Bool}
 use Rattle.std.proofs.lemmas.Bool.Decides.{nat_tests}
@@ -13,7 +14,7 @@ use Rattle.cx_terms.specs.Digits.{bound}
 use Rattle.cx_terms.specs.Items.{Constant, constant_in, size_of}
 use Rattle.cx_terms.specs.declared.faults.FaultKind.{FaultKind}
 use Rattle.cx_pools.specs.Laws.Literals.{IsPool, StandFrom, StandApart}
-use Rattle.cx_pools.specs.Pools.{Pooled, capped, constant_size, group_of, grouped, literal_size, literal_text, of_group, placed, placed_from, pool_size, with_constant, with_literal, with_part, with_parts, with_text}
+use Rattle.cx_pools.specs.Pools.{Pooled, capped, constant_size, group_of, grouped, literal_size, literal_text, of_group, placed, placed_from, pool_size, with_constant, with_literal, with_part, with_parts}
 use Rattle.cx_pools.specs.declared.open.Used.{Used}
 
 -- ---- texts that stand once
@@ -79,7 +80,8 @@ with_constant_pool : (user : ℕ) (pool : Pooled) (text : List ℕ) (read : Resu
 with_constant_pool user pool text (Ok constant) e h = with_literal_pool pool text (record { size = size_of constant; user = user }) (ap constant_size e) h
 with_constant_pool user pool text (Err fault) e h = h
 
-with_text_pool : (user : ℕ) (pool : Pooled) (text : Option (List ℕ)) → IsPool pool → IsPool (with_text user pool text)
+with_text_pool : (user : ℕ) (pool : Pooled) (text : Option (List ℕ)) → IsPool pool
+    → IsPool (option_map_or (λ it. with_constant user pool it (constant_in false it)) text pool)
 with_text_pool user pool None h = h
 with_text_pool user pool (Some text) h = with_constant_pool user pool text (constant_in false text) refl h
 

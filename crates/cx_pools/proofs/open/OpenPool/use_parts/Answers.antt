@@ -1,9 +1,9 @@
-use Rattle.std.proofs.Common.{◌∙◌, ap, sym, ℕ, ◌<◌, List, [], length, get_or, drop, map, suc, add-one, drop-cons, arith, Bor}
+use Rattle.std.proofs.Common.{◌≡◌, false, true, ◌∙◌, ap, subst, sym, ℕ, ◌<◌, List, [], length, get_or, drop, map, suc, add-one, drop-cons, arith, Bor}
 use Rattle.std.specs.Prelude.{OnErr, Result, Ok, Err}
 use Rattle.std.specs.List.{take-map}
 use Rattle.cx_pools.specs.Pools.{with_part, with_parts}
 use Rattle.cx_pools.proofs.FaultLemmas.{lower_in_turn}
-use Rattle.cx_pools.proofs.PartLemmas.{kept_part, none_new, one_more}
+use Rattle.cx_pools.proofs.PartLemmas.{first_kept, one_more}
 use Rattle.cx_pools.proofs.open.OpenPool.use_parts.Goals as goal
 
 pub loop-part-preserved : goal.loop-part-preserved
@@ -20,8 +20,12 @@ loop-part-preserved c =
       known = λ old.
           let was = c.loop-part.invariant.known old in
           let part = (get_or c.args.parts.now c.loop-part.part-index none).now in
-          let split = none_new c.args.self.now part (map (λ it. it.now) (drop (suc c.loop-part.part-index) c.args.parts.now)) (rw one at was.1) in
-          (c.in_ok-use_part.ensures.used ∙ ap (λ p. with_part c.args.user p part) was.0 ∙ kept_part c.args.user c.args.self.now part split.0, rw add-one split.1);
+          let rest = map (λ (it : Bor (List ℕ)). it.now) (drop (suc c.loop-part.part-index) c.args.parts.now) in
+          let all = rw one at was.1 in
+          let first = first_kept c.args.user c.args.self.now part rest all in (
+            c.in_ok-use_part.ensures.used ∙ ap (λ p. with_part c.args.user p part) was.0 ∙ first,
+            rw add-one (subst (λ p. with_parts c.args.user p rest ≡ c.args.self.now) first all),
+          );
     }
 
 on_any : {A E P : Type 0} (r : Result A E) → P → OnErr r P
@@ -36,3 +40,16 @@ returns-in_err-use_part-clause-err c =
           c.in_err-use_part.ensures.err ∙ c.loop-part.invariant.used
           ∙ ap (with_parts c.args.user c.args.self.now) (sym (take-map {X = Bor (List ℕ)} {Y = List ℕ} (λ part. part.now) c.loop-part.part-index c.args.parts.now));
     })
+
+pub returns-in_err-use_part-clause-known : goal.returns-in_err-use_part-clause-known
+returns-in_err-use_part-clause-known c =
+    λ old.
+    let within : c.loop-part.part-index < length c.args.parts.now = omega arith in
+    let none : Bor (List ℕ) = record { ref_ptr = (0, 0); now = [] } in
+    let one = drop-cons {A = Bor (List ℕ)} c.args.parts.now c.loop-part.part-index none within in
+    let was = c.loop-part.invariant.known old in
+    let part = (get_or c.args.parts.now c.loop-part.part-index none).now in
+    let rest = map (λ (it : Bor (List ℕ)). it.now) (drop (suc c.loop-part.part-index) c.args.parts.now) in
+    let first = first_kept c.args.user c.args.self.now part rest (rw one at was.1) in
+    let no : false ≡ true = c.in_err-use_part.ensures.known (ap (λ p. with_part c.args.user p part) was.0 ∙ first ∙ sym was.0) in
+    cc
