@@ -16,7 +16,7 @@ use crate::section::{Found, second_pass};
 use crate::standing::Standing;
 use cx_code::{Image, Line, Offsets, Span};
 use cx_image::{Assembled, LARGEST_TEXT, working_storage};
-use cx_places::{PlaceFault, Places, place_all};
+use cx_places::{Places, place_all};
 use cx_second::{PlacedItem, Statement, entry_of, placed_lines, stated};
 use cx_source::{Source, Text};
 use cx_terms::TermFault;
@@ -260,9 +260,8 @@ fn assemble_placed(
 pub fn assemble(alloc: Global, source: &Source) -> Result<Assembly, AsmFault>
     ensures { Assembles (assembly_of source.now) result }
 {
-    match place_all(alloc, source) {
+    match place_all(alloc, source)? {
         Ok(places) => assemble_placed(alloc, source, &places),
-        Err(PlaceFault::Refused(first)) => Err(fault_at(first)),
-        Err(PlaceFault::Memory) => Err(AsmFault::Memory),
+        Err(first) => Err(fault_at(first)),
     }
 }

@@ -11,7 +11,7 @@ use Rattle.cx_terms.specs.declared.faults.FaultKind.TheVariants.{DuplicateSymbol
 use Rattle.cx_terms.specs.declared.faults.TermFault.{TermFault}
 use Rattle.cx_terms.specs.declared.faults.TermFault.TheVariants.{Refused, Memory}
 use Rattle.cx_terms.specs.declared.values.Value.{Value}
-use Rattle.cx_places.specs.Given.{NumberRow, is_any_known, row_symbol, row_symbols}
+use Rattle.cx_places.specs.Given.{is_any_known, row_symbol, row_symbols}
 
 absent : (a : Option Value) → is_some a ≡ false → a ≡ None
 absent None e = refl
@@ -88,7 +88,7 @@ one_more : (a : Option Value) (one : Option (List ℕ × Value)) (rest : Symbols
 one_more a None rest other = ap (λ x. option_or x (find_in rest other)) (sym (or_none a))
 one_more a (Some d) rest other = found_more (is_same other d.0) a d.1 (find_in rest other)
 
-pub row_more : (a : Option Value) (row : NumberRow) (rows : List NumberRow) (other : List ℕ)
+pub row_more : (a : Option Value) (row : List ℕ × ℕ) (rows : List (List ℕ × ℕ)) (other : List ℕ)
     → option_or (option_or a (find_in (row_symbols (row ∷ [])) other)) (find_in (row_symbols rows) other) ≡ option_or a (find_in (row_symbols (row ∷ rows)) other)
 row_more a row rows other = one_more a (row_symbol row) (row_symbols rows) other
 
@@ -97,7 +97,7 @@ known_more : (find : List ℕ → Option Value) (one : Option (List ℕ × Value
 known_more find None rest e = refl
 known_more find (Some d) rest e = first_false (is_some (find d.0)) (is_any_known find rest) e
 
-pub row_unknown : (find : List ℕ → Option Value) (row : NumberRow) (rows : List NumberRow) → is_any_known find (row_symbols (row ∷ [])) ≡ false
+pub row_unknown : (find : List ℕ → Option Value) (row : List ℕ × ℕ) (rows : List (List ℕ × ℕ)) → is_any_known find (row_symbols (row ∷ [])) ≡ false
     → is_any_known find (row_symbols (row ∷ rows)) ≡ is_any_known find (row_symbols rows)
 row_unknown find row rows e = known_more find (row_symbol row) (row_symbols rows) e
 
@@ -106,6 +106,6 @@ known_first : (find : List ℕ → Option Value) (one : Option (List ℕ × Valu
 known_first find None rest e = cc
 known_first find (Some d) rest e = first_true (is_some (find d.0)) (is_any_known find rest) e
 
-pub row_known : (find : List ℕ → Option Value) (row : NumberRow) (rows : List NumberRow) → is_any_known find (row_symbols (row ∷ [])) ≡ true
+pub row_known : (find : List ℕ → Option Value) (row : List ℕ × ℕ) (rows : List (List ℕ × ℕ)) → is_any_known find (row_symbols (row ∷ [])) ≡ true
     → is_any_known find (row_symbols (row ∷ rows)) ≡ true
 row_known find row rows e = known_first find (row_symbol row) (row_symbols rows) e

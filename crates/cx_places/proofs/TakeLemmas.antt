@@ -1,14 +1,16 @@
 -- What is known once a statement was taken in.
 use Rattle.std.proofs.Common.{◌≡◌, ℕ, Option, List, [], ◌∷◌, ◌++◌, length, refl, ◌∙◌, ap}
 use Rattle.std.proofs.Math.Path.{fun_ext}
+use Rattle.std.specs.Prelude.{None, unwrap_or}
 use Rattle.std.specs.Option.{option_or}
+use Rattle.std.specs.Result.{result_ok}
 use Rattle.cx_source.specs.declared.source.Stmt.{Stmt}
 use Rattle.cx_terms.specs.Faults.{lower}
 use Rattle.cx_terms.specs.Symbols.{find_in}
 use Rattle.cx_terms.specs.declared.faults.FaultKind.{FaultKind}
 use Rattle.cx_terms.specs.declared.values.Value.{Value}
 use Rattle.cx_pools.specs.Pools.{Pooled, Placed}
-use Rattle.cx_places.specs.Given.{definitions, value_in}
+use Rattle.cx_places.specs.Given.{definitions}
 use Rattle.cx_places.specs.Known.{Known, after, control_after, given_in, laid_in, length_after, literal_fault, first_fault_behind, own_fault, parts_in, pool_after, pools_after, role_in, name_in, section_after}
 use Rattle.cx_places.specs.Parts.Judging.{heading_in}
 use Rattle.cx_places.specs.declared.faults.Heading.{Heading}
@@ -28,7 +30,7 @@ same a b lengths symbols pool pools places fault other e1 e2 e3 e4 e5 e6 e7 e8 =
 
 pub taken : (line : ℕ) (stmt : Stmt) (known : Known) (h : Heading) (l : Laid) (v : Option Value) (f : Option FaultKind) (ps : List (List ℕ))
     (user number : ℕ) (literals all : Option FaultKind) (told : Known)
-    → h ≡ heading_in stmt known → l ≡ laid_in stmt known → v ≡ value_in (given_in stmt known) → f ≡ own_fault stmt known → ps ≡ parts_in stmt
+    → h ≡ heading_in stmt known → l ≡ laid_in stmt known → v ≡ unwrap_or (result_ok (given_in stmt known)) None → f ≡ own_fault stmt known → ps ≡ parts_in stmt
     → user ≡ length known.places → number ≡ length known.pools
     → told.section ≡ section_after h.role h.name h.section
     → told.control ≡ control_after h.role h.name h.control

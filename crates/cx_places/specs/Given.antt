@@ -1,8 +1,9 @@
 -- What a statement gives to symbols (GC33-4010, "Symbols", "EQU -- Equate Symbol", "CSECT", "DSECT"; DFHREGS and the member DFHAID are
 -- this product's own).
-use Rattle.std.specs.Prelude.{ℕ, ℤ, pos, neg_ℤ, int_le, ◌&&◌, not, Bool, false, if◌then◌else◌, codes, Option, Some, None, option_map, Result, Ok, Err, List, [], ◌∷◌, is_some}
+use Rattle.std.specs.Prelude.{ℕ, ℤ, pos, neg_ℤ, int_le, ◌&&◌, not, Bool, false, if◌then◌else◌, codes, Option, Some, None, option_map, Result, Ok, Err, List, [], ◌∷◌, ◌++◌, map, is_some, unwrap_or}
 use Rattle.std.specs.List.{filter_map, list_any}
 use Rattle.std.specs.Option.{option_map_or}
+use Rattle.std.specs.Result.{result_ok}
 use Rattle.std.specs.Str.{bytes_eq}
 use Rattle.cx_ebcdic.specs.Aids.{key_of}
 use Rattle.cx_ebcdic.specs.declared.aids.Aid.TheVariants.{Enter, Clear, Pa1, Pa2, Pf1, Pf2, Pf3, Pf4, Pf5, Pf6, Pf7, Pf8, Pf9, Pf10, Pf11, Pf12}
@@ -16,7 +17,7 @@ use Rattle.cx_terms.specs.declared.values.Value.{Value}
 use Rattle.cx_pools.specs.Pools.{capped}
 use Rattle.cx_places.specs.declared.layout.Laid.{Laid}
 use Rattle.cx_places.specs.declared.roles.Role.{Role}
-use Rattle.cx_places.specs.declared.roles.Role.TheVariants.{Unknown, Instruction, Control, Dummy, Equate, Storage, Pool, Registers, Member, Nothing}
+use Rattle.cx_places.specs.declared.roles.Role.TheVariants.{Instruction, Control, Dummy, Equate, Storage, Pool, Registers, Member}
 
 -- a place in a section, with a length attribute
 abbrev pub place_value : Option (List ℕ) → ℕ → ℕ → Value
@@ -24,8 +25,7 @@ place_value section offset length = record { section = section; number = pos (ca
 
 -- what the location counter stands at: nothing before the first section
 abbrev pub location_counter : Option (List ℕ) → ℕ → ℕ → Option Value
-location_counter None offset length = None
-location_counter (Some section) offset length = Some (place_value (Some section) offset length)
+location_counter section offset length = option_map (λ name. place_value (Some name) offset length) section
 
 -- A value of EQU is from -2^31 to 2^32-1 (own).
 abbrev pub is_in_range : ℤ → Bool
@@ -42,49 +42,37 @@ value_given (Storage is_ds) name find section operand laid = Ok (Some (place_val
 value_given Pool name find section operand laid = Ok (Some (place_value section laid.offset laid.length))
 value_given Control name find section operand laid = Ok (Some (place_value name 0 1))
 value_given Dummy name find section operand laid = Ok (Some (place_value name 0 1))
-value_given Equate name find section operand laid = limited (value_of find (location_counter section laid.offset 1) operand)
-value_given Unknown name find section operand laid = Ok None
-value_given Registers name find section operand laid = Ok None
-value_given Member name find section operand laid = Ok None
-value_given Nothing name find section operand laid = Ok None
-
-abbrev pub value_in : Result (Option Value) FaultKind → Option Value
-value_in (Ok value) = value
-value_in (Err fault) = None
+value_given Equate name find section operand laid =
+    limited (value_of find (location_counter section laid.offset 1) operand)
+value_given _ name find section operand laid = Ok None
 
 -- ---- symbols that are defined together
-abbrev pub NumberRow : Type 0
-NumberRow = List ℕ × ℕ
-
-abbrev pub row_symbol : NumberRow → Option (List ℕ × Value)
+-- a name and a number
+abbrev pub row_symbol : List ℕ × ℕ → Option (List ℕ × Value)
 row_symbol row = option_map (λ name. (name, absolute (pos row.1))) (symbol_name row.0)
 
-abbrev pub row_symbols : List NumberRow → Symbols
+abbrev pub row_symbols : List (List ℕ × ℕ) → Symbols
 row_symbols rows = filter_map row_symbol rows
 
 -- the registers, which DFHREGS defines
-abbrev pub register_rows : List NumberRow
+abbrev pub register_rows : List (List ℕ × ℕ)
 register_rows =
-    (codes "R0", 0) ∷ (codes "R1", 1) ∷ (codes "R2", 2) ∷ (codes "R3", 3) ∷ (codes "R4", 4) ∷ (codes "R5", 5) ∷ (codes "R6", 6) ∷ (codes "R7", 7)
-    ∷ (codes "R8", 8) ∷ (codes "R9", 9) ∷ (codes "R10", 10) ∷ (codes "R11", 11) ∷ (codes "R12", 12) ∷ (codes "R13", 13) ∷ (codes "R14", 14) ∷ (codes "R15", 15) ∷ []
+    (codes "R0", 0) ∷ (codes "R1", 1) ∷ (codes "R2", 2) ∷ (codes "R3", 3) ∷ (codes "R4", 4) ∷ (codes "R5", 5)
+    ∷ (codes "R6", 6) ∷ (codes "R7", 7) ∷ (codes "R8", 8) ∷ (codes "R9", 9) ∷ (codes "R10", 10) ∷ (codes "R11", 11)
+    ∷ (codes "R12", 12) ∷ (codes "R13", 13) ∷ (codes "R14", 14) ∷ (codes "R15", 15) ∷ []
 
 -- the attention identifiers, which the member DFHAID defines
-abbrev pub aid_rows : List NumberRow
+abbrev pub aid_rows : List (List ℕ × ℕ)
 aid_rows =
-    (codes "DFHENTER", (key_of Enter).code) ∷ (codes "DFHCLEAR", (key_of Clear).code) ∷ (codes "DFHPA1", (key_of Pa1).code) ∷ (codes "DFHPA2", (key_of Pa2).code)
-    ∷ (codes "DFHPF1", (key_of Pf1).code) ∷ (codes "DFHPF2", (key_of Pf2).code) ∷ (codes "DFHPF3", (key_of Pf3).code) ∷ (codes "DFHPF4", (key_of Pf4).code)
-    ∷ (codes "DFHPF5", (key_of Pf5).code) ∷ (codes "DFHPF6", (key_of Pf6).code) ∷ (codes "DFHPF7", (key_of Pf7).code) ∷ (codes "DFHPF8", (key_of Pf8).code)
-    ∷ (codes "DFHPF9", (key_of Pf9).code) ∷ (codes "DFHPF10", (key_of Pf10).code) ∷ (codes "DFHPF11", (key_of Pf11).code) ∷ (codes "DFHPF12", (key_of Pf12).code) ∷ []
+    map (λ aid. (codes "DFH" ++ (key_of aid).name, (key_of aid).code))
+    (Enter ∷ Clear ∷ Pa1 ∷ Pa2 ∷ Pf1 ∷ Pf2 ∷ Pf3 ∷ Pf4 ∷ Pf5 ∷ Pf6 ∷ Pf7 ∷ Pf8 ∷ Pf9 ∷ Pf10 ∷ Pf11 ∷ Pf12 ∷ [])
 
 -- ---- all that a statement defines
--- A name that is the symbol of the section of its own name is that section's.
-abbrev pub names_section : List ℕ → Option Value → Bool
-names_section name value = option_map_or (λ v. stands_in name v.section) value false
-
 -- CSECT and START resume the control section, and DSECT a dummy section, where the name is that section's already: nothing is defined.
 abbrev pub resumes : Role → List ℕ → Option (List ℕ) → (List ℕ → Option Value) → Bool
 resumes Control name control find = stands_in name control
-resumes Dummy name control find = names_section name (find name) && not (stands_in name control)
+resumes Dummy name control find =
+    option_map_or (λ v. stands_in name v.section) (find name) false && not (stands_in name control)
 resumes _ name control find = false
 
 abbrev pub named : Role → Option (List ℕ) → Option (List ℕ) → (List ℕ → Option Value) → Option Value → Symbols
@@ -98,8 +86,7 @@ definitions role name control find operand value = named role name control find 
 
 -- A value at fault is given, too: where only the name counts, any stands for it.
 abbrev pub any_value : Result (Option Value) FaultKind → Option Value
-any_value (Ok value) = value
-any_value (Err fault) = Some (absolute (pos 0))
+any_value given = unwrap_or (result_ok given) (Some (absolute (pos 0)))
 
 -- A symbol keeps the value that it was given first; to define it again is a fault.
 abbrev pub is_any_known : (List ℕ → Option Value) → Symbols → Bool

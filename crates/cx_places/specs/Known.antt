@@ -1,8 +1,8 @@
 -- What the statements behind one tell of it, the latest first (GC33-4010, "CSECT", "DSECT", "EQU", "LTORG" and "Literal Pool"; the faults are
 -- this product's own).
-use Rattle.std.specs.Prelude.{ℕ, Bool, false, not, ◌==◌, if◌then◌else◌, Option, Some, None, option_map, Result, List, [], ◌∷◌, ◌++◌, length, is_some}
+use Rattle.std.specs.Prelude.{ℕ, Bool, false, not, ◌==◌, if◌then◌else◌, Option, Some, None, option_and_then, option_map, Result, List, [], ◌∷◌, ◌++◌, length, is_some, unwrap_or}
 use Rattle.std.specs.Option.{option_or}
-use Rattle.std.specs.Result.{result_err}
+use Rattle.std.specs.Result.{result_err, result_ok}
 use Rattle.cx_operations.specs.Operations.{operation_named}
 use Rattle.cx_source.specs.Marks.{parts}
 use Rattle.cx_source.specs.declared.marks.Mark.TheVariants.{TopComma}
@@ -18,7 +18,7 @@ use Rattle.cx_terms.specs.declared.values.Value.{Value}
 use Rattle.cx_pools.specs.Pools.{Pooled, Placed, capped, lowest_part, placed, pool_extent, with_parts}
 use Rattle.cx_places.specs.Roles.{role_of}
 use Rattle.cx_places.specs.Layout.{beyond, laid}
-use Rattle.cx_places.specs.Given.{any_value, definitions, duplicate, value_given, value_in}
+use Rattle.cx_places.specs.Given.{any_value, definitions, duplicate, value_given}
 use Rattle.cx_places.specs.declared.layout.Laid.{Laid}
 use Rattle.cx_places.specs.declared.place.Place.{Place}
 use Rattle.cx_places.specs.declared.place.LineFault.{LineFault}
@@ -74,7 +74,8 @@ given_in stmt known = value_given (role_in stmt) (name_in stmt) known.symbols kn
 
 abbrev pub definitions_in : Stmt → Known → Symbols
 definitions_in stmt known =
-    definitions (role_in stmt) (name_in stmt) known.control known.symbols stmt.operand (value_in (given_in stmt known))
+    let value = unwrap_or (result_ok (given_in stmt known)) None in
+    definitions (role_in stmt) (name_in stmt) known.control known.symbols stmt.operand value
 
 -- ---- what is wrong with it
 abbrev pub operation_fault : Role → Option FaultKind
@@ -115,18 +116,16 @@ section_fault Control name section control = if is_second name control then Some
 section_fault _ name section control = None
 
 -- the literals of an instruction, among them that the pool would go beyond the bound
-abbrev pub extent_fault : Option ℕ → Option FaultKind
-extent_fault None = None
-extent_fault (Some size) = beyond size
-
 abbrev pub literal_fault : Role → ℕ → List (List ℕ) → Pooled → Option FaultKind
-literal_fault (Instruction size) user parts pool = lower (lowest_part parts) (extent_fault (pool_extent (with_parts user pool parts)))
+literal_fault (Instruction size) user parts pool =
+    lower (lowest_part parts) (option_and_then beyond (pool_extent (with_parts user pool parts)))
 literal_fault _ user parts pool = None
 
 -- It defines a name again, whatever its value.
 abbrev pub duplicate_in : Stmt → Known → Option FaultKind
 duplicate_in stmt known =
-    duplicate known.symbols (definitions (role_in stmt) (name_in stmt) known.control known.symbols stmt.operand (any_value (given_in stmt known)))
+    let value = any_value (given_in stmt known) in
+    duplicate known.symbols (definitions (role_in stmt) (name_in stmt) known.control known.symbols stmt.operand value)
 
 -- all but the literals
 abbrev pub own_fault : Stmt → Known → Option FaultKind
@@ -180,18 +179,14 @@ place_in stmt known =
 abbrev pub length_after : Option (List ℕ) → ℕ → (List ℕ → ℕ) → List ℕ → ℕ
 length_after section end lengths name = if stands_in name section then end else lengths name
 
--- A symbol has the value that the first statement gives it.
-abbrev pub symbol_after : Symbols → (List ℕ → Option Value) → List ℕ → Option Value
-symbol_after symbols find name = option_or (find name) (find_in symbols name)
-
--- what is known behind a statement of a line
+-- What is known behind a statement of a line. A symbol has the value that the first statement gives it.
 unfoldable pub after : ℕ → Stmt → Known → Known
 after line stmt known =
     record {
       section = section_after (role_in stmt) (name_in stmt) known.section;
       control = control_after (role_in stmt) (name_in stmt) known.control;
       lengths = length_after known.section (laid_in stmt known).end known.lengths;
-      symbols = symbol_after (definitions_in stmt known) known.symbols;
+      symbols = λ name. option_or (known.symbols name) (find_in (definitions_in stmt known) name);
       pool = pool_after (role_in stmt) (length known.places) (parts_in stmt) known.pool;
       pools = pools_after (role_in stmt) (laid_in stmt known).offset known.pool known.pools;
       places = known.places ++ place_in stmt known ∷ [];

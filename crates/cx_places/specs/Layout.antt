@@ -1,6 +1,7 @@
 -- Where a statement stands in its section, and what it takes there (GC33-4010, "Location Counter Reference", "DC -- Define Constant",
 -- "DS -- Define Storage" and "Literal Pool").
-use Rattle.std.specs.Prelude.{ℕ, ◌+◌, ◌-◌, ◌*◌, ◌/◌, nat_le, if◌then◌else◌, Bool, Option, Some, None, Result, Ok, Err, List, [], ◌∷◌, map}
+use Rattle.std.specs.Prelude.{ℕ, ◌+◌, ◌-◌, ◌*◌, ◌/◌, nat_le, if◌then◌else◌, Bool, Option, Some, None, Result, Ok, Err, List, [], ◌∷◌, map, slice_get, unwrap_or}
+use Rattle.std.specs.Option.{option_map_or}
 use Rattle.std.specs.Result.{result_err}
 use Rattle.cx_terms.specs.Digits.{bound}
 use Rattle.cx_terms.specs.Faults.{lower, lowest}
@@ -10,7 +11,7 @@ use Rattle.cx_terms.specs.declared.faults.FaultKind.TheVariants.{ValueOutOfRange
 use Rattle.cx_pools.specs.Pools.{capped}
 use Rattle.cx_places.specs.declared.layout.Laid.{Laid}
 use Rattle.cx_places.specs.declared.roles.Role.{Role}
-use Rattle.cx_places.specs.declared.roles.Role.TheVariants.{Unknown, Instruction, Control, Dummy, Equate, Storage, Pool, Registers, Member, Nothing}
+use Rattle.cx_places.specs.declared.roles.Role.TheVariants.{Instruction, Storage, Pool}
 
 -- the next offset on a boundary
 abbrev pub aligned : ℕ → ℕ → ℕ
@@ -45,21 +46,10 @@ abbrev pub end_from : List StorageItem → ℕ → ℕ
 end_from [] at = at
 end_from (item ∷ items) at = end_from items (item_end item at)
 
--- the first item's place, and its length without duplication
-abbrev pub first_start : List StorageItem → ℕ → ℕ
-first_start [] at = at
-first_start (item ∷ items) at = item_start item at
-
+-- the length of one copy
 abbrev pub item_length : StorageItem → ℕ
 item_length (Ok item) = length_of item
 item_length (Err fault) = 1
-
-abbrev pub first_length : List StorageItem → ℕ
-first_length [] = 1
-first_length (item ∷ items) = item_length item
-
-abbrev pub items_fault : List StorageItem → Option FaultKind
-items_fault items = lowest (map result_err items)
 
 abbrev pub laid_at : ℕ → List ℕ → ℕ → ℕ → Option FaultKind → Laid
 laid_at offset items end length fault = record { offset = offset; items = items; end = end; length = length; fault = fault }
@@ -73,25 +63,17 @@ abbrev pub bytes_at : ℕ → ℕ → ℕ → ℕ → Laid
 bytes_at boundary size length at =
     laid_at (aligned boundary at) [] (aligned boundary at + size) length (beyond (aligned boundary at + size))
 
--- items; the length attribute is the first's
+-- items; the first's place and length are theirs
 abbrev pub items_at : List StorageItem → ℕ → Laid
 items_at items at =
-    laid_at (first_start items at) (offsets_from items at) (end_from items at) (first_length items) (lower (items_fault items) (beyond (end_from items at)))
+    let offsets = offsets_from items at in let end = end_from items at in
+    let length = option_map_or item_length (slice_get items 0) 1 in
+    laid_at (unwrap_or (slice_get offsets 0) at) offsets end length (lower (lowest (map result_err items)) (beyond end))
 
--- a literal pool of so many bytes, on a boundary of eight; without a literal nothing
-abbrev pub pool_at : Option ℕ → ℕ → Laid
-pool_at None at = nothing_at at
-pool_at (Some size) at = bytes_at 8 size 1 at
-
--- what a statement takes from the next offset on, by what its operation does, the parts of its operand, and how many bytes the open pool has
+-- What a statement takes from the next offset on, by what its operation does, the parts of its operand, and how many bytes the open pool has:
+-- an instruction, items, or a literal pool that has literals; every other statement takes nothing.
 unfoldable pub laid : Role → List (List ℕ) → Option ℕ → ℕ → Laid
 laid (Instruction size) parts extent at = bytes_at 2 (capped size) size at
 laid (Storage is_ds) parts extent at = items_at (items_in is_ds parts) at
-laid Pool parts extent at = pool_at extent at
-laid Unknown parts extent at = nothing_at at
-laid Control parts extent at = nothing_at at
-laid Dummy parts extent at = nothing_at at
-laid Equate parts extent at = nothing_at at
-laid Registers parts extent at = nothing_at at
-laid Member parts extent at = nothing_at at
-laid Nothing parts extent at = nothing_at at
+laid Pool parts (Some size) at = bytes_at 8 size 1 at
+laid _ parts extent at = nothing_at at

@@ -1,5 +1,6 @@
 -- Where everything stands (GC33-4010, "Literal Pool" and "END"; the length of the working storage is this product's own).
 use Rattle.std.specs.Prelude.{◌≡◌, ℕ, if◌then◌else◌, Option, Some, None, option_map, Result, Ok, Err, List, [], ◌∷◌, ◌++◌, reverse, codes}
+use Rattle.std.specs.Option.{option_map_or}
 use Rattle.cx_source.specs.declared.source.Source.{Source}
 use Rattle.cx_terms.specs.Names.{symbol_name}
 use Rattle.cx_terms.specs.Symbols.{find_in}
@@ -11,8 +12,7 @@ use Rattle.cx_places.specs.declared.layout.Laid.{Laid}
 use Rattle.cx_places.specs.declared.roles.Role.TheVariants.{Pool}
 use Rattle.cx_places.specs.declared.place.ControlSection.{ControlSection}
 use Rattle.cx_places.specs.declared.places.Places.{Places}
-use Rattle.cx_places.specs.declared.places.PlaceFault.{PlaceFault}
-use Rattle.cx_places.specs.declared.places.PlaceFault.TheVariants.{Refused, Memory}
+use Rattle.cx_places.specs.declared.place.LineFault.{LineFault}
 
 -- what all statements of a source tell
 abbrev pub known_of : Source → Known
@@ -30,12 +30,10 @@ abbrev pub control_section : Known → Option ControlSection
 control_section known = option_map (λ name. record { name = name; length = (closing known).end }) known.control
 
 -- the length of the dummy section DFHEISTG; 0 without it
-abbrev pub storage_under : Option (List ℕ) → Known → ℕ
-storage_under None known = 0
-storage_under (Some name) known = if stands_in name known.control then 0 else known.lengths name
-
 abbrev pub storage_length : Known → ℕ
-storage_length known = storage_under (symbol_name (codes "DFHEISTG")) known
+storage_length known =
+    option_map_or (λ name. if stands_in name known.control then 0 else known.lengths name)
+    (symbol_name (codes "DFHEISTG")) 0
 
 pub record IsPlaced (known : Known) (places : Places) : Type 0 where
   pub statements : places.statements ≡ known.places
@@ -44,8 +42,7 @@ pub record IsPlaced (known : Known) (places : Places) : Type 0 where
   pub control : places.control ≡ control_section known
   pub stg_length : places.stg_length ≡ storage_length known
 
--- The answer is where everything stands, or the first fault, unless memory runs out.
-abbrev pub PlacesAs : Known → Result Places PlaceFault → Type 0
+-- The answer is where everything stands, or the first fault.
+abbrev pub PlacesAs : Known → Result Places LineFault → Type 0
 PlacesAs known (Ok places) = (known.fault ≡ None) × IsPlaced known places
-PlacesAs known (Err (Refused first)) = known.fault ≡ Some first
-PlacesAs known (Err Memory) = Unit {0}
+PlacesAs known (Err first) = known.fault ≡ Some first

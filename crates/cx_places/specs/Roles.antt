@@ -19,13 +19,7 @@ directive_role is.Dc = Storage false
 directive_role is.Ltorg = Pool
 directive_role is.Dfhregs = Registers
 directive_role is.Copy = Member
-directive_role is.Using = Nothing
-directive_role is.Drop = Nothing
-directive_role is.End = Nothing
-directive_role is.Title = Nothing
-directive_role is.Print = Nothing
-directive_role is.Eject = Nothing
-directive_role is.Space = Nothing
+directive_role _ = Nothing
 
 -- what an operation does: a branch is an instruction of its base row
 abbrev pub role_of : Option Operation → Role

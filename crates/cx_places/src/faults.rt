@@ -1,8 +1,9 @@
 //! What may be wrong with a statement in the first pass.
 
-ghost use Rattle.std.specs.Prelude.{◌≡◌};
+ghost use Rattle.std.specs.Prelude.{◌≡◌, option_and_then};
+ghost use Rattle.cx_places.specs.Layout.{beyond};
 ghost use Rattle.cx_terms.specs.Faults.{lower};
-ghost use Rattle.cx_places.specs.Known.{bad_label, bad_name, extent_fault, first_fault_behind, is_control, is_second, name_fault, operation_fault, section_fault};
+ghost use Rattle.cx_places.specs.Known.{bad_label, bad_name, first_fault_behind, is_control, is_second, name_fault, operation_fault, section_fault};
 
 use crate::given::stands_in;
 use crate::layout::beyond;
@@ -122,7 +123,7 @@ pub(crate) fn lowest_fault(
 
 /// Whether a pool goes beyond the bound.
 pub(crate) fn extent_fault(extent: Option<u128>) -> Option<FaultKind>
-    ensures { result ≡ extent_fault extent }
+    ensures { result ≡ option_and_then beyond extent }
 {
     beyond(extent?)
 }

@@ -7,7 +7,7 @@ ghost use Rattle.cx_terms.specs.Symbols.{find_in};
 ghost use Rattle.cx_terms.specs.Weights.{stands_in};
 ghost use Rattle.cx_terms.specs.declared.values.Value.{Value as Worth};
 ghost use Rattle.cx_pools.specs.Pools.{capped};
-ghost use Rattle.cx_places.specs.Given.{aid_rows, is_any_known, limited, location_counter, names_section, place_value, register_rows, resumes, row_symbol, row_symbols, value_given};
+ghost use Rattle.cx_places.specs.Given.{aid_rows, is_any_known, limited, location_counter, place_value, register_rows, resumes, row_symbol, row_symbols, value_given};
 
 use crate::layout::Laid;
 use crate::roles::Role;
@@ -107,7 +107,7 @@ pub(crate) fn value_given(
             let value = value_of(alloc, operand, symbols, here.as_ref())?;
             limited(value)
         }
-        Role::Unknown | Role::Registers | Role::Member | Role::Nothing => Ok(None),
+        _ => Ok(None),
     }
 }
 
@@ -173,7 +173,8 @@ pub(crate) fn is_any_defined(symbols: &SymbolTable, rows: &[(&str, u8)]) -> bool
 /// Gives a symbol its value, unless it has one.
 #[tactic(auto, using(crate::proofs::SymbolLemmas::kept_refused, crate::proofs::SymbolLemmas::defined_new, crate::proofs::SymbolLemmas::unknown_memory))]
 pub(crate) fn define(symbols: &mut SymbolTable, name: Name8, value: Value) -> Result<(), AllocError>
-    ensures defined { OnOk result ((other : List ℕ) → find_in symbols.new other ≡ option_or (find_in symbols.old other) (find_in ((name, value) ∷ []) other)) }
+    ensures defined { OnOk result ((other : List ℕ)
+        → find_in symbols.new other ≡ option_or (find_in symbols.old other) (find_in ((name, value) ∷ []) other)) }
     ensures known { IsTrue (is_some (find_in symbols.old name)) → IsOk result }
 {
     match symbols.define(name, value) {
@@ -197,8 +198,8 @@ fn define_row(symbols: &mut SymbolTable, text: &str, number: u8) -> Result<(), A
 
 /// Gives the symbols of rows their values, those that have none.
 pub(crate) fn define_rows(symbols: &mut SymbolTable, rows: &[(&str, u8)]) -> Result<(), AllocError>
-    ensures { OnOk result ((other : List ℕ) → find_in symbols.new other
-        ≡ option_or (find_in symbols.old other) (find_in (row_symbols (map (λ row. (row.0.now, row.1)) rows.now)) other)) }
+    ensures { OnOk result ((other : List ℕ) → let given = row_symbols (map (λ row. (row.0.now, row.1)) rows.now) in
+        find_in symbols.new other ≡ option_or (find_in symbols.old other) (find_in given other)) }
 {
     for row in rows {
         define_row(symbols, row.0, row.1)?;

@@ -1,10 +1,11 @@
 //! What is told of a statement before anything changes.
 
-ghost use Rattle.std.specs.Prelude.{◌≡◌, ◌≤◌, ◌+◌, map, IfOk, IfSome, OnOk, List, is_some, ℕ};
+ghost use Rattle.std.specs.Prelude.{◌≡◌, ◌≤◌, ◌+◌, map, IfOk, IfSome, None, OnOk, List, is_some, unwrap_or, ℕ};
+ghost use Rattle.std.specs.Result.{result_ok};
 ghost use Rattle.std.specs.Option.{option_or};
 ghost use Rattle.cx_terms.specs.Digits.{bound};
 ghost use Rattle.cx_terms.specs.Symbols.{find_in};
-ghost use Rattle.cx_places.specs.Given.{any_value, definitions, duplicate, value_given, value_in};
+ghost use Rattle.cx_places.specs.Given.{any_value, definitions, duplicate, value_given};
 
 use crate::faults::Heading;
 use crate::given::{AIDS, REGISTERS, define, define_rows, is_any_defined, resumes, value_given};
@@ -32,7 +33,8 @@ pub(crate) fn value_or_fault(
     operand: &[u8],
     laid: &Laid,
 ) -> Result<Result<Option<Value>, FaultKind>, AllocError>
-    ensures { IfOk result (λ given. given ≡ value_given heading.now.role heading.now.name (find_in symbols.now) heading.now.section operand.now laid.now) }
+    ensures { let h = heading.now in
+        IfOk result (λ given. given ≡ value_given h.role h.name (find_in symbols.now) h.section operand.now laid.now) }
 {
     match value_given(
         alloc,
@@ -51,7 +53,7 @@ pub(crate) fn value_or_fault(
 
 /// The value that is given, where it has no fault.
 pub(crate) fn value_in(given: &Result<Option<Value>, FaultKind>) -> Option<Value>
-    ensures { result ≡ value_in given.now }
+    ensures { result ≡ unwrap_or (result_ok given.now) None }
 {
     match given {
         Ok(value) => *value,
@@ -76,8 +78,8 @@ pub(crate) fn duplicate(
     operand: &[u8],
     given: &Result<Option<Value>, FaultKind>,
 ) -> Option<FaultKind>
-    ensures { result ≡ duplicate (find_in symbols.now)
-        (definitions heading.now.role heading.now.name heading.now.control (find_in symbols.now) operand.now (any_value given.now)) }
+    ensures { let h = heading.now in let find = find_in symbols.now in
+        result ≡ duplicate find (definitions h.role h.name h.control find operand.now (any_value given.now)) }
 {
     let is_known = match heading.role {
         Role::Registers => is_any_defined(symbols, &REGISTERS),
@@ -105,8 +107,9 @@ pub(crate) fn define_all(
     operand: &[u8],
     value: Option<Value>,
 ) -> Result<(), AllocError>
-    ensures { OnOk result ((other : List ℕ) → find_in symbols.new other
-        ≡ option_or (find_in symbols.old other) (find_in (definitions heading.now.role heading.now.name heading.now.control (find_in symbols.old) operand.now value) other)) }
+    ensures { let h = heading.now in let find = find_in symbols.old in
+        OnOk result ((other : List ℕ) → find_in symbols.new other
+        ≡ option_or (find other) (find_in (definitions h.role h.name h.control find operand.now value) other)) }
 {
     match heading.role {
         Role::Registers => {

@@ -30,28 +30,31 @@ pub fn first_fault_is_first()
 /// There is one first fault of statements, or none.
 #[tactic(auto, using(crate::proofs::FirstLemmas::first_is_one))]
 pub fn the_first_fault_is_one()
-    ensures { (faults : List Fault) → (one other : Option LineFault) → IsFirstOf faults one → IsFirstOf faults other → one ≡ other }
+    ensures { (faults : List Fault) (one other : Option LineFault) → IsFirstOf faults one → IsFirstOf faults other
+        → one ≡ other }
 {}
 
 /// Where lines ascend no statement of a line below that of the first fault has a fault.
 #[tactic(auto, using(crate::proofs::FirstLemmas::none_below))]
 pub fn ascending_lines_have_it_first()
-    ensures { (items : List Item) → (first : LineFault) → Ascend items → (known_behind items).fault ≡ Some first → NoneBelow first.line (faults_behind items) }
+    ensures { (items : List Item) (first : LineFault) → Ascend items → (known_behind items).fault ≡ Some first
+        → NoneBelow first.line (faults_behind items) }
 {}
 
 /// In an accepted source a statement's instruction, items or literals stand one behind the other, aligned, from its section's
 /// length so far to the statement's end, which is within the bound of all numbers.
 pub fn a_statement_stands_behind_its_section()
-    ensures stands { (before : List Item) → (line : ℕ) → (stmt : Stmt) → (after line stmt (known_behind before)).fault ≡ None
-        → Stands (role_in stmt) (parts_in stmt) (known_behind before).pool (section_length (known_behind before)) (laid_in stmt (known_behind before)) }
-    ensures within { (before : List Item) → (line : ℕ) → (stmt : Stmt) → (after line stmt (known_behind before)).fault ≡ None
-        → (laid_in stmt (known_behind before)).end ≤ bound }
+    ensures stands { (before : List Item) (line : ℕ) (stmt : Stmt) → let known = known_behind before in
+        (after line stmt known).fault ≡ None
+        → Stands (role_in stmt) (parts_in stmt) known.pool (section_length known) (laid_in stmt known) }
+    ensures within { (before : List Item) (line : ℕ) (stmt : Stmt)
+        → (after line stmt (known_behind before)).fault ≡ None → (laid_in stmt (known_behind before)).end ≤ bound }
 {}
 
 /// In an accepted source the control section never gets shorter; behind a statement that stands in it, it is as long as the
 /// statement's end.
 pub fn the_control_section_grows()
-    ensures grows { (before : List Item) → (line : ℕ) → (stmt : Stmt) → (after line stmt (known_behind before)).fault ≡ None
+    ensures grows { (before : List Item) (line : ℕ) (stmt : Stmt) → (after line stmt (known_behind before)).fault ≡ None
         → control_length (known_behind before) ≤ control_length (after line stmt (known_behind before)) }
     ensures ends { (line : ℕ) → (stmt : Stmt) → (known : Known) → is_control known.section known.control ≡ true
         → control_length (after line stmt known) ≡ (laid_in stmt known).end }
@@ -65,8 +68,10 @@ pub fn statements_stand_apart()
 
 /// In an accepted source the statements of the control section end inside it, and the last pool stands behind them, at its end.
 pub fn the_last_pool_ends_the_control_section()
-    ensures inside { (items : List Item) → (known_behind items).fault ≡ None → EndWithin (known_behind items) (stretches_behind items) }
-    ensures last { (items : List Item) → (known_behind items).fault ≡ None → (closing (known_behind items)).end ≤ bound → ClosesApart (known_behind items) }
+    ensures inside { (items : List Item) → let known = known_behind items in
+        known.fault ≡ None → EndWithin known (stretches_behind items) }
+    ensures last { (items : List Item) → let known = known_behind items in
+        known.fault ≡ None → (closing known).end ≤ bound → ClosesApart known }
 {}
 
 /// The open pool has each text once, with its size.
@@ -77,27 +82,36 @@ pub fn the_open_pool_is_one()
 /// A statement's place stays, however many statements follow.
 #[tactic(auto, using(crate::specs::Facts::Kept::place_told, crate::specs::Facts::Kept::place_kept))]
 pub fn places_stay()
-    ensures told { (line : ℕ) → (stmt : Stmt) → (known : Known) → slice_get (after line stmt known).places (length known.places) ≡ Some (place_in stmt known) }
-    ensures stays { (more before : List Item) → (index : ℕ) → (place : Place) → slice_get (known_behind before).places index ≡ Some place
+    ensures told { (line : ℕ) (stmt : Stmt) (known : Known)
+        → slice_get (after line stmt known).places (length known.places) ≡ Some (place_in stmt known) }
+    ensures stays { (more before : List Item) (index : ℕ) (place : Place)
+        → slice_get (known_behind before).places index ≡ Some place
         → slice_get (known_behind (more ++ before)).places index ≡ Some place }
 {}
 
 /// The pool that LTORG closes stays, and so among all pools; the last pool stands behind the closed ones.
 #[tactic(auto, using(crate::specs::Facts::Kept::pool_told, crate::specs::Facts::Kept::pool_kept, crate::specs::Facts::Kept::pool_among, crate::specs::Facts::Kept::last_pool))]
 pub fn pools_stay()
-    ensures told { (line : ℕ) → (stmt : Stmt) → (known : Known) → role_in stmt ≡ Pool
-        → slice_get (after line stmt known).pools (length known.pools) ≡ Some (placed (capped (laid_in stmt known).offset) known.pool) }
-    ensures stays { (more before : List Item) → (index : ℕ) → (pool : Placed) → slice_get (known_behind before).pools index ≡ Some pool
+    ensures told { (line : ℕ) (stmt : Stmt) (known : Known) → let offset = capped (laid_in stmt known).offset in
+        role_in stmt ≡ Pool
+        → slice_get (after line stmt known).pools (length known.pools) ≡ Some (placed offset known.pool) }
+    ensures stays { (more before : List Item) (index : ℕ) (pool : Placed)
+        → slice_get (known_behind before).pools index ≡ Some pool
         → slice_get (known_behind (more ++ before)).pools index ≡ Some pool }
-    ensures among { (known : Known) → (index : ℕ) → (pool : Placed) → slice_get known.pools index ≡ Some pool → slice_get (all_pools known) index ≡ Some pool }
-    ensures last { (known : Known) → slice_get (all_pools known) (length known.pools) ≡ Some (placed (capped (closing known).offset) known.pool) }
+    ensures among { (known : Known) (index : ℕ) (pool : Placed) → slice_get known.pools index ≡ Some pool
+        → slice_get (all_pools known) index ≡ Some pool }
+    ensures last { (known : Known) → let offset = capped (closing known).offset in
+        slice_get (all_pools known) (length known.pools) ≡ Some (placed offset known.pool) }
 {}
 
 /// A symbol has the value of its first definition, and keeps it, however many statements follow. In an accepted source no name is
 /// defined twice.
 pub fn every_name_has_one_value()
-    ensures first { (items : List Item) → (name : List ℕ) → (known_behind items).symbols name ≡ find_in (definitions_behind items) name }
-    ensures stays { (more before : List Item) → (name : List ℕ) → (value : Value) → (known_behind before).symbols name ≡ Some value
+    ensures first { (items : List Item) (name : List ℕ)
+        → (known_behind items).symbols name ≡ find_in (definitions_behind items) name }
+    ensures stays { (more before : List Item) (name : List ℕ) (value : Value)
+        → (known_behind before).symbols name ≡ Some value
         → (known_behind (more ++ before)).symbols name ≡ Some value }
-    ensures once { (items : List Item) → (known_behind items).fault ≡ None → IsDistinct is_same (keys_of (definitions_behind items)) }
+    ensures once { (items : List Item) → (known_behind items).fault ≡ None
+        → IsDistinct is_same (keys_of (definitions_behind items)) }
 {}

@@ -5,7 +5,7 @@ ghost use Rattle.std.specs.Result.{result_err};
 ghost use Rattle.cx_terms.specs.Digits.{bound};
 ghost use Rattle.cx_terms.specs.Items.{constant_in};
 ghost use Rattle.cx_pools.specs.Pools.{capped};
-ghost use Rattle.cx_places.specs.Layout.{aligned, beyond, bytes_at, first_length, first_start, item_end, item_start, items_at, items_in, laid, nothing_at};
+ghost use Rattle.cx_places.specs.Layout.{aligned, beyond, bytes_at, item_end, item_start, items_at, items_in, laid, nothing_at};
 
 use crate::roles::Role;
 use cx_pools::capped;
@@ -81,8 +81,8 @@ fn place_item(is_ds: bool, part: &[u8], at: u128) -> (u128, u128, Option<FaultKi
 
 /// The length of one copy of the first item of a DS (`is_ds`) or a DC, and its place.
 fn first_item(is_ds: bool, parts: &[&[u8]], at: u128) -> (u128, u128)
-    ensures start { result.0 ≡ first_start (items_in is_ds (map (λ part. part.now) parts.now)) at }
-    ensures length { result.1 ≡ first_length (items_in is_ds (map (λ part. part.now) parts.now)) }
+    ensures start { result.0 ≡ (items_at (items_in is_ds (map (λ part. part.now) parts.now)) at).offset }
+    ensures length { result.1 ≡ (items_at (items_in is_ds (map (λ part. part.now) parts.now)) at).length }
 {
     let Some(part) = parts.first() else {
         return (at, 1);
@@ -178,13 +178,7 @@ impl Laid {
                 Some(size) => Ok(Laid::bytes_at(alloc, 8, size, 1, at)),
                 None => Ok(Laid::nothing_at(alloc, at)),
             },
-            Role::Unknown
-            | Role::Control
-            | Role::Dummy
-            | Role::Equate
-            | Role::Registers
-            | Role::Member
-            | Role::Nothing => Ok(Laid::nothing_at(alloc, at)),
+            _ => Ok(Laid::nothing_at(alloc, at)),
         }
     }
 }

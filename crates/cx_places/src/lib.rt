@@ -14,5 +14,5 @@ mod roles;
 pub use faults::first_fault_behind;
 pub use given::location_counter;
 pub use place::{ControlSection, LineFault, Place};
-pub use places::{PlaceFault, Places, place_all};
+pub use places::{Places, place_all};
 pub use roles::Role;

@@ -51,7 +51,8 @@ fn set_length(
     section: Option<Name8>,
     end: u128,
 ) -> Result<(), AllocError>
-    ensures { OnOk result ((name : Elements ℕ) → length_in lengths.new.entries name ≡ length_after section end (length_in lengths.old.entries) name) }
+    ensures { let before = length_in lengths.old.entries in
+        OnOk result ((name : Elements ℕ) → length_in lengths.new.entries name ≡ length_after section end before name) }
 {
     let Some(name) = section else {
         return Ok(());

@@ -13,8 +13,7 @@ use cx_pools::{Pool, capped};
 use cx_source::{Item, Source};
 use cx_tables::List;
 use cx_terms::{SymbolTable, symbol_name};
-use std::alloc::{AllocError, AllocFailed, Global};
-use thiserror::Error;
+use std::alloc::{AllocError, Global};
 
 /// Where everything of a source stands.
 #[derive(Drop)]
@@ -29,37 +28,6 @@ pub struct Places<'a> {
     pub control: Option<ControlSection>,
     /// The length of the dummy section DFHEISTG; 0 without it.
     pub stg_length: u128,
-}
-
-/// Why there are no places.
-#[derive(Clone, Copy, Debug, PartialEq, Eq, Error)]
-pub enum PlaceFault {
-    /// A statement is at fault.
-    #[error("line {}: {}", .0.line, .0.kind)]
-    Refused(LineFault),
-    /// A growth was refused.
-    #[error("out of memory")]
-    Memory,
-}
-
-impl From<AllocError> for PlaceFault {
-    ghost use Rattle.cx_places.specs.declared.places.PlaceFault.TheVariants.{Memory};
-
-    ghost from_gives = { λ _ fault. fault ≡ Memory };
-
-    fn from(_error: AllocError) -> PlaceFault {
-        PlaceFault::Memory
-    }
-}
-
-impl<T: Drop> From<AllocFailed<T>> for PlaceFault {
-    ghost use Rattle.cx_places.specs.declared.places.PlaceFault.TheVariants.{Memory};
-
-    ghost from_gives = { λ _ fault. fault ≡ Memory };
-
-    fn from(_failed: AllocFailed<T>) -> PlaceFault {
-        PlaceFault::Memory
-    }
 }
 
 /// The pass over lines.
@@ -121,15 +89,19 @@ fn finished<'a>(alloc: Global, pass: Pass<'a>) -> Result<Places<'a>, AllocError>
 
 /// Where everything of a source stands: its sections, symbols, literal pools and statements (GC33-4010).
 ///
-/// The statements are those of the list's items, in its order, whatever their numbers say. Refused comes with the line of the
-/// first statement that has a fault in its operation, name, section, the lengths of its items and literals, or the value of
-/// EQU, and with the lowest such fault of all statements of that line. Memory comes only where a growth was refused.
-pub fn place_all<'a>(alloc: Global, source: &'a Source) -> Result<Places<'a>, PlaceFault>
-    ensures { PlacesAs (known_of source.now) result }
+/// The statements are those of the list's items, in its order, whatever their numbers say. The first fault comes with the line
+/// of the first statement that has one in its operation, name, section, the lengths of its items and literals, or the value of
+/// EQU, and is the lowest of all statements of that line. An error comes only where a growth was refused.
+pub fn place_all<'a>(
+    alloc: Global,
+    source: &'a Source,
+) -> Result<Result<Places<'a>, LineFault>, AllocError>
+    ensures { IfOk result (λ answer. PlacesAs (known_of source.now) answer) }
 {
     let pass = pass_over(alloc, source.items.as_slice())?;
     if let Some(first) = pass.fault {
-        return Err(PlaceFault::Refused(first));
+        return Ok(Err(first));
     }
-    Ok(finished(alloc, pass)?)
+    let places = finished(alloc, pass)?;
+    Ok(Ok(places))
 }

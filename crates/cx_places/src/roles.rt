@@ -49,13 +49,7 @@ impl Role {
             Directive::Ltorg => Role::Pool,
             Directive::Dfhregs => Role::Registers,
             Directive::Copy => Role::Member,
-            Directive::Using
-            | Directive::Drop
-            | Directive::End
-            | Directive::Title
-            | Directive::Print
-            | Directive::Eject
-            | Directive::Space => Role::Nothing,
+            _ => Role::Nothing,
         }
     }
 

@@ -2,8 +2,9 @@
 //! many times. Prints how many statements stand, or why none does. `bench/places` makes sources and measures it.
 #![tactic(auto)]
 
-use cx_places::{PlaceFault, place_all};
+use cx_places::place_all;
 use cx_source::{Source, read_source};
+use std::alloc::AllocError;
 use std::io;
 use std::io::{BufRead, BufReader, Read};
 
@@ -14,9 +15,9 @@ fn place(rt: &HostRuntime, source: &Source, is_last: bool) -> io::Result<()> {
         return Ok(());
     }
     match placed {
-        Ok(places) => println!(rt; "{} statements", places.statements.as_slice().len()),
-        Err(PlaceFault::Refused(first)) => println!(rt; "{} {}", first.line, first.kind.name()),
-        Err(PlaceFault::Memory) => println!(rt; "out of memory"),
+        Ok(Ok(places)) => println!(rt; "{} statements", places.statements.as_slice().len()),
+        Ok(Err(first)) => println!(rt; "{} {}", first.line, first.kind.name()),
+        Err(AllocError) => println!(rt; "out of memory"),
     }
 }
 

@@ -1,6 +1,6 @@
 //! Which sources are refused, at which line, and as what.
 use crate::texts::placed;
-use cx_places::{PlaceFault, place_all};
+use cx_places::place_all;
 use cx_source::{Item, Items, Source, Stmt, Text};
 use cx_terms::FaultKind;
 use std::alloc::{AllocError, Global};
@@ -98,9 +98,9 @@ fn lists_are_refused_so(rt: HostRuntime) -> Result<(), Fail> {
         let source = Source {
             items: Items::from_vec(items),
         };
-        let is_so = match place_all(alloc, &source) {
-            Err(PlaceFault::Refused(first)) => first.line == line && first.kind == kind,
-            _ => false,
+        let is_so = match place_all(alloc, &source)? {
+            Err(first) => first.line == line && first.kind == kind,
+            Ok(_) => false,
         };
         assert!(rt; is_so);
     }

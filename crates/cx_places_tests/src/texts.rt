@@ -1,5 +1,5 @@
 //! Sources, and where everything in them stands, as text.
-use cx_places::{PlaceFault, Places, place_all};
+use cx_places::{Places, place_all};
 use cx_pools::Pool;
 use cx_source::read_source;
 use cx_terms::symbol_name;
@@ -45,19 +45,16 @@ fn shown(alloc: Global, places: &Places<'_>) -> Result<String, AllocError> {
 /// Where everything of a source stands, or its fault.
 pub(crate) fn placed(alloc: Global, source: &[u8]) -> Result<String, Fail> {
     let source = read_source(alloc, source)?;
-    match place_all(alloc, &source) {
+    match place_all(alloc, &source)? {
         Ok(places) => Ok(shown(alloc, &places)?),
-        Err(PlaceFault::Refused(first)) => {
-            Ok(format!(in alloc; "{} {}", first.line, first.kind.name())?)
-        }
-        Err(PlaceFault::Memory) => Ok(format!(in alloc; "memory")?),
+        Err(first) => Ok(format!(in alloc; "{} {}", first.line, first.kind.name())?),
     }
 }
 
 /// What a symbol of a source is worth: its number, its length attribute, and `+` where it stands in a section.
 pub(crate) fn worth(alloc: Global, source: &[u8], name: &[u8]) -> Result<String, Fail> {
     let source = read_source(alloc, source)?;
-    let Ok(places) = place_all(alloc, &source) else {
+    let Ok(places) = place_all(alloc, &source)? else {
         return Ok(format!(in alloc; "refused")?);
     };
     let value = match symbol_name(name) {

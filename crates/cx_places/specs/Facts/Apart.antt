@@ -211,18 +211,16 @@ apart_behind (item ∷ before) e = apart_line before item.line item.stmt e (apar
 -- ---- the control section's end
 pub closing_begins : (items : List Item) → (known_behind items).fault ≡ None
     → (control_length (known_behind items) ≤ (closing (known_behind items)).offset) × ((closing (known_behind items)).offset ≤ (closing (known_behind items)).end)
-unfolding laid
 closing_begins items e =
-    let order = pool_begins (pool_extent (known_behind items).pool) (capped (control_length (known_behind items))) in
+    let order = pool_begins [] (pool_extent (known_behind items).pool) (capped (control_length (known_behind items))) in
     let same = capped_same (control_length (known_behind items)) (within_section (known_behind items) (known_behind items).control (within_behind items e)) in
     (omega (arith, order.0, same), order.1)
 
 pub closing_apart : (items : List Item) → (known_behind items).fault ≡ None → (closing (known_behind items)).end ≤ bound → ClosesApart (known_behind items)
-unfolding laid
 closing_apart items e within =
     record {
       begins = (closing_begins items e).0;
-      literals = pool_apart (known_behind items).pool (capped (control_length (known_behind items))) (pool_behind items) within;
+      literals = pool_apart [] (known_behind items).pool (capped (control_length (known_behind items))) (pool_behind items) within;
     }
 
 ends_inside : (known : Known) (section control : Option (List ℕ)) (end most : ℕ) → ((name : List ℕ) → section ≡ Some name → end ≤ known.lengths name)

@@ -1,11 +1,12 @@
 -- What one statement takes of its section.
-use Rattle.std.specs.Prelude.{if◌then◌else◌, is_some, ◌%◌, ◌/◌, ◌*◌, nat_le, Ok, Err}
+use Rattle.std.specs.Prelude.{if◌then◌else◌, is_some, ◌%◌, ◌/◌, ◌*◌, nat_le, map, Ok, Err}
+use Rattle.std.specs.Result.{result_err}
 use Rattle.std.proofs.Common.{◌≡◌, ◌≤◌, ◌<◌, ℕ, ◌+◌, ◌-◌, Option, Some, None, List, [], ◌∷◌, refl, sym, ◌∙◌, ap, subst, ⊎_elim, arith, lit≤}
 use Rattle.std.proofs.Math.Nat.{mod-lt, mod-add-div', mul-mod_left}
 use Rattle.std.proofs.lemmas.Bool.{cases_Bool, cond-false}
 use Rattle.std.proofs.lemmas.Bool.Decides.{nat_tests}
 use Rattle.cx_terms.specs.Digits.{bound}
-use Rattle.cx_terms.specs.Faults.{lower}
+use Rattle.cx_terms.specs.Faults.{lower, lowest}
 use Rattle.cx_terms.specs.Items.{Constant, alignment_of, size_of}
 use Rattle.cx_terms.specs.Kinds.{row_of}
 use Rattle.cx_terms.specs.declared.faults.FaultKind.{FaultKind}
@@ -16,7 +17,7 @@ use Rattle.cx_pools.specs.Facts.Literals.{no_pool_stands, pool_stands}
 use Rattle.cx_pools.specs.Laws.Literals.{IsPool, StandApart}
 use Rattle.cx_pools.specs.Pools.{Pooled, capped, constant_size, placed, pool_extent, pool_size}
 use Rattle.cx_places.specs.Laws.Apart.{ItemsStand, Stands, boundary_of}
-use Rattle.cx_places.specs.Layout.{StorageItem, aligned, beyond, bytes_at, end_from, first_start, item_end, item_start, items_fault, items_in, laid, offsets_from, pool_at}
+use Rattle.cx_places.specs.Layout.{StorageItem, aligned, beyond, bytes_at, end_from, item_end, item_start, items_at, items_in, laid, offsets_from}
 use Rattle.cx_places.specs.declared.roles.Role.{Role}
 use Rattle.cx_places.specs.declared.roles.Role.TheVariants.{Unknown, Instruction, Control, Dummy, Equate, Storage, Pool, Registers, Member, Nothing}
 
@@ -99,7 +100,8 @@ items_stand (item ∷ items) at within =
     let one = item_stands item at (omega (arith, rest, within)) in
     (one.begins, one.multiple, subst (λ n. ItemsStand n items (offsets_from items (item_end item at)) (end_from items (item_end item at))) one.ends (items_stand items (item_end item at) within))
 
-first_begins : (items : List StorageItem) (at : ℕ) → end_from items at ≤ bound → (at ≤ first_start items at) × (first_start items at ≤ end_from items at)
+first_begins : (items : List StorageItem) (at : ℕ) → end_from items at ≤ bound
+    → (at ≤ (items_at items at).offset) × ((items_at items at).offset ≤ end_from items at)
 first_begins [] at within = (omega arith, omega arith)
 first_begins (item ∷ items) at within =
     let rest : item_end item at ≤ end_from items (item_end item at) = items_end items (item_end item at) within in
@@ -110,9 +112,11 @@ first_begins (item ∷ items) at within =
 bytes_begin : (boundary size length at : ℕ) → 1 ≤ boundary → (at ≤ (bytes_at boundary size length at).offset) × ((bytes_at boundary size length at).offset ≤ (bytes_at boundary size length at).end)
 bytes_begin boundary size length at positive = (aligned_behind boundary at positive, omega arith)
 
-pub pool_begins : (extent : Option ℕ) (at : ℕ) → (at ≤ (pool_at extent at).offset) × ((pool_at extent at).offset ≤ (pool_at extent at).end)
-pool_begins None at = (omega arith, omega arith)
-pool_begins (Some size) at = bytes_begin 8 size 1 at (omega arith)
+pub pool_begins : (operands : List (List ℕ)) (extent : Option ℕ) (at : ℕ)
+    → (at ≤ (laid Pool operands extent at).offset) × ((laid Pool operands extent at).offset ≤ (laid Pool operands extent at).end)
+unfolding laid
+pool_begins operands None at = (omega arith, omega arith)
+pool_begins operands (Some size) at = bytes_begin 8 size 1 at (omega arith)
 
 -- what a statement takes begins at or behind the offset before it, and ends at or behind its beginning
 pub laid_begins : (role : Role) (operands : List (List ℕ)) (extent : Option ℕ) (at : ℕ) → (laid role operands extent at).end ≤ bound
@@ -120,7 +124,7 @@ pub laid_begins : (role : Role) (operands : List (List ℕ)) (extent : Option �
 unfolding laid
 laid_begins (Instruction size) operands extent at within = bytes_begin 2 (capped size) size at (omega arith)
 laid_begins (Storage is_ds) operands extent at within = first_begins (items_in is_ds operands) at within
-laid_begins Pool operands extent at within = pool_begins extent at
+laid_begins Pool operands extent at within = pool_begins operands extent at
 laid_begins Unknown operands extent at within = (omega arith, omega arith)
 laid_begins Control operands extent at within = (omega arith, omega arith)
 laid_begins Dummy operands extent at within = (omega arith, omega arith)
@@ -134,17 +138,19 @@ lower_none None other e = (refl, e)
 lower_none (Some one) None e = cc
 lower_none (Some one) (Some other) e = cc
 
-pool_within : (extent : Option ℕ) (at : ℕ) → at ≤ bound → (pool_at extent at).fault ≡ None → (pool_at extent at).end ≤ bound
-pool_within None at inside e = inside
-pool_within (Some size) at inside e = beyond_none _ e
+pool_within : (operands : List (List ℕ)) (extent : Option ℕ) (at : ℕ) → at ≤ bound → (laid Pool operands extent at).fault ≡ None
+    → (laid Pool operands extent at).end ≤ bound
+unfolding laid
+pool_within operands None at inside e = inside
+pool_within operands (Some size) at inside e = beyond_none _ e
 
 -- without a fault it ends within the bound
 pub laid_within : (role : Role) (operands : List (List ℕ)) (extent : Option ℕ) (at : ℕ) → at ≤ bound → (laid role operands extent at).fault ≡ None
     → (laid role operands extent at).end ≤ bound
 unfolding laid
 laid_within (Instruction size) operands extent at inside e = beyond_none _ e
-laid_within (Storage is_ds) operands extent at inside e = beyond_none _ (lower_none (items_fault (items_in is_ds operands)) (beyond (end_from (items_in is_ds operands) at)) e).1
-laid_within Pool operands extent at inside e = pool_within extent at inside e
+laid_within (Storage is_ds) operands extent at inside e = beyond_none _ (lower_none (lowest (map result_err (items_in is_ds operands))) (beyond (end_from (items_in is_ds operands) at)) e).1
+laid_within Pool operands extent at inside e = pool_within operands extent at inside e
 laid_within Unknown operands extent at inside e = inside
 laid_within Control operands extent at inside e = inside
 laid_within Dummy operands extent at inside e = inside
@@ -153,10 +159,12 @@ laid_within Registers operands extent at inside e = inside
 laid_within Member operands extent at inside e = inside
 laid_within Nothing operands extent at inside e = inside
 
-pub pool_apart : (pool : Pooled) (at : ℕ) → IsPool pool → (pool_at (pool_extent pool) at).end ≤ bound
-    → StandApart (pool_at (pool_extent pool) at).offset (placed (capped (pool_at (pool_extent pool) at).offset) pool) (pool_at (pool_extent pool) at).end
-pool_apart [] at is within = no_pool_stands at
-pool_apart (e ∷ es) at is within =
+pub pool_apart : (operands : List (List ℕ)) (pool : Pooled) (at : ℕ) → IsPool pool → (laid Pool operands (pool_extent pool) at).end ≤ bound
+    → StandApart (laid Pool operands (pool_extent pool) at).offset (placed (capped (laid Pool operands (pool_extent pool) at).offset) pool)
+    (laid Pool operands (pool_extent pool) at).end
+unfolding laid
+pool_apart operands [] at is within = no_pool_stands at
+pool_apart operands (e ∷ es) at is within =
     subst (λ n. StandApart (aligned 8 at) (placed n (e ∷ es)) (aligned 8 at + pool_size (e ∷ es))) (sym (capped_same (aligned 8 at) (omega (arith, within))))
     (pool_stands (e ∷ es) (aligned 8 at) is (aligned_multiple 8 at) within)
 
@@ -169,7 +177,7 @@ stands_at (Instruction size) operands pool at is within = (
   ap (λ n. aligned 2 at + n) (capped_same size (capped_within size (omega (arith, within)))),
 )
 stands_at (Storage is_ds) operands pool at is within = items_stand (items_in is_ds operands) at within
-stands_at Pool operands pool at is within = ((pool_begins (pool_extent pool) at).0, pool_apart pool at is within)
+stands_at Pool operands pool at is within = ((pool_begins operands (pool_extent pool) at).0, pool_apart operands pool at is within)
 stands_at Unknown operands pool at is within = (refl, refl)
 stands_at Control operands pool at is within = (refl, refl)
 stands_at Dummy operands pool at is within = (refl, refl)

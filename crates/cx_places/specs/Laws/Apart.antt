@@ -11,7 +11,7 @@ use Rattle.cx_places.specs.Known.{Known, is_control, known_behind, laid_in, leng
 use Rattle.cx_places.specs.Placed.{closing}
 use Rattle.cx_places.specs.declared.layout.Laid.{Laid}
 use Rattle.cx_places.specs.declared.roles.Role.{Role}
-use Rattle.cx_places.specs.declared.roles.Role.TheVariants.{Unknown, Instruction, Control, Dummy, Equate, Storage, Pool, Registers, Member, Nothing}
+use Rattle.cx_places.specs.declared.roles.Role.TheVariants.{Instruction, Storage, Pool}
 
 -- the length so far of the section that a statement stands in, and of the control section
 abbrev pub section_length : Known → ℕ
@@ -40,13 +40,7 @@ abbrev pub Stands : Role → List (List ℕ) → Pooled → ℕ → Laid → Typ
 Stands (Instruction size) parts pool from laid = (from ≤ laid.offset) × (laid.offset % 2 ≡ 0) × (laid.end ≡ laid.offset + size)
 Stands (Storage is_ds) parts pool from laid = ItemsStand from (items_in is_ds parts) laid.items laid.end
 Stands Pool parts pool from laid = (from ≤ laid.offset) × StandApart laid.offset (placed (capped laid.offset) pool) laid.end
-Stands Unknown parts pool from laid = (laid.offset ≡ from) × (laid.end ≡ from)
-Stands Control parts pool from laid = (laid.offset ≡ from) × (laid.end ≡ from)
-Stands Dummy parts pool from laid = (laid.offset ≡ from) × (laid.end ≡ from)
-Stands Equate parts pool from laid = (laid.offset ≡ from) × (laid.end ≡ from)
-Stands Registers parts pool from laid = (laid.offset ≡ from) × (laid.end ≡ from)
-Stands Member parts pool from laid = (laid.offset ≡ from) × (laid.end ≡ from)
-Stands Nothing parts pool from laid = (laid.offset ≡ from) × (laid.end ≡ from)
+Stands _ parts pool from laid = (laid.offset ≡ from) × (laid.end ≡ from)
 
 -- ---- all statements
 -- what a statement takes of its section

@@ -1,6 +1,7 @@
 -- What is told of a statement before anything changes (own).
+use Rattle.std.specs.Prelude.{None, unwrap_or}
+use Rattle.std.specs.Result.{result_ok}
 use Rattle.cx_source.specs.declared.source.Stmt.{Stmt}
-use Rattle.cx_places.specs.Given.{value_in}
 use Rattle.cx_places.specs.Known.{Known, given_in, laid_in, name_in, own_fault, role_in}
 use Rattle.cx_places.specs.declared.faults.Heading.{Heading}
 use Rattle.cx_places.specs.declared.judged.Judged.{Judged}
@@ -10,4 +11,4 @@ heading_in stmt known = record { role = role_in stmt; name = name_in stmt; secti
 
 unfoldable pub judged_in : Stmt → Known → Judged
 judged_in stmt known =
-    record { laid = laid_in stmt known; value = value_in (given_in stmt known); fault = own_fault stmt known }
+    record { laid = laid_in stmt known; value = unwrap_or (result_ok (given_in stmt known)) None; fault = own_fault stmt known }
