@@ -6,7 +6,8 @@ use Rattle.cx_terms.specs.Bytes.{Made}
 use Rattle.cx_terms.specs.Items.{Constant}
 use Rattle.cx_terms.specs.declared.faults.FaultKind.{FaultKind}
 use Rattle.cx_asm.specs.Parts.Kept.{kept}
-use Rattle.cx_asm.specs.Resolving.{Standing, constant_standing, copies, item_standing, items_standing, joined, literal_standing, nothing, pool_standing, standing, standing_from, statement_standing}
+use Rattle.cx_asm.specs.Parts.Passing.{literal_standing}
+use Rattle.cx_asm.specs.Resolving.{Standing, constant_standing, copies, item_standing, items_standing, joined, nothing, pool_standing, standing, standing_from, statement_standing}
 use Rattle.cx_pools.specs.Pools.{Placed}
 use Rattle.cx_operands.specs.Bases.{Bases}
 use Rattle.cx_second.specs.Statements.{Stated}
@@ -43,11 +44,15 @@ copies_empty n (b ∷ bytes) e = absurd (omega (arith, e))
 
 -- the literal of a number, and those behind it
 pub pool_next : (told : Whole) (statements : List Stated) (pool : Placed) (i : ℕ)
-    → pool_standing told statements (drop i pool) ≡ joined (literal_standing told statements (slice_get pool i)) (pool_standing told statements (drop (i + 1) pool))
+    → pool_standing told statements (drop i pool)
+    ≡ joined (literal_standing told statements (slice_get pool i))
+    (pool_standing told statements (drop (i + 1) pool))
 pool_next told statements pool i = rw add-one (next pool i)
   where
     next : (pool : Placed) (i : ℕ)
-        → pool_standing told statements (drop i pool) ≡ joined (literal_standing told statements (slice_get pool i)) (pool_standing told statements (drop (suc i) pool))
+        → pool_standing told statements (drop i pool)
+        ≡ joined (literal_standing told statements (slice_get pool i))
+        (pool_standing told statements (drop (suc i) pool))
     next [] zero = refl
     next [] (suc i) = refl
     next (e ∷ pool) zero = refl

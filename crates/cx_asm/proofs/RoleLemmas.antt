@@ -1,5 +1,9 @@
 -- What a directive makes doesn't depend on the bases in use.
-use Rattle.std.proofs.Common.{◌≡◌, List, refl}
+use Rattle.std.proofs.Common.{◌≡◌, ℕ, List, Option, Ok, Err, refl}
+use Rattle.std.specs.Prelude.{IfOk, Result}
+use Rattle.cx_operations.specs.declared.operations.Operation.{Operation}
+use Rattle.cx_terms.specs.declared.faults.FaultKind.{FaultKind}
+use Rattle.cx_asm.specs.Parts.Passing.{WithUsing}
 use Rattle.cx_operands.specs.Bases.{Bases, none_in_use}
 use Rattle.cx_operations.specs.declared.operations.Directive.{Directive}
 use Rattle.cx_operations.specs.declared.operations.Directive.TheVariants as directive
@@ -26,3 +30,9 @@ by_directive told statements bases s directive.Title = refl
 by_directive told statements bases s directive.Print = refl
 by_directive told statements bases s directive.Eject = refl
 by_directive told statements bases s directive.Space = refl
+
+-- what a directive's fault is whatever the bases and the number, it is for these
+pub with_these : {E : Type 0} (told : Whole) (bases : Bases) (number : ℕ) (s : Stated) (o : Option Operation) (r : Result (Option FaultKind) E)
+    → IfOk r (λ fault. (b : Bases) → (n : ℕ) → WithUsing told b n s o fault) → IfOk r (λ fault. WithUsing told bases number s o fault)
+with_these told bases number s o (Ok fault) h = h bases number
+with_these told bases number s o (Err error) h = tt

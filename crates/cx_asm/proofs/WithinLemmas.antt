@@ -4,9 +4,11 @@ use Rattle.std.proofs.Common.{◌≡◌, ◌≤◌, ℕ, zero, suc, ◌+◌, Boo
 use Rattle.std.proofs.Math.Nat.{mul-le-mul_left}
 use Rattle.std.proofs.lemmas.Option.{same_Some}
 use Rattle.std.specs.List.{zip}
+use Rattle.std.specs.Option.{option_map_or}
+use Rattle.std.specs.Result.{result_ok}
 use Rattle.cx_code.specs.Spelling.{Instruction as Made_instruction, IsWellFormed, spelling}
 use Rattle.cx_code.specs.Table.{length_of as row_length}
-use Rattle.cx_code.specs.declared.disassembly.What.TheVariants.{Space}
+use Rattle.cx_code.specs.declared.disassembly.What.TheVariants.{Code, Space}
 use Rattle.cx_code.specs.declared.table.Op.{Op}
 use Rattle.cx_image.specs.Facts.Apart.{apart_append}
 use Rattle.cx_image.specs.Relocated.{words_at}
@@ -31,7 +33,7 @@ use Rattle.cx_terms.specs.Items.{Constant, constant_in, length_of, size_of}
 use Rattle.cx_terms.specs.declared.faults.FaultKind.{FaultKind}
 use Rattle.cx_terms.specs.declared.values.Value.{Value}
 use Rattle.cx_asm.specs.Laws.Standing.{IsWithin, WordsApart}
-use Rattle.cx_asm.specs.Resolving.{Standing, constant_standing, copies, counter_at, data_line, data_standing, instruction_lines, instruction_standing, items_standing, item_standing, joined, line, nothing, pool_standing, relocated, space_line, space_standing}
+use Rattle.cx_asm.specs.Resolving.{Standing, constant_standing, copies, counter_at, data_line, data_standing, instruction_standing, items_standing, item_standing, joined, line, nothing, pool_standing, relocated, space_line, space_standing}
 use Rattle.cx_asm.proofs.MadeLemmas.{MadeFits, item_fits}
 
 -- ---- one behind the other
@@ -145,7 +147,7 @@ row_size (operation.RegisterBranch b) op size e f = ap row_length (sym (same_Som
 row_size (operation.Directive d) op size e f = cc
 
 instruction_line : (from at size : ℕ) (r : Result Made_instruction FaultKind) → from ≤ at → ((made : Made_instruction) → r ≡ Ok made → length (spelling made) ≡ size)
-    → AreApart from (instruction_lines at r) (at + size)
+    → AreApart from (option_map_or (λ made. line at (Code made) ∷ []) (result_ok r) []) (at + size)
 instruction_line from at size (Ok made) le h = (le, omega (arith, h made refl))
 instruction_line from at size (Err fault) le h = omega (arith, le)
 
@@ -157,7 +159,7 @@ module _ (resolves : Resolves) (spelled : Spelled) (told : Whole) (bases : Bases
       spelled made row.1 ∙ row_size o made.op size row.0 e
 
   pub instruction_within : (s : Stated) (o : Option Operation) (size from : ℕ) → role_of o ≡ Instruction size → from ≤ s.place.offset
-      → IsWithin from (instruction_standing told bases s o) (s.place.offset + size)
+      → IsWithin from (option_map_or (instruction_standing told bases s) o nothing) (s.place.offset + size)
   instruction_within s None size from e le = cc
   instruction_within s (Some o) size from e le = record {
     lines = instruction_line from s.place.offset size (resolved o (instruction_context told bases s) s.stmt.operand) le (row_spelled s o size e);

@@ -45,7 +45,8 @@ entry_of source = option_map_or (entry_by (whole_of source)) (end_of (statements
 
 unfoldable pub section_of : Source → AssembledParts
 section_of source =
-    assembled (standing_of source).lines (size_of source) (standing_of source).relocs (entry_of source) (working_storage (storage_length (known_of source)))
+    let stands = standing_of source in let storage = working_storage (storage_length (known_of source)) in
+    assembled stands.lines (size_of source) stands.relocs (entry_of source) storage
 
 abbrev pub made_of : Source → AssemblyParts
 made_of source = parts (section_of source) (listing_of (whole_of source) (section_of source).image.text source)

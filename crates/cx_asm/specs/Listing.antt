@@ -16,13 +16,10 @@ offset_shown at (Instruction size) = Some at
 offset_shown at (Storage is_ds) = Some at
 offset_shown at role = None
 
--- the offset behind an item of a DC
-abbrev pub item_end : List ℕ × ℕ → ℕ
-item_end item = capped item.1 + capped (literal_size item.0)
-
--- and behind the last one
+-- the offset behind the last item of a DC
 abbrev pub end_behind : ℕ → List (List ℕ × ℕ) → ℕ
-end_behind at items = option_map_or item_end (slice_get items (length items - 1)) at
+end_behind at items =
+    option_map_or (λ item. capped item.1 + capped (literal_size item.0)) (slice_get items (length items - 1)) at
 
 -- how many bytes an instruction or a DC has, with the gaps between items; other statements have none
 abbrev pub object_length : Stated → Role → ℕ

@@ -1,15 +1,15 @@
 -- The resolved lines of a source, in address order (GC33-4010, "DC -- Define Constant", "DS -- Define Storage", "Literal Pool"; that they are lines is own).
-use Rattle.std.specs.Prelude.{ℕ, ◌-◌, zero, suc, Bool, true, false, ◌==◌, if◌then◌else◌, Option, Some, None, option_and_then, unwrap_or, Result, Ok, Err, List, [], ◌∷◌, ◌++◌, length, slice_get}
+use Rattle.std.specs.Prelude.{ℕ, ◌-◌, zero, suc, Bool, true, false, ◌==◌, if◌then◌else◌, Option, option_and_then, unwrap_or, Result, Ok, Err, List, [], ◌∷◌, ◌++◌, length, slice_get}
+use Rattle.std.specs.Option.{option_map_or}
+use Rattle.std.specs.Result.{result_ok}
 use Rattle.cx_code.specs.declared.disassembly.Line.{Line}
 use Rattle.cx_code.specs.declared.disassembly.What.{What}
 use Rattle.cx_code.specs.declared.disassembly.What.TheVariants.{Code, Data, Space}
-use Rattle.cx_code.specs.Spelling.{Instruction}
 use Rattle.cx_terms.specs.Items.{Constant, constant_in, size_of}
 use Rattle.cx_terms.specs.Bytes.{Made}
 use Rattle.cx_terms.specs.declared.values.Value.{Value}
 use Rattle.cx_terms.specs.declared.faults.FaultKind.{FaultKind}
 use Rattle.cx_pools.specs.Pools.{Placed}
-use Rattle.cx_pools.specs.declared.closed.Literal.{Literal}
 use Rattle.cx_places.specs.Given.{location_counter}
 use Rattle.cx_places.specs.Known.{is_control, role_in}
 use Rattle.cx_places.specs.declared.roles.Role.{Role}
@@ -59,7 +59,8 @@ relocated at count is_relocated = if is_relocated then words_at at count else []
 
 -- a constant, by what one copy of it is; at fault it is nothing
 abbrev pub constant_standing : ℕ → Result Constant FaultKind → Result Made FaultKind → Standing
-constant_standing at (Ok item) (Ok made) = standing (data_line at (copies item.duplication made.bytes)) (relocated at item.duplication made.is_relocated)
+constant_standing at (Ok item) (Ok made) =
+    standing (data_line at (copies item.duplication made.bytes)) (relocated at item.duplication made.is_relocated)
 constant_standing at item made = nothing
 
 -- an item of a DC, or a literal, at an offset
@@ -85,27 +86,20 @@ items_standing told is_ds s (item ∷ items) = joined (item_standing told is_ds 
 abbrev pub counter_at : List Stated → ℕ → Option Value
 counter_at statements user = option_and_then counter_of (slice_get statements user)
 
-abbrev pub literal_standing : Whole → List Stated → Option (List ℕ × Literal) → Standing
-literal_standing told statements None = nothing
-literal_standing told statements (Some e) = data_standing told (counter_at statements e.1.user) e.0 e.1.offset
-
 abbrev pub pool_standing : Whole → List Stated → Placed → Standing
 pool_standing told statements [] = nothing
 pool_standing told statements (e ∷ pool) =
-    joined (literal_standing told statements (Some e)) (pool_standing told statements pool)
+    joined (data_standing told (counter_at statements e.1.user) e.0 e.1.offset) (pool_standing told statements pool)
 
 -- ---- statements
-abbrev pub instruction_lines : ℕ → Result Instruction FaultKind → List Line
-instruction_lines at (Ok made) = line at (Code made) ∷ []
-instruction_lines at (Err fault) = []
-
-abbrev pub instruction_standing : Whole → Bases → Stated → Option Operation → Standing
-instruction_standing told bases s None = nothing
-instruction_standing told bases s (Some operation) =
-    standing (instruction_lines s.place.offset (resolved operation (instruction_context told bases s) s.stmt.operand)) []
+abbrev pub instruction_standing : Whole → Bases → Stated → Operation → Standing
+instruction_standing told bases s operation =
+    let made = result_ok (resolved operation (instruction_context told bases s) s.stmt.operand) in
+    standing (option_map_or (λ instruction. line s.place.offset (Code instruction) ∷ []) made []) []
 
 abbrev pub role_standing : Whole → List Stated → Bases → Stated → Role → Standing
-role_standing told statements bases s (Machine size) = instruction_standing told bases s (operation_of s)
+role_standing told statements bases s (Machine size) =
+    option_map_or (instruction_standing told bases s) (operation_of s) nothing
 role_standing told statements bases s (Storage is_ds) = items_standing told is_ds s (placed_items s)
 role_standing told statements bases s Pool = pool_standing told statements (pool_of told s)
 role_standing told statements bases s role = nothing

@@ -8,8 +8,9 @@ ghost use Rattle.cx_pools.specs.Pools.{Placed};
 ghost use Rattle.cx_second.specs.SecondFaults.{item_fault};
 ghost use Rattle.cx_second.specs.Whole.{item_made, told_by};
 ghost use Rattle.cx_asm.specs.Laws.Standing.{IsWithin};
-ghost use Rattle.cx_asm.specs.Parts.Kept.{kept};
-ghost use Rattle.cx_asm.specs.Resolving.{constant_standing, counter_at, data_standing, item_standing, items_standing, joined, literal_standing, pool_standing, space_standing};
+ghost use Rattle.cx_asm.specs.Parts.Kept.{Fits, kept};
+ghost use Rattle.cx_asm.specs.Parts.Passing.{literal_standing};
+ghost use Rattle.cx_asm.specs.Resolving.{constant_standing, counter_at, data_standing, item_standing, items_standing, pool_standing, space_standing};
 
 use crate::standing::Standing;
 use cx_places::{Places, location_counter};
@@ -28,8 +29,9 @@ fn push_made(
     keeps: bool,
     standing: &mut Standing,
 ) -> Result<(), AllocError>
-    requires { keeps ≡ true → IsWithin 0 (joined standing.old (constant_standing at (constant_in false text.now) (Ok made.now))) 65536 }
-    ensures { OnOk result (standing.new ≡ kept keeps standing.old (constant_standing at (constant_in false text.now) (Ok made.now))) }
+    requires { Fits keeps standing.old (constant_standing at (constant_in false text.now) (Ok made.now)) }
+    ensures { let stands = constant_standing at (constant_in false text.now) (Ok made.now) in
+        OnOk result (standing.new ≡ kept keeps standing.old stands) }
 {
     match Constant::read(text, false) {
         Ok(item) => standing.push_data(alloc, at, item.duplication(), made, keeps),
@@ -48,9 +50,11 @@ fn push_constant(
     keeps: bool,
     standing: &mut Standing,
 ) -> Result<Option<FaultKind>, AllocError>
-    requires { keeps ≡ true → IsWithin 0 (joined standing.old (data_standing (told_by places.now) counter text.now at)) 65536 }
-    ensures standing { OnOk result (standing.new ≡ kept keeps standing.old (data_standing (told_by places.now) counter text.now at)) }
-    ensures fault { IfOk result (λ fault. fault ≡ result_err (item_made (told_by places.now) false counter text.now)) }
+    requires { Fits keeps standing.old (data_standing (told_by places.now) counter text.now at) }
+    ensures standing { let told = told_by places.now in
+        OnOk result (standing.new ≡ kept keeps standing.old (data_standing told counter text.now at)) }
+    ensures fault { let told = told_by places.now in
+        IfOk result (λ fault. fault ≡ result_err (item_made told false counter text.now)) }
 {
     match item_made(alloc, places, false, counter, text) {
         Ok(made) => {
@@ -65,7 +69,7 @@ fn push_constant(
 /// Appends an item of a DS, if it is kept.
 #[tactic(auto, using(crate::proofs::JoinLemmas::kept_nothing))]
 fn push_space(at: u128, text: &[u8], keeps: bool, standing: &mut Standing) -> Result<(), AllocError>
-    requires { keeps ≡ true → IsWithin 0 (joined standing.old (space_standing at (constant_in true text.now))) 65536 }
+    requires { Fits keeps standing.old (space_standing at (constant_in true text.now)) }
     ensures { OnOk result (standing.new ≡ kept keeps standing.old (space_standing at (constant_in true text.now))) }
 {
     match Constant::read(text, true) {
@@ -84,9 +88,11 @@ fn push_item(
     keeps: bool,
     standing: &mut Standing,
 ) -> Result<Option<FaultKind>, AllocError>
-    requires { keeps ≡ true → IsWithin 0 (joined standing.old (item_standing (told_by places.now) is_ds statement.now item.now)) 65536 }
-    ensures standing { OnOk result (standing.new ≡ kept keeps standing.old (item_standing (told_by places.now) is_ds statement.now item.now)) }
-    ensures fault { IfOk result (λ fault. fault ≡ item_fault (told_by places.now) is_ds statement.now item.now) }
+    requires { Fits keeps standing.old (item_standing (told_by places.now) is_ds statement.now item.now) }
+    ensures standing { let told = told_by places.now in
+        OnOk result (standing.new ≡ kept keeps standing.old (item_standing told is_ds statement.now item.now)) }
+    ensures fault { let told = told_by places.now in
+        IfOk result (λ fault. fault ≡ item_fault told is_ds statement.now item.now) }
 {
     let at = item.offset();
     let counter = location_counter(statement.place().section, at, 1);
@@ -108,9 +114,11 @@ pub(crate) fn push_items(
     keeps: bool,
     standing: &mut Standing,
 ) -> Result<Option<FaultKind>, AllocError>
-    requires { keeps ≡ true → IsWithin 0 (joined standing.old (items_standing (told_by places.now) is_ds statement.now items.now)) 65536 }
-    ensures standing { OnOk result (standing.new ≡ kept keeps standing.old (items_standing (told_by places.now) is_ds statement.now items.now)) }
-    ensures fault { IfOk result (λ fault. fault ≡ lowest (map (item_fault (told_by places.now) is_ds statement.now) items.now)) }
+    requires { Fits keeps standing.old (items_standing (told_by places.now) is_ds statement.now items.now) }
+    ensures standing { let told = told_by places.now in
+        OnOk result (standing.new ≡ kept keeps standing.old (items_standing told is_ds statement.now items.now)) }
+    ensures fault { let told = told_by places.now in
+        IfOk result (λ fault. fault ≡ lowest (map (item_fault told is_ds statement.now) items.now)) }
 {
     let mut fault = None;
     for item in items {
@@ -137,10 +145,10 @@ fn push_literal(
     keeps: bool,
     standing: &mut Standing,
 ) -> Result<(), AllocError>
-    requires { keeps ≡ true
-        → IsWithin 0 (joined standing.old (literal_standing (told_by places.now) statements.now (option_map (λ e. (e.0.now, e.1)) literal))) 65536 }
-    ensures { OnOk result (standing.new
-        ≡ kept keeps standing.old (literal_standing (told_by places.now) statements.now (option_map (λ e. (e.0.now, e.1)) literal.entry))) }
+    requires { let it = option_map (λ e. (e.0.now, e.1)) literal in
+        Fits keeps standing.old (literal_standing (told_by places.now) statements.now it) }
+    ensures { let it = option_map (λ e. (e.0.now, e.1)) literal.entry in
+        OnOk result (standing.new ≡ kept keeps standing.old (literal_standing (told_by places.now) statements.now it)) }
 {
     let Some((text, literal)) = literal else {
         return Ok(());
@@ -168,8 +176,9 @@ pub(crate) fn push_pool(
     keeps: bool,
     standing: &mut Standing,
 ) -> Result<(), AllocError>
-    requires { keeps ≡ true → IsWithin 0 (joined standing.old (pool_standing (told_by places.now) statements.now pool.now)) 65536 }
-    ensures { OnOk result (standing.new ≡ kept keeps standing.old (pool_standing (told_by places.now) statements.now pool.now)) }
+    requires { Fits keeps standing.old (pool_standing (told_by places.now) statements.now pool.now) }
+    ensures { let told = told_by places.now in
+        OnOk result (standing.new ≡ kept keeps standing.old (pool_standing told statements.now pool.now)) }
 {
     for index in 0..pool.len() {
         push_literal(

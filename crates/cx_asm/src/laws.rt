@@ -20,10 +20,12 @@ ghost use Rattle.cx_asm.specs.declared.faults.AsmFault.TheVariants.{Memory};
 /// A copy of an item of a DC, or of a literal, has no more bytes than its length, which is a word's at least where it is
 /// relocated.
 pub fn a_constant_has_its_length()
-    ensures short { (told : Whole) (counter : Option Value) (text : List ℕ) (item : Constant) (made : Made) → constant_in false text ≡ Ok item
-        → item_made told false counter text ≡ Ok made → length made.bytes ≤ length_of item }
-    ensures word { (told : Whole) (counter : Option Value) (text : List ℕ) (item : Constant) (made : Made) → constant_in false text ≡ Ok item
-        → item_made told false counter text ≡ Ok made → made.is_relocated ≡ true → 4 ≤ length_of item }
+    ensures short { (told : Whole) (counter : Option Value) (text : List ℕ) (item : Constant) (made : Made)
+        → constant_in false text ≡ Ok item → item_made told false counter text ≡ Ok made
+        → length made.bytes ≤ length_of item }
+    ensures word { (told : Whole) (counter : Option Value) (text : List ℕ) (item : Constant) (made : Made)
+        → constant_in false text ≡ Ok item → item_made told false counter text ≡ Ok made
+        → made.is_relocated ≡ true → 4 ≤ length_of item }
 {}
 
 /// In an accepted source whose control section is no longer than a text may be, the resolved lines ascend, share no byte, and
@@ -39,19 +41,21 @@ pub fn what_stands_stands_apart()
 /// The second pass' first fault is the fault of a statement on its line; the first statement that has such a fault is on that
 /// line; and no statement of that line has one with a lower number. Where there is none no statement has one.
 pub fn the_second_pass_tells_its_first_fault()
-    ensures { (told : Whole) (statements : List Stated) → IsFirstOf (second_faults_behind told statements) (judged_behind told statements).fault }
+    ensures { (told : Whole) (statements : List Stated)
+        → IsFirstOf (second_faults_behind told statements) (judged_behind told statements).fault }
 {}
 
 /// There is one assembly of a source: two answers to one source, neither of them Memory, are one answer.
 pub fn an_assembly_is_one()
-    ensures { (due one other : Result AssemblyParts AsmFault) → Assembles due one → Assembles due other → one ≢ Err Memory → other ≢ Err Memory
-        → one ≡ other }
+    ensures { (due one other : Result AssemblyParts AsmFault) → Assembles due one → Assembles due other
+        → one ≢ Err Memory → other ≢ Err Memory → one ≡ other }
 {}
 
 /// The text of an accepted source is as long as its control section, 65,536 bytes at most. Its resolved lines ascend, share no
 /// byte and end in it, and so do its relocated words.
 pub fn an_assembly_stands_apart()
-    ensures size { (source : Source) (made : AssemblyParts) → assembly_of source ≡ Ok made → length made.section.image.text ≡ size_of source }
+    ensures size { (source : Source) (made : AssemblyParts) → assembly_of source ≡ Ok made
+        → length made.section.image.text ≡ size_of source }
     ensures short { (source : Source) (made : AssemblyParts) → assembly_of source ≡ Ok made → size_of source ≤ 65536 }
     ensures lines { (source : Source) (made : AssemblyParts) → assembly_of source ≡ Ok made
         → AreApart 0 made.section.resolved (length made.section.image.text) }

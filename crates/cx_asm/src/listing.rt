@@ -1,11 +1,11 @@
 //! The listing.
 
-ghost use Rattle.std.specs.Prelude.{◌≡◌, IfOk, drop, map, take, None, [], option_map};
-ghost use Rattle.cx_pools.specs.Pools.{literal_size};
+ghost use Rattle.std.specs.Prelude.{◌≡◌, ◌+◌, IfOk, drop, map, take, None, [], option_map};
+ghost use Rattle.cx_pools.specs.Pools.{capped, literal_size};
 ghost use Rattle.cx_places.specs.Known.{role_in};
 ghost use Rattle.cx_image.specs.Listing.{listing_line};
 ghost use Rattle.cx_second.specs.Whole.{told_by};
-ghost use Rattle.cx_asm.specs.Listing.{end_behind, item_end, line_with, listed, object_length, object_of, offset_shown};
+ghost use Rattle.cx_asm.specs.Listing.{end_behind, line_with, listed, object_length, object_of, offset_shown};
 
 use crate::section::is_control;
 use cx_image::listing_line;
@@ -38,7 +38,7 @@ fn constant_size(text: &[u8]) -> u128
 
 /// The offset behind an item of a DC.
 fn item_end(item: &StatementItem<'_>) -> u128
-    ensures { result ≡ item_end item.now }
+    ensures { result ≡ capped item.now.1 + capped (literal_size item.now.0) }
 {
     capped(item.offset()) + capped(constant_size(item.text()))
 }

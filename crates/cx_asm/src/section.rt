@@ -1,15 +1,20 @@
 //! The second pass over the statements of a source: their first fault, and what they make in the control section.
 
-ghost use Rattle.std.specs.Prelude.{◌≡◌, false, IfOk, OnOk, reverse, Some, true};
-ghost use Rattle.cx_operands.specs.Bases.{none_in_use};
+ghost use Rattle.std.specs.Prelude.{◌≡◌, false, IfOk, OnOk, reverse, Some, true, ℕ};
+ghost use Rattle.std.specs.Result.{result_err};
+ghost use Rattle.cx_terms.specs.Faults.{lower};
+ghost use Rattle.cx_operands.specs.Bases.{Bases, none_in_use};
+ghost use Rattle.cx_operands.specs.Forms.{resolved};
+ghost use Rattle.cx_operations.specs.declared.operations.Operation.TheVariants as operation;
 ghost use Rattle.cx_operations.specs.declared.operations.Directive.TheVariants as directive;
 ghost use Rattle.cx_places.specs.Known.{is_control, role_in};
 ghost use Rattle.cx_places.specs.Roles.{directive_role};
-ghost use Rattle.cx_second.specs.SecondFaults.{directive_fault, instruction_fault, items_fault, judged_after, judged_behind, operand_fault};
+ghost use Rattle.cx_second.specs.SecondFaults.{items_fault, judged_after, judged_behind, literals_fault, operand_fault};
 ghost use Rattle.cx_second.specs.Statements.{operation_of, placed_items};
-ghost use Rattle.cx_second.specs.Whole.{pool_of, told_by};
+ghost use Rattle.cx_second.specs.Whole.{instruction_context, pool_of, told_by};
 ghost use Rattle.cx_asm.specs.Laws.Standing.{IsWithin};
-ghost use Rattle.cx_asm.specs.Parts.Kept.{kept};
+ghost use Rattle.cx_asm.specs.Parts.Kept.{Fits, kept};
+ghost use Rattle.cx_asm.specs.Parts.Passing.{WithUsing};
 ghost use Rattle.cx_asm.specs.Resolving.{instruction_standing, items_standing, joined, last_pool, pool_standing, role_standing, standing_from, statement_standing};
 
 use crate::constants::{push_items, push_pool};
@@ -49,11 +54,14 @@ fn pass_instruction(
     keeps: bool,
     standing: &mut Standing,
 ) -> Result<Option<FaultKind>, AllocError>
-    requires { keeps ≡ true
-        → IsWithin 0 (joined standing.old (instruction_standing (told_by places.now) bases.now statement.now (Some operation))) 65536 }
-    ensures standing { OnOk result (standing.new
-        ≡ kept keeps standing.old (instruction_standing (told_by places.now) bases.now statement.now (Some operation))) }
-    ensures fault { IfOk result (λ fault. fault ≡ instruction_fault (told_by places.now) bases.now number statement.now operation) }
+    requires { let told = told_by places.now in
+        Fits keeps standing.old (instruction_standing told bases.now statement.now operation) }
+    ensures standing { let told = told_by places.now in
+        let made = instruction_standing told bases.now statement.now operation in
+        OnOk result (standing.new ≡ kept keeps standing.old made) }
+    ensures fault { let told = told_by places.now in
+        let made = resolved operation (instruction_context told bases.now statement.now) statement.now.stmt.operand in
+        IfOk result (λ fault. fault ≡ lower (result_err made) (literals_fault told number statement.now)) }
 {
     let literals = literals_fault(alloc, places, number, statement)?;
     match instruction_of(alloc, places, bases, statement, operation) {
@@ -75,10 +83,11 @@ fn pass_storage(
     keeps: bool,
     standing: &mut Standing,
 ) -> Result<Option<FaultKind>, AllocError>
-    requires { keeps ≡ true
-        → IsWithin 0 (joined standing.old (items_standing (told_by places.now) is_ds statement.now (placed_items statement.now))) 65536 }
-    ensures standing { OnOk result (standing.new
-        ≡ kept keeps standing.old (items_standing (told_by places.now) is_ds statement.now (placed_items statement.now))) }
+    requires { let told = told_by places.now in
+        Fits keeps standing.old (items_standing told is_ds statement.now (placed_items statement.now)) }
+    ensures standing { let told = told_by places.now in
+        let made = items_standing told is_ds statement.now (placed_items statement.now) in
+        OnOk result (standing.new ≡ kept keeps standing.old made) }
     ensures fault { IfOk result (λ fault. fault ≡ items_fault (told_by places.now) is_ds statement.now) }
 {
     let items = placed_items(alloc, statement)?;
@@ -103,10 +112,11 @@ fn push_closed_pool(
     keeps: bool,
     standing: &mut Standing,
 ) -> Result<(), AllocError>
-    requires { keeps ≡ true
-        → IsWithin 0 (joined standing.old (pool_standing (told_by places.now) statements.now (pool_of (told_by places.now) statement.now))) 65536 }
-    ensures { OnOk result (standing.new
-        ≡ kept keeps standing.old (pool_standing (told_by places.now) statements.now (pool_of (told_by places.now) statement.now))) }
+    requires { let told = told_by places.now in
+        Fits keeps standing.old (pool_standing told statements.now (pool_of told statement.now)) }
+    ensures { let told = told_by places.now in
+        let made = pool_standing told statements.now (pool_of told statement.now) in
+        OnOk result (standing.new ≡ kept keeps standing.old made) }
 {
     match pool_of(places, statement) {
         Some(pool) => push_pool(alloc, places, statements, pool, keeps, standing),
@@ -120,7 +130,9 @@ fn end_fault(
     places: &Places<'_>,
     statement: &Statement<'_>,
 ) -> Result<Option<FaultKind>, AllocError>
-    ensures { IfOk result (λ fault. fault ≡ directive_fault (told_by places.now) statement.now directive.End) }
+    ensures { let told = told_by places.now in
+        let it = Some (operation.Directive directive.End) in
+        IfOk result (λ fault. fault ≡ operand_fault told none_in_use 0 statement.now it) }
 {
     match entry_of(alloc, places, statement) {
         Ok(_) => Ok(None),
@@ -130,7 +142,7 @@ fn end_fault(
 }
 
 /// Appends what a directive makes, if it is kept. Its fault is answered, if it has one, USING and DROP apart.
-#[tactic(auto, using(crate::proofs::JoinLemmas::kept_nothing))]
+#[tactic(auto, using(crate::proofs::JoinLemmas::kept_nothing, crate::proofs::FaultLemmas::lower_nothing), unfolding(cx_operands::specs::Directives::bases_in))]
 fn pass_directive(
     alloc: Global,
     places: &Places<'_>,
@@ -140,11 +152,14 @@ fn pass_directive(
     keeps: bool,
     standing: &mut Standing,
 ) -> Result<Option<FaultKind>, AllocError>
-    requires { keeps ≡ true → IsWithin 0
-        (joined standing.old (role_standing (told_by places.now) statements.now none_in_use statement.now (directive_role directive))) 65536 }
-    ensures standing { OnOk result (standing.new
-        ≡ kept keeps standing.old (role_standing (told_by places.now) statements.now none_in_use statement.now (directive_role directive))) }
-    ensures fault { IfOk result (λ fault. fault ≡ directive_fault (told_by places.now) statement.now directive) }
+    requires { let told = told_by places.now in
+        let made = role_standing told statements.now none_in_use statement.now (directive_role directive) in
+        Fits keeps standing.old made }
+    ensures standing { let told = told_by places.now in
+        let made = role_standing told statements.now none_in_use statement.now (directive_role directive) in
+        OnOk result (standing.new ≡ kept keeps standing.old made) }
+    ensures fault { let told = told_by places.now in let it = Some (operation.Directive directive) in
+        IfOk result (λ fault. (bases : Bases) → (number : ℕ) → WithUsing told bases number statement.now it fault) }
 {
     match directive {
         Directive::Dc => pass_storage(alloc, places, false, statement, keeps, standing),
@@ -161,7 +176,7 @@ fn pass_directive(
 
 /// Appends what a statement of a number, from 0, makes, if it is kept. Its fault is answered, if it has one, those of USING and
 /// DROP apart.
-#[tactic(auto, using(crate::proofs::JoinLemmas::kept_nothing, crate::proofs::RoleLemmas::by_directive))]
+#[tactic(auto, using(crate::proofs::JoinLemmas::kept_nothing, crate::proofs::RoleLemmas::by_directive, crate::proofs::FaultLemmas::lower_nothing), unfolding(cx_operands::specs::Directives::bases_in))]
 fn pass_operands(
     alloc: Global,
     places: &Places<'_>,
@@ -172,12 +187,14 @@ fn pass_operands(
     keeps: bool,
     standing: &mut Standing,
 ) -> Result<Option<FaultKind>, AllocError>
-    requires { keeps ≡ true → IsWithin 0
-        (joined standing.old (role_standing (told_by places.now) statements.now bases.now statement.now (role_in statement.now.stmt))) 65536 }
-    ensures standing { OnOk result (standing.new
-        ≡ kept keeps standing.old (role_standing (told_by places.now) statements.now bases.now statement.now (role_in statement.now.stmt))) }
-    ensures fault { IfOk result (λ fault.
-        fault ≡ operand_fault (told_by places.now) bases.now number statement.now (operation_of statement.now)) }
+    requires { let told = told_by places.now in
+        let made = role_standing told statements.now bases.now statement.now (role_in statement.now.stmt) in
+        Fits keeps standing.old made }
+    ensures standing { let told = told_by places.now in
+        let made = role_standing told statements.now bases.now statement.now (role_in statement.now.stmt) in
+        OnOk result (standing.new ≡ kept keeps standing.old made) }
+    ensures fault { let told = told_by places.now in
+        IfOk result (λ fault. WithUsing told bases.now number statement.now (operation_of statement.now) fault) }
 {
     match statement.operation() {
         None => Ok(None),
@@ -207,12 +224,13 @@ fn pass_statement(
     keeps: bool,
     standing: &mut Standing,
 ) -> Result<Option<FaultKind>, AllocError>
-    requires { keeps ≡ true
-        → IsWithin 0 (joined standing.old (statement_standing (told_by places.now) statements.now bases.now statement.now)) 65536 }
-    ensures standing { OnOk result (standing.new
-        ≡ kept keeps standing.old (statement_standing (told_by places.now) statements.now bases.now statement.now)) }
-    ensures fault { IfOk result (λ fault.
-        fault ≡ operand_fault (told_by places.now) bases.now number statement.now (operation_of statement.now)) }
+    requires { let told = told_by places.now in
+        Fits keeps standing.old (statement_standing told statements.now bases.now statement.now) }
+    ensures standing { let told = told_by places.now in
+        let made = statement_standing told statements.now bases.now statement.now in
+        OnOk result (standing.new ≡ kept keeps standing.old made) }
+    ensures fault { let told = told_by places.now in
+        IfOk result (λ fault. WithUsing told bases.now number statement.now (operation_of statement.now) fault) }
 {
     if is_control(statement.place().section, control_name(places)) {
         return pass_operands(
@@ -233,10 +251,10 @@ fn push_last_pool(
     keeps: bool,
     standing: &mut Standing,
 ) -> Result<(), AllocError>
-    requires { keeps ≡ true
-        → IsWithin 0 (joined standing.old (pool_standing (told_by places.now) statements.now (last_pool (told_by places.now)))) 65536 }
-    ensures { OnOk result (standing.new
-        ≡ kept keeps standing.old (pool_standing (told_by places.now) statements.now (last_pool (told_by places.now)))) }
+    requires { let told = told_by places.now in
+        Fits keeps standing.old (pool_standing told statements.now (last_pool told)) }
+    ensures { let told = told_by places.now in
+        OnOk result (standing.new ≡ kept keeps standing.old (pool_standing told statements.now (last_pool told))) }
 {
     match places.pools.as_slice().last() {
         Some(pool) => push_pool(alloc, places, statements, pool, keeps, standing),
@@ -271,11 +289,13 @@ fn pass(
     judging: &mut Judging,
     standing: &mut Standing,
 ) -> Result<(), AllocError>
-    requires { keeps ≡ true
-        → IsWithin 0 (joined standing.old (statement_standing (told_by places.now) statements.now judging.old.bases statement.now)) 65536 }
-    ensures judged { OnOk result (judging.new ≡ judged_after (told_by places.now) number statement.now judging.old) }
-    ensures standing { OnOk result (standing.new
-        ≡ kept keeps standing.old (statement_standing (told_by places.now) statements.now judging.old.bases statement.now)) }
+    requires { let told = told_by places.now in
+        Fits keeps standing.old (statement_standing told statements.now judging.old.bases statement.now) }
+    ensures judged { let told = told_by places.now in
+        OnOk result (judging.new ≡ judged_after told number statement.now judging.old) }
+    ensures standing { let told = told_by places.now in
+        let made = statement_standing told statements.now judging.old.bases statement.now in
+        OnOk result (standing.new ≡ kept keeps standing.old made) }
 {
     let operands = pass_statement(
         alloc,
@@ -308,10 +328,13 @@ pub(crate) fn second_pass(
     statements: &[Statement<'_>],
     keeps: bool,
 ) -> Result<Found, AllocError>
-    requires { keeps ≡ true → IsWithin 0 (standing_from (told_by places.now) statements.now none_in_use statements.now) 65536 }
-    ensures first { IfOk result (λ found. found.first ≡ (judged_behind (told_by places.now) (reverse statements.now)).fault) }
-    ensures standing { IfOk result (λ found.
-        keeps ≡ true → found.standing ≡ standing_from (told_by places.now) statements.now none_in_use statements.now) }
+    requires { let told = told_by places.now in
+        keeps ≡ true → IsWithin 0 (standing_from told statements.now none_in_use statements.now) 65536 }
+    ensures first { let told = told_by places.now in
+        IfOk result (λ found. found.first ≡ (judged_behind told (reverse statements.now)).fault) }
+    ensures standing { let told = told_by places.now in
+        let all = standing_from told statements.now none_in_use statements.now in
+        IfOk result (λ found. keeps ≡ true → found.standing ≡ all) }
 {
     let mut standing = Standing::new(alloc);
     let mut judging = Judging {

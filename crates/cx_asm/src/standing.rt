@@ -2,7 +2,7 @@
 
 ghost use Rattle.std.specs.Prelude.{◌≡◌, ◌++◌, ◌∷◌, [], IfOk, OnOk, true};
 ghost use Rattle.cx_asm.specs.Laws.Standing.{IsWithin, WordsApart};
-ghost use Rattle.cx_asm.specs.Parts.Kept.{kept};
+ghost use Rattle.cx_asm.specs.Parts.Kept.{Fits, kept};
 ghost use Rattle.cx_asm.specs.Resolving.{copies, data_line, joined, line as resolved_line, nothing, relocated, space_line, standing};
 ghost use Rattle.cx_code.specs.declared.disassembly.What.TheVariants.{Code};
 
@@ -87,10 +87,10 @@ impl Standing {
         made: &ConstantBytes,
         keeps: bool,
     ) -> Result<(), AllocError>
-        requires { keeps ≡ true
-            → IsWithin 0 (joined self.old (standing (data_line at (copies count made.now.bytes)) (relocated at count made.now.is_relocated))) 65536 }
-        ensures { OnOk result (self.new
-            ≡ kept keeps self.old (standing (data_line at (copies count made.now.bytes)) (relocated at count made.now.is_relocated))) }
+        requires { let words = relocated at count made.now.is_relocated in
+            Fits keeps self.old (standing (data_line at (copies count made.now.bytes)) words) }
+        ensures { let words = relocated at count made.now.is_relocated in
+            OnOk result (self.new ≡ kept keeps self.old (standing (data_line at (copies count made.now.bytes)) words)) }
     {
         if !keeps {
             return Ok(());
@@ -108,7 +108,7 @@ impl Standing {
 
     /// Appends a space at an offset, where it has bytes, if it is kept.
     pub(crate) fn push_space(&mut self, at: u128, size: u128, keeps: bool) -> Result<(), AllocError>
-        requires { keeps ≡ true → IsWithin 0 (joined self.old (standing (space_line at size) [])) 65536 }
+        requires { Fits keeps self.old (standing (space_line at size) []) }
         ensures { OnOk result (self.new ≡ kept keeps self.old (standing (space_line at size) [])) }
     {
         if !keeps {
@@ -125,7 +125,7 @@ impl Standing {
 
     /// Appends an instruction at an offset, if it is kept.
     pub(crate) fn push_code(&mut self, at: u128, inst: Inst, keeps: bool) -> Result<(), AllocError>
-        requires { keeps ≡ true → IsWithin 0 (joined self.old (standing (resolved_line at (Code inst) ∷ []) [])) 65536 }
+        requires { Fits keeps self.old (standing (resolved_line at (Code inst) ∷ []) []) }
         ensures { OnOk result (self.new ≡ kept keeps self.old (standing (resolved_line at (Code inst) ∷ []) [])) }
     {
         if !keeps {

@@ -1,9 +1,11 @@
 -- The instructions of an accepted source are well formed, and its lines come back.
 use Rattle.std.specs.Prelude.{Result, Ok, Err, ◌==◌}
 use Rattle.std.specs.List.{AllByRecursion}
+use Rattle.std.specs.Option.{option_map_or}
+use Rattle.std.specs.Result.{result_ok}
 use Rattle.std.proofs.Common.{◌≡◌, ◌≤◌, ℕ, Bool, true, false, cond, Option, Some, None, List, [], ◌∷◌, ◌++◌, length, refl, subst}
 use Rattle.cx_code.specs.declared.disassembly.Line.{Line}
-use Rattle.cx_code.specs.declared.disassembly.What.TheVariants.{Space}
+use Rattle.cx_code.specs.declared.disassembly.What.TheVariants.{Code, Space}
 use Rattle.cx_code.specs.Lines.{lines}
 use Rattle.cx_code.specs.Spelling.{Instruction as Made_instruction, IsWellFormed}
 use Rattle.cx_source.specs.declared.source.Source.{Source}
@@ -33,7 +35,7 @@ use Rattle.cx_asm.specs.Assembly.{AssemblyParts, assembly_of, section_of, size_o
 use Rattle.cx_asm.specs.Facts.Accepted.{accepted}
 use Rattle.cx_asm.specs.Facts.Bases.{after_sixteen}
 use Rattle.cx_asm.specs.Laws.Standing.{IsWithin}
-use Rattle.cx_asm.specs.Resolving.{constant_standing, counter_at, data_line, data_standing, instruction_lines, instruction_standing, item_standing, items_standing, last_pool, line, nothing, pool_standing, role_standing, space_line, space_standing, standing_from, statement_standing, copies}
+use Rattle.cx_asm.specs.Resolving.{constant_standing, counter_at, data_line, data_standing, instruction_standing, item_standing, items_standing, last_pool, line, nothing, pool_standing, role_standing, space_line, space_standing, standing_from, statement_standing, copies}
 use Rattle.cx_asm_laws.specs.Laws.Back.{ComesBack}
 
 abbrev pub Resolves : Type 0
@@ -78,11 +80,11 @@ pool_sound told statements (e ∷ pool) =
 
 module _ (resolves : Resolves) (told : Whole) (statements : List Stated) where
   instruction_sound : (at : ℕ) (result : Result Made_instruction FaultKind) → ((made : Made_instruction) → result ≡ Ok made → IsWellFormed made)
-      → AreWellFormed (instruction_lines at result)
+      → AreWellFormed (option_map_or (λ made. line at (Code made) ∷ []) (result_ok result) [])
   instruction_sound at (Ok made) h = (h made refl, tt)
   instruction_sound at (Err fault) h = tt
 
-  operation_sound : (bases : Bases) → length bases ≡ 16 → (s : Stated) (o : Option Operation) → AreWellFormed (instruction_standing told bases s o).lines
+  operation_sound : (bases : Bases) → length bases ≡ 16 → (s : Stated) (o : Option Operation) → AreWellFormed (option_map_or (instruction_standing told bases s) o nothing).lines
   operation_sound bases sixteen s None = tt
   operation_sound bases sixteen s (Some o) =
       instruction_sound s.place.offset (resolved o (instruction_context told bases s) s.stmt.operand)

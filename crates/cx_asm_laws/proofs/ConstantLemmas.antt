@@ -29,7 +29,7 @@ use Rattle.cx_operations.specs.declared.operations.Operation.TheVariants as oper
 use Rattle.cx_operands.specs.Bases.{Bases, none_in_use}
 use Rattle.cx_operands.specs.Judging.{judged}
 use Rattle.cx_operands.specs.Values.{item_in}
-use Rattle.cx_second.specs.SecondFaults.{bases_after, item_fault, items_fault, judged_behind, operand_fault, second_fault, using_fault}
+use Rattle.cx_second.specs.SecondFaults.{bases_after, item_fault, items_fault, judged_behind, operand_fault, second_fault}
 use Rattle.cx_second.specs.Statements.{Stated, operation_of, placed_items, statements_of}
 use Rattle.cx_second.specs.Whole.{Whole, item_made, pool_of, whole_of}
 use Rattle.cx_asm.specs.Assembly.{AssemblyParts, assembly_of, second_fault_of, standing_of}
@@ -169,7 +169,7 @@ module _ (told : Whole) (resolved : List Line) where
 
   no_operand_fault : (bases : Bases) (number : ℕ) (s : Stated) → second_fault told bases number s ≡ None → operand_fault told bases number s (operation_of s) ≡ None
   unfolding second_fault
-  no_operand_fault bases number s e = (lower_none (operand_fault told bases number s (operation_of s)) (using_fault told bases s (operation_of s)) e).0
+  no_operand_fault bases number s e = e
 
   role_stands : (statements : List Stated) (bases : Bases) (s : Stated) (role : Role) → role_in s.stmt ≡ role → HasNoFault told s
       → Has resolved (role_standing told statements bases s role).lines → RoleStands told statements resolved s role

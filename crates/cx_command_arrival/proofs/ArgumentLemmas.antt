@@ -9,7 +9,7 @@ use Rattle.cx_exec.specs.Machine.{effective, given}
 use Rattle.cx_terms.specs.declared.faults.FaultKind.{FaultKind}
 use Rattle.cx_terms.specs.declared.faults.FaultKind.TheVariants.{BadOperand, NoAddressability, ValueOutOfRange}
 use Rattle.cx_terms.specs.declared.values.Value.{Value}
-use Rattle.cx_operands.specs.Addresses.{address, address_in as addressed_in, displacement_of, implied_address, nearest}
+use Rattle.cx_operands.specs.Addresses.{address, address_in as addressed_in, within, implied_address, nearest}
 use Rattle.cx_operands.specs.Bases.{Bases}
 use Rattle.cx_operands.specs.Context.{Context, number_at_most, register_in}
 use Rattle.cx_operands.specs.Judging.{both, judged, made_of}
@@ -43,7 +43,7 @@ or_ok (Some found) fault a e = cc
 or_ok None fault a e = absurd (cc)
 
 -- ---- an implied address
-pub absolute_is : (number : ℤ) (at : Address) → option_map (address 0) (displacement_of number) ≡ Some at → (at.base ≡ 0) × (number ≡ pos at.displacement)
+pub absolute_is : (number : ℤ) (at : Address) → option_map (address 0) (within 4095 number) ≡ Some at → (at.base ≡ 0) × (number ≡ pos at.displacement)
 absolute_is (pos n) at e = go (int_le (pos 0) (pos n) && int_le (pos n) (pos 4095)) e
   where
     go : (b : Bool) → option_map (address 0) (cond b (Some n) None) ≡ Some at → (at.base ≡ 0) × (pos n ≡ pos at.displacement)
@@ -71,7 +71,7 @@ pub implied_is : Nearest → (sections : Sections) (regs : List ℕ) (bases : Ba
 unfolding effective
 implied_is near sections regs bases None number at x e =
     λ n is.
-    let found = absolute_is number at (or_ok (option_map (address 0) (displacement_of number)) ValueOutOfRange at e) in
+    let found = absolute_is number at (or_ok (option_map (address 0) (within 4095 number)) ValueOutOfRange at e) in
     let d : at.displacement ≡ n = same_number (sym found.1 ∙ is) in
     rw (found.0, d) (modulo (given regs x) n)
   where

@@ -2,6 +2,7 @@
 use Rattle.std.proofs.Common.{◌≡◌, ◌⊎◌, inl, inr, ◌≤◌, ℕ, zero, suc, ◌+◌, ◌*◌, Bool, true, false, cond, ◌&&◌, ◌==◌, Option, Some, None, Ok, List, [], ◌∷◌, ◌++◌, length, refl, arith}
 use Rattle.std.specs.Prelude.{Err, Result, ℤ}
 use Rattle.std.specs.List.{AllByRecursion}
+use Rattle.std.specs.Option.{option_map_or}
 use Rattle.cx_code.specs.declared.disassembly.Line.{Line}
 use Rattle.cx_terms.specs.Bytes.{Made, address_made, body_made, integer_bytes, is_absolute_word, is_address, made, made_of, made_unless, placed, plain_made, values_bytes, values_fault}
 use Rattle.cx_terms.specs.Expressions.{value_of}
@@ -26,7 +27,7 @@ use Rattle.cx_image.specs.Resolved.{end_of, is_code}
 use Rattle.cx_second.specs.SecondFaults.{bases_after}
 use Rattle.cx_second.specs.Statements.{Stated, operation_of, placed_items}
 use Rattle.cx_second.specs.Whole.{Whole, item_made, pool_of}
-use Rattle.cx_asm.specs.Resolving.{Standing, constant_standing, copies, counter_at, data_line, data_standing, instruction_standing, item_standing, items_standing, joined, last_pool, literal_standing, nothing, pool_standing, relocated, role_standing, space_standing, standing_from, statement_standing}
+use Rattle.cx_asm.specs.Resolving.{Standing, constant_standing, copies, counter_at, data_line, data_standing, instruction_standing, item_standing, items_standing, joined, last_pool, nothing, pool_standing, relocated, role_standing, space_standing, standing_from, statement_standing}
 use Rattle.cx_command_arrival.proofs.TogetherLemmas.{length_joined}
 
 -- ---- a word among the bytes of a constant
@@ -154,9 +155,9 @@ items_held told is_ds s (item ∷ items) =
 pub pool_held : (told : Whole) (all : List Stated) (pool : Placed) → IsHeld (pool_standing told all pool)
 pool_held told all [] = tt
 pool_held told all (e ∷ pool) =
-    joined_held (literal_standing told all (Some e)) (pool_standing told all pool) (data_held told (counter_at all e.1.user) e.0 e.1.offset) (pool_held told all pool)
+    joined_held (data_standing told (counter_at all e.1.user) e.0 e.1.offset) (pool_standing told all pool) (data_held told (counter_at all e.1.user) e.0 e.1.offset) (pool_held told all pool)
 
-instruction_held : (told : Whole) (bases : Bases) (s : Stated) (o : Option Operation) → IsHeld (instruction_standing told bases s o)
+instruction_held : (told : Whole) (bases : Bases) (s : Stated) (o : Option Operation) → IsHeld (option_map_or (instruction_standing told bases s) o nothing)
 instruction_held told bases s None = tt
 instruction_held told bases s (Some o) = tt
 

@@ -39,9 +39,10 @@ use Rattle.cx_operands.specs.declared.addresses.Address.{Address}
 use Rattle.cx_image.specs.Resolved.{AreApart, end_of}
 use Rattle.cx_second.specs.SecondFaults.{bases_after}
 use Rattle.cx_second.specs.Statements.{Stated, place_for, stated, stated_with, statements_of}
-use Rattle.cx_second.specs.Whole.{Whole, length_once, literal_of, literal_place, pool_of, whole_of}
+use Rattle.cx_places.specs.Layout.{item_length}
+use Rattle.cx_second.specs.Whole.{Whole, literal_of, literal_place, pool_of, whole_of}
 use Rattle.cx_asm.specs.Assembly.{AssemblyParts, assembly_of, section_of, size_of, standing_of}
-use Rattle.cx_asm.specs.Resolving.{Standing, data_line, data_standing, counter_at, joined, last_pool, line, literal_standing, pool_standing, standing, standing_from, statement_standing}
+use Rattle.cx_asm.specs.Resolving.{Standing, data_line, data_standing, counter_at, joined, last_pool, line, pool_standing, standing, standing_from, statement_standing}
 use Rattle.cx_command_arrival.proofs.Arguments.{OperandsAddress}
 use Rattle.cx_command_arrival.proofs.InStorage.{IsUnraised}
 use Rattle.cx_command_arrival.proofs.Literals.{HasBytes, HasInstruction, LiteralsStand, StandsInSection}
@@ -131,13 +132,13 @@ pool_own told all (e ∷ pool) text literal byte bytes is found = go (bytes_eq t
     go true same more found =
         let own : text ≡ e.0 = (bytes_eq-Decides text e.0).0 same in
         let place : e.1 ≡ literal = cc in
-        own_left (literal_standing told all (Some e)) (pool_standing told all pool) (line literal.offset (Data (byte ∷ bytes)))
-        (subst (λ l. HasOwn (literal_standing told all (Some e)) (line l.offset (Data (byte ∷ bytes)))) place
+        own_left (data_standing told (counter_at all e.1.user) e.0 e.1.offset) (pool_standing told all pool) (line literal.offset (Data (byte ∷ bytes)))
+        (subst (λ l. HasOwn (data_standing told (counter_at all e.1.user) e.0 e.1.offset) (line l.offset (Data (byte ∷ bytes)))) place
         (subst (λ t. HasOwn (data_standing told (counter_at all e.1.user) t e.1.offset) (line e.1.offset (Data (byte ∷ bytes)))) own
         (constant_own told (counter_at all e.1.user) text e.1.offset byte bytes is)))
         (pool_held told all pool)
     go false same more found =
-        own_right (literal_standing told all (Some e)) (pool_standing told all pool) (line literal.offset (Data (byte ∷ bytes)))
+        own_right (data_standing told (counter_at all e.1.user) e.0 e.1.offset) (pool_standing told all pool) (line literal.offset (Data (byte ∷ bytes)))
         (data_held told (counter_at all e.1.user) e.0 e.1.offset) (more found)
 
 -- ---- statements in the control section
@@ -280,19 +281,19 @@ record IsFound (told : Whole) (s : Stated) (text : List ℕ) (value : Value) : T
   there : lookup (bytes_eq text) (pool_of told s) ≡ Some literal
   name : List ℕ
   section : s.place.section ≡ Some name
-  is : place_value (Some name) literal.offset (length_once (constant_in false text)) ≡ value
+  is : place_value (Some name) literal.offset (item_length (constant_in false text)) ≡ value
 
 found : (told : Whole) (s : Stated) (text : List ℕ) (value : Value) → literal_in s.stmt.operand ≡ Some (codes "=" ++ text) → literal_of told s ≡ Some value → IsFound told s text value
 found told s text value last e =
     go (lookup (bytes_eq text) (pool_of told s)) refl (subst (λ o. option_and_then (literal_place told s) (option_and_then literal_text o) ≡ Some value) last e)
   where
     in_section : (literal : Literal) (o : Option (List ℕ)) → lookup (bytes_eq text) (pool_of told s) ≡ Some literal → s.place.section ≡ o
-        → location_counter o literal.offset (length_once (constant_in false text)) ≡ Some value → IsFound told s text value
+        → location_counter o literal.offset (item_length (constant_in false text)) ≡ Some value → IsFound told s text value
     in_section literal None there is e = absurd (cc)
     in_section literal (Some name) there is e = record { literal = literal; there = there; name = name; section = is; is = cc }
 
     go : (o : Option Literal) → lookup (bytes_eq text) (pool_of told s) ≡ o
-        → option_and_then (λ (l : Literal). location_counter s.place.section l.offset (length_once (constant_in false text))) o ≡ Some value → IsFound told s text value
+        → option_and_then (λ (l : Literal). location_counter s.place.section l.offset (item_length (constant_in false text))) o ≡ Some value → IsFound told s text value
     go None there e = absurd (cc)
     go (Some literal) there e = in_section literal s.place.section there refl e
 
@@ -412,7 +413,7 @@ stands_so knows source assembly bases number before s text byte bytes index addr
       offset = f.literal.offset;
       lies = lies_at knows.addresses c (codes "=" ++ text) f.name (pos f.literal.offset) 0 address (ok_or c.literal BadOperand) (literal_written c text)
           (λ value worth.
-          let same : place_value (Some f.name) f.literal.offset (length_once (constant_in false text)) ≡ value = f.is ∙ is_ok c.literal literal.value value literal.is worth in
+          let same : place_value (Some f.name) f.literal.offset (item_length (constant_in false text)) ≡ value = f.is ∙ is_ok c.literal literal.value value literal.is worth in
           record {
             section = ap (λ v. v.section) (sym same);
             number = ap (λ v. v.number) (sym same) ∙ ap pos (capped_same f.literal.offset small) ∙ sym (+ℤ_idr (pos f.literal.offset));

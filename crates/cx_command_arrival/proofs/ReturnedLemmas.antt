@@ -47,7 +47,7 @@ use Rattle.cx_translate.specs.declared.words.Word.{Word}
 use Rattle.cx_translate.specs.Call.{argument_of, labels_of, list_of, operand_by, operand_of, operands_of as arguments_handed, pointer_by, pointers_of}
 use Rattle.cx_translate.specs.Made.{load, made_item, stmt}
 use Rattle.cx_translate.specs.Sections.{lines}
-use Rattle.cx_operands.specs.Addresses.{address, address_in as addressed_in, displacement_of, implied_address}
+use Rattle.cx_operands.specs.Addresses.{address, address_in as addressed_in, within, implied_address}
 use Rattle.cx_operands.specs.Bases.{Bases}
 use Rattle.cx_operands.specs.Context.{Context, context, worth}
 use Rattle.cx_operands.specs.Forms.{operands_of}
@@ -104,7 +104,7 @@ one_address : Nearest → (sections : Sections) (regs later : List ℕ) (bases :
     → HoldsBase sections regs bases at.base → HoldsBase sections later bases at.base → effective regs 0 at.base at.displacement ≡ effective later 0 at.base at.displacement
 unfolding effective
 one_address near sections regs later bases None number at e first second =
-    let zero : at.base ≡ 0 = (absolute_is number at (or_ok (option_map (address 0) (displacement_of number)) ValueOutOfRange at e)).0 in
+    let zero : at.base ≡ 0 = (absolute_is number at (or_ok (option_map (address 0) (within 4095 number)) ValueOutOfRange at e)).0 in
     rw zero refl
 one_address near sections regs later bases (Some section) number at e first second =
     implied_is near sections regs bases (Some section) number at 0 e first ∙ sym (implied_is near sections later bases (Some section) number at 0 e second)

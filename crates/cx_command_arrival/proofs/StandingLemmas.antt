@@ -1,8 +1,9 @@
 -- The statements of a source, the bases in use before each, and what each makes.
-use Rattle.std.specs.Prelude.{reverse, Result, Err, ⊤}
+use Rattle.std.specs.Prelude.{reverse, Result, Err, unwrap_or, ⊤}
+use Rattle.std.specs.Option.{option_map_or}
 use Rattle.std.proofs.Common.{◌≡◌, ◌≤◌, ℕ, suc, ◌+◌, ◌-◌, ◌*◌, ◌/◌, ◌%◌, Bool, true, false, cond, nat_le, Option, Some, None, Ok, List, [], ◌∷◌, ◌++◌, length, refl, sym, ◌∙◌, ap, subst, arith}
 use Rattle.std.specs.List.{AllByRecursion, cons_option, filter_map}
-use Rattle.std.specs.Result.{result_err}
+use Rattle.std.specs.Result.{result_err, result_ok}
 use Rattle.std.proofs.lemmas.List.{append_assoc, append-nil, reverse-append}
 use Rattle.std.proofs.lemmas.List.Elements.{filter_map-append}
 use Rattle.cx_code.specs.declared.disassembly.Line.{Line}
@@ -17,6 +18,7 @@ use Rattle.cx_source.specs.declared.source.Item.{Item}
 use Rattle.cx_source.specs.declared.source.Source.{Source}
 use Rattle.cx_source.specs.declared.source.Stmt.{Stmt}
 use Rattle.cx_terms.specs.Digits.{bound}
+use Rattle.cx_terms.specs.Faults.{lower}
 use Rattle.cx_terms.specs.declared.faults.FaultKind.TheVariants.{BadOperand}
 use Rattle.cx_terms.specs.declared.faults.FaultKind.{FaultKind}
 use Rattle.cx_operations.specs.Operations.{base_row, operation_named}
@@ -35,14 +37,14 @@ use Rattle.cx_pools.specs.Pools.{capped}
 use Rattle.cx_places.specs.declared.place.LineFault.{LineFault}
 use Rattle.cx_places.specs.declared.roles.Role.TheVariants as role
 use Rattle.cx_operands.specs.Bases.{Bases, none_in_use}
-use Rattle.cx_operands.specs.Directives.{bases_behind}
+use Rattle.cx_operands.specs.Directives.{bases_in}
 use Rattle.cx_operands.specs.Forms.{fields_in, form_of, operands_of, resolved, resolved_as}
 use Rattle.cx_operands.specs.Context.{Context}
 use Rattle.cx_operands.specs.Judging.{made_of as fields_made}
 use Rattle.cx_operands.specs.declared.forms.Form.{Form}
 use Rattle.cx_code.specs.declared.instruction.Fields.{Fields}
 use Rattle.cx_second.specs.Statements.{Stated, operation_of, place_for, placed_item, stated, stated_in, stated_with, statements_of}
-use Rattle.cx_second.specs.SecondFaults.{bases_after, bases_by, instruction_fault, judged_after, judged_behind, literals_fault, operand_fault, second_fault, using_fault}
+use Rattle.cx_second.specs.SecondFaults.{bases_after, judged_after, judged_behind, literals_fault, operand_fault, second_fault}
 use Rattle.cx_second.specs.Whole.{Whole, directive_context, instruction_context, whole_of}
 use Rattle.cx_asm.specs.Resolving.{line, standing_from, statement_standing}
 use Rattle.cx_asm.specs.Assembly.{AssemblyParts, assembly_of, made_of, second_fault_of, section_of, size_of, standing_of, unless_refused, unless_too_large, end_line}
@@ -173,11 +175,12 @@ record HasRow (o : Operation) : Type 0 where
   op : Op
   row : base_row o ≡ Some op
   role : role_of (Some o) ≡ role.Instruction (length_of op)
-  bases : (c : Context) (operand : List ℕ) → bases_behind o c operand ≡ c.bases
-  fault : (told : Whole) (bases : Bases) (number : ℕ) (s : Stated) → operand_fault told bases number s (Some o) ≡ instruction_fault told bases number s o
+  bases : (c : Context) (operand : List ℕ) → bases_in o c operand ≡ Ok c.bases
+  fault : (told : Whole) (bases : Bases) (number : ℕ) (s : Stated) → operand_fault told bases number s (Some o)
+      ≡ lower (result_err (resolved o (instruction_context told bases s) s.stmt.operand)) (literals_fault told number s)
 
 has_row : (o : Operation) → is_instruction_role (role_of (Some o)) ≡ true → HasRow o
-unfolding bases_behind
+unfolding bases_in
 has_row (operation.Machine op) e = record { op = op; row = refl; role = refl; bases = λ c operand. refl; fault = λ told bases number s. refl }
 has_row (operation.Branch b) e = record { op = Bc; row = refl; role = refl; bases = λ c operand. refl; fault = λ told bases number s. refl }
 has_row (operation.RegisterBranch b) e = record { op = Bcr; row = refl; role = refl; bases = λ c operand. refl; fault = λ told bases number s. refl }
@@ -300,13 +303,15 @@ sound_operand : (told : Whole) (bases : Bases) (number : ℕ) (s : Stated) (o : 
     → result_err (resolved o (instruction_context told bases s) s.stmt.operand) ≡ None
 unfolding second_fault
 sound_operand told bases number s o row named e =
-    let operand = (lower_none (operand_fault told bases number s (operation_of s)) (using_fault told bases s (operation_of s)) e).0 in
-    let own : instruction_fault told bases number s o ≡ None = sym (row.fault told bases number s) ∙ ap (operand_fault told bases number s) (sym named) ∙ operand in
+    let own = sym (row.fault told bases number s) ∙ ap (operand_fault told bases number s) (sym named) ∙ e in
     (lower_none (result_err (resolved o (instruction_context told bases s) s.stmt.operand)) (literals_fault told number s) own).0
 
 same_bases : (told : Whole) (bases : Bases) (s : Stated) (o : Operation) → HasRow o → operation_of s ≡ Some o → bases_after told bases s ≡ bases
 unfolding bases_after
-same_bases told bases s o row named = ap (bases_by told bases s) named ∙ row.bases (directive_context told bases s) s.stmt.operand
+same_bases told bases s o row named =
+    let c = directive_context told bases s in
+    ap (λ k. option_map_or (λ it. unwrap_or (result_ok (bases_in it c s.stmt.operand)) bases) k bases) named
+    ∙ ap (λ r. unwrap_or (result_ok r) bases) (row.bases c s.stmt.operand)
 
 all_code : (told : Whole) (all : List Stated) (bases : Bases) (number : ℕ) (before items more : List Item) → AllByRecursion (λ item. is_instruction item.stmt ≡ true) items
     → (known_behind (more ++ (reverse items ++ before))).fault ≡ None → told.control ≡ (known_behind (more ++ (reverse items ++ before))).control

@@ -25,7 +25,7 @@ use Rattle.cx_terms.specs.declared.terms.Sign.TheVariants.{Plus}
 use Rattle.cx_terms.specs.declared.terms.TermKind.TheVariants.{Decimal, Symbol}
 use Rattle.cx_terms.specs.declared.values.Value.{Value}
 use Rattle.cx_storage.specs.Address.{along}
-use Rattle.cx_operands.specs.Addresses.{address as at_register, address_in, displacement_of, implied_address}
+use Rattle.cx_operands.specs.Addresses.{address as at_register, address_in, within, implied_address}
 use Rattle.cx_operands.specs.Bases.{Bases}
 use Rattle.cx_operands.specs.Context.{Context, worth}
 use Rattle.cx_operands.specs.Judging.{both, judged}
@@ -274,7 +274,7 @@ unknown_symbol find here value none e =
     let bad = rw none at terms in absurd (cc)
 
 base_0 : (bases : Bases) (value : Value) (address : Address) → value.section ≡ None → implied_address bases value ≡ Ok address → address.base ≡ 0
-base_0 bases value address none e = go (displacement_of value.number) (subst (λ s. address_in bases s value.number ≡ Ok address) none e)
+base_0 bases value address none e = go (within 4095 value.number) (subst (λ s. address_in bases s value.number ≡ Ok address) none e)
   where
     go : (o : Option ℕ) → ok_or (option_map (at_register 0) o) ValueOutOfRange ≡ Ok address → address.base ≡ 0
     go None e = absurd (cc)

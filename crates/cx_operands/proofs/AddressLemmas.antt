@@ -10,11 +10,11 @@ use Rattle.cx_terms.specs.declared.faults.FaultKind.TheVariants.{NoAddressabilit
 use Rattle.cx_operands.specs.Judging.{both, judged, made_of}
 use Rattle.cx_operands.specs.Bases.{Bases}
 use Rattle.cx_operands.specs.declared.bases.Base.{Base}
-use Rattle.cx_operands.specs.Addresses.{address, displacement_of, reached, nearer, nearest_from, nearest, absolute_address, address_in, implied_address}
+use Rattle.cx_operands.specs.Addresses.{address, within, reached, nearer, nearest_from, nearest, address_in, implied_address}
 use Rattle.cx_operands.specs.declared.addresses.Address.{Address}
 use Rattle.cx_operands.specs.Context.{Context, number_in, number_at_most, register_in}
-use Rattle.cx_operands.specs.Storage.{Operand, operand_in, addressed, plain, plain_in, index_in, indexed_by, indexed, indexed_in, counted_by, counted, counted_in, implied_length, length_field}
-use Rattle.cx_operands.proofs.FitLemmas.{number_fits, number_to_fits, both_first, both_second, counted_fits}
+use Rattle.cx_operands.specs.Storage.{Operand, operand_in, addressed, plain, plain_in, index_in, indexed_by, indexed, indexed_in, counted_by, counted, counted_in, implied_length}
+use Rattle.cx_operands.proofs.FitLemmas.{number_fits, at_most_fits, both_first, both_second, counted_fits}
 
 -- a base register and a displacement are in their ranges
 abbrev pub IsInRange : Address → Type 0
@@ -23,7 +23,7 @@ IsInRange a = (a.base ≤ 15) × (a.displacement ≤ 4095)
 abbrev pub AreSixteen : Context → Type 0
 AreSixteen c = length c.bases ≡ 16
 
-displacement_fits : (d : ℤ) (n : ℕ) → displacement_of d ≡ Some n → n ≤ 4095
+displacement_fits : (d : ℤ) (n : ℕ) → within 4095 d ≡ Some n → n ≤ 4095
 displacement_fits d n e = grind (arith, nat_tests)
 
 made_address : (r : ℕ) (d : Option ℕ) (a : Address) → r ≤ 15 → ((n : ℕ) → d ≡ Some n → n ≤ 4095) → option_map (address r) d ≡ Some a → IsInRange a
@@ -39,8 +39,8 @@ if_fits false o a fits e = cc
 reached_fits : (section : List ℕ) (number : ℤ) (r : ℕ) (b : Option Base) (a : Address) → r ≤ 15 → reached section number r b ≡ Some a → IsInRange a
 reached_fits section number r None a small e = cc
 reached_fits section number r (Some b) a small e =
-    if_fits (is_same b.section section) (option_map (address r) (displacement_of (number -ℤ b.number))) a
-    (λ x i. made_address r (displacement_of (number -ℤ b.number)) x small (displacement_fits (number -ℤ b.number)) i) e
+    if_fits (is_same b.section section) (option_map (address r) (within 4095 (number -ℤ b.number))) a
+    (λ x i. made_address r (within 4095 (number -ℤ b.number)) x small (displacement_fits (number -ℤ b.number)) i) e
 
 nearer_cases : (first : Bool) (one other : Address) (a : Address) → IsInRange one → IsInRange other → (if first then Some one else Some other) ≡ Some a → IsInRange a
 nearer_cases true one other a fits also e = subst IsInRange (grind arith) fits
@@ -77,10 +77,10 @@ or_fits : (o : Option Address) (fault : FaultKind) (a : Address) → ((x : Addre
 or_fits None fault a fits e = cc
 or_fits (Some x) fault a fits e = fits a (grind arith)
 
-absolute_fits : (number : ℤ) (a : Address) → absolute_address number ≡ Ok a → IsInRange a
+absolute_fits : (number : ℤ) (a : Address) → ok_or (option_map (address 0) (within 4095 number)) ValueOutOfRange ≡ Ok a → IsInRange a
 absolute_fits number a e =
     let zero_small : 0 ≤ 15 = omega arith in
-    or_fits (option_map (address 0) (displacement_of number)) ValueOutOfRange a (λ x i. made_address 0 (displacement_of number) x zero_small (displacement_fits number) i) e
+    or_fits (option_map (address 0) (within 4095 number)) ValueOutOfRange a (λ x i. made_address 0 (within 4095 number) x zero_small (displacement_fits number) i) e
 
 address_in_fits : (bases : Bases) (section : Option (List ℕ)) (number : ℤ) (a : Address) → length bases ≡ 16 → address_in bases section number ≡ Ok a → IsInRange a
 address_in_fits bases None number a sixteen e = absolute_fits number a e
@@ -92,7 +92,7 @@ implied_fits bases (Ok v) a sixteen e = address_in_fits bases v.section v.number
 implied_fits bases (Err fault) a sixteen e = cc
 
 displaced_fits : (place : Result Value FaultKind) (n : ℕ) → judged (number_at_most 4095) place ≡ Ok n → n ≤ 4095
-displaced_fits (Ok v) n e = number_to_fits 4095 v.section v.number n e
+displaced_fits (Ok v) n e = at_most_fits 4095 v n e
 displaced_fits (Err fault) n e = cc
 
 both_fit : (one other : Result ℕ FaultKind) (a : Address) → ((n : ℕ) → one ≡ Ok n → n ≤ 4095) → ((n : ℕ) → other ≡ Ok n → n ≤ 15)
@@ -153,7 +153,7 @@ counted_address most c place [] v sixteen e = addressed_fits c place [] v.1 sixt
 counted_address most c place (count ∷ base) v sixteen e = addressed_fits c place base v.1 sixteen (both_second (number_in most c count) (addressed c place base) v e)
 
 field_fits : (most : ℕ) (r : Result (ℕ × Address) FaultKind) (v : ℕ × Address) → ((w : ℕ × Address) → r ≡ Ok w → (w.0 ≤ most) × IsInRange w.1)
-    → made_of (λ w. (length_field w.0, w.1)) r ≡ Ok v → (v.0 ≤ most - 1) × IsInRange v.1
+    → made_of (λ w. (w.0 - 1, w.1)) r ≡ Ok v → (v.0 ≤ most - 1) × IsInRange v.1
 field_fits most (Ok w) v fits e =
     let both = fits w refl in
     let count = both.0 in

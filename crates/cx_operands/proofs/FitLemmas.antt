@@ -1,20 +1,27 @@
 -- What is read fits its field.
 use Rattle.std.proofs.Common.{◌≡◌, ℕ, ℤ, ◌≤◌, Option, Some, None, List, [], ◌∷◌, Ok, Err, arith}
-use Rattle.std.specs.Prelude.{Result}
+use Rattle.std.specs.Prelude.{Result, if◌then◌else◌, is_some}
+use Rattle.std.specs.Option.{ok_or}
+use Rattle.cx_terms.specs.declared.faults.FaultKind.TheVariants.{BadOperand, ValueOutOfRange}
 use Rattle.std.proofs.lemmas.Bool.Decides.{nat_tests}
 use Rattle.cx_terms.specs.declared.values.Value.{Value}
 use Rattle.cx_terms.specs.declared.faults.FaultKind.{FaultKind}
 use Rattle.cx_operands.specs.Judging.{both, judged}
 use Rattle.cx_operands.specs.Storage.{addressed, counted_by, implied_length}
 use Rattle.cx_operands.specs.declared.addresses.Address.{Address}
-use Rattle.cx_operands.specs.Context.{Context, worth, number_to, number_at_most, number_in}
+use Rattle.cx_operands.specs.Addresses.{within}
+use Rattle.cx_operands.specs.Context.{Context, worth, number_at_most, number_in}
 
-pub number_to_fits : (most : ℕ) (section : Option (List ℕ)) (number : ℤ) (n : ℕ) → number_to most section number ≡ Ok n → n ≤ most
+number_to_fits : (most : ℕ) (section : Option (List ℕ)) (number : ℤ) (n : ℕ)
+    → (if is_some section then Err BadOperand else ok_or (within most number) ValueOutOfRange) ≡ Ok n → n ≤ most
 number_to_fits most None number n e = grind (arith, nat_tests)
 number_to_fits most (Some section) number n e = cc
 
+pub at_most_fits : (most : ℕ) (value : Value) (n : ℕ) → number_at_most most value ≡ Ok n → n ≤ most
+at_most_fits most value n e = number_to_fits most value.section value.number n e
+
 judged_fits : (most : ℕ) (value : Result Value FaultKind) (n : ℕ) → judged (number_at_most most) value ≡ Ok n → n ≤ most
-judged_fits most (Ok value) n e = number_to_fits most value.section value.number n e
+judged_fits most (Ok value) n e = at_most_fits most value n e
 judged_fits most (Err fault) n e = cc
 
 pub number_fits : (most : ℕ) (c : Context) (text : List ℕ) (n : ℕ) → number_in most c text ≡ Ok n → n ≤ most

@@ -8,16 +8,16 @@ use Rattle.std.proofs.Math.IntN.{+ℤ-neg_ℤ_cancel, -ℤ-+ℤ_cancel, +ℤ_com
 use Rattle.cx_terms.specs.Names.{is_same}
 use Rattle.cx_operands.specs.Bases.{Bases}
 use Rattle.cx_operands.specs.declared.bases.Base.{Base}
-use Rattle.cx_operands.specs.Addresses.{address, displacement_of, reached, nearer, nearest_from, nearest}
+use Rattle.cx_operands.specs.Addresses.{address, within, reached, nearer, nearest_from, nearest}
 use Rattle.cx_operands.specs.declared.addresses.Address.{Address}
 use Rattle.cx_operands.specs.Laws.AddressLaws.{Holds, Reaches, IsPreferred, IsNearest}
 
 -- ---- one register
-within : (d : ℤ) (n : ℕ) → displacement_of d ≡ Some n → (d ≡ pos n) × (n ≤ 4095)
-within (pos m) n e = (grind (arith, nat_tests), grind (arith, nat_tests))
-within (negsuc m) n e = absurd (none-some n e)
+displacement_is : (d : ℤ) (n : ℕ) → within 4095 d ≡ Some n → (d ≡ pos n) × (n ≤ 4095)
+displacement_is (pos m) n e = (grind (arith, nat_tests), grind (arith, nat_tests))
+displacement_is (negsuc m) n e = absurd (none-some n e)
 
-displaced : (n : ℕ) → n ≤ 4095 → displacement_of (pos n) ≡ Some n
+displaced : (n : ℕ) → n ≤ 4095 → within 4095 (pos n) ≡ Some n
 displaced n small = grind (arith, nat_tests)
 
 difference : (a b : ℤ) (n : ℕ) → a +ℤ pos n ≡ b → b -ℤ a ≡ pos n
@@ -44,8 +44,8 @@ reached_in false r d n e f = cc
 -- a register that holds the place with a displacement reaches it so
 holds_reached : (section : List ℕ) (number : ℤ) (r : ℕ) (b : Base) (d : ℕ) → Holds (Some (Some b)) section number d → reached section number r (Some b) ≡ Some (address r d)
 holds_reached section number r b d h =
-    let near : displacement_of (number -ℤ b.number) ≡ Some d = ap displacement_of (difference b.number number d h.1) ∙ displaced d h.2 in
-    reached_in (is_same b.section section) r (displacement_of (number -ℤ b.number)) d h.0 near
+    let near : within 4095 (number -ℤ b.number) ≡ Some d = ap (within 4095) (difference b.number number d h.1) ∙ displaced d h.2 in
+    reached_in (is_same b.section section) r (within 4095 (number -ℤ b.number)) d h.0 near
 
 reached_out : (same : Bool) (r : ℕ) (d : Option ℕ) (a : Address) → (if same then option_map (address r) d else None) ≡ Some a
     → (same ≡ true) × (d ≡ Some a.displacement) × (a.base ≡ r)
@@ -59,8 +59,8 @@ reached_holds : (section : List ℕ) (number : ℤ) (r : ℕ) (b : Option Base) 
     → (a.base ≡ r) × Holds (Some b) section number a.displacement
 reached_holds section number r None a e = absurd (none-some a e)
 reached_holds section number r (Some b) a e =
-    let out = reached_out (is_same b.section section) r (displacement_of (number -ℤ b.number)) a e in
-    let near = within (number -ℤ b.number) a.displacement out.1 in
+    let out = reached_out (is_same b.section section) r (within 4095 (number -ℤ b.number)) a e in
+    let near = displacement_is (number -ℤ b.number) a.displacement out.1 in
     (out.2, (out.0, sum_again b.number number a.displacement near.0, near.1))
 
 -- ---- of two

@@ -1,6 +1,8 @@
 -- What an expression is worth stays within the bound of all numbers.
 use Rattle.std.proofs.Common.{◌≡◌, ℕ, ℤ, pos, ◌≤◌, ◌^◌, Option, Some, None, List, [], ◌∷◌, Ok, Err, refl, arith}
-use Rattle.std.specs.Prelude.{Result, unsigned_abs, option_and_then}
+use Rattle.std.specs.Prelude.{Result, unsigned_abs, option_and_then, option_map}
+use Rattle.std.specs.Option.{ok_or}
+use Rattle.cx_terms.specs.declared.faults.FaultKind.TheVariants.{NotRelocatable}
 use Rattle.std.proofs.lemmas.Bool.Decides.{nat_tests}
 use Rattle.cx_terms.specs.Digits.{bound}
 use Rattle.cx_terms.specs.Terms.{Term, terms_of}
@@ -10,7 +12,7 @@ use Rattle.cx_terms.specs.declared.values.Value.{Value}
 use Rattle.cx_terms.specs.declared.expressions.Signed.{Signed}
 use Rattle.cx_terms.specs.declared.faults.FaultKind.{FaultKind}
 use Rattle.cx_operands.specs.Judging.{judged}
-use Rattle.cx_operands.specs.Directives.{place_at, place_in}
+use Rattle.cx_operands.specs.Directives.{place_in}
 
 within_small : (t n : ℤ) → within_bound t ≡ Some n → unsigned_abs n ≤ bound
 within_small t n e = grind (arith, nat_tests)
@@ -48,7 +50,7 @@ pub worth_small : (find : List ℕ → Option Value) (here : Option Value) (text
 unfolding value_of
 worth_small find here text v e = valued_small find here (terms_of text) v e
 
-place_number : (section : Option (List ℕ)) (number : ℤ) (p : List ℕ × ℤ) → place_at section number ≡ Ok p → number ≡ p.1
+place_number : (section : Option (List ℕ)) (number : ℤ) (p : List ℕ × ℤ) → ok_or (option_map (λ s. (s, number)) section) NotRelocatable ≡ Ok p → number ≡ p.1
 place_number None number p e = cc
 place_number (Some s) number p e = grind arith
 

@@ -12,16 +12,15 @@ use Rattle.cx_operands.specs.declared.addresses.Address.{Address}
 abbrev pub address : ℕ → ℕ → Address
 address register displacement = record { base = register; displacement = displacement }
 
--- a displacement is 0 to 4,095
-abbrev pub displacement_of : ℤ → Option ℕ
-displacement_of distance =
-    if int_le (pos 0) distance && int_le distance (pos 4095) then Some (unsigned_abs distance) else None
+-- a number from 0 to so much
+abbrev pub within : ℕ → ℤ → Option ℕ
+within most number = if int_le (pos 0) number && int_le number (pos most) then Some (unsigned_abs number) else None
 
--- the address of a place by one register, where it is in use for the place's section and near enough before the place
+-- the address of a place by one register, where it is in use for the place's section and at most 4,095 before the place
 abbrev pub reached : List ℕ → ℤ → ℕ → Option Base → Option Address
 reached section number register None = None
 reached section number register (Some base) =
-    if is_same base.section section then option_map (address register) (displacement_of (number -ℤ base.number)) else None
+    if is_same base.section section then option_map (address register) (within 4095 (number -ℤ base.number)) else None
 
 -- Of two addresses the one with the smaller displacement; of equal ones the second, whose register is higher.
 abbrev pub nearer : Option Address → Option Address → Option Address
@@ -40,11 +39,8 @@ unfoldable pub nearest : Bases → List ℕ → ℤ → Option Address
 nearest bases section number = nearest_from None 0 section number bases
 
 -- An absolute number stands for itself, with register 0 as base, whatever is in use.
-abbrev pub absolute_address : ℤ → Result Address FaultKind
-absolute_address number = ok_or (option_map (address 0) (displacement_of number)) ValueOutOfRange
-
 abbrev pub address_in : Bases → Option (List ℕ) → ℤ → Result Address FaultKind
-address_in bases None number = absolute_address number
+address_in bases None number = ok_or (option_map (address 0) (within 4095 number)) ValueOutOfRange
 address_in bases (Some section) number = ok_or (nearest bases section number) NoAddressability
 
 -- the implied address of a value

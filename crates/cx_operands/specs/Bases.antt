@@ -27,9 +27,6 @@ held section number [] bases = bases
 held section number (register ∷ registers) bases =
     held section (number +ℤ pos 4096) registers (slice_set bases register (Some (base section number)))
 
-abbrev pub used : Using → Bases → Bases
-used given bases = held given.section given.number given.registers bases
-
 -- The use of each of these registers ends, and of no other.
 abbrev pub ended : List ℕ → Bases → Bases
 ended [] bases = bases

@@ -1,5 +1,6 @@
 -- What an operand is read by, and operands that are numbers: registers, masks, immediate bytes, lengths (GC33-4010, "Operand Fields and Subfields").
-use Rattle.std.specs.Prelude.{ℕ, ℤ, pos, int_le, unsigned_abs, ◌&&◌, if◌then◌else◌, Option, Some, None, Result, Ok, Err, List}
+use Rattle.std.specs.Prelude.{ℕ, if◌then◌else◌, Option, is_some, Result, Err, List}
+use Rattle.std.specs.Option.{ok_or}
 use Rattle.cx_terms.specs.Symbols.{Symbols, find_in}
 use Rattle.cx_terms.specs.Expressions.{value_of}
 use Rattle.cx_terms.specs.declared.values.Value.{Value}
@@ -7,6 +8,7 @@ use Rattle.cx_terms.specs.declared.faults.FaultKind.{FaultKind}
 use Rattle.cx_terms.specs.declared.faults.FaultKind.TheVariants.{BadOperand, ValueOutOfRange}
 use Rattle.cx_operands.specs.Judging.{judged}
 use Rattle.cx_operands.specs.Bases.{Bases}
+use Rattle.cx_operands.specs.Addresses.{within}
 
 -- What a statement's operands are read by: what each symbol is worth, what the location counter stands at, the bases in use, and the place of the statement's literal, if it has one.
 pub record Context : Type 0 where
@@ -36,13 +38,9 @@ abbrev pub worth : Context → List ℕ → Result Value FaultKind
 worth c text = value_of c.find c.here text
 
 -- A number is absolute, and 0 to so much.
-abbrev pub number_to : ℕ → Option (List ℕ) → ℤ → Result ℕ FaultKind
-number_to most None number =
-    if int_le (pos 0) number && int_le number (pos most) then Ok (unsigned_abs number) else Err ValueOutOfRange
-number_to most (Some section) number = Err BadOperand
-
 abbrev pub number_at_most : ℕ → Value → Result ℕ FaultKind
-number_at_most most value = number_to most value.section value.number
+number_at_most most value =
+    if is_some value.section then Err BadOperand else ok_or (within most value.number) ValueOutOfRange
 
 -- the number, 0 to so much, that an operand is
 unfoldable pub number_in : ℕ → Context → List ℕ → Result ℕ FaultKind

@@ -1,5 +1,5 @@
 -- The operands of instructions, by format (GC33-4010, "Machine Instructions" and "Extended Mnemonic Codes"; GA22-7000, "Instruction Formats").
-use Rattle.std.specs.Prelude.{ℕ, true, false, if◌then◌else◌, Option, Some, None, Result, Err, List, [], ◌∷◌, ◌-◌, length, slice_get}
+use Rattle.std.specs.Prelude.{ℕ, true, false, if◌then◌else◌, Option, Some, None, option_and_then, Result, Err, List, [], ◌∷◌, ◌-◌, length, slice_get}
 use Rattle.cx_source.specs.Marks.{parts}
 use Rattle.cx_source.specs.declared.marks.Mark.TheVariants.{TopComma}
 use Rattle.cx_code.specs.Table.{format_of, is_shift}
@@ -35,15 +35,18 @@ fields_in form.Registers c (r1 ∷ r2 ∷ []) =
 fields_in form.Indexed c (r1 ∷ s2 ∷ []) =
     made_of (λ v. Rx v.0 v.1.0 v.1.1.base v.1.1.displacement) (both (register_in c r1) (indexed_in c s2))
 fields_in form.ThreeOperands c (r1 ∷ r3 ∷ s2 ∷ []) =
-    made_of (λ v. Rs v.0 v.1.0 v.1.1.base v.1.1.displacement) (both (register_in c r1) (both (register_in c r3) (plain_in false c s2)))
+    made_of (λ v. Rs v.0 v.1.0 v.1.1.base v.1.1.displacement)
+    (both (register_in c r1) (both (register_in c r3) (plain_in false c s2)))
 fields_in form.Shift c (r1 ∷ s2 ∷ []) =
     made_of (λ v. Rs v.0 0 v.1.base v.1.displacement) (both (register_in c r1) (plain_in false c s2))
 fields_in form.Immediate c (s1 ∷ i2 ∷ []) =
     made_of (λ v. Si v.1 v.0.base v.0.displacement) (both (plain_in false c s1) (number_in 255 c i2))
 fields_in form.OneLength c (s1 ∷ s2 ∷ []) =
-    made_of (λ v. Ss v.0.0 v.0.1.base v.0.1.displacement v.1.base v.1.displacement) (both (counted_in 256 false c s1) (plain_in true c s2))
+    made_of (λ v. Ss v.0.0 v.0.1.base v.0.1.displacement v.1.base v.1.displacement)
+    (both (counted_in 256 false c s1) (plain_in true c s2))
 fields_in form.TwoLengths c (s1 ∷ s2 ∷ []) =
-    made_of (λ v. Ss2 v.0.0 v.1.0 v.0.1.base v.0.1.displacement v.1.1.base v.1.1.displacement) (both (counted_in 16 false c s1) (counted_in 16 true c s2))
+    made_of (λ v. Ss2 v.0.0 v.1.0 v.0.1.base v.0.1.displacement v.1.1.base v.1.1.displacement)
+    (both (counted_in 16 false c s1) (counted_in 16 true c s2))
 fields_in (form.Branch mask) c (s2 ∷ []) =
     made_of (λ v. Rx mask v.0 v.1.base v.1.displacement) (indexed_in c s2)
 fields_in (form.RegisterBranch mask) c (r2 ∷ []) =
@@ -72,13 +75,11 @@ form_of (operation.Directive directive) = None
 abbrev pub operands_of : List ℕ → List (List ℕ)
 operands_of operand = parts TopComma operand
 
-abbrev pub literal_of : Option (List ℕ) → Option (List ℕ)
-literal_of None = None
-literal_of (Some text) = if is_literal text then Some text else None
-
 -- the literal that a statement has, if its last operand is one
 unfoldable pub literal_in : List ℕ → Option (List ℕ)
-literal_in operand = literal_of (slice_get (operands_of operand) (length (operands_of operand) - 1))
+literal_in operand =
+    let operands = operands_of operand in
+    option_and_then (λ text. if is_literal text then Some text else None) (slice_get operands (length operands - 1))
 
 abbrev pub resolved_as : Option Op → Option Form → Context → List ℕ → Result Instruction FaultKind
 resolved_as (Some op) (Some form) c operand = made_of (instruction op) (fields_in form c (operands_of operand))

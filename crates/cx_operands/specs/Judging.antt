@@ -1,5 +1,5 @@
 -- Several operands judged together: of all their faults the lowest is told (own).
-use Rattle.std.specs.Prelude.{nat_le, if◌then◌else◌, Option, Some, None, Result, Ok, Err}
+use Rattle.std.specs.Prelude.{nat_le, if◌then◌else◌, Result, Ok, Err}
 use Rattle.cx_terms.specs.Faults.{number_of}
 use Rattle.cx_terms.specs.declared.faults.FaultKind.{FaultKind}
 
@@ -23,8 +23,3 @@ made_of make (Err fault) = Err fault
 abbrev pub judged : {A B : Type 0} → (A → Result B FaultKind) → Result A FaultKind → Result B FaultKind
 judged judge (Ok value) = judge value
 judged judge (Err fault) = Err fault
-
--- a value, unless there is a fault
-abbrev pub unless : {A : Type 0} → Option FaultKind → A → Result A FaultKind
-unless None value = Ok value
-unless (Some fault) value = Err fault

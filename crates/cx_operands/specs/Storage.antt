@@ -4,7 +4,7 @@ use Rattle.std.specs.Option.{ok_or, option_map_or}
 use Rattle.std.specs.Result.{result_err}
 use Rattle.cx_source.specs.Marks.{first_mark, parts}
 use Rattle.cx_source.specs.declared.marks.Mark.TheVariants.{TopComma, Parenthesis}
-use Rattle.cx_terms.specs.Faults.{lower, lowest}
+use Rattle.cx_terms.specs.Faults.{lowest}
 use Rattle.cx_terms.specs.Items.{parenthesized_body}
 use Rattle.cx_terms.specs.declared.values.Value.{Value}
 use Rattle.cx_terms.specs.declared.faults.FaultKind.{FaultKind}
@@ -22,19 +22,12 @@ pub record Operand : Type 0 where
 abbrev pub operand : Result Value FaultKind → List (List ℕ) → Operand
 operand place subfields = record { place = place; subfields = subfields }
 
--- an expression, and perhaps one list in parentheses behind it, which ends the text
-abbrev pub expression_and_list : List ℕ → Option (List ℕ × Option (List ℕ))
+-- an expression, and the parts of a list in parentheses behind it, which ends the text, if there is one
+abbrev pub expression_and_list : List ℕ → Option (List ℕ × List (List ℕ))
 expression_and_list text =
     let at = first_mark Parenthesis text in
-    if at == length text then Some (text, None)
-    else option_map (λ body. (take at text, Some body)) (parenthesized_body (drop at text))
-
-abbrev pub subfields_of : Option (List ℕ) → List (List ℕ)
-subfields_of None = []
-subfields_of (Some body) = parts TopComma body
-
-abbrev pub written_operand : Context → List ℕ × Option (List ℕ) → Operand
-written_operand c written = operand (worth c written.0) (subfields_of written.1)
+    if at == length text then Some (text, [])
+    else option_map (λ body. (take at text, parts TopComma body)) (parenthesized_body (drop at text))
 
 abbrev pub is_literal : List ℕ → Bool
 is_literal text = slice_index text 0 == 61
@@ -43,7 +36,7 @@ is_literal text = slice_index text 0 == 61
 unfoldable pub operand_in : Bool → Context → List ℕ → Option Operand
 operand_in takes_literal c text =
     if is_literal text then (if takes_literal then Some (operand (ok_or c.literal BadOperand) []) else None)
-    else option_map (written_operand c) (expression_and_list text)
+    else option_map (λ written. operand (worth c written.0) written.1) (expression_and_list text)
 
 -- ---- base and displacement
 -- with a base written, the expression is a displacement
@@ -51,14 +44,11 @@ abbrev pub explicit_address : Context → Result Value FaultKind → List ℕ �
 explicit_address c place base =
     made_of (λ v. address v.1 v.0) (both (judged (number_at_most 4095) place) (register_in c base))
 
--- the lowest fault of expressions
-abbrev pub worths_fault : Context → List (List ℕ) → Option FaultKind
-worths_fault c texts = lowest (map (λ text. result_err (worth c text)) texts)
-
 -- subfields that the operand has no room for: BadOperand, beside their own faults and those of the rest
 abbrev pub crowded : Context → Result Address FaultKind → List (List ℕ) → Result Address FaultKind
 crowded c addressed more =
-    Err (option_map_or (lower_of BadOperand) (lower (result_err addressed) (worths_fault c more)) BadOperand)
+    let faults = map (λ text. result_err (worth c text)) more in
+    Err (option_map_or (lower_of BadOperand) (lowest (result_err addressed ∷ faults)) BadOperand)
 
 -- by what stands in the parentheses at the place of a base: nothing, a base, or too much
 abbrev pub addressed : Context → Result Value FaultKind → List (List ℕ) → Result Address FaultKind
@@ -85,10 +75,6 @@ abbrev pub indexed : Context → Operand → Result (ℕ × Address) FaultKind
 indexed c operand = indexed_by c operand.place operand.subfields
 
 -- ---- S, S(L), D(L,B)
--- the field of a length: one less, where it isn't 0
-abbrev pub length_field : ℕ → ℕ
-length_field count = count - 1
-
 -- the length attribute of what stands before the parentheses
 abbrev pub implied_length : ℕ → Value → Result ℕ FaultKind
 implied_length most value = if nat_le value.length most then Ok value.length else Err ValueOutOfRange
@@ -97,8 +83,9 @@ abbrev pub counted_by : ℕ → Context → Result Value FaultKind → List (Lis
 counted_by most c place [] = both (judged (implied_length most) place) (addressed c place [])
 counted_by most c place (count ∷ base) = both (number_in most c count) (addressed c place base)
 
+-- the field of a length is one less, where it isn't 0
 abbrev pub counted : ℕ → Context → Operand → Result (ℕ × Address) FaultKind
-counted most c operand = made_of (λ v. (length_field v.0, v.1)) (counted_by most c operand.place operand.subfields)
+counted most c operand = made_of (λ v. (v.0 - 1, v.1)) (counted_by most c operand.place operand.subfields)
 
 -- ---- the text of a storage operand of each kind; one that can't be read is BadOperand alone
 unfoldable pub plain_in : Bool → Context → List ℕ → Result Address FaultKind

@@ -1,7 +1,7 @@
 //! The base register and displacement that stand for a place.
 
-ghost use Rattle.std.specs.Prelude.{◌≡◌, ◌≤◌, ◌-ℤ◌, length};
-ghost use Rattle.cx_operands.specs.Addresses.{absolute_address, displacement_of, implied_address, nearer, nearest, reached};
+ghost use Rattle.std.specs.Prelude.{◌≡◌, ◌≤◌, ◌-ℤ◌, [], None, length};
+ghost use Rattle.cx_operands.specs.Addresses.{address_in, implied_address, nearer, nearest, reached, within};
 
 use crate::bases::{Base, Bases};
 use cx_ebcdic::Name8;
@@ -21,7 +21,7 @@ pub struct Address {
 
 /// How far a number is behind another, where that is 0 to 4,095.
 fn displacement(number: i128, behind: i128) -> Option<u16>
-    ensures { result ≡ displacement_of (number -ℤ behind) }
+    ensures { result ≡ within 4095 (number -ℤ behind) }
 {
     let distance = number.checked_sub(behind)?;
     if distance >= 0 && distance <= GREATEST {
@@ -77,7 +77,7 @@ fn nearest(bases: &[Option<Base>], section: Name8, number: i128) -> Option<Addre
 
 /// The address of an absolute number: register 0, and itself as displacement.
 fn absolute_address(number: i128) -> Result<Address, FaultKind>
-    ensures { result ≡ absolute_address number }
+    ensures { result ≡ address_in [] None number }
 {
     match displacement(number, 0) {
         Some(displacement) => Ok(Address {

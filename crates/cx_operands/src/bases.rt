@@ -1,7 +1,7 @@
 //! Base registers and what they hold.
 
 ghost use Rattle.std.specs.Prelude.{◌≡◌, ◌≤◌, ◌^◌, slice_set, length, unsigned_abs, option_map};
-ghost use Rattle.cx_operands.specs.Bases.{base, dropped, ended, held, none_in_use, used, using_with};
+ghost use Rattle.cx_operands.specs.Bases.{base, dropped, ended, held, none_in_use, using_with};
 
 use cx_ebcdic::Name8;
 use std::marker::Model;
@@ -163,7 +163,7 @@ impl Bases {
     /// Puts a USING into force: its first register holds its place, and each further one 4,096 more; a register that is
     /// named twice holds what it is given last. What they held before is replaced. It takes no memory.
     pub fn put_in_use(&mut self, given: &Using)
-        ensures { self.new ≡ used given.now self.old }
+        ensures { self.new ≡ held given.now.section given.now.number given.now.registers self.old }
     {
         hold(
             &mut self.bases,

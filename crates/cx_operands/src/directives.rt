@@ -2,15 +2,18 @@
 
 ghost use Rattle.std.specs.Prelude.{◌≡◌, ◌≤◌, ◌^◌, ◌++◌, [], Err, None, IfOk, IsOk, OnOk, OnErr, false, length, map, option_map, unsigned_abs};
 ghost use Rattle.std.specs.List.{cons_option};
+ghost use Rattle.std.specs.Option.{unwrap_or};
 ghost use Rattle.std.specs.Result.{result_err, result_ok};
 ghost use Rattle.cx_terms.specs.Expressions.{Answers};
 ghost use Rattle.cx_terms.specs.Symbols.{find_in};
 ghost use Rattle.cx_terms.specs.Weights.{stands_in};
 ghost use Rattle.cx_terms.specs.declared.faults.FaultKind.TheVariants as FaultKind;
 ghost use Rattle.cx_terms.specs.declared.faults.TermFault.TheVariants.{Refused};
+ghost use Rattle.cx_operations.specs.declared.operations.Directive.TheVariants as directive;
+ghost use Rattle.cx_operations.specs.declared.operations.Operation.TheVariants as operation;
 ghost use Rattle.cx_operands.specs.Judging.{both, judged, made_of};
 ghost use Rattle.cx_operands.specs.Context.{context, register_in, told, worth};
-ghost use Rattle.cx_operands.specs.Directives.{bases_behind, bases_behind_drop, bases_behind_using, bases_fault, changes_bases, copy_fault, drop_in, entry_in, entry_of, place_in, registers_in, using_by, using_in, using_of};
+ghost use Rattle.cx_operands.specs.Directives.{bases_in, changes_bases, copy_fault, drop_in, entry_in, entry_of, place_in, registers_in, using_by, using_in, using_of};
 
 use crate::bases::{Bases, Dropped, Using};
 use crate::context::Context;
@@ -32,7 +35,8 @@ fn put_register(
     found: &mut Vec<u8>,
 ) -> Result<Option<FaultKind>, AllocError>
     ensures fault { IfOk result (λ fault. fault ≡ result_err (register_in (told c.now) text.now)) }
-    ensures put { OnOk result (found.new.items ≡ found.old.items ++ cons_option (result_ok (register_in (told c.now) text.now)) []) }
+    ensures put { let register = result_ok (register_in (told c.now) text.now) in
+        OnOk result (found.new.items ≡ found.old.items ++ cons_option register []) }
 {
     match c.register(alloc, text)? {
         Ok(register) => {
@@ -44,9 +48,10 @@ fn put_register(
 }
 
 /// The registers that operands name, or their lowest fault.
-#[tactic(auto, unfolding(crate::specs::Directives::registers_in))]
+#[tactic(auto, using(crate::proofs::FaultLemmas::registers_end))]
 fn registers_in(alloc: Global, c: &Context<'_>, texts: &[&[u8]]) -> Judged<Vec<u8>>
-    ensures { IfOk result (λ found. made_of (λ registers. registers.items) found ≡ registers_in (told c.now) (map (λ text. text.now) texts.now)) }
+    ensures { let named = registers_in (told c.now) (map (λ text. text.now) texts.now) in
+        IfOk result (λ found. made_of (λ registers. registers.items) found ≡ named) }
 {
     let mut found = Vec::new(alloc);
     let mut fault = None;
@@ -232,6 +237,7 @@ pub fn read_entry(
 
 impl Bases {
     /// Puts a USING's operand into force; its fault, if it has one.
+    #[tactic(auto, unfolding(crate::specs::Directives::bases_in))]
     fn pass_using(
         &mut self,
         alloc: Global,
@@ -239,8 +245,11 @@ impl Bases {
         here: Option<Value>,
         operand: &[u8],
     ) -> Result<Option<FaultKind>, AllocError>
-        ensures bases { OnOk result (self.new ≡ bases_behind_using (using_in (context (find_in symbols.now) here self.old None) operand.now) self.old) }
-        ensures fault { IfOk result (λ fault. fault ≡ result_err (using_in (context (find_in symbols.now) here self.old None) operand.now)) }
+        ensures bases { let c = context (find_in symbols.now) here self.old None in
+            let behind = bases_in (operation.Directive directive.Using) c operand.now in
+            OnOk result (self.new ≡ unwrap_or (result_ok behind) self.old) }
+        ensures fault { let c = context (find_in symbols.now) here self.old None in
+            IfOk result (λ fault. fault ≡ result_err (bases_in (operation.Directive directive.Using) c operand.now)) }
         ensures err { OnErr result (self.new ≡ self.old) }
     {
         let read = {
@@ -258,6 +267,7 @@ impl Bases {
     }
 
     /// Puts a DROP's operand into force; its fault, if it has one.
+    #[tactic(auto, unfolding(crate::specs::Directives::bases_in))]
     fn pass_drop(
         &mut self,
         alloc: Global,
@@ -265,8 +275,11 @@ impl Bases {
         here: Option<Value>,
         operand: &[u8],
     ) -> Result<Option<FaultKind>, AllocError>
-        ensures bases { OnOk result (self.new ≡ bases_behind_drop (drop_in (context (find_in symbols.now) here self.old None) operand.now) self.old) }
-        ensures fault { IfOk result (λ fault. fault ≡ result_err (drop_in (context (find_in symbols.now) here self.old None) operand.now)) }
+        ensures bases { let c = context (find_in symbols.now) here self.old None in
+            let behind = bases_in (operation.Directive directive.Drop) c operand.now in
+            OnOk result (self.new ≡ unwrap_or (result_ok behind) self.old) }
+        ensures fault { let c = context (find_in symbols.now) here self.old None in
+            IfOk result (λ fault. fault ≡ result_err (bases_in (operation.Directive directive.Drop) c operand.now)) }
         ensures err { OnErr result (self.new ≡ self.old) }
     {
         let read = {
@@ -288,7 +301,7 @@ impl Bases {
     /// the location counter stands at, if anything.
     ///
     /// Memory comes only where a growth was refused; then all is as before.
-    #[tactic(auto, unfolding(crate::specs::Directives::bases_behind))]
+    #[tactic(auto, unfolding(crate::specs::Directives::bases_in))]
     pub fn pass(
         &mut self,
         alloc: Global,
@@ -297,8 +310,10 @@ impl Bases {
         operation: Operation,
         operand: &[u8],
     ) -> Result<Option<FaultKind>, AllocError>
-        ensures bases { OnOk result (self.new ≡ bases_behind operation (context (find_in symbols.now) here self.old None) operand.now) }
-        ensures fault { IfOk result (λ fault. fault ≡ bases_fault operation (context (find_in symbols.now) here self.old None) operand.now) }
+        ensures bases { let c = context (find_in symbols.now) here self.old None in
+            OnOk result (self.new ≡ unwrap_or (result_ok (bases_in operation c operand.now)) self.old) }
+        ensures fault { let c = context (find_in symbols.now) here self.old None in
+            IfOk result (λ fault. fault ≡ result_err (bases_in operation c operand.now)) }
         ensures others { changes_bases operation ≡ false → IsOk result }
         ensures err { OnErr result (self.new ≡ self.old) }
     {

@@ -1,6 +1,6 @@
 //! The operands of instructions, by format.
 
-ghost use Rattle.std.specs.Prelude.{◌≡◌, ◌≤◌, Err, IfOk, IsOk, None, length, map, false, option_map};
+ghost use Rattle.std.specs.Prelude.{◌≡◌, ◌≤◌, Err, IfOk, IsOk, None, length, if◌then◌else◌, map, false, option_and_then, option_map, Some};
 ghost use Rattle.cx_terms.specs.Expressions.{Answers};
 ghost use Rattle.cx_code.specs.Spelling.{instruction, IsWellFormed};
 ghost use Rattle.cx_terms.specs.declared.faults.FaultKind.TheVariants as FaultKind;
@@ -8,9 +8,9 @@ ghost use Rattle.cx_terms.specs.declared.faults.TermFault.TheVariants.{Refused};
 ghost use Rattle.cx_operations.specs.Operations.{base_row};
 ghost use Rattle.cx_operands.specs.Judging.{both};
 ghost use Rattle.cx_operands.specs.Context.{register_in, told};
-ghost use Rattle.cx_operands.specs.Storage.{plain_in};
+ghost use Rattle.cx_operands.specs.Storage.{is_literal, plain_in};
 ghost use Rattle.cx_operands.specs.declared.forms.Form.TheVariants as form;
-ghost use Rattle.cx_operands.specs.Forms.{fields_in, form_of, form_of_op, literal_in, literal_of, operands_of, resolved};
+ghost use Rattle.cx_operands.specs.Forms.{fields_in, form_of, form_of_op, literal_in, operands_of, resolved};
 
 use crate::addresses::Address;
 use crate::context::Context;
@@ -53,7 +53,8 @@ pub enum Form {
 /// `R1,R2`.
 #[tactic(auto, unfolding(crate::specs::Forms::fields_in))]
 fn registers(alloc: Global, c: &Context<'_>, operands: &[&[u8]]) -> Judged<Fields>
-    ensures { IfOk result (λ found. found ≡ fields_in form.Registers (told c.now) (map (λ text. text.now) operands.now)) }
+    ensures { let texts = map (λ text. text.now) operands.now in
+        IfOk result (λ found. found ≡ fields_in form.Registers (told c.now) texts) }
 {
     let [r1, r2] = operands else {
         return Ok(Err(FaultKind::BadOperand));
@@ -85,7 +86,8 @@ fn indexed(alloc: Global, c: &Context<'_>, operands: &[&[u8]]) -> Judged<Fields>
 
 /// `R3,S2` or `R3,D2(B2)`, behind the first operand.
 fn behind_first(alloc: Global, c: &Context<'_>, r3: &[u8], s2: &[u8]) -> Judged<(u8, Address)>
-    ensures { IfOk result (λ found. found ≡ both (register_in (told c.now) r3.now) (plain_in false (told c.now) s2.now)) }
+    ensures { let c = told c.now in
+        IfOk result (λ found. found ≡ both (register_in c r3.now) (plain_in false c s2.now)) }
 {
     Ok(both(c.register(alloc, r3)?, plain_in(alloc, false, c, s2)?))
 }
@@ -93,7 +95,8 @@ fn behind_first(alloc: Global, c: &Context<'_>, r3: &[u8], s2: &[u8]) -> Judged<
 /// `R1,R3,S2` or `R1,R3,D2(B2)`.
 #[tactic(auto, unfolding(crate::specs::Forms::fields_in))]
 fn three_operands(alloc: Global, c: &Context<'_>, operands: &[&[u8]]) -> Judged<Fields>
-    ensures { IfOk result (λ found. found ≡ fields_in form.ThreeOperands (told c.now) (map (λ text. text.now) operands.now)) }
+    ensures { let texts = map (λ text. text.now) operands.now in
+        IfOk result (λ found. found ≡ fields_in form.ThreeOperands (told c.now) texts) }
 {
     let [r1, r3, s2] = operands else {
         return Ok(Err(FaultKind::BadOperand));
@@ -131,7 +134,8 @@ fn shift(alloc: Global, c: &Context<'_>, operands: &[&[u8]]) -> Judged<Fields>
 /// `S1,I2` or `D1(B1),I2`.
 #[tactic(auto, unfolding(crate::specs::Forms::fields_in))]
 fn immediate(alloc: Global, c: &Context<'_>, operands: &[&[u8]]) -> Judged<Fields>
-    ensures { IfOk result (λ found. found ≡ fields_in form.Immediate (told c.now) (map (λ text. text.now) operands.now)) }
+    ensures { let texts = map (λ text. text.now) operands.now in
+        IfOk result (λ found. found ≡ fields_in form.Immediate (told c.now) texts) }
 {
     let [s1, i2] = operands else {
         return Ok(Err(FaultKind::BadOperand));
@@ -149,7 +153,8 @@ fn immediate(alloc: Global, c: &Context<'_>, operands: &[&[u8]]) -> Judged<Field
 /// `S1,S2`, `S1(L),S2` or `D1(L,B1),D2(B2)`, the second also a literal.
 #[tactic(auto, unfolding(crate::specs::Forms::fields_in))]
 fn one_length(alloc: Global, c: &Context<'_>, operands: &[&[u8]]) -> Judged<Fields>
-    ensures { IfOk result (λ found. found ≡ fields_in form.OneLength (told c.now) (map (λ text. text.now) operands.now)) }
+    ensures { let texts = map (λ text. text.now) operands.now in
+        IfOk result (λ found. found ≡ fields_in form.OneLength (told c.now) texts) }
 {
     let [s1, s2] = operands else {
         return Ok(Err(FaultKind::BadOperand));
@@ -171,7 +176,8 @@ fn one_length(alloc: Global, c: &Context<'_>, operands: &[&[u8]]) -> Judged<Fiel
 /// `S1,S2`, `S1(L1),S2(L2)` or `D1(L1,B1),D2(L2,B2)`, the second also a literal.
 #[tactic(auto, unfolding(crate::specs::Forms::fields_in))]
 fn two_lengths(alloc: Global, c: &Context<'_>, operands: &[&[u8]]) -> Judged<Fields>
-    ensures { IfOk result (λ found. found ≡ fields_in form.TwoLengths (told c.now) (map (λ text. text.now) operands.now)) }
+    ensures { let texts = map (λ text. text.now) operands.now in
+        IfOk result (λ found. found ≡ fields_in form.TwoLengths (told c.now) texts) }
 {
     let [s1, s2] = operands else {
         return Ok(Err(FaultKind::BadOperand));
@@ -194,7 +200,8 @@ fn two_lengths(alloc: Global, c: &Context<'_>, operands: &[&[u8]]) -> Judged<Fie
 /// `S2`, `S2(X2)`, `D2(X2,B2)`, `D2(,B2)` or a literal, behind a mask.
 #[tactic(auto, unfolding(crate::specs::Forms::fields_in))]
 fn branch(alloc: Global, c: &Context<'_>, operands: &[&[u8]], mask: u8) -> Judged<Fields>
-    ensures { IfOk result (λ found. found ≡ fields_in (form.Branch mask) (told c.now) (map (λ text. text.now) operands.now)) }
+    ensures { let texts = map (λ text. text.now) operands.now in
+        IfOk result (λ found. found ≡ fields_in (form.Branch mask) (told c.now) texts) }
 {
     let [s2] = operands else {
         return Ok(Err(FaultKind::BadOperand));
@@ -213,7 +220,8 @@ fn branch(alloc: Global, c: &Context<'_>, operands: &[&[u8]], mask: u8) -> Judge
 /// `R2` behind a mask.
 #[tactic(auto, unfolding(crate::specs::Forms::fields_in))]
 fn register_branch(alloc: Global, c: &Context<'_>, operands: &[&[u8]], mask: u8) -> Judged<Fields>
-    ensures { IfOk result (λ found. found ≡ fields_in (form.RegisterBranch mask) (told c.now) (map (λ text. text.now) operands.now)) }
+    ensures { let texts = map (λ text. text.now) operands.now in
+        IfOk result (λ found. found ≡ fields_in (form.RegisterBranch mask) (told c.now) texts) }
 {
     let [r2] = operands else {
         return Ok(Err(FaultKind::BadOperand));
@@ -288,7 +296,8 @@ pub fn literal_in(alloc: Global, operand: &[u8]) -> Result<Option<&[u8]>, AllocE
 
 /// A text, if it is a literal.
 fn literal_of(text: Option<&[u8]>) -> Option<&[u8]>
-    ensures { option_map (λ text. text.now) result ≡ literal_of (option_map (λ text. text.now) text.entry) }
+    ensures { let literal = option_map (λ text. text.now) result in let written = option_map (λ text. text.now) text.entry in
+        literal ≡ option_and_then (λ text. if is_literal text then Some text else None) written }
 {
     let text = text?;
     if is_literal(text) { Some(text) } else { None }

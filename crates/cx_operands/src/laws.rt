@@ -16,7 +16,8 @@ ghost use Rattle.cx_operands.specs.declared.addresses.Address.{Address};
 /// reaches the place.
 #[tactic(auto, using(crate::proofs::NearestLemmas::nearest_is_nearest))]
 pub fn an_implied_address_is_nearest()
-    ensures { (bases : Bases) (section : List ℕ) (number : ℤ) → IsNearest bases section number (nearest bases section number) }
+    ensures { (bases : Bases) (section : List ℕ) (number : ℤ)
+        → IsNearest bases section number (nearest bases section number) }
 {}
 
 /// Two nearest addresses of one place are one.

@@ -1,14 +1,16 @@
 //! Storage operands.
 
-ghost use Rattle.std.specs.Prelude.{◌≡◌, ◌≤◌, IfOk, map, option_map, Some, None};
-ghost use Rattle.std.specs.Option.{ok_or};
+ghost use Rattle.std.specs.Prelude.{◌≡◌, ◌≤◌, ◌-◌, ◌∷◌, [], IfOk, map, option_map, Some, None};
+ghost use Rattle.std.specs.Option.{ok_or, option_map_or};
 ghost use Rattle.std.specs.Result.{result_err};
-ghost use Rattle.cx_terms.specs.Faults.{lower};
+ghost use Rattle.cx_source.specs.Marks.{parts};
+ghost use Rattle.cx_source.specs.declared.marks.Mark.TheVariants.{TopComma};
+ghost use Rattle.cx_terms.specs.Faults.{lowest};
 ghost use Rattle.cx_terms.specs.declared.faults.FaultKind.TheVariants as FaultKind;
 ghost use Rattle.cx_operands.specs.Judging.{judged};
 ghost use Rattle.cx_operands.specs.Addresses.{implied_address};
 ghost use Rattle.cx_operands.specs.Context.{told, worth};
-ghost use Rattle.cx_operands.specs.Storage.{addressed, counted_by, counted_in, crowded, explicit_address, expression_and_list, implied_length, index_in, indexed, indexed_in, is_literal, length_field, operand_in, plain_in, subfields_of, worths_fault};
+ghost use Rattle.cx_operands.specs.Storage.{addressed, counted_by, counted_in, crowded, explicit_address, expression_and_list, implied_length, index_in, indexed, indexed_in, is_literal, operand_in, plain_in};
 
 use crate::addresses::Address;
 use crate::context::{Context, number_of};
@@ -39,7 +41,8 @@ impl<'a> Model for Operand<'a> {
 
 /// An expression, and perhaps one list in parentheses behind it.
 fn expression_and_list(text: &[u8]) -> Option<(&[u8], Option<&[u8]>)>
-    ensures { option_map (λ found. (found.0.now, option_map (λ body. body.now) found.1)) result ≡ expression_and_list text.now }
+    ensures { let read = expression_and_list text.now in
+        option_map (λ found. (found.0.now, option_map_or (λ body. parts TopComma body.now) found.1 [])) result ≡ read }
 {
     let at = first_mark(text, Mark::Parenthesis);
     if at == text.len() {
@@ -52,7 +55,8 @@ fn expression_and_list(text: &[u8]) -> Option<(&[u8], Option<&[u8]>)>
 
 /// The parts in the parentheses, none without them.
 fn subfields_of(alloc: Global, list: Option<&[u8]>) -> Result<Vec<&[u8]>, AllocError>
-    ensures { IfOk result (λ found. map (λ text. text.now) found.items ≡ subfields_of (option_map (λ body. body.now) list.entry)) }
+    ensures { let subfields = option_map_or (λ body. parts TopComma body.now) list.entry [] in
+        IfOk result (λ found. map (λ text. text.now) found.items ≡ subfields) }
 {
     match list {
         Some(body) => cut(alloc, body, Mark::TopComma),
@@ -155,7 +159,8 @@ fn lowest_of(
     addressed: Result<Address, FaultKind>,
     more: &[&[u8]],
 ) -> Result<Option<FaultKind>, AllocError>
-    ensures { IfOk result (λ found. found ≡ lower (result_err addressed) (worths_fault (told c.now) (map (λ text. text.now) more.now))) }
+    ensures { let faults = map (λ text. result_err (worth (told c.now) text)) (map (λ text. text.now) more.now) in
+        IfOk result (λ found. found ≡ lowest (result_err addressed ∷ faults)) }
 {
     let mut fault = addressed.err();
     for text in more {
@@ -293,7 +298,7 @@ pub(crate) fn indexed_in(alloc: Global, c: &Context<'_>, text: &[u8]) -> Judged<
 /// The field of a length, up to 256.
 fn length_field(count: u16) -> u8
     requires { count ≤ 256 }
-    ensures { result ≡ length_field count }
+    ensures { result ≡ count - 1 }
 {
     count.saturating_sub(1) as u8
 }

@@ -1,7 +1,8 @@
 -- What is wrong with statements whose places stand: their operands, and the values of their constants (GC33-4010; that the lowest fault of the first faulty statement's line is told is own).
-use Rattle.std.specs.Prelude.{ℕ, length, Bool, true, false, ◌==◌, if◌then◌else◌, Option, Some, None, option_and_then, List, [], ◌∷◌, map}
+use Rattle.std.specs.Prelude.{ℕ, length, Bool, true, false, ◌==◌, if◌then◌else◌, Option, Some, None, option_and_then, unwrap_or, List, [], ◌∷◌, map}
+use Rattle.std.specs.Option.{option_map_or}
 use Rattle.std.specs.Map.{lookup}
-use Rattle.std.specs.Result.{result_err}
+use Rattle.std.specs.Result.{result_ok, result_err}
 use Rattle.std.specs.Str.{bytes_eq}
 use Rattle.cx_terms.specs.Faults.{lower, lowest}
 use Rattle.cx_terms.specs.declared.faults.FaultKind.{FaultKind}
@@ -10,9 +11,8 @@ use Rattle.cx_pools.specs.declared.closed.Literal.{Literal}
 use Rattle.cx_operations.specs.declared.operations.Operation.{Operation}
 use Rattle.cx_operations.specs.declared.operations.Operation.TheVariants as operation
 use Rattle.cx_operations.specs.declared.operations.Directive.TheVariants as directive
-use Rattle.cx_operations.specs.declared.operations.Directive.{Directive}
 use Rattle.cx_operands.specs.Bases.{Bases, none_in_use}
-use Rattle.cx_operands.specs.Directives.{bases_behind, bases_fault, copy_fault, entry_in}
+use Rattle.cx_operands.specs.Directives.{bases_in, copy_fault, entry_in}
 use Rattle.cx_operands.specs.Forms.{resolved}
 use Rattle.cx_places.specs.Given.{location_counter}
 use Rattle.cx_places.specs.Known.{first_fault_behind, parts_in}
@@ -26,11 +26,10 @@ abbrev pub used_fault : Whole → ℕ → Stated → List ℕ → Literal → Op
 used_fault told number s text literal =
     if literal.user == number then result_err (item_made told false (counter_of s) text) else None
 
-abbrev pub text_fault : Whole → ℕ → Stated → List ℕ → Option FaultKind
-text_fault told number s text = option_and_then (used_fault told number s text) (lookup (bytes_eq text) (pool_of told s))
-
 abbrev pub part_fault : Whole → ℕ → Stated → List ℕ → Option FaultKind
-part_fault told number s part = option_and_then (text_fault told number s) (literal_text part)
+part_fault told number s part =
+    let pool = pool_of told s in
+    option_and_then (λ text. option_and_then (used_fault told number s text) (lookup (bytes_eq text) pool)) (literal_text part)
 
 abbrev pub literals_fault : Whole → ℕ → Stated → Option FaultKind
 literals_fault told number s = lowest (map (part_fault told number s) (parts_in s.stmt))
@@ -43,42 +42,28 @@ abbrev pub items_fault : Whole → Bool → Stated → Option FaultKind
 items_fault told is_ds s = lowest (map (item_fault told is_ds s) (placed_items s))
 
 -- ---- statements, where these bases are in use
-abbrev pub instruction_fault : Whole → Bases → ℕ → Stated → Operation → Option FaultKind
-instruction_fault told bases number s operation =
-    lower (result_err (resolved operation (instruction_context told bases s) s.stmt.operand)) (literals_fault told number s)
-
-abbrev pub directive_fault : Whole → Stated → Directive → Option FaultKind
-directive_fault told s directive.Dc = items_fault told false s
-directive_fault told s directive.Ds = items_fault told true s
-directive_fault told s directive.Copy = copy_fault s.stmt.operand
-directive_fault told s directive.End = result_err (entry_in told.control (directive_context told none_in_use s) s.stmt.operand)
-directive_fault told s other = None
-
--- of all operations but USING and DROP
+-- The lowest fault of a statement with this operation: of a directive's operand, and of what an instruction's operands make and the values of
+-- the literals that it uses first.
 abbrev pub operand_fault : Whole → Bases → ℕ → Stated → Option Operation → Option FaultKind
 operand_fault told bases number s None = None
-operand_fault told bases number s (Some (operation.Machine op)) = instruction_fault told bases number s (operation.Machine op)
-operand_fault told bases number s (Some (operation.Branch branch)) = instruction_fault told bases number s (operation.Branch branch)
-operand_fault told bases number s (Some (operation.RegisterBranch branch)) = instruction_fault told bases number s (operation.RegisterBranch branch)
-operand_fault told bases number s (Some (operation.Directive d)) = directive_fault told s d
+operand_fault told bases number s (Some (operation.Directive directive.Dc)) = items_fault told false s
+operand_fault told bases number s (Some (operation.Directive directive.Ds)) = items_fault told true s
+operand_fault told bases number s (Some (operation.Directive directive.Copy)) = copy_fault s.stmt.operand
+operand_fault told bases number s (Some (operation.Directive directive.End)) =
+    result_err (entry_in told.control (directive_context told none_in_use s) s.stmt.operand)
+operand_fault told bases number s (Some (operation.Directive d)) =
+    result_err (bases_in (operation.Directive d) (directive_context told bases s) s.stmt.operand)
+operand_fault told bases number s (Some o) =
+    lower (result_err (resolved o (instruction_context told bases s) s.stmt.operand)) (literals_fault told number s)
 
--- of USING and DROP
-abbrev pub using_fault : Whole → Bases → Stated → Option Operation → Option FaultKind
-using_fault told bases s None = None
-using_fault told bases s (Some operation) = bases_fault operation (directive_context told bases s) s.stmt.operand
-
--- the lowest fault of a statement
 unfoldable pub second_fault : Whole → Bases → ℕ → Stated → Option FaultKind
-second_fault told bases number s = lower (operand_fault told bases number s (operation_of s)) (using_fault told bases s (operation_of s))
+second_fault told bases number s = operand_fault told bases number s (operation_of s)
 
--- ---- behind a statement
-abbrev pub bases_by : Whole → Bases → Stated → Option Operation → Bases
-bases_by told bases s None = bases
-bases_by told bases s (Some operation) = bases_behind operation (directive_context told bases s) s.stmt.operand
-
--- the bases in use behind it
+-- the bases in use behind a statement: a USING or a DROP at fault changes nothing
 unfoldable pub bases_after : Whole → Bases → Stated → Bases
-bases_after told bases s = bases_by told bases s (operation_of s)
+bases_after told bases s =
+    let c = directive_context told bases s in
+    option_map_or (λ o. unwrap_or (result_ok (bases_in o c s.stmt.operand)) bases) (operation_of s) bases
 
 -- What statements tell of the one behind them: the bases in use, and the first fault so far.
 pub record Judged : Type 0 where

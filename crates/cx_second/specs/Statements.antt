@@ -1,5 +1,5 @@
 -- The statements of a source, each with its line and its place (GC33-4010, "Assembler Language Coding Conventions"; the numbers are own).
-use Rattle.std.specs.Prelude.{ℕ, Bool, true, false, Option, Some, None, List, [], ◌∷◌, reverse}
+use Rattle.std.specs.Prelude.{ℕ, Bool, true, false, Option, Some, None, option_map, List, [], ◌∷◌, reverse}
 use Rattle.std.specs.List.{zip, find, filter_map}
 use Rattle.cx_source.specs.declared.source.Item.{Item}
 use Rattle.cx_source.specs.declared.source.Source.{Source}
@@ -20,8 +20,7 @@ abbrev pub placed_item : Item → Option Place → PlacedItem
 placed_item item place = record { item = item; place = place }
 
 abbrev pub place_for : Option Stmt → Known → Option Place
-place_for None known = None
-place_for (Some stmt) known = Some (place_in stmt known)
+place_for stmt known = option_map (λ s. place_in s known) stmt
 
 -- the lines, the latest first
 abbrev pub placed_behind : List Item → List PlacedItem

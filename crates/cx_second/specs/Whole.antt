@@ -1,8 +1,8 @@
 -- What the whole source tells, and what a statement's operand is read by (GC33-4010, "Symbols", "Location Counter Reference", "Literals").
-use Rattle.std.specs.Prelude.{ℕ, Bool, false, Option, Some, None, option_and_then, unwrap_or, Result, Ok, Err, List, [], slice_get, option_map}
+use Rattle.std.specs.Prelude.{ℕ, Bool, false, Option, None, option_and_then, unwrap_or, Result, List, [], slice_get, option_map}
 use Rattle.std.specs.Map.{lookup}
 use Rattle.std.specs.Str.{bytes_eq}
-use Rattle.cx_terms.specs.Items.{Constant, constant_in, length_of}
+use Rattle.cx_terms.specs.Items.{constant_in}
 use Rattle.cx_terms.specs.Bytes.{Made}
 use Rattle.cx_terms.specs.declared.values.Value.{Value}
 use Rattle.cx_terms.specs.declared.faults.FaultKind.{FaultKind}
@@ -10,6 +10,7 @@ use Rattle.cx_terms.specs.Symbols.{find_in}
 use Rattle.cx_pools.specs.Pools.{Placed, literal_text}
 use Rattle.cx_pools.specs.declared.closed.Literal.{Literal}
 use Rattle.cx_places.specs.Given.{location_counter}
+use Rattle.cx_places.specs.Layout.{item_length}
 use Rattle.cx_places.specs.Known.{Known, role_in}
 use Rattle.cx_places.specs.Placed.{all_pools, known_of}
 use Rattle.cx_places.specs.declared.roles.Role.{Role}
@@ -52,15 +53,11 @@ counter_of s = location_counter s.place.section s.place.offset (own_length (role
 abbrev pub pool_of : Whole → Stated → Placed
 pool_of told s = unwrap_or (slice_get told.pools s.place.pool) []
 
--- the length of one copy
-abbrev pub length_once : Result Constant FaultKind → ℕ
-length_once (Ok item) = length_of item
-length_once (Err fault) = 1
-
 -- The literal of a text stands for its place, with the length of one copy.
 abbrev pub literal_place : Whole → Stated → List ℕ → Option Value
 literal_place told s text =
-    option_and_then (λ literal. location_counter s.place.section literal.offset (length_once (constant_in false text))) (lookup (bytes_eq text) (pool_of told s))
+    let length = item_length (constant_in false text) in let literal = lookup (bytes_eq text) (pool_of told s) in
+    option_and_then (λ it. location_counter s.place.section it.offset length) literal
 
 -- that of the statement's last operand, where it is a literal
 abbrev pub literal_of : Whole → Stated → Option Value

@@ -1,14 +1,16 @@
 //! What the operands of a statement whose place stands make, and what is wrong with them.
 
 ghost use Rattle.std.specs.Prelude.{◌≡◌, IfOk, map, option_map, option_and_then};
+ghost use Rattle.std.specs.Map.{lookup};
 ghost use Rattle.std.specs.Result.{result_err};
+ghost use Rattle.std.specs.Str.{bytes_eq};
 ghost use Rattle.cx_terms.specs.Expressions.{Answers};
 ghost use Rattle.cx_terms.specs.Faults.{lower, lowest};
 ghost use Rattle.cx_operands.specs.Directives.{entry_in};
 ghost use Rattle.cx_operands.specs.Bases.{none_in_use};
 ghost use Rattle.cx_operands.specs.Forms.{resolved};
-ghost use Rattle.cx_second.specs.SecondFaults.{literals_fault, part_fault, text_fault};
-ghost use Rattle.cx_second.specs.Whole.{directive_context, instruction_context, item_made, told_by};
+ghost use Rattle.cx_second.specs.SecondFaults.{literals_fault, part_fault, used_fault};
+ghost use Rattle.cx_second.specs.Whole.{directive_context, instruction_context, item_made, pool_of, told_by};
 
 use crate::statements::Statement;
 use crate::whole::{control_name, counter_of, item_made, literal_of, pool_of};
@@ -48,7 +50,8 @@ fn text_fault(
     statement: &Statement<'_>,
     text: &[u8],
 ) -> Result<Option<FaultKind>, AllocError>
-    ensures { IfOk result (λ fault. fault ≡ text_fault (told_by places.now) number statement.now text.now) }
+    ensures { let told = told_by places.now in let literal = lookup (bytes_eq text.now) (pool_of told statement.now) in
+        IfOk result (λ fault. fault ≡ option_and_then (used_fault told number statement.now text.now) literal) }
 {
     let Some(pool) = pool_of(places, statement) else {
         return Ok(None);
@@ -86,7 +89,8 @@ fn parts_fault(
     statement: &Statement<'_>,
     parts: &[&[u8]],
 ) -> Result<Option<FaultKind>, AllocError>
-    ensures { IfOk result (λ fault. fault ≡ lowest (map (part_fault (told_by places.now) number statement.now) (map (λ part. part.now) parts.now))) }
+    ensures { let fault_of = part_fault (told_by places.now) number statement.now in
+        IfOk result (λ fault. fault ≡ lowest (map fault_of (map (λ part. part.now) parts.now))) }
 {
     let mut fault = None;
     for part in parts {
@@ -121,7 +125,8 @@ pub fn instruction_of(
     statement: &Statement<'_>,
     operation: Operation,
 ) -> Result<Inst, TermFault>
-    ensures { Answers (resolved operation (instruction_context (told_by places.now) bases.now statement.now) statement.now.stmt.operand) result }
+    ensures { let c = instruction_context (told_by places.now) bases.now statement.now in
+        Answers (resolved operation c statement.now.stmt.operand) result }
 {
     let literal = literal_of(alloc, places, statement)?;
     let context = Context::new(&places.symbols, counter_of(statement), bases, literal);
@@ -141,7 +146,8 @@ pub fn entry_of(
     places: &Places<'_>,
     statement: &Statement<'_>,
 ) -> Result<u32, TermFault>
-    ensures { Answers (entry_in (told_by places.now).control (directive_context (told_by places.now) none_in_use statement.now) statement.now.stmt.operand) result }
+    ensures { let told = told_by places.now in let c = directive_context told none_in_use statement.now in
+        Answers (entry_in told.control c statement.now.stmt.operand) result }
 {
     let bases = Bases::new();
     let context = Context::new(&places.symbols, counter_of(statement), &bases, None);

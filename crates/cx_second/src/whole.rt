@@ -4,7 +4,8 @@ ghost use Rattle.std.specs.Prelude.{◌≡◌, IfOk, [], false, option_map, unwr
 ghost use Rattle.std.specs.Option.{option_copied};
 ghost use Rattle.cx_terms.specs.Expressions.{Answers};
 ghost use Rattle.cx_terms.specs.Items.{constant_in};
-ghost use Rattle.cx_second.specs.Whole.{counter_of, item_made, length_once, literal_of, literal_place, own_length, pool_of, told_by};
+ghost use Rattle.cx_places.specs.Layout.{item_length};
+ghost use Rattle.cx_second.specs.Whole.{counter_of, item_made, literal_of, literal_place, own_length, pool_of, told_by};
 
 use crate::statements::Statement;
 use cx_ebcdic::Name8;
@@ -51,7 +52,7 @@ pub fn pool_of<'a, 'b>(places: &'b Places<'a>, statement: &Statement<'_>) -> Opt
 
 /// The length of one copy of a literal.
 fn length_once(text: &[u8]) -> u128
-    ensures { result ≡ length_once (constant_in false text.now) }
+    ensures { result ≡ item_length (constant_in false text.now) }
 {
     match Constant::read(text, false) {
         Ok(item) => item.length(),

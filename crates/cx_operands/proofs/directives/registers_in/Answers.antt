@@ -1,7 +1,7 @@
 use Rattle.std.proofs.Common.{◌<◌, ℕ, List, [], length, arith, rules}
 use Rattle.std.proofs.lemmas.Grind.{common_steps}
 use denote.Ref.{Bor}
-use Rattle.cx_operands.proofs.FaultLemmas.{register_fault_more, register_more}
+use Rattle.cx_operands.proofs.FaultLemmas.{register_more}
 use Rattle.cx_operands.specs.Context.{told}
 use Rattle.cx_operands.proofs.directives.registers_in.Goals as goal
 
@@ -9,6 +9,5 @@ pub loop-text-preserved : goal.loop-text-preserved
 loop-text-preserved c =
     let within : c.loop-text.text-index < length c.args.texts.now = omega arith in
     let empty : Bor (List ℕ) = record { ref_ptr = (0, 0); now = [] } in
-    let e = register_fault_more (told c.args.c.now) c.loop-text.fault c.args.texts.now empty c.loop-text.text-index _ within c.loop-text.invariant.faults in
-    let f = register_more (told c.args.c.now) c.loop-text.found.items c.args.texts.now empty c.loop-text.text-index _ within c.loop-text.invariant.names in
-    record { faults = first_of (search (rules, e), grind (arith, common_steps, e)); names = first_of (search (rules, f), grind (arith, common_steps, f)) }
+    let e = register_more (told c.args.c.now) c.loop-text.fault c.loop-text.found.items c.args.texts.now empty c.loop-text.text-index _ within c.loop-text.invariant in
+    first_of (search (rules, e), grind (arith, common_steps, e))
