@@ -2,6 +2,7 @@
 use Rattle.std.specs.Prelude.{option_and_then, pos, codes, decimal, reverse, is_some, slice_get, ⊤}
 use Rattle.std.proofs.Common.{◌≡◌, ◌≤◌, ℕ, ◌+◌, ◌-◌, ◌*◌, ◌/◌, Bool, true, false, cond, ◌||◌, Option, Some, None, Ok, List, [], ◌∷◌, ◌++◌, map, take, drop, refl, sym, ◌∙◌, ap, subst, ⊎_elim, arith}
 use Rattle.std.specs.Fmt.{digits}
+use Rattle.std.specs.Option.{option_map_or}
 use Rattle.std.specs.List.{list_any, position, position_from}
 use Rattle.std.proofs.lemmas.Bool.{cases_Bool}
 use Rattle.std.proofs.lemmas.Iterator.Adapters.{position_from-zero}
@@ -32,8 +33,8 @@ use Rattle.cx_terms.specs.declared.kinds.ConstantKind.TheVariants.{Hexadecimal}
 use Rattle.cx_terms.specs.declared.values.Value.{Value}
 use Rattle.cx_pools.specs.Pools.{capped, pool_extent}
 use Rattle.cx_translate.specs.Made.{made_item, stmt}
-use Rattle.cx_translate.specs.Sections.{begins_exec, eib_before, eib_section, field, field_name, is_end, line_of, lines, with_bases, with_eib, with_storage}
-use Rattle.cx_translate.specs.Translation.{expanded, first_fault, judged, translated, translation_of}
+use Rattle.cx_translate.specs.Sections.{begins_exec, eib_section, field, is_end, lines, with_bases, with_eib, with_storage}
+use Rattle.cx_translate.specs.Translation.{expanded, first_fault, translated, translation_of}
 use Rattle.cx_translate.specs.declared.faults.TransFault.{TransFault}
 use Rattle.cx_places.specs.Facts.Faults.{none_before, sound_statement}
 use Rattle.cx_places.specs.Facts.Kept.{value_kept}
@@ -42,6 +43,7 @@ use Rattle.cx_places.specs.Given.{duplicate}
 use Rattle.cx_places.specs.Known.{Known, after, after_line, definitions_in, known_behind, laid_in, length_of_section, parts_in, role_in}
 use Rattle.cx_places.specs.Layout.{beyond, laid, laid_at}
 use Rattle.cx_places.specs.declared.roles.Role.TheVariants.{Storage, Dummy}
+use Rattle.cx_command_arrival.proofs.Parts.{eib_before, judged, line_of}
 use Rattle.cx_command_arrival.specs.Laid.{EibIsLaidOut, LaysOut}
 
 -- ---- what is to be shown
@@ -145,7 +147,7 @@ record Begun (known : Known) (o : ℕ) : Type 0 where
 laid_field : (piece : EibPiece) (known : Known) (o : ℕ) → Fits piece.len → o ≤ bound → Begun known o
     → laid_in (field piece) known ≡ laid_at o (o ∷ []) (o + capped piece.len) piece.len (beyond (o + capped piece.len))
 laid_field piece known o fits within begun =
-    rw (role_ds (field_name piece.field) (bytes_text piece.len), begun.section, begun.size, capped_same o within) (laid_bytes piece.len o _ fits within)
+    rw (role_ds (option_map_or (λ (f : EibField). (eib_field f).name) piece.field []) (bytes_text piece.len), begun.section, begun.size, capped_same o within) (laid_bytes piece.len o _ fits within)
 
 own_section : stands_in block (Some block) ≡ true
 own_section = is_name-laws.refl block
@@ -155,7 +157,7 @@ goes_on : (line : ℕ) (piece : EibPiece) (known : Known) (o : ℕ) → Fits pie
 unfolding after
 goes_on line piece known o fits within small begun =
     record {
-      section = rw (role_ds (field_name piece.field) (bytes_text piece.len)) begun.section;
+      section = rw (role_ds (option_map_or (λ (f : EibField). (eib_field f).name) piece.field []) (bytes_text piece.len)) begun.section;
       size = rw (laid_field piece known o fits within begun, begun.section, own_section, capped_same piece.len small) refl;
     }
 

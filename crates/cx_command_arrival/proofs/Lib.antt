@@ -1,3 +1,4 @@
+pub mod Parts
 pub mod Together
 pub mod Resolved
 pub mod InStorage

@@ -15,11 +15,12 @@ use Rattle.cx_source.specs.Statements.{is_continued}
 use Rattle.cx_translate.specs.declared.faults.TransFault.{TransFault}
 use Rattle.cx_translate.specs.declared.words.Word.{Word}
 use Rattle.cx_translate.specs.Call.{list_of, pointers_of}
-use Rattle.cx_translate.specs.Made.{call, label, load, made_by, made_in, made_item, made_of, stmt, stores}
-use Rattle.cx_translate.specs.Refusals.{command_in, fault_in, fault_of, fault_of_command}
-use Rattle.cx_translate.specs.Sections.{bases, bases_behind, begins_exec, begins_section, begins_storage, behind, continued, continuing, eib_before, eib_section, is_end, line_of, lines, name_of, put, put_before, put_behind, storage_before, storage_behind, storage_fields, storage_section, with_bases, with_eib, with_storage}
-use Rattle.cx_translate.specs.Translation.{continues_exec, expanded, expansion, fault_at, fault_in_stmt, first_fault, judged, translated, translation_of}
+use Rattle.cx_translate.specs.Made.{call, label, load, made_in, made_item, made_of, stmt, stores}
+use Rattle.cx_translate.specs.Refusals.{command_in, fault_in, fault_of}
+use Rattle.cx_translate.specs.Sections.{name_at, bases, begins_exec, begins_section, begins_storage, behind, continuing, eib_section, is_end, lines, put, put_before, put_behind, storage_fields, storage_section, with_bases, with_eib, with_storage}
+use Rattle.cx_translate.specs.Translation.{continues_exec, expanded, expansion, fault_at, first_fault, translated, translation_of}
 use Rattle.cx_translate.specs.Words.{words_of}
+use Rattle.cx_command_arrival.proofs.Parts.{bases_behind, continued, eib_before, fault_in_stmt, fault_of_command, judged, line_of, made_by, storage_before, storage_behind}
 use Rattle.cx_command_arrival.specs.Standing.{HasExec, IsMade}
 use Rattle.cx_command_arrival.proofs.Together.{StandTogether}
 
@@ -294,7 +295,7 @@ module _ (part : List Item) (begun : Begins part) (sections : HaveNot begins_sec
     where
       go : (place : Option ℕ) → position begins_section items ≡ place → StandTogether part (bases_behind place items)
       go None none = there
-      go (Some place) found = kept_behind begins_section part items (bases (name_of (slice_get items place))) place d begun sections found there
+      go (Some place) found = kept_behind begins_section part items (bases (name_at place items)) place d begun sections found there
 
   pub with_eib_has : (items : List Item) → StandTogether part items → StandTogether part (with_eib items)
   unfolding with_eib

@@ -27,7 +27,9 @@ use Rattle.cx_source.specs.declared.source.Item.{Item}
 use Rattle.cx_source.specs.declared.source.Source.{Source}
 use Rattle.cx_source.specs.declared.source.Stmt.{Stmt}
 use Rattle.cx_translate.specs.Call.{operands_of as arguments_handed}
-use Rattle.cx_translate.specs.Refusals.{fault_in, fault_of, fault_of_command, first_byte}
+use Rattle.std.specs.Option.{option_map_or}
+use Rattle.cx_translate.specs.declared.faults.TransFault.TheVariants.{UnknownCommand}
+use Rattle.cx_translate.specs.Refusals.{fault_in, fault_of, first_byte}
 use Rattle.cx_translate.specs.Words.{words_of}
 use Rattle.cx_operands.specs.Bases.{Bases}
 use Rattle.cx_operands.specs.Forms.{operands_of}
@@ -63,7 +65,8 @@ option_read item exec items made options register pointer =
     let cics = take 1 (words_of exec.operand) in
     let named = take made.named (drop 1 (words_of exec.operand)) in
     let words = drop made.named (drop 1 (words_of exec.operand)) in
-    let accepted : fault_in item.line made.command cics named words ≡ None = sym (ap (fault_of_command item.line (words_of exec.operand)) made.found) ∙ made.accepted in
+    let accepted : fault_in item.line made.command cics named words ≡ None = sym (ap (λ f. option_map_or (λ (k : Command × ℕ). fault_in item.line k.0 (take 1 (words_of exec.operand)) (take k.1 (drop 1 (words_of exec.operand))) (drop k.1 (drop 1 (words_of exec.operand)))) f
+    (Some (UnknownCommand item.line))) made.found) ∙ made.accepted in
     option_is_read item.line made.command cics named words options pointer.option pointer.behind register accepted pointer.is pointer.given
 
 -- ---- the place of an option is that of its argument

@@ -12,10 +12,11 @@ use Rattle.cx_source.specs.declared.source.Stmt.{Stmt}
 use Rattle.cx_source.specs.Statements.{is_continued}
 use Rattle.cx_translate.specs.Words.{words_of}
 use Rattle.cx_translate.specs.Made.{made_item, made_of}
-use Rattle.cx_translate.specs.Sections.{bases, bases_behind, begins_exec, begins_section, begins_storage, behind, continued, continuing, eib_before, eib_section, has_name, has_operation, is_end, line_of, lines, name_of, put_before, put_behind, storage_before, storage_behind, storage_fields, storage_section, with_bases, with_eib, with_storage}
-use Rattle.cx_translate.specs.Translation.{continues_exec, expanded, expansion, first_fault, is_dropped, judged, made_lines, translated, translation_of}
+use Rattle.cx_translate.specs.Sections.{name_at, bases, begins_exec, begins_section, begins_storage, behind, continuing, eib_section, has_name, has_operation, is_end, lines, put_before, put_behind, storage_fields, storage_section, with_bases, with_eib, with_storage}
+use Rattle.cx_translate.specs.Translation.{continues_exec, expanded, expansion, first_fault, is_dropped, translated, translation_of}
 use Rattle.cx_translate.specs.Laws.Ascent.{AscendFrom, number_of, statement_lines}
 use Rattle.cx_translate.proofs.KeptLemmas.{answered}
+use Rattle.cx_translate.proofs.Parts.{bases_behind, continued, eib_before, judged, line_of, made_lines, storage_before, storage_behind}
 
 abbrev Ascend : ℕ → List Item → Type 0
 Ascend n items = AscendFrom n (statement_lines items)
@@ -168,7 +169,7 @@ ascends_in_storage n items (Some place) e w = put_behind_ascends begins_storage 
 
 ascends_in_bases : (n : ℕ) (items : List Item) (o : Option ℕ) → position begins_section items ≡ o → Ascend n items → Ascend n (bases_behind o items)
 ascends_in_bases n items None e w = w
-ascends_in_bases n items (Some place) e w = put_behind_ascends begins_section n (bases (name_of (slice_get items place))) place items section_begins e w
+ascends_in_bases n items (Some place) e w = put_behind_ascends begins_section n (bases (name_at place items)) place items section_begins e w
 
 ascends_in_eib : (n : ℕ) (items : List Item) (o : Option ℕ) → position is_end items ≡ o → Ascend n items → Ascend n (eib_before o items)
 ascends_in_eib n items None e w = w

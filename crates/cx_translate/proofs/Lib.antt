@@ -1,3 +1,4 @@
+mod Parts
 pub mod AscentLemmas
 pub mod CountLemmas
 pub mod KeptLemmas

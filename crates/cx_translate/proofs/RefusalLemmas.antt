@@ -9,9 +9,10 @@ use Rattle.cx_translate.specs.declared.words.Word.{Word}
 use Rattle.cx_translate.specs.declared.faults.TransFault.{TransFault}
 use Rattle.cx_translate.specs.declared.faults.TransFault.TheVariants.{UnknownCommand, Memory, UnknownOption, BadArgument, TooManyConditions, Conflict, MissingOption}
 use Rattle.cx_translate.specs.Refusals.{IsDue, fault_in, first_byte, has_argument, has_excluded, has_too_many, has_twice, has_unknown, has_wrong, second_byte}
-use Rattle.cx_translate.specs.Translation.{AnswersAs, judged, translation_of}
+use Rattle.cx_translate.specs.Translation.{AnswersAs, translation_of}
 use Rattle.cx_translate.specs.Sections.{begins_exec}
 use Rattle.std.specs.List.{list_any}
+use Rattle.cx_translate.proofs.Parts.{judged}
 
 chain : (a b c d e : Bool) (f g h i j : TransFault) → cond a (Some f) (cond b (Some g) (cond c (Some h) (cond d (Some i) (cond e None (Some j))))) ≡ None → c ≡ false
 chain false false false d e f g h i j p = refl

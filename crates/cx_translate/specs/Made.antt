@@ -1,6 +1,7 @@
 -- The statements made of one EXEC statement (this product's own; the columns are those of OS/VS-DOS/VSE-VM/370 Assembler
 -- Language, GC33-4010, "Assembler Language Coding Conventions").
 use Rattle.std.specs.Prelude.{ℕ, ◌+◌, ◌-◌, ◌*◌, ◌==◌, if◌then◌else◌, List, [], ◌∷◌, ◌++◌, Option, Some, None, codes, decimal, drop, length, map, replicate}
+use Rattle.std.specs.Option.{option_map_or}
 use Rattle.cx_command.specs.declared.commands.Command.{Command}
 use Rattle.cx_command.specs.Commands.{row_of}
 use Rattle.cx_source.specs.declared.source.Item.{Item}
@@ -26,7 +27,8 @@ stores k (argument ∷ rest) = store k argument ++ stores (k + 1) rest
 -- the list's address and the call
 abbrev pub branch : List Stmt
 branch =
-    stmt [] (codes "LA") (codes "1,DFHEIPL") ∷ stmt [] (codes "L") (codes "15,=V(DFHEI1)") ∷ stmt [] (codes "BALR") (codes "14,15") ∷ []
+    stmt [] (codes "LA") (codes "1,DFHEIPL") ∷ stmt [] (codes "L") (codes "15,=V(DFHEI1)")
+    ∷ stmt [] (codes "BALR") (codes "14,15") ∷ []
 
 -- word k is marked as the last, and the command is called
 abbrev pub call : ℕ → List Stmt
@@ -45,13 +47,10 @@ made_in name command words =
     label name ++ stores 0 (list_of command words) ++ call (length (list_of command words) - 1)
     ++ map load (pointers_of (row_of command).options words)
 
-abbrev pub made_by : List ℕ → List Word → Option (Command × ℕ) → List Stmt
-made_by name words None = []
-made_by name words (Some found) = made_in name found.0 (drop found.1 (drop 1 words))
-
 -- the statements made of the EXEC statement of this name, of which these are the words
 unfoldable pub made_of : List ℕ → List Word → List Stmt
-made_of name words = made_by name words (command_in words)
+made_of name words =
+    option_map_or (λ found. made_in name found.0 (drop found.1 (drop 1 words))) (command_in words) []
 
 -- a text filled with blanks up to a column
 abbrev pub filled : ℕ → List ℕ → List ℕ
@@ -60,4 +59,8 @@ filled columns text = text ++ replicate (columns - length text) 32
 -- A made line: name, operation and operand in columns 1, 10 and 16, as far as column 72.
 unfoldable pub made_item : ℕ → Stmt → Item
 made_item line made =
-    record { line = line; text = text_of (filled 15 (filled 9 made.name ++ made.operation) ++ made.operand); stmt = Some made }
+    record {
+      line = line;
+      text = text_of (filled 15 (filled 9 made.name ++ made.operation) ++ made.operand);
+      stmt = Some made;
+    }

@@ -1,6 +1,7 @@
 -- Which EXEC statements are refused, and as what (Application Programmer's Reference Manual, SC33-0077, "EXEC CICS" command
 -- format and the syntax of each command; the faults and their order are this product's own).
 use Rattle.std.specs.Prelude.{ℕ, Bool, true, false, ◌&&◌, ◌||◌, not, nat_lt, if◌then◌else◌, List, [], ◌∷◌, Option, Some, None, option_map, is_none, is_some, unwrap_or, slice_get, take, drop, count_by, fold, codes, bit_or, ◌≡◌}
+use Rattle.std.specs.Option.{option_map_or}
 use Rattle.std.specs.List.{list_any}
 use Rattle.std.specs.Str.{bytes_eq}
 use Rattle.cx_command.specs.declared.commands.Command.{Command}
@@ -111,14 +112,11 @@ fault_in line command cics named words =
     else (if is_legal command (first_byte command words) (second_byte words) then None
     else Some (MissingOption line)))))
 
-abbrev pub fault_of_command : ℕ → List Word → Option (Command × ℕ) → Option TransFault
-fault_of_command line words None = Some (UnknownCommand line)
-fault_of_command line words (Some found) =
-    fault_in line found.0 (take 1 words) (take found.1 (drop 1 words)) (drop found.1 (drop 1 words))
-
 -- the fault of the EXEC statement on this line, of which these are the words
 unfoldable pub fault_of : ℕ → List Word → Option TransFault
-fault_of line words = fault_of_command line words (command_in words)
+fault_of line words = option_map_or
+    (λ found. fault_in line found.0 (take 1 words) (take found.1 (drop 1 words)) (drop found.1 (drop 1 words)))
+    (command_in words) (Some (UnknownCommand line))
 
 -- The fault is the one due, unless memory runs out.
 abbrev pub IsDue : Option TransFault → TransFault → Type 0

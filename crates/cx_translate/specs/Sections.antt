@@ -1,5 +1,6 @@
 -- What a translated source gets beside its sections (this product's own; the statements are those of GC33-4010).
-use Rattle.std.specs.Prelude.{ℕ, ◌+◌, Bool, false, true, ◌&&◌, ◌||◌, if◌then◌else◌, List, [], ◌∷◌, ◌++◌, Option, Some, None, is_none, slice_get, take, drop, map, codes, decimal}
+use Rattle.std.specs.Prelude.{option_and_then, ℕ, ◌+◌, Bool, false, true, ◌&&◌, ◌||◌, if◌then◌else◌, List, [], ◌∷◌, ◌++◌, Option, Some, None, is_none, slice_get, take, drop, map, codes, decimal}
+use Rattle.std.specs.Option.{option_map_or}
 use Rattle.std.specs.List.{position}
 use Rattle.std.specs.Str.{bytes_eq}
 use Rattle.cx_command.specs.declared.eib.EibField.{EibField}
@@ -14,12 +15,10 @@ use Rattle.cx_translate.specs.Made.{made_item, stmt}
 
 -- the statement that begins on a line is of this operation, or of this name
 abbrev pub has_operation : List ℕ → Option Stmt → Bool
-has_operation operation None = false
-has_operation operation (Some found) = bytes_eq found.operation operation
+has_operation operation statement = option_map_or (λ s. bytes_eq s.operation operation) statement false
 
 abbrev pub has_name : List ℕ → Option Stmt → Bool
-has_name name None = false
-has_name name (Some found) = bytes_eq found.name name
+has_name name statement = option_map_or (λ s. bytes_eq s.name name) statement false
 
 unfoldable pub begins_exec : Item → Bool
 begins_exec item = has_operation (codes "EXEC") item.stmt
@@ -50,12 +49,9 @@ bases name =
     ∷ stmt [] (codes "USING") (codes "DFHEIBLK,11") ∷ []
 
 -- a field of the EIB, or a gap
-abbrev pub field_name : Option EibField → List ℕ
-field_name None = []
-field_name (Some field) = (eib_field field).name
-
 abbrev pub field : EibPiece → Stmt
-field piece = stmt (field_name piece.field) (codes "DS") (codes "XL" ++ decimal piece.len)
+field piece =
+    stmt (option_map_or (λ f. (eib_field f).name) piece.field []) (codes "DS") (codes "XL" ++ decimal piece.len)
 
 -- the EIB
 abbrev pub eib_section : List Stmt
@@ -65,22 +61,6 @@ eib_section = stmt (codes "DFHEIBLK") (codes "DSECT") [] ∷ map field eib_piece
 abbrev pub lines : ℕ → List Stmt → List Item
 lines line made = map (made_item line) made
 
-abbrev pub line_of : Option Item → ℕ
-line_of None = 0
-line_of (Some item) = item.line
-
-abbrev pub name_in : Option Stmt → List ℕ
-name_in None = []
-name_in (Some found) = found.name
-
-abbrev pub name_of : Option Item → List ℕ
-name_of None = []
-name_of (Some item) = name_in item.stmt
-
-abbrev pub continued : Option Item → Bool
-continued None = false
-continued (Some item) = is_continued false item.text
-
 -- how many of the next lines continue a statement that is or isn't continued
 abbrev pub continuing : Bool → List Item → ℕ
 continuing continues [] = 0
@@ -89,43 +69,41 @@ continuing continues (item ∷ rest) =
 
 -- the place behind the statement that begins at a place, and behind its continuation lines
 unfoldable pub behind : List Item → ℕ → ℕ
-behind items place = place + 1 + continuing (continued (slice_get items place)) (drop (place + 1) items)
+behind items place = place + 1
+    + continuing (option_map_or (λ item. is_continued false item.text) (slice_get items place) false) (drop (place + 1) items)
 
 -- items put in at a place
 abbrev pub put : ℕ → List Item → List Item → List Item
 put place made items = take place items ++ made ++ drop place items
 
 -- made statements before, and behind, the statement that begins at a place, with the number of its line
+abbrev pub numbered : List Stmt → ℕ → List Item → List Item
+numbered made place items = lines (option_map_or (λ item. item.line) (slice_get items place) 0) made
+
 abbrev pub put_before : List Stmt → ℕ → List Item → List Item
-put_before made place items = put place (lines (line_of (slice_get items place)) made) items
+put_before made place items = put place (numbered made place items) items
 
 abbrev pub put_behind : List Stmt → ℕ → List Item → List Item
-put_behind made place items = put (behind items place) (lines (line_of (slice_get items place)) made) items
+put_behind made place items = put (behind items place) (numbered made place items) items
 
-abbrev pub storage_before : Option ℕ → List Item → List Item
-storage_before None items = items
-storage_before (Some place) items = put_before storage_section place items
+-- a change at the first line that passes a test; without one another list
+abbrev pub at_first : (Item → Bool) → (ℕ → List Item → List Item) → List Item → List Item → List Item
+at_first test change items otherwise = option_map_or (λ place. change place items) (position test items) otherwise
 
-abbrev pub storage_behind : Option ℕ → List Item → List Item
-storage_behind None items = storage_before (position begins_section items) items
-storage_behind (Some place) items = put_behind storage_fields place items
-
--- The fields stand behind the first DFHEISTG DSECT; without one it is put with them before the control section, where there is one.
+-- The fields stand behind the first DFHEISTG DSECT; without one it is put with them before the control section, where
+-- there is one.
 unfoldable pub with_storage : List Item → List Item
-with_storage items = storage_behind (position begins_storage items) items
+with_storage items =
+    at_first begins_storage (put_behind storage_fields) items
+    (at_first begins_section (put_before storage_section) items items)
 
-abbrev pub bases_behind : Option ℕ → List Item → List Item
-bases_behind None items = items
-bases_behind (Some place) items = put_behind (bases (name_of (slice_get items place))) place items
+-- The bases stand behind the control section's first CSECT or START, and name it.
+abbrev pub name_at : ℕ → List Item → List ℕ
+name_at place items = option_map_or (λ s. s.name) (option_and_then (λ item. item.stmt) (slice_get items place)) []
 
--- The bases stand behind the control section's first CSECT or START.
 unfoldable pub with_bases : List Item → List Item
-with_bases items = bases_behind (position begins_section items) items
-
-abbrev pub eib_before : Option ℕ → List Item → List Item
-eib_before None items = items
-eib_before (Some place) items = put_before eib_section place items
+with_bases items = at_first begins_section (λ place all. put_behind (bases (name_at place all)) place all) items items
 
 -- The EIB stands before the first END.
 unfoldable pub with_eib : List Item → List Item
-with_eib items = eib_before (position is_end items) items
+with_eib items = at_first is_end (put_before eib_section) items items

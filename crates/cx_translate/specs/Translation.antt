@@ -1,8 +1,8 @@
 -- A source translated (Application Programmer's Reference Manual, SC33-0077, "EXEC CICS" command format; what stands in place
 -- of an EXEC statement is this product's own).
-use Rattle.std.specs.Prelude.{ℕ, ◌≡◌, Bool, false, ◌&&◌, ◌||◌, if◌then◌else◌, List, [], ◌∷◌, ◌++◌, Option, Some, None, is_none, Result, Ok, Err}
+use Rattle.std.specs.Prelude.{option_and_then, ℕ, ◌≡◌, Bool, false, ◌&&◌, ◌||◌, if◌then◌else◌, List, [], ◌∷◌, ◌++◌, Option, Some, None, is_none, Result, Ok, Err}
 use Rattle.std.specs.List.{list_any}
-use Rattle.std.specs.Option.{option_or}
+use Rattle.std.specs.Option.{option_map_or, option_or}
 use Rattle.cx_source.specs.declared.source.Item.{Item}
 use Rattle.cx_source.specs.declared.source.Source.{Source}
 use Rattle.cx_source.specs.declared.source.Stmt.{Stmt}
@@ -18,30 +18,25 @@ use Rattle.cx_translate.specs.Sections.{begins_exec, lines, with_bases, with_eib
 abbrev pub is_dropped : Bool → Item → Bool
 is_dropped continues item = continues && is_none item.stmt
 
-abbrev pub made_lines : ℕ → Option Stmt → List Item
-made_lines line None = []
-made_lines line (Some exec) = lines line (made_of exec.name (words_of exec.operand))
-
 -- what stands for a line: of an EXEC statement the made lines for all of its lines, every other line itself
 unfoldable pub expansion : Bool → Item → List Item
 expansion continues item =
-    if is_dropped continues item then [] else (if begins_exec item then made_lines item.line item.stmt else item ∷ [])
+    if is_dropped continues item then [] else (if begins_exec item
+    then option_map_or (λ exec. lines item.line (made_of exec.name (words_of exec.operand))) item.stmt [] else item ∷ [])
 
 -- whether the next line continues an EXEC statement
 unfoldable pub continues_exec : Bool → Item → Bool
-continues_exec continues item = (is_dropped continues item || begins_exec item) && is_continued (is_dropped continues item) item.text
+continues_exec continues item =
+    (is_dropped continues item || begins_exec item) && is_continued (is_dropped continues item) item.text
 
 abbrev pub expanded : Bool → List Item → List Item
 expanded continues [] = []
 expanded continues (item ∷ rest) = expansion continues item ++ expanded (continues_exec continues item) rest
 
-abbrev pub fault_in_stmt : ℕ → Option Stmt → Option TransFault
-fault_in_stmt line None = None
-fault_in_stmt line (Some exec) = fault_of line (words_of exec.operand)
-
 -- the fault of the EXEC statement that begins on a line, with the line's number
 unfoldable pub fault_at : Item → Option TransFault
-fault_at item = if begins_exec item then fault_in_stmt item.line item.stmt else None
+fault_at item =
+    if begins_exec item then option_and_then (λ exec. fault_of item.line (words_of exec.operand)) item.stmt else None
 
 -- the first faulty statement's
 abbrev pub first_fault : List Item → Option TransFault
@@ -52,14 +47,12 @@ first_fault (item ∷ rest) = option_or (fault_at item) (first_fault rest)
 unfoldable pub translated : List Item → List Item
 translated items = with_eib (with_bases (with_storage (expanded false items)))
 
-abbrev pub judged : Option TransFault → Source → Result Source TransFault
-judged None source = Ok source
-judged (Some fault) source = Err fault
-
 -- The source translated, or its first fault. A source without EXEC stays as it is.
 unfoldable pub translation_of : Source → Result Source TransFault
 translation_of source =
-    if list_any begins_exec source.items then judged (first_fault source.items) (record { items = translated source.items }) else Ok source
+    if list_any begins_exec source.items
+    then option_map_or (λ fault. Err fault) (first_fault source.items) (Ok (record { items = translated source.items }))
+    else Ok source
 
 -- The answer is the one due, unless memory runs out.
 abbrev pub AnswersAs : Result Source TransFault → Result Source TransFault → Type 0

@@ -1,7 +1,9 @@
 //! What a translated source gets beside its sections.
 
-ghost use Rattle.std.specs.Prelude.{◌≡◌, ◌≤◌, ◌<◌, ◌+◌, ◌++◌, IfOk, IfSome, OnOk, length, map};
+ghost use Rattle.std.specs.Prelude.{[], ◌≡◌, ◌≤◌, ◌<◌, ◌+◌, ◌++◌, IfOk, IfSome, OnOk, length, map};
 ghost use Rattle.std.specs.List.{position};
+ghost use Rattle.std.specs.Option.{option_map_or};
+ghost use Rattle.cx_command.specs.Eib.{eib_field};
 ghost use Rattle.cx_translate.specs.Sections.{
   bases,
   begins_exec,
@@ -11,12 +13,10 @@ ghost use Rattle.cx_translate.specs.Sections.{
   continuing,
   eib_section,
   field,
-  field_name,
   has_name,
   has_operation,
   is_end,
   lines,
-  name_in,
   put,
   put_before,
   put_behind,
@@ -144,7 +144,7 @@ fn bases(alloc: Global, name: &[u8]) -> Result<Vec<Stmt>, AllocError>
 
 /// The name of a field, or nothing for a gap.
 fn field_name(field: Option<EibField>) -> &'static [u8]
-    ensures { result.now ≡ field_name field }
+    ensures { result.now ≡ option_map_or (λ f. (eib_field f).name) field [] }
 {
     match field {
         Some(field) => field.name().as_bytes(),
@@ -260,7 +260,7 @@ fn put_behind(
 
 /// The name of the statement that begins on a line.
 fn name_in(stmt: &Option<Stmt>) -> &[u8]
-    ensures { result.now ≡ name_in stmt.now }
+    ensures { result.now ≡ option_map_or (λ s. s.name) stmt.now [] }
 {
     match stmt {
         Some(found) => found.name.as_slice(),

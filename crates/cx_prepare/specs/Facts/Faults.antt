@@ -1,7 +1,7 @@
 -- No source is refused for want of memory.
 use Rattle.std.proofs.Common.{◌≡◌, ◌≢◌, ℕ, ◌+◌, Bool, true, false, cond, List, [], ◌∷◌, map, Option, Some, None, Result, Ok, Err, refl, ap}
-use Rattle.std.specs.Prelude.{nat_le}
-use Rattle.std.specs.Option.{option_or}
+use Rattle.std.specs.Prelude.{drop, nat_le, option_and_then, take}
+use Rattle.std.specs.Option.{option_map_or, option_or}
 use Rattle.std.specs.List.{list_any}
 use Rattle.cx_command.specs.declared.commands.Command.{Command}
 use Rattle.cx_source.specs.Faults as lines
@@ -12,7 +12,7 @@ use Rattle.cx_source.specs.declared.source.Source.{Source}
 use Rattle.cx_source.specs.declared.source.SourceFault.{SourceFault}
 use Rattle.cx_source.specs.declared.source.SourceFault.TheVariants as source
 use Rattle.cx_source.specs.declared.source.Stmt.{Stmt}
-use Rattle.cx_translate.specs.Refusals.{command_in, fault_in, fault_of, fault_of_command}
+use Rattle.cx_translate.specs.Refusals.{command_in, fault_in, fault_of}
 use Rattle.cx_translate.specs.Sections.{begins_exec}
 use Rattle.cx_translate.specs.Translation as translation
 use Rattle.cx_translate.specs.Words.{words_of}
@@ -79,6 +79,16 @@ in_sound : (line : ℕ) (command : Command) (cics named words : List Word) → s
 unfolding fault_in
 in_sound line command cics named words = statement_chain _ _ _ _ _ line
 
+abbrev fault_of_command : ℕ → List Word → Option (Command × ℕ) → Option TransFault
+fault_of_command line words found = option_map_or
+    (λ f. fault_in line f.0 (take 1 words) (take f.1 (drop 1 words)) (drop f.1 (drop 1 words))) found (Some (trans.UnknownCommand line))
+
+abbrev fault_in_stmt : ℕ → Option Stmt → Option TransFault
+fault_in_stmt line statement = option_and_then (λ exec. fault_of line (words_of exec.operand)) statement
+
+abbrev judged : Option TransFault → Source → Result Source TransFault
+judged fault source = option_map_or (λ f. Err f) fault (Ok source)
+
 command_sound : (line : ℕ) (words : List Word) (found : Option (Command × ℕ)) → sound_statement (fault_of_command line words found)
 command_sound line words None = tt
 command_sound line words (Some found) = in_sound line found.0 _ _ _
@@ -87,7 +97,7 @@ of_sound : (line : ℕ) (words : List Word) → sound_statement (fault_of line w
 unfolding fault_of
 of_sound line words = command_sound line words (command_in words)
 
-stmt_sound : (line : ℕ) (stmt : Option Stmt) → sound_statement (translation.fault_in_stmt line stmt)
+stmt_sound : (line : ℕ) (stmt : Option Stmt) → sound_statement (fault_in_stmt line stmt)
 stmt_sound line None = tt
 stmt_sound line (Some exec) = of_sound line (words_of exec.operand)
 
@@ -97,7 +107,7 @@ where_exec false fault h = tt
 
 at_sound : (item : Item) → sound_statement (translation.fault_at item)
 unfolding translation.fault_at
-at_sound item = where_exec (begins_exec item) (translation.fault_in_stmt item.line item.stmt) (stmt_sound item.line item.stmt)
+at_sound item = where_exec (begins_exec item) (fault_in_stmt item.line item.stmt) (stmt_sound item.line item.stmt)
 
 statement_or : (a b : Option TransFault) → sound_statement a → sound_statement b → sound_statement (option_or a b)
 statement_or None b h k = k
@@ -162,7 +172,7 @@ translation_fault_sound (trans.TooManyConditions n) h = tt
 translation_fault_sound (trans.BadArgument n) h = tt
 translation_fault_sound trans.Memory h = absurd h
 
-judged_sound : (listing disassembly : Bool) (fault : Option TransFault) (made : Source) → sound_statement fault → Sound (by_translation listing disassembly (translation.judged fault made))
+judged_sound : (listing disassembly : Bool) (fault : Option TransFault) (made : Source) → sound_statement fault → Sound (by_translation listing disassembly (judged fault made))
 judged_sound listing disassembly None made h = by_assembly_sound listing disassembly (assembly_of made) (assembly_not_memory made)
 judged_sound listing disassembly (Some fault) made h = translation_fault_sound fault h
 
@@ -170,7 +180,7 @@ translation_sound : (listing disassembly : Bool) (s : Source) → Sound (by_tran
 unfolding translation.translation_of
 translation_sound listing disassembly s = go (list_any begins_exec s.items)
   where
-    go : (b : Bool) → Sound (by_translation listing disassembly (cond b (translation.judged (translation.first_fault s.items) (record { items = translation.translated s.items })) (Ok s)))
+    go : (b : Bool) → Sound (by_translation listing disassembly (cond b (judged (translation.first_fault s.items) (record { items = translation.translated s.items })) (Ok s)))
     go true = judged_sound listing disassembly (translation.first_fault s.items) (record { items = translation.translated s.items }) (statements_sound s.items)
     go false = by_assembly_sound listing disassembly (assembly_of s) (assembly_not_memory s)
 
