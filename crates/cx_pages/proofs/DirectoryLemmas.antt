@@ -1,6 +1,6 @@
 -- What a directory has after one of its pages changed.
 use Rattle.std.proofs.Common.{◌≡◌, ◌≢◌, ℕ, zero, suc, ◌+◌, ◌-◌, ◌*◌, ◌/◌, ◌%◌, ◌<◌, ◌≤◌, ◌==◌, true, false, refl, sym, ap, ◌∙◌, arith, inl, inr, List, [], ◌∷◌, ◌++◌, length, slice_set, slice_get, Option, Some, None, nat_le, nat_lt, ◌&&◌, if◌then◌else◌, get_or, min, ◌⊎◌}
-use Rattle.std.specs.Prelude.{IfSome}
+use Rattle.std.specs.Prelude.{IfSome, OnSome}
 use Rattle.std.proofs.lemmas.Option.{slice_get_read}
 use Rattle.std.proofs.lemmas.Bool.{cases_Bool, cases_eq, eq-eqb, ne_eqb, le-ltb, lt-ltb, le-leb, lt-leb, cases_lt}
 use Rattle.cx_pages.specs.declared.page.Page.{Page}
@@ -211,6 +211,11 @@ pub some_gives : {X : Type 0} (r : Option X) (P Q : X → Type 0) → ((x : X) �
 some_gives None P Q step h = tt
 some_gives (Some x) P Q step h = step x h
 
+-- what it gives with one of it that is no fact of the value
+pub some_gives_where : {X : Type 0} (r : Option X) (P Q : X → Type 0) (F : Type 0) → (F → (x : X) → P x → Q x) → IfSome r P → OnSome r F → IfSome r Q
+some_gives_where None P Q F step h f = tt
+some_gives_where (Some x) P Q F step h f = step f x h
+
 -- a span of one page that is lent
 pub has_all_part : (ps : List Page) (a n : ℕ) (p : Page) → 0 < n → a % 4096 + n ≤ 4096 → a / 4096 < length ps → p ≡ get_or ps (a / 4096) p
     → HasAll (there ps) a (a + n) → HasAll (found p) (a % 4096) (a % 4096 + n)
@@ -245,9 +250,9 @@ write_there ps a n q bytes fits h each x low high =
     let here = each (x % 4096) (omega arith) (omega arith) in
     there_set ps (a / 4096) q x h ∙ rw (eq-eqb (x / 4096) (a / 4096) page) (rw place at here)
 
-pub write_others : (ps : List Page) (a n : ℕ) (p q : Page) → a % 4096 + n ≤ 4096 → a / 4096 < length ps → p ≡ get_or ps (a / 4096) p
+pub write_others : (ps : List Page) (a n : ℕ) (p q : Page) → a / 4096 < length ps → p ≡ get_or ps (a / 4096) p
     → ((k : ℕ) → (k < a % 4096) ⊎ (a % 4096 + n ≤ k) → found q k ≡ found p k) → (x : ℕ) → (x < a) ⊎ (a + n ≤ x) → there (slice_set ps (a / 4096) q) x ≡ there ps x
-write_others ps a n p q fits h e each x out = there_set ps (a / 4096) q x h ∙ elim (cases_eq (x / 4096) (a / 4096)) [
+write_others ps a n p q h e each x out = there_set ps (a / 4096) q x h ∙ elim (cases_eq (x / 4096) (a / 4096)) [
   | inl same ↦
       let beside : (x % 4096 < a % 4096) ⊎ (a % 4096 + n ≤ x % 4096) = elim out [ inl before ↦ inl (omega arith) | inr behind ↦ inr (omega arith) ] in
       rw (eq-eqb (x / 4096) (a / 4096) same) (each (x % 4096) beside ∙ sym (there_at ps (a / 4096) p x (at_index ps (a / 4096) p h e) same))

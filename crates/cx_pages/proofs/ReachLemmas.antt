@@ -1,11 +1,11 @@
 -- The granules that a count goes past.
 use Rattle.std.proofs.Common.{true, false, is_some, Some, None, List, ◌≡◌, ℕ, ◌+◌, ◌-◌, ◌*◌, ◌/◌, ◌%◌, ◌<◌, ◌≤◌, ◌&&◌, ◌∙◌, refl, arith, inl, inr, length, slice_index, slice_get, nat_lt, nat_le, max, min, if◌then◌else◌, lt-ltb, le-ltb}
-use Rattle.std.proofs.lemmas.Bool.{cases_lt, cases_eq, le-leb, lt-leb}
+use Rattle.std.proofs.lemmas.Bool.{cases_lt, cases_eq, le-leb, lt-leb, ltb-true, false≢true}
 use Rattle.cx_pages.specs.declared.frame.Frame.{Frame}
 use Rattle.cx_pages.specs.Parts.Frame.{HasAll}
 use Rattle.cx_pages.specs.Pages.{seen}
 use Rattle.cx_pages.specs.Parts.Runs.{AllFree}
-use Rattle.cx_pages.proofs.FrameLemmas.{has_all, granule_taken, index_past}
+use Rattle.cx_pages.proofs.FrameLemmas.{has_all, has_short, has_last, granule_taken, index_past}
 use Rattle.cx_pages.specs.Parts.Reach.{Reaches}
 
 -- the granules that a count goes past are full
@@ -192,3 +192,43 @@ has_near frame from to within some near counted =
     rw place at follows in
     let last = row ((to - 1) / 16) (omega (arith, some)) (omega arith) in
     has_all frame from to within some (λ j low high. row j low (omega (arith, high))) (omega (arith, last))
+
+-- few bytes of a granule whose row has the next one too are on the page
+pub near_fits : (frame : Frame) (from n : ℕ) → length frame.counts ≡ 256 → n ≤ 16 → 32 ≤ slice_index frame.counts (from / 16) → from + n ≤ 4096
+near_fits frame from n whole near counted = elim (cases_lt (from / 16 + 1) 256) [
+  | inl within ↦ omega (arith, within, near)
+  | inr past ↦
+      let full = frame.reached.0 (from / 16) 1 (omega (arith, counted)) in
+      let none = index_past frame.counts (from / 16 + 1) (omega (arith, past, whole)) in
+      absurd (omega (arith, full, none))
+]
+
+pub near_all : (frame : Frame) (from n : ℕ) → (length frame.bytes ≡ 4096) × (length frame.counts ≡ 256) → n ≤ 16 → 32 ≤ slice_index frame.counts (from / 16) → HasAll (seen frame) from (from + n)
+near_all frame from n whole near counted = λ k low high.
+    let fits = near_fits frame from n whole.1 near counted in
+    has_near frame from (from + n) (omega (arith, fits, whole.0)) (omega (arith, low, high)) (omega (arith, near)) counted k low high
+
+-- bytes are present where the first row says so
+pub row_all : (frame : Frame) (from to : ℕ) → to ≤ length frame.bytes → from < to
+    → (nat_le ((to - 1) / 16 - from / 16) (slice_index frame.counts (from / 16) / 16) && nat_lt ((to - 1) % 16) (slice_index frame.counts ((to - 1) / 16))) ≡ true
+    → HasAll (seen frame) from to
+row_all frame from to within some row = elim (cases_lt (slice_index frame.counts (from / 16) / 16) ((to - 1) / 16 - from / 16)) [
+  | inl short ↦ absurd (false≢true (rw (lt-leb _ _ short) at row))
+  | inr told ↦
+      let counted = rw (le-leb _ _ told) at row in
+      has_told frame from to within some told (ltb-true _ _ counted)
+]
+
+-- and of two granules it says so where they are
+pub row_gap : (frame : Frame) (from to : ℕ) → from < to → to - from ≤ 16 → HasAll (seen frame) from to
+    → (nat_le ((to - 1) / 16 - from / 16) (slice_index frame.counts (from / 16) / 16) && nat_lt ((to - 1) % 16) (slice_index frame.counts ((to - 1) / 16))) ≡ true
+row_gap frame from to some few all =
+    let counted = has_last frame from to some all in
+    let told : (to - 1) / 16 - from / 16 ≤ slice_index frame.counts (from / 16) / 16 = elim (cases_lt (from / 16) ((to - 1) / 16)) [
+      | inr one ↦ omega (arith, one)
+      | inl two ↦ elim (cases_lt (slice_index frame.counts (from / 16)) 16) [
+        | inl short ↦ absurd (false≢true (has_short frame from to (from / 16) (omega arith) two short all))
+        | inr full ↦ omega (arith, few, full)
+      ]
+    ] in
+    rw (le-leb _ _ told, lt-ltb _ _ counted) refl

@@ -103,12 +103,8 @@ pub(crate) fn part_in(pages: &Vec<Page>, a: u32, n: usize) -> Option<&[u8]>
     ensures gap { 0 < n → a % 4096 + n ≤ 4096 → HasAll (there pages.now.items) a (a + n) → IsSome result }
 {
     let i = a as usize / 4096;
-    let from = a as usize % 4096;
-    if n == 0 || 4096 - from < n {
-        return None;
-    }
     if i < pages.len() {
-        pages[i].part(from, from + n)
+        pages[i].part(a as usize % 4096, n)
     } else {
         None
     }
@@ -124,10 +120,9 @@ pub(crate) fn write_in(pages: &mut Vec<Page>, a: u32, source: &[u8]) -> bool
     ensures together { result ≡ true → a % 4096 + length source.now ≤ 4096 }
 {
     let i = a as usize / 4096;
-    let from = a as usize % 4096;
-    if i < pages.len() && source.len() <= 4096 - from {
+    if i < pages.len() {
         let page = &mut pages[i];
-        page.write(from, source)
+        page.write(a as usize % 4096, source)
     } else {
         false
     }

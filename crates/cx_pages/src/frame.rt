@@ -1,7 +1,7 @@
 //! Frames: the 4,096 bytes of a page, in granules of 16 bytes. Areas start at multiples
 //! of 16, so the bytes of a granule that are present are its first ones, and their number says which.
 
-ghost use Rattle.std.specs.Prelude.{◌≡◌, ℕ, ◌+◌, ◌-◌, ◌*◌, ◌/◌, ◌%◌, ◌<◌, ◌≤◌, ◌==◌, ◌&&◌, ◌⊎◌, true, false, length, Some, None, is_some, nat_le, nat_lt, slice_get, slice_index, slice_range, min, max, if◌then◌else◌, MatchOption, IsSome, IfSome};
+ghost use Rattle.std.specs.Prelude.{◌≡◌, ℕ, ◌+◌, ◌-◌, ◌*◌, ◌/◌, ◌%◌, ◌<◌, ◌≤◌, ◌==◌, ◌&&◌, ◌⊎◌, true, false, length, Some, None, is_some, nat_le, nat_lt, slice_get, slice_index, slice_range, min, max, if◌then◌else◌, MatchOption, IsSome, IfSome, OnSome};
 ghost use Rattle.std.specs.Option.{option_map};
 ghost use Rattle.cx_pages.specs.Facts.Reach.{Reaches-prop};
 ghost use Rattle.cx_pages.specs.Facts.Runs.{AllFree-prop, RunsAre-prop};
@@ -199,6 +199,19 @@ impl Frame {
         (to - 1) % 16 < self.counts[last] as usize
     }
 
+    /// Whether the row of the granule of `from` comes to that of the last byte before `to`, and that byte is present.
+    #[inline(always)]
+    fn has_row(&self, from: usize, to: usize) -> bool
+        requires order { from < to }
+        requires within { to ≤ 4096 }
+        ensures { result ≡ (nat_le ((to - 1) / 16 - from / 16) (slice_index self.now.counts (from / 16) / 16) && nat_lt ((to - 1) % 16) (slice_index self.now.counts ((to - 1) / 16))) }
+    {
+        let first = from / 16;
+        let last = (to - 1) / 16;
+        last - first <= self.counts[first] as usize / 16
+            && (to - 1) % 16 < self.counts[last] as usize
+    }
+
     /// Whether the bytes from `from` to before `to` are present.
     #[inline(always)]
     pub(crate) fn has(&self, from: usize, to: usize) -> bool
@@ -209,49 +222,64 @@ impl Frame {
         if to <= from {
             return true;
         }
-        let first = from / 16;
-        // Few bytes are of this granule and the next one.
-        if to - from <= 16 && self.counts[first] >= 32 {
+        // Mostly the first row has all of them, and where they are of two granules it tells.
+        if self.has_row(from, to) {
             return true;
         }
-        let last = (to - 1) / 16;
-        // Mostly the row from the first granule on comes to the last one.
-        if last - first <= self.counts[first] as usize / 16
-            && (to - 1) % 16 < self.counts[last] as usize
-        {
-            return true;
+        if to - from <= 16 {
+            return false;
         }
         self.has_each(from, to)
     }
 
-    /// The bytes from `from` to before `to`, where all of them are present.
+    /// Whether there are `n` bytes from the place `from` on, all of them present.
     #[inline(always)]
-    pub(crate) fn part(&self, from: usize, to: usize) -> Option<&[u8]>
-        requires order { from ≤ to }
-        requires within { to ≤ 4096 }
-        ensures there { IfSome result (λ part. (k : ℕ) → from ≤ k → k < to → seen self.now k ≡ slice_get part.now (k - from)) }
-        ensures len { IfSome result (λ part. length part.now ≡ to - from) }
-        ensures gap { HasAll (seen self.now) from to → IsSome result }
+    fn holds(&self, from: usize, n: usize) -> bool
+        requires { from < 4096 }
+        ensures fits { result ≡ true → from + n ≤ 4096 }
+        ensures all { result ≡ true → HasAll (seen self.now) from (from + n) }
+        ensures gap { from + n ≤ 4096 → HasAll (seen self.now) from (from + n) → result ≡ true }
     {
-        if self.has(from, to) {
-            Some(&self.bytes[from..to])
+        let first = from / 16;
+        // Mostly they are few, and a row has this granule and the next one, which are both on the page then.
+        if n <= 16 && self.counts[first] >= 32 {
+            return true;
+        }
+        if n > 4096 - from {
+            return false;
+        }
+        self.has(from, from + n)
+    }
+
+    /// The `n` bytes from the place `from` on, where there are as many and all of them are present.
+    #[inline(always)]
+    pub(crate) fn part(&self, from: usize, n: usize) -> Option<&[u8]>
+        requires { from < 4096 }
+        ensures there { IfSome result (λ part. (k : ℕ) → from ≤ k → k < from + n → seen self.now k ≡ slice_get part.now (k - from)) }
+        ensures len { IfSome result (λ part. length part.now ≡ n) }
+        ensures fits { OnSome result (from + n ≤ 4096) }
+        ensures gap { from + n ≤ 4096 → HasAll (seen self.now) from (from + n) → IsSome result }
+    {
+        if self.holds(from, n) {
+            Some(&self.bytes[from..from + n])
         } else {
             None
         }
     }
 
-    /// Writes bytes from the place `from` on. False, and no change, where one of the places isn't present.
+    /// Writes bytes from the place `from` on. False, and no change, where one has no place there or isn't present.
     #[tactic(auto, unfolding(crate::specs::Pages::seen))]
     #[inline(always)]
     pub(crate) fn write(&mut self, from: usize, source: &[u8]) -> bool
-        requires { from + length source.now ≤ 4096 }
+        requires { from < 4096 }
         ensures gap { result ≡ false → self.new ≡ self.old }
         ensures counts { self.new.counts ≡ self.old.counts }
+        ensures fits { result ≡ true → from + length source.now ≤ 4096 }
         ensures there { result ≡ true → (k : ℕ) → from ≤ k → k < from + length source.now → seen self.new k ≡ slice_get source.now (k - from) }
         ensures others { (k : ℕ) → (k < from) ⊎ (from + length source.now ≤ k) → seen self.new k ≡ seen self.old k }
         ensures present { result ≡ true → HasAll (seen self.old) from (from + length source.now) }
     {
-        if !self.has(from, from + source.len()) {
+        if !self.holds(from, source.len()) {
             return false;
         }
         copy_bytes(&mut self.bytes, from, source);

@@ -1,6 +1,6 @@
 //! Pages: each has its frame from the first area on that touches it.
 
-ghost use Rattle.std.specs.Prelude.{◌≡◌, ℕ, ◌+◌, ◌-◌, ◌/◌, ◌%◌, ◌<◌, ◌≤◌, ◌*◌, ◌==◌, ◌&&◌, ◌⊎◌, true, false, length, Some, None, is_some, nat_le, nat_lt, slice_get, if◌then◌else◌, IsSome, IfSome, OnOk, OnErr};
+ghost use Rattle.std.specs.Prelude.{◌≡◌, ℕ, ◌+◌, ◌-◌, ◌/◌, ◌%◌, ◌<◌, ◌≤◌, ◌*◌, ◌==◌, ◌&&◌, ◌⊎◌, true, false, length, Some, None, is_some, nat_le, nat_lt, slice_get, if◌then◌else◌, IsSome, IfSome, OnSome, OnOk, OnErr};
 ghost use Rattle.std.specs.Option.{option_map};
 ghost use Rattle.cx_pages.specs.Parts.Frame.{HasAll, Skips};
 ghost use Rattle.cx_pages.specs.Parts.Page.{is_made};
@@ -92,28 +92,29 @@ impl Page {
         }
     }
 
-    /// The bytes from `from` to before `to`, where all of them are present.
+    /// The `n` bytes from the place `from` on, where there are as many and all of them are present.
     #[tactic(auto, unfolding(crate::specs::Pages::found))]
     #[inline(always)]
-    pub(crate) fn part(&self, from: usize, to: usize) -> Option<&[u8]>
-        requires order { from < to }
-        requires within { to ≤ 4096 }
-        ensures there { IfSome result (λ part. (k : ℕ) → from ≤ k → k < to → found self.now k ≡ slice_get part.now (k - from)) }
-        ensures len { IfSome result (λ part. length part.now ≡ to - from) }
-        ensures gap { HasAll (found self.now) from to → IsSome result }
+    pub(crate) fn part(&self, from: usize, n: usize) -> Option<&[u8]>
+        requires { from < 4096 }
+        ensures there { IfSome result (λ part. (k : ℕ) → from ≤ k → k < from + n → found self.now k ≡ slice_get part.now (k - from)) }
+        ensures len { IfSome result (λ part. length part.now ≡ n) }
+        ensures fits { OnSome result (from + n ≤ 4096) }
+        ensures gap { 0 < n → from + n ≤ 4096 → HasAll (found self.now) from (from + n) → IsSome result }
     {
         match &self.frame {
-            Some(frame) => frame.part(from, to),
+            Some(frame) => frame.part(from, n),
             None => None,
         }
     }
 
-    /// Writes bytes from the place `from` on. False, and no change, where one of the places isn't present.
+    /// Writes bytes from the place `from` on. False, and no change, where one has no place there or isn't present.
     #[tactic(auto, unfolding(crate::specs::Pages::found))]
     #[inline(always)]
     pub(crate) fn write(&mut self, from: usize, source: &[u8]) -> bool
-        requires { from + length source.now ≤ 4096 }
+        requires { from < 4096 }
         ensures gap { result ≡ false → (k : ℕ) → found self.new k ≡ found self.old k }
+        ensures fits { result ≡ true → from + length source.now ≤ 4096 }
         ensures there { result ≡ true → (k : ℕ) → from ≤ k → k < from + length source.now → found self.new k ≡ slice_get source.now (k - from) }
         ensures others { (k : ℕ) → (k < from) ⊎ (from + length source.now ≤ k) → found self.new k ≡ found self.old k }
         ensures present { result ≡ true → HasAll (found self.old) from (from + length source.now) }

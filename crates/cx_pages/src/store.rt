@@ -233,6 +233,23 @@ fn write_each(areas: &Vec<Area>, pages: &mut Vec<Page>, a: u32, bytes: &[u8])
     }
 }
 
+/// Writes a span byte by byte.
+#[inline(never)]
+fn write_apart(areas: &Vec<Area>, pages: &mut Vec<Page>, a: u32, bytes: &[u8]) -> bool
+    requires shown { IsShown areas.now.items pages.old.items }
+    requires address { a < 2 ^ 24 }
+    requires size { length bytes.now ≤ 65536 }
+    ensures present { result ≡ is_some (span (storage_of areas.now.items pages.old.items) a (length bytes.now)) }
+    ensures after { storage_of areas.now.items pages.new.items ≡ written (storage_of areas.now.items pages.old.items) a bytes.now }
+    ensures shown { IsShown areas.now.items pages.new.items }
+{
+    if !has_span_of(areas, pages, a, bytes.len()) {
+        return false;
+    }
+    write_each(areas, pages, a, bytes);
+    true
+}
+
 /// Writes a span.
 #[inline(always)]
 pub(crate) fn write_of(areas: &Vec<Area>, pages: &mut Vec<Page>, a: u32, bytes: &[u8]) -> bool
@@ -246,9 +263,5 @@ pub(crate) fn write_of(areas: &Vec<Area>, pages: &mut Vec<Page>, a: u32, bytes: 
     if write_in(pages, a, bytes) {
         return true;
     }
-    if !has_span_of(areas, pages, a, bytes.len()) {
-        return false;
-    }
-    write_each(areas, pages, a, bytes);
-    true
+    write_apart(areas, pages, a, bytes)
 }

@@ -1,6 +1,5 @@
-use Rattle.std.proofs.Common.{◌≡◌, is_some, true, false, length, sym, ◌∙◌, arith}
+use Rattle.std.proofs.Common.{◌≡◌, is_some, true, length, sym, arith}
 use Rattle.cx_storage.specs.Storage.{span}
-use Rattle.cx_storage.specs.Facts.Writes.{written_whole, written_none}
 use Rattle.cx_pages.specs.Parts.Shown.{IsShown}
 use Rattle.cx_pages.specs.Pages.{storage_of}
 use Rattle.cx_pages.proofs.ChangeLemmas.{same_is, same_shown}
@@ -36,38 +35,11 @@ still_shown c = same_shown c.args.areas.now.items c.args.pages.now.items c.write
 still_is : (c : Else-write_in) → storage_of c.args.areas.now.items c.write_in.new.pages.items ≡ storage_of c.args.areas.now.items c.args.pages.now.items
 still_is c = same_is c.args.areas.now.items c.args.pages.now.items c.write_in.new.pages.items c.requires.shown (c.write_in.ensures.gap c.if-write_in.false)
 
-pub has_span_of-requires-clause-shown : goal.has_span_of-requires-clause-shown
-has_span_of-requires-clause-shown c = still_shown (goal.at.has_span_of-requires-clause-shown c).Else-write_in
-
-pub returns-then-not-has_span_of-clause-present : goal.returns-then-not-has_span_of-clause-present
-returns-then-not-has_span_of-clause-present c =
-    let is = still_is (goal.at.returns-then-not-has_span_of-clause-present c).Else-write_in in
-    let absent : c.has_span_of.result ≡ false = cc in
-    rw (← is) (sym absent ∙ c.has_span_of.ensures)
-
-pub returns-then-not-has_span_of-clause-after : goal.returns-then-not-has_span_of-clause-after
-returns-then-not-has_span_of-clause-after c =
-    let is = still_is (goal.at.returns-then-not-has_span_of-clause-after c).Else-write_in in
-    let absent : c.has_span_of.result ≡ false = cc in
-    let gone = rw is at (sym c.has_span_of.ensures ∙ absent) in
-    is ∙ sym (written_none (storage_of c.args.areas.now.items c.args.pages.now.items) c.args.a c.args.bytes.now gone)
-
-pub returns-then-not-has_span_of-clause-shown : goal.returns-then-not-has_span_of-clause-shown
-returns-then-not-has_span_of-clause-shown c = still_shown (goal.at.returns-then-not-has_span_of-clause-shown c).Else-write_in
-
-pub write_each-requires-clause-shown : goal.write_each-requires-clause-shown
-write_each-requires-clause-shown c = still_shown (goal.at.write_each-requires-clause-shown c).Else-write_in
+pub write_apart-requires-clause-shown : goal.write_apart-requires-clause-shown
+write_apart-requires-clause-shown c = still_shown (goal.at.write_apart-requires-clause-shown c).Else-write_in
 
 pub returns-clause-present : goal.returns-clause-present
-returns-clause-present c =
-    let is = still_is (goal.at.returns-clause-present c).Else-write_in in
-    let there : c.has_span_of.result ≡ true = cc in
-    rw (← is) (sym there ∙ c.has_span_of.ensures)
+returns-clause-present c = let is = still_is (goal.at.returns-clause-present c).Else-write_in in rw is at c.write_apart.ensures.present
 
 pub returns-clause-after : goal.returns-clause-after
-returns-clause-after c =
-    let is = still_is (goal.at.returns-clause-after c).Else-write_in in
-    let there : c.has_span_of.result ≡ true = cc in
-    let present = rw is at (sym c.has_span_of.ensures ∙ there) in
-    let after = rw is at c.write_each.ensures.after in
-    after ∙ sym (written_whole (storage_of c.args.areas.now.items c.args.pages.now.items) c.args.a c.args.bytes.now present)
+returns-clause-after c = let is = still_is (goal.at.returns-clause-after c).Else-write_in in rw is at c.write_apart.ensures.after

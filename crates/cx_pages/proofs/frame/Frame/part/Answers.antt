@@ -4,6 +4,6 @@ use Rattle.std.proofs.lemmas.Option.{gets}
 use Rattle.cx_pages.proofs.FrameLemmas.{seen_byte}
 use Rattle.cx_pages.proofs.frame.Frame.part.Goals as goal
 
-pub returns-then-has-clause-there : goal.returns-then-has-clause-there
-returns-then-has-clause-there c = λ k low high.
-    seen_byte c.args.self.now k (c.has.ensures.all c.if-has.true k low high) ∙ grind (arith, common_steps, gets)
+pub returns-then-holds-clause-there : goal.returns-then-holds-clause-there
+returns-then-holds-clause-there c = λ k low high.
+    seen_byte c.args.self.now k (c.holds.ensures.all c.if-holds.true k low high) ∙ grind (arith, common_steps, gets)
