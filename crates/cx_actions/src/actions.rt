@@ -104,6 +104,8 @@ pub enum Line<A> {
     Image(Name8, u32),
     /// It begins the block of a source: its program's name, and what is to be written of it.
     Source(Name8, Wanted),
+    /// It begins a block of lines that are handed over as they stand: their name.
+    Lines(Name8),
     /// An action.
     Action(A),
 }

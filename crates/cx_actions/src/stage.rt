@@ -1,10 +1,12 @@
 //! What the actions of a script are, and what they are performed on.
 
-ghost use Rattle.std.specs.Prelude.{◌≡◌, ℕ, List, IfOk, IfSome, OnErr, is_some, true};
+ghost use Rattle.std.specs.Prelude.{◌≡◌, ℕ, List as Elements, IfOk, IfSome, OnErr, is_some, true};
 ghost use Rattle.cx_actions.specs.Allowed.{IsAllowed, IsAllowedLine};
 ghost use Rattle.cx_actions.specs.Language.{Language, edf_language};
 
 use crate::actions::{Action, Line, line_of};
+use cx_ebcdic::Name8;
+use cx_tables::List;
 use std::alloc::{AllocError, Global};
 
 /// The actions of a script's language.
@@ -20,6 +22,19 @@ pub trait ScriptAction: Drop {
         requires { IsAllowed action }
         ensures value { result ≡ language.of_block action }
         ensures allowed { allowed result };
+
+    /// The action that the end of a source's block gives, as one of these: by its program's name, its lines, and the action that
+    /// they are made into.
+    fn of_source(name: Name8, lines: Vec<List<u8>>, action: Action) -> Self
+        requires { IsAllowed action }
+        ensures value { result ≡ language.of_source name lines.items action }
+        ensures allowed { allowed result };
+
+    /// The action that the end of a block of lines gives: by the number of the line that begins it, its name and its lines; None
+    /// in a language without such blocks.
+    fn of_lines(first: usize, name: Name8, lines: Vec<List<u8>>) -> Option<Self>
+        ensures value { result ≡ language.of_lines first name lines.items }
+        ensures allowed { IfSome result allowed };
 
     /// What a line asks where it is not in a block; None, and never Memory, where it is a bad line.
     fn read_line(alloc: Global, text: &[u8]) -> Result<Option<Line<Self>>, AllocError>
@@ -37,6 +52,14 @@ impl ScriptAction for Action {
         action
     }
 
+    fn of_source(_name: Name8, _lines: Vec<List<u8>>, action: Action) -> Action {
+        action
+    }
+
+    fn of_lines(_first: usize, _name: Name8, _lines: Vec<List<u8>>) -> Option<Action> {
+        None
+    }
+
     fn read_line(alloc: Global, text: &[u8]) -> Result<Option<Line<Action>>, AllocError> {
         line_of(alloc, text)
     }
@@ -48,7 +71,7 @@ pub trait Stage {
     type Action: ScriptAction;
 
     /// One action: the state before, the action, what is written for it, and the state after.
-    ghost performs: { Self → Self.Action → List ℕ → Self → Type 0 };
+    ghost performs: { Self → Self.Action → Elements ℕ → Self → Type 0 };
 
     /// Performs an action, and gives what is written for it.
     fn perform(&mut self, alloc: Global, action: Self::Action) -> Result<Vec<u8>, AllocError>

@@ -28,7 +28,7 @@ const END: u32 = 0x100_0000;
 /// The image of a case's program.
 fn image_of(alloc: Global, case: &Case) -> Result<Option<CheckedImage>, AllocError> {
     let lines = source_of(alloc, case)?;
-    match prepare(alloc, lines, false, false) {
+    match prepare(alloc, lines.as_slice(), false, false) {
         Ok(prepared) => Ok(check(prepared.image).ok()),
         Err(_) => Ok(None),
     }

@@ -1,3 +1,4 @@
+pub mod AllFaultsLemmas
 mod FirstLemmas
 mod AnswerLemmas
 mod FitLemmas

@@ -1,5 +1,5 @@
 -- A constant's bytes are no more than its length.
-use Rattle.std.specs.Prelude.{Result, Ok, Err, ◌&&◌, ◌==◌, ⊤, option_and_then, sum_by, take}
+use Rattle.std.specs.Prelude.{Result, Ok, Err, ◌&&◌, ◌==◌, ◌*◌, ◌^◌, ⊤, option_and_then, sum_by, take, unwrap_or}
 use Rattle.std.specs.Option.{option_map_or}
 use Rattle.std.specs.Int.{bytes_high_first}
 use Rattle.std.proofs.Common.{◌≡◌, ◌≤◌, ℕ, zero, suc, ℤ, Bool, true, false, cond, Option, Some, None, option_map, List, [], ◌∷◌, length, refl, sym, ◌∙◌, ap, subst, arith}
@@ -7,10 +7,10 @@ use Rattle.std.proofs.lemmas.Bool.Decides.{nat_tests}
 use Rattle.std.proofs.lemmas.List.Concat.{length-flat_map}
 use Rattle.std.proofs.lemmas.List.Sums.{sum_by-le-sum_by}
 use Rattle.std.proofs.lemmas.Option.{none-some}
-use Rattle.cx_terms.specs.Bytes.{Made, address_made, body_made, bytes_of_value, half_bytes, integer_bytes, integer_of, is_absolute_word, made, made_of, made_unless, placed, plain_made, values_bytes, values_fault}
-use Rattle.cx_terms.specs.Digits.{number_in}
+use Rattle.cx_terms.specs.Bytes.{Made, address_made, body_made, half_bytes, integer_bytes, integer_of, is_below, made, made_of, placed, plain_made, value_bytes, values_bytes, values_fault}
+use Rattle.cx_terms.specs.Digits.{at_most, number_in}
 use Rattle.cx_terms.specs.Expressions.{value_of}
-use Rattle.cx_terms.specs.Items.{Constant, Written, at_least_one, at_most, body_length, constant, constant_in, duplication_in, judged, length_of, limited, modifier_in, value_length, values_in, written_in}
+use Rattle.cx_terms.specs.Items.{Constant, Written, constant, constant_in, duplication_in, judged, length_of, limited, modifier_in, value_length, values_in, written_in}
 use Rattle.cx_terms.specs.Kinds.{row_of}
 use Rattle.cx_terms.specs.Weights.{stands_in}
 use Rattle.cx_terms.specs.declared.faults.FaultKind.{FaultKind}
@@ -55,6 +55,13 @@ integers : (n : ℕ) (number : ℤ) → length (integer_bytes n number) ≤ n
 integers n number = when_word _ n _
 
 -- ---- one value
+abbrev bytes_of_value : ConstantKind → Option ℕ → List ℕ → List ℕ
+bytes_of_value kind modifier value = value_bytes kind (value_length kind modifier value) value
+
+abbrev body_length : ConstantKind → Option ℕ → Option (List ℕ) → ℕ
+body_length kind modifier value =
+    option_map_or (λ body. sum_by (value_length kind modifier) (values_in (row_of kind).style body)) value (unwrap_or modifier (row_of kind).alignment)
+
 -- an external address has no length modifier
 abbrev Modified : ConstantKind → Option ℕ → Type 0
 Modified External (Some modifier) = ⊥
@@ -81,7 +88,7 @@ values_fit kind modifier is values =
       sum_by-le-sum_by (λ value. length (bytes_of_value kind modifier value)) (value_length kind modifier) values (value_fits kind modifier is),
     )
 
-unless_fits : (fault : Option FaultKind) (bytes : List ℕ) (m : Made) (size : ℕ) → length bytes ≤ size → made_unless fault bytes ≡ Ok m → MadeFits m size
+unless_fits : (fault : Option FaultKind) (bytes : List ℕ) (m : Made) (size : ℕ) → length bytes ≤ size → option_map_or Err fault (Ok (made bytes false)) ≡ Ok m → MadeFits m size
 unless_fits None bytes m size le e = fits_plain bytes m size le cc
 unless_fits (Some fault) bytes m size le e = cc
 
@@ -107,7 +114,7 @@ word_fits n number m is e = subst (λ m. MadeFits m n) e (record { short = omega
 
 placed_fits : (n : ℕ) (control section : Option (List ℕ)) (number : ℤ) (m : Made) → placed n control section number ≡ Ok m → MadeFits m n
 placed_fits n control None number m e =
-    let h = unless_refused (is_absolute_word n number) (made (integer_bytes n number) false) m ValueOutOfRange e in
+    let h = unless_refused (is_below n number (2 ^ (8 * n))) (made (integer_bytes n number) false) m ValueOutOfRange e in
     fits_plain (integer_bytes n number) m n (integers n number) h.1
 placed_fits n control (Some section) number m e =
     let h = unless_refused (n == 4 && stands_in section control) (made (integer_bytes 4 number) true) m NotRelocatable e in
@@ -133,6 +140,9 @@ body_fits find here control External modifier (Some body) m is e = plain_fits Ex
 body_fits find here control Doubleword modifier (Some body) m is e = plain_fits Doubleword modifier body m is e
 
 -- ---- length modifiers
+abbrev at_least_one : ℕ → Option ℕ
+at_least_one number = cond (number == 0) None (Some number)
+
 none_least : (n : ℕ) → option_map Some (option_and_then at_least_one (at_most 0 n)) ≡ None
 none_least zero = refl
 none_least (suc n) = grind (arith, nat_tests)

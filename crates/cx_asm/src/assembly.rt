@@ -4,22 +4,25 @@ ghost use Rattle.std.specs.Prelude.{◌≡◌, ◌≤◌, IfOk, None, option_map
 ghost use Rattle.std.specs.Option.{option_map_or};
 ghost use Rattle.cx_source.specs.declared.source.Source.{Source};
 ghost use Rattle.cx_image.specs.Assembled.{IsAssembled};
+ghost use Rattle.cx_places.specs.AllFaults.{place_faults};
 ghost use Rattle.cx_places.specs.Placed.{IsPlaced, known_of};
 ghost use Rattle.cx_second.specs.Whole.{told_by};
 ghost use Rattle.cx_second.specs.Statements.{end_of, placed_of, statements_of};
+ghost use Rattle.cx_asm.specs.AllFaults.{assembly_faults, first_found, second_faults_of, size_faults};
 ghost use Rattle.cx_asm.specs.Assembly.{Assembles, assembly_of, end_line, entry_by, made_of, second_fault_of, section_of, size_of, standing_of, unless_refused, unless_too_large};
 
 use crate::faults::{AsmFault, fault_at};
 use crate::laws::what_stands_stands_apart;
 use crate::listing::listing_of;
-use crate::section::{Found, second_pass};
+use crate::section::{Found, second_faults, second_pass};
 use crate::standing::Standing;
 use cx_code::{Image, Line, Offsets, Span};
 use cx_image::{Assembled, LARGEST_TEXT, working_storage};
-use cx_places::{Places, place_all};
+use cx_places::{LineFault, Places, place_all, place_with_faults};
 use cx_second::{PlacedItem, Statement, entry_of, placed_lines, stated};
 use cx_source::{Source, Text};
-use cx_terms::TermFault;
+use cx_tables::List;
+use cx_terms::{FaultKind, TermFault};
 use std::alloc::{AllocError, Global};
 use std::marker::Model;
 
@@ -264,4 +267,56 @@ pub fn assemble(alloc: Global, source: &Source) -> Result<Assembly, AsmFault>
         Ok(places) => assemble_placed(alloc, source, &places),
         Err(first) => Err(fault_at(first)),
     }
+}
+
+/// The fault of a text that is too large.
+fn size_faults(alloc: Global, size: u128, line: usize) -> Result<List<LineFault>, AllocError>
+    ensures { IfOk result (λ faults. faults ≡ size_faults size line) }
+{
+    let mut faults = Vec::new(alloc);
+    if size > u128::from(LARGEST_TEXT) {
+        let kind = FaultKind::TooLarge;
+        faults.push(LineFault { line, kind })?;
+    }
+    Ok(List::from_vec(faults))
+}
+
+/// The faults of the second pass over a source whose statements are placed, or without one that of its size.
+#[tactic(auto, using(crate::proofs::TellingLemmas::told_is), unfolding(crate::specs::AllFaults::second_faults_of))]
+fn placed_faults(
+    alloc: Global,
+    source: &Source,
+    places: &Places<'_>,
+) -> Result<List<LineFault>, AllocError>
+    requires { IsPlaced (known_of source.now) places.now }
+    ensures { let size = size_faults (size_of source.now) (end_line source.now) in
+        IfOk result (λ faults. faults ≡ first_found (second_faults_of source.now) size) }
+{
+    let placed = placed_lines(alloc, source, places.statements.as_slice())?;
+    let statements = stated(alloc, placed.as_slice())?;
+    let second = second_faults(alloc, places, statements.as_slice())?;
+    if !second.as_slice().is_empty() {
+        return Ok(second);
+    }
+    size_faults(
+        alloc,
+        size_of(places),
+        end_line(source, statements.as_slice()),
+    )
+}
+
+/// All faults for which `assemble` refuses a source; none where it is assembled.
+///
+/// They are those of the first pass; where that finds none those of the second, and where that finds none TooLarge, if the
+/// control section is. Of each line with a faulty statement the lowest fault of all its statements comes, in the order in which
+/// the lines' first faults are met. An error comes only where a growth was refused.
+#[tactic(auto, unfolding(crate::specs::AllFaults::assembly_faults))]
+pub fn assembly_faults(alloc: Global, source: &Source) -> Result<List<LineFault>, AllocError>
+    ensures { IfOk result (λ faults. faults ≡ assembly_faults source.now) }
+{
+    let (places, faults) = place_with_faults(alloc, source)?;
+    if !faults.as_slice().is_empty() {
+        return Ok(faults);
+    }
+    placed_faults(alloc, source, &places)
 }

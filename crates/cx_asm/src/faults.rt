@@ -61,8 +61,8 @@ impl<T: Drop> From<AllocFailed<T>> for AsmFault {
     }
 }
 
-/// The fault of a line.
-pub(crate) fn fault_at(first: LineFault) -> AsmFault
+/// The fault of a line. It takes no memory.
+pub fn fault_at(first: LineFault) -> AsmFault
     ensures { result ≡ fault_at first }
 {
     let line = first.line;

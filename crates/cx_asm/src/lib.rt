@@ -9,5 +9,5 @@ mod listing;
 mod section;
 mod standing;
 
-pub use assembly::{Assembly, assemble, disassembly};
-pub use faults::AsmFault;
+pub use assembly::{Assembly, assemble, assembly_faults, disassembly};
+pub use faults::{AsmFault, fault_at};

@@ -9,7 +9,7 @@ ghost use Rattle.cx_operations.specs.declared.operations.Operation.TheVariants a
 ghost use Rattle.cx_operations.specs.declared.operations.Directive.TheVariants as directive;
 ghost use Rattle.cx_places.specs.Known.{is_control, role_in};
 ghost use Rattle.cx_places.specs.Roles.{directive_role};
-ghost use Rattle.cx_second.specs.SecondFaults.{items_fault, judged_after, judged_behind, literals_fault, operand_fault};
+ghost use Rattle.cx_second.specs.SecondFaults.{bases_after, items_fault, judged_after, judged_behind, literals_fault, operand_fault, second_fault, second_faults_after};
 ghost use Rattle.cx_second.specs.Statements.{operation_of, placed_items};
 ghost use Rattle.cx_second.specs.Whole.{instruction_context, pool_of, told_by};
 ghost use Rattle.cx_asm.specs.Laws.Standing.{IsWithin};
@@ -22,11 +22,12 @@ use crate::standing::Standing;
 use cx_ebcdic::Name8;
 use cx_operands::{Bases, copy_fault};
 use cx_operations::{Directive, Operation};
-use cx_places::{LineFault, Places, first_fault_behind};
+use cx_places::{LineFault, LineFaults, Places, first_fault_behind};
 use cx_second::{
     Statement, control_name, entry_of, instruction_of, literals_fault, pass_bases, placed_items,
     pool_of,
 };
+use cx_tables::List;
 use cx_terms::{FaultKind, TermFault, lower};
 use std::alloc::{AllocError, Global};
 use std::marker::Model;
@@ -277,8 +278,37 @@ impl Model for Judging {
     ghost view = { λ s. judged s.bases s.fault };
 }
 
+/// Goes past the statement of a number, from 0, and appends what it makes, if it is kept. Its lowest fault is answered, if it has
+/// one.
+#[tactic(auto, unfolding(cx_second::specs::SecondFaults::second_fault))]
+fn judge(
+    alloc: Global,
+    places: &Places<'_>,
+    statements: &[Statement<'_>],
+    number: usize,
+    statement: &Statement<'_>,
+    keeps: bool,
+    bases: &mut Bases,
+    standing: &mut Standing,
+) -> Result<Option<FaultKind>, AllocError>
+    requires { let told = told_by places.now in
+        Fits keeps standing.old (statement_standing told statements.now bases.old statement.now) }
+    ensures fault { let told = told_by places.now in
+        IfOk result (λ fault. fault ≡ second_fault told bases.old number statement.now) }
+    ensures bases { OnOk result (bases.new ≡ bases_after (told_by places.now) bases.old statement.now) }
+    ensures standing { let told = told_by places.now in
+        let made = statement_standing told statements.now bases.old statement.now in
+        OnOk result (standing.new ≡ kept keeps standing.old made) }
+{
+    let operands = pass_statement(
+        alloc, places, statements, number, statement, bases, keeps, standing,
+    )?;
+    let using = pass_bases(alloc, places, bases, statement)?;
+    Ok(lower(operands, using))
+}
+
 /// Goes past the statement of a number, from 0, and appends what it makes, if it is kept.
-#[tactic(auto, unfolding(cx_second::specs::SecondFaults::second_fault, cx_second::specs::SecondFaults::judged_after))]
+#[tactic(auto, unfolding(cx_second::specs::SecondFaults::judged_after))]
 fn pass(
     alloc: Global,
     places: &Places<'_>,
@@ -297,18 +327,17 @@ fn pass(
         let made = statement_standing told statements.now judging.old.bases statement.now in
         OnOk result (standing.new ≡ kept keeps standing.old made) }
 {
-    let operands = pass_statement(
+    let fault = judge(
         alloc,
         places,
         statements,
         number,
         statement,
-        &judging.bases,
         keeps,
+        &mut judging.bases,
         standing,
     )?;
-    let using = pass_bases(alloc, places, &mut judging.bases, statement)?;
-    judging.fault = first_fault_behind(statement.line(), lower(operands, using), judging.fault);
+    judging.fault = first_fault_behind(statement.line(), fault, judging.fault);
     Ok(())
 }
 
@@ -358,4 +387,31 @@ pub(crate) fn second_pass(
         first: judging.fault,
         standing,
     })
+}
+
+/// The faults of all lines in the second pass: of each the lowest, in order.
+pub(crate) fn second_faults(
+    alloc: Global,
+    places: &Places<'_>,
+    statements: &[Statement<'_>],
+) -> Result<List<LineFault>, AllocError>
+    ensures { IfOk result (λ faults. faults ≡ second_faults_after (told_by places.now) (reverse statements.now)) }
+{
+    let mut unkept = Standing::new(alloc);
+    let mut bases = Bases::new();
+    let mut faults = LineFaults::new(alloc);
+    for (number, statement) in statements.iter().enumerate() {
+        let fault = judge(
+            alloc,
+            places,
+            statements,
+            number,
+            statement,
+            false,
+            &mut bases,
+            &mut unkept,
+        )?;
+        faults.add(statement.line(), fault)?;
+    }
+    faults.to_list(alloc)
 }

@@ -1,9 +1,8 @@
 -- The instructions of an accepted source are well formed, and its lines come back.
 use Rattle.std.specs.Prelude.{Result, Ok, Err, ◌==◌}
-use Rattle.std.specs.List.{AllByRecursion}
 use Rattle.std.specs.Option.{option_map_or}
 use Rattle.std.specs.Result.{result_ok}
-use Rattle.std.proofs.Common.{◌≡◌, ◌≤◌, ℕ, Bool, true, false, cond, Option, Some, None, List, [], ◌∷◌, ◌++◌, length, refl, subst}
+use Rattle.std.proofs.Common.{◌≡◌, ◌≤◌, ℕ, Bool, true, false, cond, Option, Some, None, List, [], ◌∷◌, ◌++◌, map, length, refl, subst}
 use Rattle.cx_code.specs.declared.disassembly.Line.{Line}
 use Rattle.cx_code.specs.declared.disassembly.What.TheVariants.{Code, Space}
 use Rattle.cx_code.specs.Lines.{lines}
@@ -12,7 +11,6 @@ use Rattle.cx_source.specs.declared.source.Source.{Source}
 use Rattle.cx_terms.specs.Bytes.{Made}
 use Rattle.cx_terms.specs.Items.{Constant, constant_in, size_of as constant_size}
 use Rattle.cx_terms.specs.declared.faults.FaultKind.{FaultKind}
-use Rattle.cx_terms.specs.declared.values.Value.{Value}
 use Rattle.cx_pools.specs.Pools.{Placed}
 use Rattle.cx_places.specs.Given.{location_counter}
 use Rattle.cx_places.specs.Known.{is_control, role_in}
@@ -26,7 +24,7 @@ use Rattle.cx_operands.specs.Context.{Context}
 use Rattle.cx_operands.specs.Forms.{resolved}
 use Rattle.cx_image.specs.Laws.Cover.{AreWellFormed}
 use Rattle.cx_image.specs.Resolved.{AreApart}
-use Rattle.cx_image.specs.Spans.{spans_of}
+use Rattle.cx_image.specs.Spans.{span_of}
 use Rattle.cx_image.specs.Text.{text_of}
 use Rattle.cx_second.specs.SecondFaults.{bases_after}
 use Rattle.cx_second.specs.Statements.{Stated, operation_of, placed_items, statements_of}
@@ -35,7 +33,7 @@ use Rattle.cx_asm.specs.Assembly.{AssemblyParts, assembly_of, section_of, size_o
 use Rattle.cx_asm.specs.Facts.Accepted.{accepted}
 use Rattle.cx_asm.specs.Facts.Bases.{after_sixteen}
 use Rattle.cx_asm.specs.Laws.Standing.{IsWithin}
-use Rattle.cx_asm.specs.Resolving.{constant_standing, counter_at, data_line, data_standing, instruction_standing, item_standing, items_standing, last_pool, line, nothing, pool_standing, role_standing, space_line, space_standing, standing_from, statement_standing, copies}
+use Rattle.cx_asm.specs.Resolving.{constant_standing, counter_at, data_line, data_standing, instruction_standing, item_standing, items_standing, last_pool, line, nothing, pool_standing, role_standing, space_standing, standing_from, statement_standing, copies}
 use Rattle.cx_asm_laws.specs.Laws.Back.{ComesBack}
 
 abbrev pub Resolves : Type 0
@@ -126,7 +124,7 @@ unfolding section_of
 resolved_is source made e = subst (λ (m : AssemblyParts). (standing_of source).lines ≡ m.section.resolved) (accepted source made e).made_is refl
 
 pub comes_back : ((source : Source) → (known_of source).fault ≡ None → size_of source ≤ 65536 → IsWithin 0 (standing_of source) (size_of source))
-    → ((resolved : List Line) (size : ℕ) → AreApart 0 resolved size → AreWellFormed resolved → lines (text_of resolved size) (spans_of resolved) ≡ resolved)
+    → ((resolved : List Line) (size : ℕ) → AreApart 0 resolved size → AreWellFormed resolved → lines (text_of resolved size) (map span_of resolved) ≡ resolved)
     → Resolves → ComesBack
 unfolding section_of
 comes_back within back resolves source made e =

@@ -24,6 +24,7 @@ source_refused language block due prepare.Memory result h f m =
 -- a block's end is no bad line
 pub end_is_good : {A : Type 0} (language : Language A) (block : Block) (number : ℕ) {P : Type 0} → ended language block ≡ Err (BadLine number) → P
 end_is_good language (kind.Image block) number e = cc
+end_is_good language (kind.Lines block) number e = cc
 end_is_good language (kind.Source block) number e = go (prepared_of block.wanted.listing block.wanted.disassembly block.lines) e
   where
     go : {P : Type 0} (due : Result Prepared PrepareFault) → source_ended language block due ≡ Err (BadLine number) → P

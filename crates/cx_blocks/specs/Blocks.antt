@@ -6,6 +6,7 @@ use Rattle.std.specs.Str.{bytes_eq}
 use Rattle.cx_code.specs.declared.image.Image.{Image}
 use Rattle.cx_blocks.specs.ImageBlock.{ImageBlock}
 use Rattle.cx_blocks.specs.SourceBlock.{SourceBlock}
+use Rattle.cx_blocks.specs.LinesBlock.{LinesBlock}
 use Rattle.cx_blocks.specs.declared.blocks.Block.{Block}
 use Rattle.cx_blocks.specs.declared.blocks.Block.TheVariants as kind
 use Rattle.cx_blocks.specs.declared.blocks.Step.{Step}
@@ -28,6 +29,7 @@ use Rattle.cx_actions.specs.declared.actions.Line.TheVariants as line
 abbrev pub first_line : Block → ℕ
 first_line (kind.Image block) = block.line
 first_line (kind.Source block) = block.line
+first_line (kind.Lines block) = block.line
 
 -- an image has entry 0 and no relocated words
 abbrev pub image_of : ImageBlock → Image
@@ -41,6 +43,7 @@ abbrev pub step_of : {A : Type 0} → ℕ → Line A → Step A
 step_of number line.Idle = record { action = None; block = None }
 step_of number (line.Image name stg_len) = record { action = None; block = Some (kind.Image (record { line = number; name = name; stg_len = stg_len; text = [] })) }
 step_of number (line.Source name wanted) = record { action = None; block = Some (kind.Source (record { line = number; name = name; wanted = wanted; lines = [] })) }
+step_of number (line.Lines name) = record { action = None; block = Some (kind.Lines (record { line = number; name = name; lines = [] })) }
 step_of number (line.Action a) = record { action = Some a; block = None }
 
 -- No more than 65,537 bytes of a text are kept: one that is longer than 65,536 is BadLength, whatever follows.
@@ -51,7 +54,8 @@ kept text = take 65537 text
 abbrev pub with_bytes : ImageBlock → List ℕ → Block
 with_bytes block bytes = kind.Image (record { line = block.line; name = block.name; stg_len = block.stg_len; text = kept (block.text ++ bytes) })
 
--- No more than 10,001 lines of a source are kept: one that has not ended with the 10,000th is TooLong, whatever follows.
+-- No more than 10,001 lines of a source are kept: one that has not ended with the 10,000th is TooLong, whatever follows. So it is
+-- of lines that are handed over.
 unfoldable pub kept_lines : List (List ℕ) → List (List ℕ)
 kept_lines lines = take 10001 lines
 
@@ -59,10 +63,14 @@ abbrev pub with_source_line : SourceBlock → List ℕ → Block
 with_source_line block text =
     kind.Source (record { line = block.line; name = block.name; wanted = block.wanted; lines = kept_lines (block.lines ++ text ∷ []) })
 
+abbrev pub with_one_more : LinesBlock → List ℕ → Block
+with_one_more block text = kind.Lines (record { line = block.line; name = block.name; lines = kept_lines (block.lines ++ text ∷ []) })
+
 -- a block with one more line, which in an image's is hexadecimal digits; None where it may not have that line
 abbrev pub with_line : Block → List ℕ → Option Block
 with_line (kind.Image block) text = option_map (with_bytes block) (hex_bytes text)
 with_line (kind.Source block) text = Some (with_source_line block text)
+with_line (kind.Lines block) text = Some (with_one_more block text)
 
 abbrev pub continued : {A : Type 0} → Block → Step A
 continued block = record { action = None; block = Some block }
@@ -77,13 +85,15 @@ abbrev pub source_action : SourceBlock → Prepared → Action
 source_action block prepared = action.Source block.name prepared.text prepared.image
 
 abbrev pub source_ended : {A : Type 0} → Language A → SourceBlock → Result Prepared PrepareFault → Result (Step A) RunFault
-source_ended language block (Ok prepared) = Ok (record { action = Some (language.of_block (source_action block prepared)); block = None })
+source_ended language block (Ok prepared) =
+    Ok (record { action = Some (language.of_source block.name block.lines (source_action block prepared)); block = None })
 source_ended language block (Err fault) = Err (located block.line fault)
 
--- What the line that ends a block leads to. A source is judged there, whole.
+-- What the line that ends a block leads to. A source is judged there, whole; lines are handed over.
 abbrev pub ended : {A : Type 0} → Language A → Block → Result (Step A) RunFault
 ended language (kind.Image block) = Ok (record { action = Some (language.of_block (image_action block)); block = None })
 ended language (kind.Source block) = source_ended language block (prepared_of block.wanted.listing block.wanted.disassembly block.lines)
+ended language (kind.Lines block) = Ok (record { action = language.of_lines block.line block.name block.lines; block = None })
 
 -- a line inside a block: its end, or one more line of it
 abbrev pub step_within : {A : Type 0} → Language A → ℕ → Block → List ℕ → Result (Step A) RunFault

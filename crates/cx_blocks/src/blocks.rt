@@ -11,7 +11,7 @@ use cx_actions::{Action, Line, ScriptAction, Wanted};
 use cx_code::{Bytes, Image, Offsets};
 use cx_ebcdic::Name8;
 use cx_lines::is_too_long;
-use cx_prepare::{PrepareFault, prepare};
+use cx_prepare::{PrepareFault, Prepared, prepare};
 use cx_source::Text;
 use std::alloc::{AllocError, Global};
 use std::marker::Model;
@@ -22,7 +22,7 @@ const MOST_IN_LINE: usize = 2_048;
 /// The most bytes of a text that are kept: one byte more than an image may have.
 const MOST_KEPT: usize = 65_537;
 
-/// The most lines of a source that are kept: one line more than it may have.
+/// The most lines of a block that are kept: one line more than a source may have.
 const MOST_LINES: usize = 10_001;
 
 /// A block, up to some line of it.
@@ -32,6 +32,8 @@ pub enum Block {
     Image(ImageBlock),
     /// That of a source.
     Source(SourceBlock),
+    /// One of lines that are handed over as they stand.
+    Lines(LinesBlock),
 }
 
 /// An image's block, up to some line of it.
@@ -128,13 +130,51 @@ impl SourceBlock {
             wanted,
             lines,
         } = self;
-        match prepare(alloc, lines, wanted.listing, wanted.disassembly) {
-            Ok(prepared) => Ok(Step {
-                action: Some(A::of_block(Action::Source(name, prepared.text, prepared.image))),
+        match prepare(alloc, lines.as_slice(), wanted.listing, wanted.disassembly) {
+            Ok(Prepared { text, image }) => Ok(Step {
+                action: Some(A::of_source(name, lines, Action::Source(name, text, image))),
                 block: None,
             }),
             Err(fault) => refused(line, fault),
         }
+    }
+}
+
+/// A block of lines that are handed over as they stand, up to some line of it.
+#[derive(Drop)]
+pub struct LinesBlock {
+    line: usize,
+    name: Name8,
+    lines: Vec<Text>,
+}
+
+impl Model for LinesBlock {
+    ghost use Rattle.cx_blocks.specs.LinesBlock.{LinesBlock as Listed};
+
+    ghost Value = { Listed };
+
+    ghost view = { λ block. record { line = block.line; name = block.name; lines = block.lines.items } };
+}
+
+impl LinesBlock {
+    /// A block that has no line yet.
+    fn new(alloc: Global, line: usize, name: Name8) -> LinesBlock
+        ensures { result ≡ record { line = line; name = name; lines = [] } }
+    {
+        LinesBlock {
+            line,
+            name,
+            lines: Vec::new(alloc),
+        }
+    }
+
+    /// What is done at its end.
+    fn action<A: ScriptAction>(self) -> Option<A>
+        ensures value { result ≡ A.language.of_lines self.line self.name self.lines }
+        ensures allowed { IfSome result A.allowed }
+    {
+        let LinesBlock { line, name, lines } = self;
+        A::of_lines(line, name, lines)
     }
 }
 
@@ -162,6 +202,7 @@ impl Block {
         match self {
             Block::Image(block) => block.line,
             Block::Source(block) => block.line,
+            Block::Lines(block) => block.line,
         }
     }
 
@@ -178,6 +219,10 @@ impl Block {
                 block: None,
             }),
             Block::Source(block) => block.end(alloc),
+            Block::Lines(block) => Ok(Step {
+                action: block.action(),
+                block: None,
+            }),
         }
     }
 
@@ -197,6 +242,10 @@ impl Block {
             Block::Source(mut block) => {
                 append_text(alloc, &mut block.lines, line)?;
                 Ok(Some(Block::Source(block)))
+            }
+            Block::Lines(mut block) => {
+                append_text(alloc, &mut block.lines, line)?;
+                Ok(Some(Block::Lines(block)))
             }
         }
     }
@@ -225,6 +274,10 @@ fn step_of<A: ScriptAction>(alloc: Global, number: usize, line: Line<A>) -> Step
         Line::Source(name, wanted) => Step {
             action: None,
             block: Some(Block::Source(SourceBlock::new(alloc, number, name, wanted))),
+        },
+        Line::Lines(name) => Step {
+            action: None,
+            block: Some(Block::Lines(LinesBlock::new(alloc, number, name))),
         },
         Line::Action(action) => Step {
             action: Some(action),
@@ -266,7 +319,7 @@ fn append_line(text: &mut Vec<u8>, line: &[u8]) -> Result<bool, AllocError>
     Ok(true)
 }
 
-/// Adds a line of a source, as far as they are kept.
+/// Adds a line to those of a block, as far as they are kept.
 #[tactic(auto, unfolding(crate::specs::Blocks::kept_lines))]
 fn append_text(alloc: Global, lines: &mut Vec<Text>, line: &[u8]) -> Result<(), AllocError>
     ensures { OnOk result (lines.new.items ≡ kept_lines (lines.old.items ++ line.now ∷ [])) }

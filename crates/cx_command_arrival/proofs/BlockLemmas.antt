@@ -15,7 +15,7 @@ use Rattle.cx_command.specs.Eib.{eib_field, eib_len, eib_pieces}
 use Rattle.cx_ebcdic.specs.Facts.Names.{is_name-decides, is_name-laws}
 use Rattle.cx_ebcdic.specs.Characters.{code_of, table}
 use Rattle.cx_ebcdic.specs.Names.{name_of, name_code, is_name_character}
-use Rattle.cx_operations.specs.Operations.{operation_named, branch_named, branches, register_branch_named, register_branches, directive_named, directives}
+use Rattle.cx_operations.specs.Operations.{operation_named, branch_named, branches, register_branch_named, directive_named, directives}
 use Rattle.cx_source.specs.Lines.{is_name, is_letter}
 use Rattle.cx_source.specs.Lines.{is_name_character as is_written_in_names}
 use Rattle.cx_source.specs.Marks.{parts, within_behind}
@@ -43,7 +43,7 @@ use Rattle.cx_places.specs.Given.{duplicate}
 use Rattle.cx_places.specs.Known.{Known, after, after_line, definitions_in, known_behind, laid_in, length_of_section, parts_in, role_in}
 use Rattle.cx_places.specs.Layout.{beyond, laid, laid_at}
 use Rattle.cx_places.specs.declared.roles.Role.TheVariants.{Storage, Dummy}
-use Rattle.cx_command_arrival.proofs.Parts.{eib_before, judged, line_of}
+use Rattle.cx_translate.specs.Facts.Found.{eib_before, judged, line_of}
 use Rattle.cx_command_arrival.specs.Laid.{EibIsLaidOut, LaysOut}
 
 -- ---- what is to be shown
@@ -61,11 +61,11 @@ HasBlock items = LaysOut (codes "DFHEIBLK") (map field eib_pieces) eib_field (λ
 
 -- ---- texts
 pub role_ds : (name operand : List ℕ) → role_in (stmt name (codes "DS") operand) ≡ Storage true
-unfolding operation_named op_named ops row_of branch_named branches register_branch_named register_branches directive_named directives
+unfolding operation_named op_named ops row_of branch_named branches register_branch_named directive_named directives
 role_ds name operand = refl
 
 pub role_dsect : (name operand : List ℕ) → role_in (stmt name (codes "DSECT") operand) ≡ Dummy
-unfolding operation_named op_named ops row_of branch_named branches register_branch_named register_branches directive_named directives
+unfolding operation_named op_named ops row_of branch_named branches register_branch_named directive_named directives
 role_dsect name operand = refl
 
 -- so many bytes, as hexadecimal digits would give them

@@ -11,7 +11,7 @@ use Rattle.cx_code.specs.declared.disassembly.Line.{Line}
 use Rattle.cx_code.specs.Spelling.{Instruction}
 use Rattle.cx_command.specs.declared.commands.Command.{Command}
 use Rattle.cx_ebcdic.specs.Facts.Names.{is_name-laws}
-use Rattle.cx_source.specs.Lines.{is_name}
+use Rattle.cx_source.specs.Lines.{is_letter, is_name}
 use Rattle.cx_source.specs.Marks.{parts, within_behind}
 use Rattle.cx_source.specs.declared.marks.Mark.TheVariants.{TopComma}
 use Rattle.cx_source.specs.declared.source.Item.{Item}
@@ -24,7 +24,7 @@ use Rattle.cx_terms.specs.Names.{symbol_name}
 use Rattle.cx_terms.specs.declared.faults.FaultKind.TheVariants.{BadOperand}
 use Rattle.cx_terms.specs.declared.kinds.ConstantKind.TheVariants.{Halfword}
 use Rattle.cx_pools.specs.Pools.{capped, pool_extent}
-use Rattle.cx_operations.specs.Operations.{branch_named, branches, directive_named, directives, operation_named, register_branch_named, register_branches}
+use Rattle.cx_operations.specs.Operations.{branch_named, branches, directive_named, directives, operation_named, register_branch_named}
 use Rattle.cx_translate.specs.declared.words.Word.{Word}
 use Rattle.cx_translate.specs.Call.{list_of, pointers_of}
 use Rattle.cx_translate.specs.Made.{call, label, load, made_in, made_item, stmt, stores}
@@ -89,7 +89,7 @@ abbrev ds : List ℕ → Stmt
 ds name = stmt name (codes "DS") (codes "0H")
 
 role_ds : (name operand : List ℕ) → role_in (stmt name (codes "DS") operand) ≡ role.Storage true
-unfolding operation_named op_named ops row_of branch_named branches register_branch_named register_branches directive_named directives
+unfolding operation_named op_named ops row_of branch_named branches register_branch_named directive_named directives
 role_ds name operand = refl
 
 half_part : parts TopComma (codes "0H") ≡ codes "0H" ∷ []
@@ -256,7 +256,7 @@ has_label c cs = (let some : (length (c ∷ cs) == 0) ≡ false = grind (arith, 
 pub named_so : (source : Source) (name : List ℕ) (line : ℕ) (before behind : List Item) (command : Command) (words : List Word) (lines_of : List Line)
     → source.items ≡ before ++ lines line (label name) ++ lines line (call_statements command words) ++ behind → (known_of source).fault ≡ None
     → (code : StandInCode source (before ++ lines line (label name)) (lines line (call_statements command words)) lines_of) → StandsFor (whole_of source) name code.at
-unfolding symbol_name is_name
+unfolding symbol_name is_name is_letter
 named_so source [] line before behind command words lines_of is sound code = λ symbol named. absurd (cc)
 named_so source (c ∷ cs) line before behind command words lines_of is sound code =
     λ symbol named.

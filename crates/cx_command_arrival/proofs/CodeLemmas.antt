@@ -47,7 +47,7 @@ abbrev AreLoaded : Storage → ℕ → List ℕ → List Line → Type 0
 AreLoaded after at relocs lines = AllByRecursion (λ l. IsUnraised relocs l → StandsAt after at l) lines
 
 abbrev AreClear : List ℕ → List Line → Type 0
-AreClear relocs lines = AllByRecursion (λ l. is_code l ≡ true → IsUnraised relocs l) lines
+AreClear relocs lines = AllByRecursion (λ l. is_code l.what ≡ true → IsUnraised relocs l) lines
 
 all_at : Forms → Sizes → (told : Whole) (bases : Bases) (sixteen : length bases ≡ 16) (before items : List Item) (code : List Instruction) (at place : ℕ) (back : List Line) (after : Storage) (relocs : List ℕ)
     → AreResolved told bases before at items code → AreLoaded after place relocs (code_lines at code ++ back) → AreClear relocs (code_lines at code ++ back) → AreAt after (along place at) code
@@ -77,4 +77,4 @@ code_loaded forms sizes texts lines clear source assembly first items storage af
     let none : AreClear relocs assembly.section.resolved = clear source assembly accepts in
     all_at forms sizes (whole_of source) (bases_in_use source first) (in_use_sixteen source first) (reverse first) items code.code code.at loaded.at code.back after relocs code.resolved
     (behind_front (λ l. IsUnraised relocs l → StandsAt after loaded.at l) code.front (code_lines code.at code.code ++ code.back) (subst (AreLoaded after loaded.at relocs) split all))
-    (behind_front (λ l. is_code l ≡ true → IsUnraised relocs l) code.front (code_lines code.at code.code ++ code.back) (subst (AreClear relocs) split none))
+    (behind_front (λ l. is_code l.what ≡ true → IsUnraised relocs l) code.front (code_lines code.at code.code ++ code.back) (subst (AreClear relocs) split none))

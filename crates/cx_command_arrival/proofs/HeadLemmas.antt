@@ -39,7 +39,7 @@ use Rattle.cx_places.specs.declared.roles.Role.TheVariants.{Storage, Dummy}
 use Rattle.cx_translate.specs.Made.{made_item, stmt}
 use Rattle.cx_translate.specs.Sections.{begins_exec, begins_section, begins_storage, behind, continuing, eib_section, is_end, lines, put, storage_fields, with_bases, with_eib, with_storage}
 use Rattle.cx_translate.specs.Translation.{expanded, first_fault, translated, translation_of}
-use Rattle.cx_command_arrival.proofs.Parts.{bases_behind, continued, eib_before, judged, line_of, storage_before, storage_behind}
+use Rattle.cx_translate.specs.Facts.Found.{bases_behind, continued, eib_before, judged, line_of, storage_before, storage_behind}
 use Rattle.cx_command_arrival.specs.Laid.{HeadIsLaidOut, LaysOut}
 use Rattle.cx_command_arrival.proofs.Together.{StandTogether}
 use Rattle.cx_command_arrival.proofs.BlockLemmas.{Named, fault_kept, none_from, none_known, reverse_cons, role_ds, role_dsect}

@@ -1,10 +1,10 @@
 -- What stands in a section, and the words of it that loading raises: each is one of a constant's.
 use Rattle.std.proofs.Common.{◌≡◌, ◌⊎◌, inl, inr, ◌≤◌, ℕ, zero, suc, ◌+◌, ◌*◌, Bool, true, false, cond, ◌&&◌, ◌==◌, Option, Some, None, Ok, List, [], ◌∷◌, ◌++◌, length, refl, arith}
-use Rattle.std.specs.Prelude.{Err, Result, ℤ}
+use Rattle.std.specs.Prelude.{Err, Result, ℤ, ◌^◌}
 use Rattle.std.specs.List.{AllByRecursion}
 use Rattle.std.specs.Option.{option_map_or}
 use Rattle.cx_code.specs.declared.disassembly.Line.{Line}
-use Rattle.cx_terms.specs.Bytes.{Made, address_made, body_made, integer_bytes, is_absolute_word, is_address, made, made_of, made_unless, placed, plain_made, values_bytes, values_fault}
+use Rattle.cx_terms.specs.Bytes.{Made, address_made, body_made, integer_bytes, is_below, made, made_of, placed, values_bytes, values_fault}
 use Rattle.cx_terms.specs.Expressions.{value_of}
 use Rattle.cx_terms.specs.Items.{Constant, constant_in, value_length, values_in}
 use Rattle.cx_terms.specs.Kinds.{row_of}
@@ -13,6 +13,7 @@ use Rattle.cx_terms.specs.declared.faults.FaultKind.TheVariants.{NotRelocatable,
 use Rattle.cx_terms.specs.Weights.{stands_in}
 use Rattle.cx_operands.specs.Judging.{judged}
 use Rattle.cx_terms.specs.declared.kinds.ConstantKind.{ConstantKind}
+use Rattle.cx_terms.specs.declared.kinds.ConstantKind.TheVariants.{Address}
 use Rattle.cx_terms.specs.declared.values.Value.{Value}
 use Rattle.cx_pools.specs.Pools.{Placed}
 use Rattle.cx_operations.specs.declared.operations.Operation.{Operation}
@@ -32,7 +33,7 @@ use Rattle.cx_command_arrival.proofs.TogetherLemmas.{length_joined}
 
 -- ---- a word among the bytes of a constant
 pub record IsOfConstant (r : ℕ) (l : Line) : Type 0 where
-  pub constant : is_code l ≡ false
+  pub constant : is_code l.what ≡ false
   pub begins : l.at ≤ r
   pub ends : r + 4 ≤ end_of l
 
@@ -78,7 +79,7 @@ HasFour (Ok m) = m.is_relocated ≡ true → length m.bytes ≡ 4
 HasFour (Err fault) = Unit {0}
 
 placed_four : (n : ℕ) (control section : Option (List ℕ)) (number : ℤ) → HasFour (placed n control section number)
-placed_four n control None number = go (is_absolute_word n number)
+placed_four n control None number = go (is_below n number (2 ^ (8 * n)))
   where
     go : (b : Bool) → HasFour (cond b (Ok (made (integer_bytes n number) false)) (Err ValueOutOfRange))
     go true = λ raised. absurd (cc)
@@ -93,18 +94,16 @@ address_four : (n : ℕ) (control : Option (List ℕ)) (value : Result Value Fau
 address_four n control (Ok value) = placed_four n control value.section value.number
 address_four n control (Err fault) = tt
 
-unless_four : (fault : Option FaultKind) (bytes : List ℕ) → HasFour (made_unless fault bytes)
+unless_four : (fault : Option FaultKind) (bytes : List ℕ) → HasFour (option_map_or Err fault (Ok (made bytes false)))
 unless_four None bytes = λ raised. absurd (cc)
 unless_four (Some fault) bytes = tt
 
 body_four : (find : List ℕ → Option Value) (here : Option Value) (control : Option (List ℕ)) (kind : ConstantKind) (modifier : Option ℕ) (body : Option (List ℕ))
     → HasFour (body_made find here control kind modifier body)
 body_four find here control kind modifier None = λ raised. absurd (cc)
-body_four find here control kind modifier (Some body) = go (is_address kind)
-  where
-    go : (b : Bool) → HasFour (cond b (address_made (value_length kind modifier body) control (value_of find here body)) (plain_made kind modifier body))
-    go true = address_four (value_length kind modifier body) control (value_of find here body)
-    go false = unless_four (values_fault kind modifier (values_in (row_of kind).style body)) (values_bytes kind modifier (values_in (row_of kind).style body))
+body_four find here control Address modifier (Some body) = address_four (value_length Address modifier body) control (value_of find here body)
+body_four find here control kind modifier (Some body) =
+    unless_four (values_fault kind modifier (values_in (row_of kind).style body)) (values_bytes kind modifier (values_in (row_of kind).style body))
 
 judged_four : (find : List ℕ → Option Value) (here : Option Value) (control : Option (List ℕ)) (item : Result Constant FaultKind) → HasFour (judged (made_of find here control) item)
 unfolding made_of

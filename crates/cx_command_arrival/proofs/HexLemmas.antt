@@ -113,7 +113,7 @@ made_is told counter bytes h some =
     let hex = flat_map hex_pair bytes in
     let many = hex_length bytes in
     let filled : (length hex == 0) ≡ false = grind (arith, nat_tests, many, some) in
-    let half : (length hex + (2 - 1)) / 2 ≡ length bytes = omega (arith, many) in
+    let half : (length hex + 1) / 2 ≡ length bytes = omega (arith, many) in
     rw (constant_is hex (hex_plain bytes h) (omega (arith, many, some)), filled, hex_digits bytes h, half, half_bytes_are [] bytes h)
     (ap (λ k. Ok (made k false)) (append-nil bytes))
 

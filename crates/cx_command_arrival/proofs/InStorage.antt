@@ -40,4 +40,4 @@ LinesAreLoaded = (storage after : Storage) (parts : AssembledParts) (loaded : Lo
 -- No instruction of an accepted source has one.
 abbrev pub CodeIsUnraised : Type 0
 CodeIsUnraised = (source : Source) (assembly : AssemblyParts) → assembly_of source ≡ Ok assembly
-    → AllByRecursion (λ line. is_code line ≡ true → IsUnraised assembly.section.image.relocs line) assembly.section.resolved
+    → AllByRecursion (λ line. is_code line.what ≡ true → IsUnraised assembly.section.image.relocs line) assembly.section.resolved

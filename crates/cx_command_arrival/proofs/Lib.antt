@@ -1,4 +1,3 @@
-pub mod Parts
 pub mod Together
 pub mod Resolved
 pub mod InStorage

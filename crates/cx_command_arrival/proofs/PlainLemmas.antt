@@ -14,8 +14,9 @@ use Rattle.cx_source.specs.Marks.{depth_behind, is_mark, lies_outside, outside_f
 use Rattle.cx_source.specs.declared.marks.Mark.TheVariants.{TopComma}
 use Rattle.cx_source.specs.declared.marks.Scan.{Scan}
 use Rattle.cx_terms.specs.Digits.{digit, is_digit, number_in, worth_of}
-use Rattle.cx_terms.specs.Terms.{Part, is_sign, part_of, parts_from as signed_parts_from}
+use Rattle.cx_terms.specs.Terms.{is_sign, part_of, parts_from as signed_parts_from}
 use Rattle.cx_terms.specs.declared.terms.Sign.{Sign}
+use Rattle.cx_terms.specs.declared.terms.Sign.TheVariants.{Plus, Minus}
 
 -- ---- every mark and every sign comes before the digits
 abbrev pub ArePlain : List ℕ → Type 0
@@ -70,7 +71,7 @@ pub plain_part : (sign : Sign) (scan : Scan) (part text : List ℕ) → ArePlain
 plain_part sign scan part [] h = ap (λ p. part_of sign p ∷ []) (sym (append-nil part))
 plain_part sign scan part (c ∷ text) h =
     let none : (lies_outside scan c text && is_sign c) ≡ false = rw (other c 43 h.0 (omega arith), other c 45 h.0 (omega arith)) (neither (lies_outside scan c text)) in
-    ap (λ b. cond b (part_of sign part ∷ signed_parts_from (Rattle.cx_terms.specs.Terms.sign_of c) [] text (outside_from (passed scan c text) text)) (signed_parts_from sign (part ++ (c ∷ [])) text (outside_from (passed scan c text) text))) none
+    ap (λ b. cond b (part_of sign part ∷ signed_parts_from (cond (c == 45) Minus Plus) [] text (outside_from (passed scan c text) text)) (signed_parts_from sign (part ++ (c ∷ [])) text (outside_from (passed scan c text) text))) none
     ∙ plain_part sign (passed scan c text) (part ++ (c ∷ [])) text h.1 ∙ ap (λ p. part_of sign p ∷ []) (append_assoc part (c ∷ []) text)
 
 -- ---- decimal digits

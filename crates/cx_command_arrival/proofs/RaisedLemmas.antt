@@ -21,12 +21,12 @@ word_behind from (l ∷ ls) size r apart (inr h) = (let rest = word_behind (end_
 abbrev IsBeside : ℕ → Line → Type 0
 IsBeside r l = (r + 4 ≤ l.at) ⊎ (end_of l ≤ r)
 
-all_behind : (from : ℕ) (ls : List Line) (size r : ℕ) → AreApart from ls size → r + 4 ≤ from → AllByRecursion (λ l. is_code l ≡ true → IsBeside r l) ls
+all_behind : (from : ℕ) (ls : List Line) (size r : ℕ) → AreApart from ls size → r + 4 ≤ from → AllByRecursion (λ l. is_code l.what ≡ true → IsBeside r l) ls
 all_behind from [] size r apart le = tt
 all_behind from (l ∷ ls) size r apart le =
     let first = apart.0 in ((λ code. inl (omega (arith, first, le))), all_behind (end_of l) ls size r apart.1 (omega (arith, first, le)))
 
-one_clear : (from : ℕ) (ls : List Line) (size r : ℕ) → AreApart from ls size → HasWord r ls → AllByRecursion (λ l. is_code l ≡ true → IsBeside r l) ls
+one_clear : (from : ℕ) (ls : List Line) (size r : ℕ) → AreApart from ls size → HasWord r ls → AllByRecursion (λ l. is_code l.what ≡ true → IsBeside r l) ls
 unfolding HasWord
 one_clear from [] size r apart h = tt
 one_clear from (l ∷ ls) size r apart (inl h) = (
@@ -38,16 +38,16 @@ one_clear from (l ∷ ls) size r apart (inr h) = (
   one_clear (end_of l) ls size r apart.1 h,
 )
 
-clear_more : (r : ℕ) (relocs : List ℕ) (ls : List Line) → AllByRecursion (λ l. is_code l ≡ true → IsBeside r l) ls → AllByRecursion (λ l. is_code l ≡ true → IsUnraised relocs l) ls
-    → AllByRecursion (λ l. is_code l ≡ true → IsUnraised (r ∷ relocs) l) ls
+clear_more : (r : ℕ) (relocs : List ℕ) (ls : List Line) → AllByRecursion (λ l. is_code l.what ≡ true → IsBeside r l) ls → AllByRecursion (λ l. is_code l.what ≡ true → IsUnraised relocs l) ls
+    → AllByRecursion (λ l. is_code l.what ≡ true → IsUnraised (r ∷ relocs) l) ls
 clear_more r relocs [] h k = tt
 clear_more r relocs (l ∷ ls) h k = ((λ code. (h.0 code, k.0 code)), clear_more r relocs ls h.1 k.1)
 
-clear_none : (ls : List Line) → AllByRecursion (λ l. is_code l ≡ true → IsUnraised [] l) ls
+clear_none : (ls : List Line) → AllByRecursion (λ l. is_code l.what ≡ true → IsUnraised [] l) ls
 clear_none [] = tt
 clear_none (l ∷ ls) = ((λ code. tt), clear_none ls)
 
-all_clear : (relocs : List ℕ) (ls : List Line) (size : ℕ) → AreApart 0 ls size → HaveWords relocs ls → AllByRecursion (λ l. is_code l ≡ true → IsUnraised relocs l) ls
+all_clear : (relocs : List ℕ) (ls : List Line) (size : ℕ) → AreApart 0 ls size → HaveWords relocs ls → AllByRecursion (λ l. is_code l.what ≡ true → IsUnraised relocs l) ls
 all_clear [] ls size apart h = clear_none ls
 all_clear (r ∷ relocs) ls size apart h = clear_more r relocs ls (one_clear 0 ls size r apart h.0) (all_clear relocs ls size apart h.1)
 

@@ -20,7 +20,7 @@ use Rattle.cx_translate.specs.Refusals.{command_in, fault_in, fault_of}
 use Rattle.cx_translate.specs.Sections.{name_at, bases, begins_exec, begins_section, begins_storage, behind, continuing, eib_section, is_end, lines, put, put_before, put_behind, storage_fields, storage_section, with_bases, with_eib, with_storage}
 use Rattle.cx_translate.specs.Translation.{continues_exec, expanded, expansion, fault_at, first_fault, translated, translation_of}
 use Rattle.cx_translate.specs.Words.{words_of}
-use Rattle.cx_command_arrival.proofs.Parts.{bases_behind, continued, eib_before, fault_in_stmt, fault_of_command, judged, line_of, made_by, storage_before, storage_behind}
+use Rattle.cx_translate.specs.Facts.Found.{bases_behind, continued, eib_before, fault_in_stmt, fault_of_command, judged, line_of, made_by, storage_before, storage_behind}
 use Rattle.cx_command_arrival.specs.Standing.{HasExec, IsMade}
 use Rattle.cx_command_arrival.proofs.Together.{StandTogether}
 

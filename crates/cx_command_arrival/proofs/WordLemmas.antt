@@ -13,14 +13,16 @@ use Rattle.cx_source.specs.Marks.{depth_behind, first_from, is_mark, lies_outsid
 use Rattle.cx_source.specs.declared.marks.Mark.TheVariants.{Parenthesis}
 use Rattle.cx_source.specs.declared.marks.Scan.{Scan}
 use Rattle.cx_terms.specs.Digits.{bound, digit, is_digit, number_in}
-use Rattle.cx_terms.specs.Expressions.{located, signed, sum_from, summed, unless, value_of, valued, within_bound}
+use Rattle.cx_terms.specs.Expressions.{located, sum_from, summed, value_of, valued, within_bound}
 use Rattle.cx_terms.specs.Faults.{lower}
 use Rattle.cx_terms.specs.Symbols.{absolute}
 use Rattle.cx_terms.specs.Terms.{parts_of, part_of, read_term, term_of, terms_of}
 use Rattle.cx_terms.specs.Weights.{relocation}
-use Rattle.cx_terms.specs.Worth.{greatest, look_up, self_defined, term_worth}
+use Rattle.cx_terms.specs.Worth.{greatest, look_up, number_worth, term_worth}
 use Rattle.cx_terms.specs.declared.faults.FaultKind.{FaultKind}
 use Rattle.cx_terms.specs.declared.faults.FaultKind.TheVariants.{BadOperand, UndefinedSymbol, ValueOutOfRange}
+use Rattle.cx_terms.specs.declared.expressions.Signed.{Signed}
+use Rattle.cx_terms.specs.declared.terms.Sign.{Sign}
 use Rattle.cx_terms.specs.declared.terms.Sign.TheVariants.{Plus}
 use Rattle.cx_terms.specs.declared.terms.TermKind.TheVariants.{Decimal, Symbol}
 use Rattle.cx_terms.specs.declared.values.Value.{Value}
@@ -84,6 +86,9 @@ pub record IsAt (place : List ℕ) (offset : ℤ) (value : Value) : Type 0 where
   pub section : value.section ≡ Some place
   pub number : value.number ≡ offset
 
+abbrev signed : Sign → Value → Signed
+signed sign value = record { sign = sign; value = value }
+
 abbrev at : List ℕ → ℤ → ℕ → Value
 at section number length = record { section = Some section; number = number; length = length }
 
@@ -93,9 +98,9 @@ unfolding term_worth
 symbol_worth find here value is = ap (λ k. ok_or k UndefinedSymbol) is
 
 decimal_worth : (find : List ℕ → Option Value) (here : Option Value) (text : List ℕ) (n : ℕ) → number_in 10 text ≡ n
-    → term_worth find here (term_of Plus Decimal text) ≡ self_defined n
+    → term_worth find here (term_of Plus Decimal text) ≡ number_worth greatest n
 unfolding term_worth
-decimal_worth find here text n is = ap self_defined is
+decimal_worth find here text n is = ap (number_worth greatest) is
 
 within_is : (number sum : ℤ) → within_bound number ≡ Some sum → number ≡ sum
 within_is number sum e = go (nat_le (unsigned_abs number) bound) e
@@ -162,7 +167,7 @@ word_worth find here section number length n value known small e =
     let second = decimal_worth find here (decimal n) n read.number in
     go (nat_le n greatest) (rw (first, second) at terms)
   where
-    go : (b : Bool) → unless (lower None (lower (result_err (cond b (Ok (absolute (pos n))) (Err ValueOutOfRange))) None))
+    go : (b : Bool) → option_map_or Err (lower None (lower (result_err (cond b (Ok (absolute (pos n))) (Err ValueOutOfRange))) None))
         (summed (cons_option (Some (signed Plus (at section number length))) (cons_option (option_map (signed Plus) (result_ok (cond b (Ok (absolute (pos n))) (Err ValueOutOfRange)))) []))) ≡ Ok value → IsAt section (number +ℤ pos n) value
     go true e = two_sum section number length n value e
     go false e = absurd (cc)

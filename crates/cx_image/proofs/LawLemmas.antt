@@ -9,7 +9,7 @@ use Rattle.cx_code.specs.Lines.{lines, line_of}
 use Rattle.cx_image.specs.Assembled.{AssembledParts, IsAssembled}
 use Rattle.cx_image.specs.Laws.Cover.{covers, StandsIn, IsTextOf, as_data}
 use Rattle.cx_image.specs.Resolved.{bytes_of, size_of, end_of, AreApart, is_code}
-use Rattle.cx_image.specs.Spans.{span_of, spans_of}
+use Rattle.cx_image.specs.Spans.{span_of}
 
 -- a line behind an offset
 starts_behind : (from : ℕ) (ls : List Line) (size j : ℕ) (d : Line) → AreApart from ls size → j < length ls → from ≤ (get_or ls j d).at
@@ -60,20 +60,20 @@ text_decides ls size one other first second = ext_get_or 0 one other (first.long
     ]
 
 -- a span called data has no instruction
-never_code : (text : List ℕ) (l : Line) → is_code (line_of text (as_data (span_of l))) ≡ false
+never_code : (text : List ℕ) (l : Line) → is_code (line_of text (as_data (span_of l))).what ≡ false
 unfolding line_of
 never_code text l = refl
 
-pub data_differs : (text : List ℕ) (ls : List Line) → list_any is_code ls ≡ true → lines text (map as_data (spans_of ls)) ≢ ls
+pub data_differs : (text : List ℕ) (ls : List Line) → list_any (λ (line : Line). is_code line.what) ls ≡ true → lines text (map as_data (map span_of ls)) ≢ ls
 data_differs text [] e same = absurd (cc)
-data_differs text (l ∷ ls) e same = elim (cases_Bool (is_code l)) [
+data_differs text (l ∷ ls) e same = elim (cases_Bool (is_code l.what)) [
   | inl is ↦
       let no = never_code text l in
       absurd (cc)
-  | inr out ↦ data_differs text ls (ap (λ (b : Bool). b || list_any is_code ls) (sym out) ∙ e) (cc)
+  | inr out ↦ data_differs text ls (ap (λ (b : Bool). b || list_any (λ (line : Line). is_code line.what) ls) (sym out) ∙ e) (cc)
 ]
 
-pub kinds_needed : (parts : AssembledParts) → IsAssembled parts → list_any is_code parts.resolved ≡ true → lines parts.image.text (map as_data parts.spans) ≢ parts.resolved
+pub kinds_needed : (parts : AssembledParts) → IsAssembled parts → list_any (λ (line : Line). is_code line.what) parts.resolved ≡ true → lines parts.image.text (map as_data parts.spans) ≢ parts.resolved
 kinds_needed parts is e = rw (is.spans) (data_differs parts.image.text parts.resolved e)
 
 -- text and spans decide the lines

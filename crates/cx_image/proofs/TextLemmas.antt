@@ -1,5 +1,5 @@
 -- Texts of resolved lines.
-use Rattle.std.proofs.Common.{◌≡◌, ℕ, zero, suc, ◌+◌, ◌-◌, ◌<◌, ◌≤◌, Bool, true, false, ◌||◌, List, [], ◌∷◌, ◌++◌, length, get_or, take, drop, refl, sym, ◌∙◌, ap, subst, inl, inr, Some, arith}
+use Rattle.std.proofs.Common.{◌≡◌, ℕ, zero, suc, ◌+◌, ◌-◌, ◌<◌, ◌≤◌, Bool, true, false, ◌||◌, List, [], ◌∷◌, ◌++◌, length, get_or, map, take, drop, replicate, refl, sym, ◌∙◌, ap, subst, inl, inr, Some, arith}
 use Rattle.std.specs.Prelude.{◌↔◌}
 use Rattle.std.proofs.lemmas.Bool.{and_from, cases_lt, le-leb, lt-ltb}
 use Rattle.std.specs.List.{list_any, AllByRecursion}
@@ -11,13 +11,17 @@ use Rattle.cx_code.specs.declared.disassembly.What.TheVariants.{Code, Data, Spac
 use Rattle.cx_code.specs.Spelling.{Instruction, IsWellFormed, spelling, Spells}
 use Rattle.cx_code.specs.Reading.{canonical}
 use Rattle.cx_code.specs.Lines.{lines, line_of, what_in}
-use Rattle.cx_image.specs.Resolved.{zeros, bytes_of, size_of, end_of, end_behind, AreApart}
+use Rattle.cx_image.specs.Resolved.{bytes_of, size_of, end_of, end_behind, AreApart}
 use Rattle.cx_image.specs.Text.{text_from, text_of}
-use Rattle.cx_image.specs.Spans.{kind_of, span_of, spans_of}
-use Rattle.cx_image.specs.Assembled.{AssembledParts, IsAssembled, parts}
+use Rattle.cx_image.specs.Spans.{kind_of, span_of}
+use Rattle.cx_image.specs.Assembled.{AssembledParts, IsAssembled}
 use Rattle.cx_image.specs.Laws.Cover.{AreWellFormed, IsSound, covers, StandsIn, IsTextOf}
 use Rattle.cx_image.specs.Facts.Apart.{apart_with, end_with}
 use Rattle.cx_image.specs.Parts.Making.{IsSpelled, AreSpelled, GoesOn, IsEndOf}
+
+-- so many bytes that are zero
+abbrev zeros : ℕ → List ℕ
+zeros n = replicate n 0
 
 pub pushed : (ls : List Line) (end : ℕ) (l : Line) (size : ℕ) → IsEndOf ls end → end_behind 0 ls ≤ l.at → size ≡ size_of l.what → IsEndOf (ls ++ l ∷ []) (l.at + size)
 pushed ls end l size is h e = rw e record {
@@ -82,7 +86,7 @@ unfolding line_of
 line_read text l spelled law e = ap (λ (what : What). record { at = l.at; what = what }) (what_read text l.at l.what spelled law e)
 
 pub lines_read : (text : List ℕ) (ls : List Line) → AreSpelled ls → ((found : List ℕ) (j : Instruction) → Spells j found → canonical found ≡ Some j)
-    → AllByRecursion (StandsIn text) ls → lines text (spans_of ls) ≡ ls
+    → AllByRecursion (StandsIn text) ls → lines text (map span_of ls) ≡ ls
 lines_read text [] spelled law stand = refl
 lines_read text (l ∷ ls) spelled law stand =
     let first = line_read text l spelled.0 law stand.0 in
@@ -184,15 +188,15 @@ is_text ls size apart = record {
 }
 
 pub come_back : ((i : Instruction) → IsWellFormed i → Spells i (spelling i)) → ((found : List ℕ) (j : Instruction) → (canonical found ≡ Some j) ↔ Spells j found)
-    → (ls : List Line) (size : ℕ) → AreApart 0 ls size → AreWellFormed ls → lines (text_of ls size) (spans_of ls) ≡ ls
+    → (ls : List Line) (size : ℕ) → AreApart 0 ls size → AreWellFormed ls → lines (text_of ls size) (map span_of ls) ≡ ls
 come_back spells law ls size apart sound =
     lines_read (text_of ls size) ls (all_spelled spells ls sound) (λ found j is. (law found j).1 is) (is_text ls size apart).stand
 
 -- the parts that are made
 pub is_assembled : (ls : List Line) (size : ℕ) (text : List ℕ) (spans : List Span) (entry : ℕ) (relocs : List ℕ) (stg_len : ℕ)
-    → AreApart 0 ls size → size ≤ 65536 → AreSpelled ls → text ≡ text_of ls size → spans ≡ spans_of ls
+    → AreApart 0 ls size → size ≤ 65536 → AreSpelled ls → text ≡ text_of ls size → spans ≡ map span_of ls
     → ((found : List ℕ) (j : Instruction) → (canonical found ≡ Some j) ↔ Spells j found)
-    → IsAssembled (parts ls spans (record { text = text; entry = entry; relocs = relocs; stg_len = stg_len }))
+    → IsAssembled (record { resolved = ls; spans = spans; image = record { text = text; entry = entry; relocs = relocs; stg_len = stg_len } })
 is_assembled ls size text spans entry relocs stg_len apart fits spelled is are law =
     let known = is_text ls size apart in
     let long : length text ≡ size = ap length is ∙ known.long in

@@ -1,12 +1,12 @@
 -- What a section is assembled to: its resolved lines, its spans and its image (this product's own).
-use Rattle.std.specs.Prelude.{◌≡◌, ℕ, ◌≤◌, List, length}
+use Rattle.std.specs.Prelude.{◌≡◌, ℕ, ◌≤◌, List, length, map}
 use Rattle.cx_code.specs.declared.image.Image.{Image}
 use Rattle.cx_code.specs.declared.image.Span.{Span}
 use Rattle.cx_code.specs.declared.disassembly.Line.{Line}
 use Rattle.cx_code.specs.Lines.{lines}
 use Rattle.cx_image.specs.Resolved.{AreApart}
 use Rattle.cx_image.specs.Text.{text_of}
-use Rattle.cx_image.specs.Spans.{spans_of}
+use Rattle.cx_image.specs.Spans.{span_of}
 
 -- the three parts
 pub record AssembledParts : Type 0 where
@@ -14,14 +14,11 @@ pub record AssembledParts : Type 0 where
   pub spans : List Span
   pub image : Image
 
-abbrev pub parts : List Line → List Span → Image → AssembledParts
-parts resolved spans image = record { resolved = resolved; spans = spans; image = image }
-
 -- the parts that resolved lines, a size, relocated words, an entry and a length of working storage make
 abbrev pub assembled : List Line → ℕ → List ℕ → ℕ → ℕ → AssembledParts
 assembled resolved size relocs entry stg_len = record {
   resolved = resolved;
-  spans = spans_of resolved;
+  spans = map span_of resolved;
   image = record { text = text_of resolved size; entry = entry; relocs = relocs; stg_len = stg_len };
 }
 
@@ -29,6 +26,6 @@ assembled resolved size relocs entry stg_len = record {
 pub record IsAssembled (parts : AssembledParts) : Type 0 where
   pub apart : AreApart 0 parts.resolved (length parts.image.text)
   pub text : parts.image.text ≡ text_of parts.resolved (length parts.image.text)
-  pub spans : parts.spans ≡ spans_of parts.resolved
+  pub spans : parts.spans ≡ map span_of parts.resolved
   pub round_trip : lines parts.image.text parts.spans ≡ parts.resolved
   pub short : length parts.image.text ≤ 65536

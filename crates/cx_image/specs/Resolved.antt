@@ -5,15 +5,11 @@ use Rattle.cx_code.specs.declared.disassembly.What.{What}
 use Rattle.cx_code.specs.declared.disassembly.What.TheVariants.{Code, Data, Space}
 use Rattle.cx_code.specs.Spelling.{spelling}
 
--- so many bytes that are zero
-abbrev pub zeros : ℕ → List ℕ
-zeros n = replicate n 0
-
 -- the bytes of what stands somewhere: an instruction's spelling, a constant's bytes, zeros in a space
 abbrev pub bytes_of : What → List ℕ
 bytes_of (Code i) = spelling i
 bytes_of (Data bytes) = bytes
-bytes_of (Space n) = zeros n
+bytes_of (Space n) = replicate n 0
 
 -- how many they are
 abbrev pub size_of : What → ℕ
@@ -35,10 +31,7 @@ abbrev pub AreApart : ℕ → List Line → ℕ → Type 0
 AreApart from [] size = from ≤ size
 AreApart from (line ∷ rest) size = (from ≤ line.at) × AreApart (end_of line) rest size
 
--- whether a line is an instruction
-abbrev pub is_code : Line → Bool
-is_code line = is_code_what line.what
-  where
-    is_code_what : What → Bool
-    is_code_what (Code i) = true
-    is_code_what _ = false
+-- whether an instruction stands there
+abbrev pub is_code : What → Bool
+is_code (Code i) = true
+is_code _ = false

@@ -1,5 +1,4 @@
 -- The spans of a text: the places and kinds of the resolved lines (this product's own).
-use Rattle.std.specs.Prelude.{List, map}
 use Rattle.cx_code.specs.declared.image.Span.{Span}
 use Rattle.cx_code.specs.declared.image.SpanKind.{SpanKind}
 use Rattle.cx_code.specs.declared.image.SpanKind.TheVariants as kinds
@@ -17,7 +16,3 @@ kind_of (Space n) = kinds.Space
 -- a line's place and kind
 abbrev pub span_of : Line → Span
 span_of line = record { start = line.at; len = size_of line.what; kind = kind_of line.what }
-
--- a span for each line
-abbrev pub spans_of : List Line → List Span
-spans_of lines = map span_of lines

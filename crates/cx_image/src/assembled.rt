@@ -19,13 +19,14 @@ pub struct Assembled {
 }
 
 impl Model for Assembled {
-    ghost use Rattle.cx_image.specs.Assembled.{AssembledParts, IsAssembled, parts};
+    ghost use Rattle.cx_image.specs.Assembled.{AssembledParts, IsAssembled};
 
     ghost Value = { AssembledParts };
 
-    ghost view = { λ made. parts made.resolved.items made.spans.items made.image };
+    ghost view = { λ made. record { resolved = made.resolved.items; spans = made.spans.items; image = made.image } };
 
-    ghost invariant = { λ made. IsAssembled (parts made.resolved.items made.spans.items made.image) };
+    ghost invariant = { λ made. IsAssembled
+        (record { resolved = made.resolved.items; spans = made.spans.items; image = made.image }) };
 }
 
 impl Assembled {

@@ -8,7 +8,7 @@ ghost use Rattle.cx_image.specs.Assembled.{AssembledParts, IsAssembled};
 ghost use Rattle.cx_image.specs.Laws.Cover.{AreWellFormed, IsTextOf, as_data};
 ghost use Rattle.cx_image.specs.Relocated.{words_at};
 ghost use Rattle.cx_image.specs.Resolved.{AreApart, end_of, is_code};
-ghost use Rattle.cx_image.specs.Spans.{spans_of};
+ghost use Rattle.cx_image.specs.Spans.{span_of};
 ghost use Rattle.cx_image.specs.Text.{text_of};
 
 /// Lines that stand apart in a section ascend: each ends at or before the place of every later one, and in the section.
@@ -37,7 +37,7 @@ pub fn words_stand_one_behind_the_other()
 /// these lines.
 pub fn lines_come_back()
     ensures { (resolved : List Line) (size : ℕ) → AreApart 0 resolved size → AreWellFormed resolved
-        → lines (text_of resolved size) (spans_of resolved) ≡ resolved }
+        → lines (text_of resolved size) (map span_of resolved) ≡ resolved }
 {
     cx_code::laws::canonical_is();
     cx_code::laws::every_spelling();
@@ -52,6 +52,7 @@ pub fn text_and_spans_decide()
 
 /// With all spans called data, the disassembly of a section with an instruction isn't its resolved lines.
 pub fn kinds_are_needed()
-    ensures { (parts : AssembledParts) → IsAssembled parts → list_any is_code parts.resolved ≡ true
+    ensures { (parts : AssembledParts) → IsAssembled parts
+        → list_any (λ (line : Line). is_code line.what) parts.resolved ≡ true
         → lines parts.image.text (map as_data parts.spans) ≢ parts.resolved }
 {}

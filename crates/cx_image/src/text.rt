@@ -1,9 +1,9 @@
 //! Text and spans of resolved lines.
 
-ghost use Rattle.std.specs.Prelude.{◌≡◌, ◌≤◌, ◌+◌, ◌-◌, ◌++◌, IfOk, OnOk, length};
-ghost use Rattle.cx_image.specs.Resolved.{AreApart, bytes_of, end_of, size_of, zeros};
+ghost use Rattle.std.specs.Prelude.{◌≡◌, ◌≤◌, ◌+◌, ◌-◌, ◌++◌, IfOk, OnOk, length, map, replicate};
+ghost use Rattle.cx_image.specs.Resolved.{AreApart, bytes_of, end_of, size_of};
 ghost use Rattle.cx_image.specs.Parts.Making.{AreSpelled, IsSpelled};
-ghost use Rattle.cx_image.specs.Spans.{kind_of, span_of, spans_of};
+ghost use Rattle.cx_image.specs.Spans.{kind_of, span_of};
 ghost use Rattle.cx_image.specs.Text.{text_of};
 
 use crate::resolved::size_of;
@@ -28,7 +28,7 @@ fn push_line(text: &mut Vec<u8>, line: &Line) -> Result<(), AllocError>
     requires behind { length text.old.items ≤ line.now.at }
     requires fits { end_of line.now ≤ 65536 }
     ensures bytes { OnOk result (text.new.items
-        ≡ (text.old.items ++ zeros (line.now.at - length text.old.items)) ++ bytes_of line.now.what) }
+        ≡ (text.old.items ++ replicate (line.now.at - length text.old.items) 0) ++ bytes_of line.now.what) }
     ensures spelled { OnOk result (IsSpelled line.now.what) }
 {
     text.resize(line.at as usize, 0)?;
@@ -78,7 +78,7 @@ fn span_of(line: &Line) -> Span
 pub(crate) fn spans_of(alloc: Global, lines: &[Line], size: u32) -> Result<Vec<Span>, AllocError>
     requires apart { AreApart 0 lines.now size }
     requires fits { size ≤ 65536 }
-    ensures { IfOk result (λ spans. spans.items ≡ spans_of lines.now) }
+    ensures { IfOk result (λ spans. spans.items ≡ map span_of lines.now) }
 {
     let mut spans = Vec::with_capacity(alloc, lines.len())?;
     for line in lines {

@@ -23,11 +23,13 @@ subject_name subject.Queue = codes "QUEUE"
 subject_name subject.Resources = codes "RESOURCES"
 subject_name subject.Programs = codes "PROGRAMS"
 subject_name subject.Command = codes "COMMAND"
+subject_name subject.Symbol = codes "SYMBOL"
+subject_name subject.Symbols = codes "SYMBOLS"
 
 abbrev pub subjects : List Subject
 subjects =
     subject.Storage ∷ subject.Areas ∷ subject.Task ∷ subject.Tasks ∷ subject.Abend ∷ subject.Queues ∷ subject.Queue ∷ subject.Resources
-    ∷ subject.Programs ∷ subject.Command ∷ []
+    ∷ subject.Programs ∷ subject.Command ∷ subject.Symbol ∷ subject.Symbols ∷ []
 
 unfoldable pub subject_of : List ℕ → Option Subject
 subject_of text = find (λ s. bytes_eq (subject_name s) text) subjects
@@ -61,6 +63,8 @@ looked subject.Queue (Some text) = option_and_then (λ name. queue_look name (be
 looked subject.Resources None = Some look.Resources
 looked subject.Programs None = Some look.Programs
 looked subject.Command (Some text) = option_map (λ name. look.Command name) (name_of 4 text)
+looked subject.Symbol (Some text) = option_map (λ p. look.Symbol p.0 p.1) (pair_of (name_of 8) (name_of 8) text)
+looked subject.Symbols (Some text) = option_map (λ name. look.Symbols name) (name_of 8 text)
 looked _ _ = None
 
 -- What a line looks at; None where it is no look.

@@ -9,6 +9,8 @@ ghost use Rattle.cx_look.specs.declared.look.Subject.TheVariants as subject;
 
 use cx_actions::{hex_address, name4, name8, number, split_word};
 use cx_ebcdic::{Name4, Name8};
+use cx_source::Text;
+use cx_tables::List;
 
 /// The most bytes of storage that are looked at together.
 const MOST_BYTES: u32 = 4_096;
@@ -19,8 +21,19 @@ const LAST_ITEM: u32 = 32_767;
 /// The digits that spell the eight bytes of a queue's name.
 const NAME_DIGITS: usize = 16;
 
+/// The lines of a source that stand in a block of a script.
+#[derive(Debug, Drop)]
+pub struct SourceLines {
+    /// The number in the script of the line that begins the block, counted from 1.
+    pub first: usize,
+    /// The name after its word.
+    pub name: Name8,
+    /// The lines after it, up to the block's end.
+    pub lines: List<Text>,
+}
+
 /// What is looked at.
-#[derive(Clone, Copy, Debug, PartialEq, Eq)]
+#[derive(Debug, Drop)]
 pub enum Look {
     /// Storage from an address on, so many bytes: 1 to 4,096.
     Storage(u32, u32),
@@ -46,6 +59,12 @@ pub enum Look {
     Programs,
     /// The command that is due at a terminal.
     Command(Name4),
+    /// A symbol of a program's source: the program and the symbol.
+    Symbol(Name8, Name8),
+    /// All symbols of a program's source.
+    Symbols(Name8),
+    /// The faulty lines of a source.
+    Faults(SourceLines),
 }
 
 /// The word that begins a look.
@@ -61,11 +80,13 @@ pub enum Subject {
     Resources,
     Programs,
     Command,
+    Symbol,
+    Symbols,
 }
 
 impl Subject {
     /// All of these words.
-    pub const ALL: [Subject; 10] = [
+    pub const ALL: [Subject; 12] = [
         Subject::Storage,
         Subject::Areas,
         Subject::Task,
@@ -76,6 +97,8 @@ impl Subject {
         Subject::Resources,
         Subject::Programs,
         Subject::Command,
+        Subject::Symbol,
+        Subject::Symbols,
     ];
 
     /// The word as it is written.
@@ -93,6 +116,8 @@ impl Subject {
             Subject::Resources => b"RESOURCES",
             Subject::Programs => b"PROGRAMS",
             Subject::Command => b"COMMAND",
+            Subject::Symbol => b"SYMBOL",
+            Subject::Symbols => b"SYMBOLS",
         }
     }
 }
@@ -194,6 +219,17 @@ fn storage(text: &[u8]) -> Option<Look>
     Some(Look::Storage(address, count))
 }
 
+/// SYMBOL, by what is behind it.
+#[tactic(auto, unfolding(crate::specs::Looks::looked))]
+fn symbol(text: &[u8]) -> Option<Look>
+    ensures { result ≡ looked subject.Symbol (Some text.now) }
+{
+    let (word, rest) = split_word(text);
+    let program = name8(word)?;
+    let name = name8(rest?)?;
+    Some(Look::Symbol(program, name))
+}
+
 /// A look whose word stands alone.
 #[tactic(auto, unfolding(crate::specs::Looks::looked))]
 fn alone(subject: Subject) -> Option<Look>
@@ -221,11 +257,13 @@ fn at(subject: Subject, text: &[u8]) -> Option<Look>
         Subject::Abend => name4(text).map(|name| Look::Abend(name)),
         Subject::Queue => queue(text),
         Subject::Command => name4(text).map(|name| Look::Command(name)),
+        Subject::Symbol => symbol(text),
+        Subject::Symbols => name8(text).map(|name| Look::Symbols(name)),
         _ => None,
     }
 }
 
-/// What a line looks at; None where it is no look. It takes no memory.
+/// What a line looks at; None where it is no look of one line. It takes no memory.
 #[tactic(auto, unfolding(crate::specs::Looks::look_of))]
 pub fn look_of(line: &[u8]) -> Option<Look>
     ensures { result ≡ look_of line.now }

@@ -9,6 +9,7 @@ use Rattle.cx_task.specs.declared.cause.Cause.TheVariants as cause
 use Rattle.cx_task.specs.declared.cause.Trouble.{Trouble}
 use Rattle.cx_text.specs.Digits.{digits}
 use Rattle.cx_text.specs.Texts.{shown, shown_name}
+use Rattle.cx_look_names.specs.Lines.{SourcePlaces}
 use Rattle.cx_look_abend.specs.Laws.{IsOfLines, TextsAreLines}
 use Rattle.cx_look_abend.specs.Texts.{abend_text, code_line, command_lines, command_word, exit_line, head_line, instruction_word, last_of, last_text, line, next_line, none_line, place_word, register_line, register_lines, told_lines, where_lines, why_word}
 use Rattle.cx_look_abend.specs.declared.abends.LastAbend.{LastAbend}
@@ -44,40 +45,40 @@ registers regs =
     (both (register_line (codes "R00") regs 0) (register_line (codes "R04") regs 4) (register (codes "R00") regs 0) (register (codes "R04") regs 4))
     (register (codes "R08") regs 8)) (register (codes "R12") regs 12)
 
-next : (trouble : Trouble) (place : Place) → IsOfLines (next_line trouble place)
-next trouble place = one (codes "NEXT" ∷ place_word place ∷ codes "INSTRUCTION" ∷ instruction_word trouble.bytes ∷ [])
+next : (sources : SourcePlaces) (trouble : Trouble) (place : Place) → IsOfLines (next_line sources trouble place)
+next sources trouble place = one (codes "NEXT" ∷ place_word sources place ∷ codes "INSTRUCTION" ∷ instruction_word trouble.bytes ∷ [])
 
-command : (trouble : Trouble) (place : Place) → IsOfLines (command_lines trouble place)
-command trouble place =
-    both (line (codes "COMMAND" ∷ command_word trouble.command ∷ codes "LIST" ∷ digits 16 6 (address_in (slice_index trouble.regs 1)) ∷ [])) (line (codes "R14" ∷ place_word place ∷ []))
-    (one (codes "COMMAND" ∷ command_word trouble.command ∷ codes "LIST" ∷ digits 16 6 (address_in (slice_index trouble.regs 1)) ∷ [])) (one (codes "R14" ∷ place_word place ∷ []))
+command : (sources : SourcePlaces) (trouble : Trouble) (place : Place) → IsOfLines (command_lines sources trouble place)
+command sources trouble place =
+    both (line (codes "COMMAND" ∷ command_word trouble.command ∷ codes "LIST" ∷ digits 16 6 (address_in (slice_index trouble.regs 1)) ∷ [])) (line (codes "R14" ∷ place_word sources place ∷ []))
+    (one (codes "COMMAND" ∷ command_word trouble.command ∷ codes "LIST" ∷ digits 16 6 (address_in (slice_index trouble.regs 1)) ∷ [])) (one (codes "R14" ∷ place_word sources place ∷ []))
 
-placed : (why : Cause) (trouble : Trouble) (place : Place) → IsOfLines (where_lines why trouble place)
-placed (cause.Interrupted it) trouble place = next trouble place
-placed cause.Limit trouble place = next trouble place
-placed (cause.Refused abend) trouble place = command trouble place
-placed (cause.Met condition) trouble place = command trouble place
-placed cause.Asked trouble place = command trouble place
+placed : (sources : SourcePlaces) (why : Cause) (trouble : Trouble) (place : Place) → IsOfLines (where_lines sources why trouble place)
+placed sources (cause.Interrupted it) trouble place = next sources trouble place
+placed sources cause.Limit trouble place = next sources trouble place
+placed sources (cause.Refused abend) trouble place = command sources trouble place
+placed sources (cause.Met condition) trouble place = command sources trouble place
+placed sources cause.Asked trouble place = command sources trouble place
 
-told : (it : Told) → IsOfLines (told_lines it)
+told : (sources : SourcePlaces) (it : Told) → IsOfLines (told_lines sources it)
 unfolding told_lines
-told it =
-    both (where_lines it.trouble.cause it.trouble it.place ++ register_lines it.trouble.regs) (code_line it.trouble.cc)
-    (both (where_lines it.trouble.cause it.trouble it.place) (register_lines it.trouble.regs) (placed it.trouble.cause it.trouble it.place) (registers it.trouble.regs))
+told sources it =
+    both (where_lines sources it.trouble.cause it.trouble it.place ++ register_lines it.trouble.regs) (code_line it.trouble.cc)
+    (both (where_lines sources it.trouble.cause it.trouble it.place) (register_lines it.trouble.regs) (placed sources it.trouble.cause it.trouble it.place) (registers it.trouble.regs))
     (one (codes "CC" ∷ digits 10 1 it.trouble.cc ∷ []))
 
-last : (name : List ℕ) (it : LastAbend) → IsOfLines (last_text name it)
+last : (sources : SourcePlaces) (name : List ℕ) (it : LastAbend) → IsOfLines (last_text sources name it)
 unfolding last_text
-last name it =
-    both (head_line name it ++ exit_line it.exit) (option_map_or told_lines it.told [])
-    (both (head_line name it) (exit_line it.exit) (one (codes "ABEND" ∷ shown_name name ∷ shown it.code ∷ why_word it.told ∷ []))
-    (if_there (λ (place : Place). line (codes "EXIT" ∷ place_word place ∷ [])) (λ place. one (codes "EXIT" ∷ place_word place ∷ [])) it.exit))
-    (if_there told_lines told it.told)
+last sources name it =
+    both (head_line name it ++ exit_line sources it.exit) (option_map_or (told_lines sources) it.told [])
+    (both (head_line name it) (exit_line sources it.exit) (one (codes "ABEND" ∷ shown_name name ∷ shown it.code ∷ why_word it.told ∷ []))
+    (if_there (λ (place : Place). line (codes "EXIT" ∷ place_word sources place ∷ [])) (λ place. one (codes "EXIT" ∷ place_word sources place ∷ [])) it.exit))
+    (if_there (told_lines sources) (told sources) it.told)
 
 pub texts_are_lines : TextsAreLines
 unfolding abend_text
-texts_are_lines abends name = go (last_of abends name)
+texts_are_lines sources abends name = go (last_of abends name)
   where
-    go : (o : Option LastAbend) → IsOfLines (option_map_or (last_text name) o (none_line name))
+    go : (o : Option LastAbend) → IsOfLines (option_map_or (last_text sources name) o (none_line name))
     go None = one (codes "ABEND" ∷ shown_name name ∷ codes "NONE" ∷ [])
-    go (Some it) = last name it
+    go (Some it) = last sources name it

@@ -10,6 +10,7 @@ use Rattle.cx_edf.specs.declared.answers.Answer.{Answer}
 use Rattle.cx_edf.specs.declared.answers.Answer.TheVariants as answer
 use Rattle.cx_edf.specs.declared.answers.EdfEvent.{EdfEvent}
 use Rattle.cx_edf.specs.declared.answers.EdfEvent.TheVariants as edf_event
+use Rattle.cx_look_names.specs.Lines.{SourcePlaces}
 use Rattle.cx_look_abend.specs.Noting.{Abends, HappensNoted, with_last}
 use Rattle.cx_look_abend.specs.Texts.{abend_text, line}
 use Rattle.cx_look_abend.specs.declared.abends.LastAbend.{LastAbend}
@@ -42,4 +43,4 @@ pub record IsOfLines (text : List ℕ) : Type 0 where
   pub whole : text ≡ flat_map line lines
 
 abbrev pub TextsAreLines : Type 0
-TextsAreLines = (abends : Abends) (name : List ℕ) → IsOfLines (abend_text abends name)
+TextsAreLines = (sources : SourcePlaces) (abends : Abends) (name : List ℕ) → IsOfLines (abend_text sources abends name)

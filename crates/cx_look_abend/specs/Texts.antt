@@ -16,6 +16,7 @@ use Rattle.cx_task.specs.declared.cause.Trouble.{Trouble}
 use Rattle.cx_region.specs.Names.{is_name4}
 use Rattle.cx_text.specs.Digits.{digits}
 use Rattle.cx_text.specs.Texts.{shown, shown_name, written_line}
+use Rattle.cx_look_names.specs.Lines.{SourcePlaces, line_word}
 use Rattle.cx_look_abend.specs.Noting.{Abends}
 use Rattle.cx_look_abend.specs.declared.abends.LastAbend.{LastAbend}
 use Rattle.cx_look_abend.specs.declared.abends.Place.{Place}
@@ -45,13 +46,14 @@ abbrev pub why_word : Option Told → List ℕ
 why_word told = option_map_or (λ it. cause_word it.trouble.cause) told (codes "ASKED BY OPERATOR")
 
 -- ---- where
--- an address, and where that is in the program that stands there
-abbrev pub spot_word : Option (List ℕ × ℕ) → List ℕ
-spot_word None = []
-spot_word (Some (program, offset)) = codes " PROGRAM " ++ shown_name program ++ codes " OFFSET " ++ digits 16 6 offset
+-- an address, and where that is in the program that stands there, with the line of the program's source
+abbrev pub spot_word : SourcePlaces → Option (List ℕ × ℕ) → List ℕ
+spot_word sources None = []
+spot_word sources (Some (program, offset)) =
+    codes " PROGRAM " ++ shown_name program ++ codes " OFFSET " ++ digits 16 6 offset ++ line_word sources program offset
 
-abbrev pub place_word : Place → List ℕ
-place_word place = digits 16 6 place.address ++ spot_word place.spot
+abbrev pub place_word : SourcePlaces → Place → List ℕ
+place_word sources place = digits 16 6 place.address ++ spot_word sources place.spot
 
 -- the bytes of the instruction there, as many as its first one says; hyphens where one of them isn't in storage
 abbrev pub byte_digits : Option ℕ → List ℕ
@@ -66,22 +68,22 @@ instruction_word bytes =
 
 -- ---- lines
 -- of an interruption or the limit: the next address, and the instruction there
-abbrev pub next_line : Trouble → Place → List ℕ
-next_line trouble place = line (codes "NEXT" ∷ place_word place ∷ codes "INSTRUCTION" ∷ instruction_word trouble.bytes ∷ [])
+abbrev pub next_line : SourcePlaces → Trouble → Place → List ℕ
+next_line sources trouble place = line (codes "NEXT" ∷ place_word sources place ∷ codes "INSTRUCTION" ∷ instruction_word trouble.bytes ∷ [])
 
 -- of a command: its name, the address of its argument list, and where the program would go on behind it
 abbrev pub command_word : Option Command → List ℕ
 command_word command = option_map_or (λ it. (row_of it).name) command (codes "?")
 
-abbrev pub command_lines : Trouble → Place → List ℕ
-command_lines trouble place =
+abbrev pub command_lines : SourcePlaces → Trouble → Place → List ℕ
+command_lines sources trouble place =
     line (codes "COMMAND" ∷ command_word trouble.command ∷ codes "LIST" ∷ digits 16 6 (address_in (slice_index trouble.regs 1)) ∷ [])
-    ++ line (codes "R14" ∷ place_word place ∷ [])
+    ++ line (codes "R14" ∷ place_word sources place ∷ [])
 
-abbrev pub where_lines : Cause → Trouble → Place → List ℕ
-where_lines (cause.Interrupted it) trouble place = next_line trouble place
-where_lines cause.Limit trouble place = next_line trouble place
-where_lines _ trouble place = command_lines trouble place
+abbrev pub where_lines : SourcePlaces → Cause → Trouble → Place → List ℕ
+where_lines sources (cause.Interrupted it) trouble place = next_line sources trouble place
+where_lines sources cause.Limit trouble place = next_line sources trouble place
+where_lines sources _ trouble place = command_lines sources trouble place
 
 -- four registers from one on, and the code
 abbrev pub register_line : List ℕ → List ℕ → ℕ → List ℕ
@@ -97,19 +99,20 @@ register_lines regs =
 abbrev pub code_line : ℕ → List ℕ
 code_line code = line (codes "CC" ∷ digits 10 1 code ∷ [])
 
-unfoldable pub told_lines : Told → List ℕ
-told_lines told = where_lines told.trouble.cause told.trouble told.place ++ register_lines told.trouble.regs ++ code_line told.trouble.cc
+unfoldable pub told_lines : SourcePlaces → Told → List ℕ
+told_lines sources told =
+    where_lines sources told.trouble.cause told.trouble told.place ++ register_lines told.trouble.regs ++ code_line told.trouble.cc
 
 -- where an exit took it
-abbrev pub exit_line : Option Place → List ℕ
-exit_line exit = option_map_or (λ place. line (codes "EXIT" ∷ place_word place ∷ [])) exit []
+abbrev pub exit_line : SourcePlaces → Option Place → List ℕ
+exit_line sources exit = option_map_or (λ place. line (codes "EXIT" ∷ place_word sources place ∷ [])) exit []
 
 -- ---- the look
 abbrev pub head_line : List ℕ → LastAbend → List ℕ
 head_line name last = line (codes "ABEND" ∷ shown_name name ∷ shown last.code ∷ why_word last.told ∷ [])
 
-unfoldable pub last_text : List ℕ → LastAbend → List ℕ
-last_text name last = head_line name last ++ exit_line last.exit ++ option_map_or told_lines last.told []
+unfoldable pub last_text : SourcePlaces → List ℕ → LastAbend → List ℕ
+last_text sources name last = head_line name last ++ exit_line sources last.exit ++ option_map_or (told_lines sources) last.told []
 
 abbrev pub none_line : List ℕ → List ℕ
 none_line name = line (codes "ABEND" ∷ shown_name name ∷ codes "NONE" ∷ [])
@@ -117,5 +120,5 @@ none_line name = line (codes "ABEND" ∷ shown_name name ∷ codes "NONE" ∷ []
 abbrev pub last_of : Abends → List ℕ → Option LastAbend
 last_of abends name = option_and_then (λ last. last) (lookup (is_name4 name) abends)
 
-unfoldable pub abend_text : Abends → List ℕ → List ℕ
-abend_text abends name = option_map_or (last_text name) (last_of abends name) (none_line name)
+unfoldable pub abend_text : SourcePlaces → Abends → List ℕ → List ℕ
+abend_text sources abends name = option_map_or (last_text sources name) (last_of abends name) (none_line name)

@@ -2,6 +2,7 @@
 ghost use Rattle.std.specs.Prelude.{◌≡◌, ◌≤◌, ◌++◌, [], IfOk, OnOk, is_some, take};
 ghost use Rattle.std.specs.Option.{option_map_or};
 ghost use Rattle.std.specs.List.{flat_map, list_all};
+ghost use Rattle.cx_look_names.specs.Lines.{line_word};
 ghost use Rattle.cx_look_abend.specs.Texts.{abend_text, byte_digits, bytes_word, cause_word, code_line, command_lines, command_word, exit_line, head_line, instruction_word, interruption_word, last_of, last_text, next_line, none_line, place_word, register_line, register_lines, spot_word, told_lines, where_lines, why_word};
 
 use crate::abends::{LastAbend, LastAbends, Place, Told};
@@ -9,6 +10,7 @@ use cx_code::instruction_length;
 use cx_command::Command;
 use cx_ebcdic::{Name4, Name8};
 use cx_exec::Interruption;
+use cx_look_names::{SourcePlaces, line_word};
 use cx_region::{Cause, Trouble};
 use cx_storage::address_in;
 use cx_text::{decimal, hexadecimal, shown, shown_name, written_line};
@@ -55,9 +57,13 @@ fn why_word(alloc: Global, told: &Option<Told>) -> Result<Vec<u8>, AllocError>
     }
 }
 
-/// A place in a program.
-fn spot_word(alloc: Global, spot: &Option<(Name8, u32)>) -> Result<Vec<u8>, AllocError>
-    ensures { IfOk result (λ text. text.items ≡ spot_word spot.now) }
+/// A place in a program, with the line of its source.
+fn spot_word(
+    alloc: Global,
+    sources: &SourcePlaces,
+    spot: &Option<(Name8, u32)>,
+) -> Result<Vec<u8>, AllocError>
+    ensures { IfOk result (λ text. text.items ≡ spot_word sources.now.entries spot.now) }
 {
     let Some((program, offset)) = spot else {
         return Ok(Vec::new(alloc));
@@ -66,15 +72,16 @@ fn spot_word(alloc: Global, spot: &Option<(Name8, u32)>) -> Result<Vec<u8>, Allo
     text.extend_from_slice(&shown_name(alloc, *program)?)?;
     text.extend_from_slice(b" OFFSET ")?;
     text.extend_from_slice(&hexadecimal::<6>(*offset))?;
+    text.extend_from_slice(&line_word(alloc, sources, *program, *offset)?)?;
     Ok(text)
 }
 
 /// An address, and where that is in the program that stands there.
-fn place_word(alloc: Global, place: &Place) -> Result<Vec<u8>, AllocError>
-    ensures { IfOk result (λ text. text.items ≡ place_word place.now) }
+fn place_word(alloc: Global, sources: &SourcePlaces, place: &Place) -> Result<Vec<u8>, AllocError>
+    ensures { IfOk result (λ text. text.items ≡ place_word sources.now.entries place.now) }
 {
     let mut text = hexadecimal::<6>(place.address).to_vec(alloc)?;
-    text.extend_from_slice(&spot_word(alloc, &place.spot)?)?;
+    text.extend_from_slice(&spot_word(alloc, sources, &place.spot)?)?;
     Ok(text)
 }
 
@@ -126,10 +133,15 @@ fn instruction_word(alloc: Global, bytes: &[Option<u8>; 6]) -> Result<Vec<u8>, A
 }
 
 /// The line of the next address, with the instruction there.
-fn next_line(alloc: Global, trouble: &Trouble, place: &Place) -> Result<Vec<u8>, AllocError>
-    ensures { IfOk result (λ text. text.items ≡ next_line trouble.now place.now) }
+fn next_line(
+    alloc: Global,
+    sources: &SourcePlaces,
+    trouble: &Trouble,
+    place: &Place,
+) -> Result<Vec<u8>, AllocError>
+    ensures { IfOk result (λ text. text.items ≡ next_line sources.now.entries trouble.now place.now) }
 {
-    let place = place_word(alloc, place)?;
+    let place = place_word(alloc, sources, place)?;
     let instruction = instruction_word(alloc, &trouble.bytes)?;
     written_line(
         alloc,
@@ -149,24 +161,34 @@ fn command_word(command: &Option<Command>) -> &'static [u8]
 }
 
 /// The lines of a command.
-fn command_lines(alloc: Global, trouble: &Trouble, place: &Place) -> Result<Vec<u8>, AllocError>
-    ensures { IfOk result (λ text. text.items ≡ command_lines trouble.now place.now) }
+fn command_lines(
+    alloc: Global,
+    sources: &SourcePlaces,
+    trouble: &Trouble,
+    place: &Place,
+) -> Result<Vec<u8>, AllocError>
+    ensures { IfOk result (λ text. text.items ≡ command_lines sources.now.entries trouble.now place.now) }
 {
     let command = command_word(&trouble.command);
     let list = hexadecimal::<6>(address_in(trouble.regs[1]));
     let mut text = written_line(alloc, b">", &[b"COMMAND", command, b"LIST", &list])?;
-    let place = place_word(alloc, place)?;
+    let place = place_word(alloc, sources, place)?;
     text.extend_from_slice(&written_line(alloc, b">", &[b"R14", &place])?)?;
     Ok(text)
 }
 
 /// The lines that tell where the program was.
-fn where_lines(alloc: Global, trouble: &Trouble, place: &Place) -> Result<Vec<u8>, AllocError>
-    ensures { IfOk result (λ text. text.items ≡ where_lines trouble.now.cause trouble.now place.now) }
+fn where_lines(
+    alloc: Global,
+    sources: &SourcePlaces,
+    trouble: &Trouble,
+    place: &Place,
+) -> Result<Vec<u8>, AllocError>
+    ensures { IfOk result (λ text. text.items ≡ where_lines sources.now.entries trouble.now.cause trouble.now place.now) }
 {
     match trouble.cause {
-        Cause::Interrupted(_) | Cause::Limit => next_line(alloc, trouble, place),
-        _ => command_lines(alloc, trouble, place),
+        Cause::Interrupted(_) | Cause::Limit => next_line(alloc, sources, trouble, place),
+        _ => command_lines(alloc, sources, trouble, place),
     }
 }
 
@@ -208,23 +230,27 @@ fn code_line(alloc: Global, code: u8) -> Result<Vec<u8>, AllocError>
 
 /// The lines of what a turn led to.
 #[tactic(auto, unfolding(crate::specs::Texts::told_lines))]
-fn told_lines(alloc: Global, told: &Told) -> Result<Vec<u8>, AllocError>
-    ensures { IfOk result (λ text. text.items ≡ told_lines told.now) }
+fn told_lines(alloc: Global, sources: &SourcePlaces, told: &Told) -> Result<Vec<u8>, AllocError>
+    ensures { IfOk result (λ text. text.items ≡ told_lines sources.now.entries told.now) }
 {
-    let mut text = where_lines(alloc, &told.trouble, &told.place)?;
+    let mut text = where_lines(alloc, sources, &told.trouble, &told.place)?;
     text.extend_from_slice(&register_lines(alloc, &told.trouble.regs)?)?;
     text.extend_from_slice(&code_line(alloc, told.trouble.cc)?)?;
     Ok(text)
 }
 
 /// The line of an exit.
-fn exit_line(alloc: Global, exit: &Option<Place>) -> Result<Vec<u8>, AllocError>
-    ensures { IfOk result (λ text. text.items ≡ exit_line exit.now) }
+fn exit_line(
+    alloc: Global,
+    sources: &SourcePlaces,
+    exit: &Option<Place>,
+) -> Result<Vec<u8>, AllocError>
+    ensures { IfOk result (λ text. text.items ≡ exit_line sources.now.entries exit.now) }
 {
     let Some(place) = exit else {
         return Ok(Vec::new(alloc));
     };
-    let place = place_word(alloc, place)?;
+    let place = place_word(alloc, sources, place)?;
     written_line(alloc, b">", &[b"EXIT", &place])
 }
 
@@ -239,24 +265,34 @@ fn head_line(alloc: Global, name: Name4, last: &LastAbend) -> Result<Vec<u8>, Al
 }
 
 /// Adds the lines of what a turn led to, where it was a turn.
-fn push_told(alloc: Global, text: &mut Vec<u8>, told: &Option<Told>) -> Result<(), AllocError>
-    ensures { OnOk result (text.new.items ≡ text.old.items ++ option_map_or told_lines told.now []) }
+fn push_told(
+    alloc: Global,
+    text: &mut Vec<u8>,
+    sources: &SourcePlaces,
+    told: &Option<Told>,
+) -> Result<(), AllocError>
+    ensures { OnOk result (text.new.items ≡ text.old.items ++ option_map_or (told_lines sources.now.entries) told.now []) }
 {
     let Some(told) = told else {
         return Ok(());
     };
-    text.extend_from_slice(&told_lines(alloc, told)?)?;
+    text.extend_from_slice(&told_lines(alloc, sources, told)?)?;
     Ok(())
 }
 
 /// The lines of an abend.
 #[tactic(auto, unfolding(crate::specs::Texts::last_text))]
-fn last_text(alloc: Global, name: Name4, last: &LastAbend) -> Result<Vec<u8>, AllocError>
-    ensures { IfOk result (λ text. text.items ≡ last_text name last.now) }
+fn last_text(
+    alloc: Global,
+    sources: &SourcePlaces,
+    name: Name4,
+    last: &LastAbend,
+) -> Result<Vec<u8>, AllocError>
+    ensures { IfOk result (λ text. text.items ≡ last_text sources.now.entries name last.now) }
 {
     let mut text = head_line(alloc, name, last)?;
-    text.extend_from_slice(&exit_line(alloc, &last.exit)?)?;
-    push_told(alloc, &mut text, &last.told)?;
+    text.extend_from_slice(&exit_line(alloc, sources, &last.exit)?)?;
+    push_told(alloc, &mut text, sources, &last.told)?;
     Ok(text)
 }
 
@@ -268,15 +304,21 @@ fn last_of(abends: &LastAbends, name: Name4) -> Option<LastAbend>
     kept.last()
 }
 
-/// Looks at a terminal's last abend; NONE where it has had none, or there is no such terminal.
+/// Looks at a terminal's last abend; NONE where it has had none, or there is no such terminal. A place in a program that a source
+/// defined is told with the line of the statement whose bytes hold it.
 ///
 /// An error comes only where memory for the text was refused.
 #[tactic(auto, unfolding(crate::specs::Texts::abend_text))]
-pub fn abend_text(alloc: Global, abends: &LastAbends, name: Name4) -> Result<Vec<u8>, AllocError>
-    ensures { IfOk result (λ text. text.items ≡ abend_text abends.now.entries name) }
+pub fn abend_text(
+    alloc: Global,
+    sources: &SourcePlaces,
+    abends: &LastAbends,
+    name: Name4,
+) -> Result<Vec<u8>, AllocError>
+    ensures { IfOk result (λ text. text.items ≡ abend_text sources.now.entries abends.now.entries name) }
 {
     match last_of(abends, name) {
-        Some(last) => last_text(alloc, name, &last),
+        Some(last) => last_text(alloc, sources, name, &last),
         None => {
             let name = shown_name(alloc, name)?;
             written_line(alloc, b">", &[b"ABEND", &name, b"NONE"])

@@ -17,6 +17,8 @@ use Rattle.cx_text.specs.Texts.{shown, shown_name}
 use Rattle.cx_look_words.specs.Facts.Marked.{a_line, more_lines, no_lines}
 use Rattle.cx_look_words.specs.Facts.Words.{digits_are_word, name_is_word, shown_is_word, word_append}
 use Rattle.cx_look_words.specs.Marked.{IsOfLooks, IsWord}
+use Rattle.cx_look_names.specs.Facts.Lines.{line_is_word}
+use Rattle.cx_look_names.specs.Lines.{SourcePlaces, line_word}
 use Rattle.cx_look_abend.specs.Noting.{Abends}
 use Rattle.cx_look_abend.specs.Texts.{abend_text, byte_digits, bytes_word, cause_word, code_line, command_lines, command_word, exit_line, head_line, instruction_word, interruption_word, last_of, last_text, line, next_line, none_line, place_word, register_line, register_lines, spot_word, told_lines, where_lines, why_word}
 use Rattle.cx_look_abend.specs.declared.abends.LastAbend.{LastAbend}
@@ -44,15 +46,17 @@ why_is_word : (told : Option Told) → IsWord (why_word told)
 why_is_word None = refl
 why_is_word (Some it) = caused it.trouble.cause
 
-spot_is_word : (spot : Option (List ℕ × ℕ)) → IsWord (spot_word spot)
-spot_is_word None = refl
-spot_is_word (Some (program, offset)) =
-    word_append (codes " PROGRAM " ++ shown_name program ++ codes " OFFSET ") (digits 16 6 offset)
+spot_is_word : (sources : SourcePlaces) (spot : Option (List ℕ × ℕ)) → IsWord (spot_word sources spot)
+spot_is_word sources None = refl
+spot_is_word sources (Some (program, offset)) =
+    word_append (codes " PROGRAM " ++ shown_name program ++ codes " OFFSET " ++ digits 16 6 offset) (line_word sources program offset)
+    (word_append (codes " PROGRAM " ++ shown_name program ++ codes " OFFSET ") (digits 16 6 offset)
     (word_append (codes " PROGRAM " ++ shown_name program) (codes " OFFSET ") (word_append (codes " PROGRAM ") (shown_name program) refl (name_is_word program)) refl)
-    (digits_are_word 16 6 offset)
+    (digits_are_word 16 6 offset)) (line_is_word sources program offset)
 
-place_is_word : (place : Place) → IsWord (place_word place)
-place_is_word place = word_append (digits 16 6 place.address) (spot_word place.spot) (digits_are_word 16 6 place.address) (spot_is_word place.spot)
+place_is_word : (sources : SourcePlaces) (place : Place) → IsWord (place_word sources place)
+place_is_word sources place =
+    word_append (digits 16 6 place.address) (spot_word sources place.spot) (digits_are_word 16 6 place.address) (spot_is_word sources place.spot)
 
 all_digits : (bytes : List (Option ℕ)) → IsWord (flat_map byte_digits bytes)
 all_digits [] = refl
@@ -78,8 +82,8 @@ command_is_word None = refl
 command_is_word (Some it) = command_named it
 
 -- ---- lines
-placed : (label : List ℕ) (place : Place) → IsWord label → IsOfLooks (line (label ∷ place_word place ∷ []))
-placed label place p = a_line (label ∷ place_word place ∷ []) (p, (place_is_word place, tt))
+placed : (sources : SourcePlaces) (label : List ℕ) (place : Place) → IsWord label → IsOfLooks (line (label ∷ place_word sources place ∷ []))
+placed sources label place p = a_line (label ∷ place_word sources place ∷ []) (p, (place_is_word sources place, tt))
 
 if_there : {A : Type 0} (f : A → List ℕ) → ((x : A) → IsOfLooks (f x)) → (o : Option A) → IsOfLooks (option_map_or f o [])
 if_there f h None = no_lines
@@ -98,45 +102,45 @@ registers regs =
     (more_lines (register_line (codes "R00") regs 0) (register_line (codes "R04") regs 4) (register (codes "R00") regs 0 refl) (register (codes "R04") regs 4 refl))
     (register (codes "R08") regs 8 refl)) (register (codes "R12") regs 12 refl)
 
-next : (trouble : Trouble) (place : Place) → IsOfLooks (next_line trouble place)
-next trouble place =
-    a_line (codes "NEXT" ∷ place_word place ∷ codes "INSTRUCTION" ∷ instruction_word trouble.bytes ∷ [])
-    (refl, (place_is_word place, (refl, (instruction_is_word trouble.bytes, tt))))
+next : (sources : SourcePlaces) (trouble : Trouble) (place : Place) → IsOfLooks (next_line sources trouble place)
+next sources trouble place =
+    a_line (codes "NEXT" ∷ place_word sources place ∷ codes "INSTRUCTION" ∷ instruction_word trouble.bytes ∷ [])
+    (refl, (place_is_word sources place, (refl, (instruction_is_word trouble.bytes, tt))))
 
-command : (trouble : Trouble) (place : Place) → IsOfLooks (command_lines trouble place)
-command trouble place =
-    more_lines (line (codes "COMMAND" ∷ command_word trouble.command ∷ codes "LIST" ∷ digits 16 6 (address_in (slice_index trouble.regs 1)) ∷ [])) (line (codes "R14" ∷ place_word place ∷ []))
+command : (sources : SourcePlaces) (trouble : Trouble) (place : Place) → IsOfLooks (command_lines sources trouble place)
+command sources trouble place =
+    more_lines (line (codes "COMMAND" ∷ command_word trouble.command ∷ codes "LIST" ∷ digits 16 6 (address_in (slice_index trouble.regs 1)) ∷ [])) (line (codes "R14" ∷ place_word sources place ∷ []))
     (a_line (codes "COMMAND" ∷ command_word trouble.command ∷ codes "LIST" ∷ digits 16 6 (address_in (slice_index trouble.regs 1)) ∷ [])
     (refl, (command_is_word trouble.command, (refl, (digits_are_word 16 6 (address_in (slice_index trouble.regs 1)), tt)))))
-    (placed (codes "R14") place refl)
+    (placed sources (codes "R14") place refl)
 
-where_marked : (why : Cause) (trouble : Trouble) (place : Place) → IsOfLooks (where_lines why trouble place)
-where_marked (cause.Interrupted it) trouble place = next trouble place
-where_marked cause.Limit trouble place = next trouble place
-where_marked (cause.Refused abend) trouble place = command trouble place
-where_marked (cause.Met condition) trouble place = command trouble place
-where_marked cause.Asked trouble place = command trouble place
+where_marked : (sources : SourcePlaces) (why : Cause) (trouble : Trouble) (place : Place) → IsOfLooks (where_lines sources why trouble place)
+where_marked sources (cause.Interrupted it) trouble place = next sources trouble place
+where_marked sources cause.Limit trouble place = next sources trouble place
+where_marked sources (cause.Refused abend) trouble place = command sources trouble place
+where_marked sources (cause.Met condition) trouble place = command sources trouble place
+where_marked sources cause.Asked trouble place = command sources trouble place
 
-told : (it : Told) → IsOfLooks (told_lines it)
+told : (sources : SourcePlaces) (it : Told) → IsOfLooks (told_lines sources it)
 unfolding told_lines
-told it =
-    more_lines (where_lines it.trouble.cause it.trouble it.place ++ register_lines it.trouble.regs) (code_line it.trouble.cc)
-    (more_lines (where_lines it.trouble.cause it.trouble it.place) (register_lines it.trouble.regs) (where_marked it.trouble.cause it.trouble it.place) (registers it.trouble.regs))
+told sources it =
+    more_lines (where_lines sources it.trouble.cause it.trouble it.place ++ register_lines it.trouble.regs) (code_line it.trouble.cc)
+    (more_lines (where_lines sources it.trouble.cause it.trouble it.place) (register_lines it.trouble.regs) (where_marked sources it.trouble.cause it.trouble it.place) (registers it.trouble.regs))
     (a_line (codes "CC" ∷ digits 10 1 it.trouble.cc ∷ []) (refl, (digits_are_word 10 1 it.trouble.cc, tt)))
 
-last : (name : List ℕ) (it : LastAbend) → IsOfLooks (last_text name it)
+last : (sources : SourcePlaces) (name : List ℕ) (it : LastAbend) → IsOfLooks (last_text sources name it)
 unfolding last_text
-last name it =
-    more_lines (head_line name it ++ exit_line it.exit) (option_map_or told_lines it.told [])
-    (more_lines (head_line name it) (exit_line it.exit)
+last sources name it =
+    more_lines (head_line name it ++ exit_line sources it.exit) (option_map_or (told_lines sources) it.told [])
+    (more_lines (head_line name it) (exit_line sources it.exit)
     (a_line (codes "ABEND" ∷ shown_name name ∷ shown it.code ∷ why_word it.told ∷ []) (refl, (name_is_word name, (shown_is_word it.code, (why_is_word it.told, tt)))))
-    (if_there (λ (place : Place). line (codes "EXIT" ∷ place_word place ∷ [])) (λ place. placed (codes "EXIT") place refl) it.exit))
-    (if_there told_lines told it.told)
+    (if_there (λ (place : Place). line (codes "EXIT" ∷ place_word sources place ∷ [])) (λ place. placed sources (codes "EXIT") place refl) it.exit))
+    (if_there (told_lines sources) (told sources) it.told)
 
-pub an_abend : (abends : Abends) (name : List ℕ) → IsOfLooks (abend_text abends name)
+pub an_abend : (sources : SourcePlaces) (abends : Abends) (name : List ℕ) → IsOfLooks (abend_text sources abends name)
 unfolding abend_text
-an_abend abends name = go (last_of abends name)
+an_abend sources abends name = go (last_of abends name)
   where
-    go : (o : Option LastAbend) → IsOfLooks (option_map_or (last_text name) o (none_line name))
+    go : (o : Option LastAbend) → IsOfLooks (option_map_or (last_text sources name) o (none_line name))
     go None = a_line (codes "ABEND" ∷ shown_name name ∷ codes "NONE" ∷ []) (refl, (name_is_word name, (refl, tt)))
-    go (Some it) = last name it
+    go (Some it) = last sources name it

@@ -2,6 +2,7 @@
 use Rattle.std.proofs.Common.{◌≡◌, ◌⊎◌, inl, inr, ℕ, zero, suc, ◌≤◌, Bool, true, false, MatchBool, List, [], ◌∷◌, ◌++◌, replicate, refl, sym, ap, ◌∙◌, subst, append-nil, append_assoc, arith}
 use Rattle.std.specs.List.{flat_map}
 use Rattle.cx_edf.specs.declared.answers.Answer.{Answer}
+use Rattle.cx_edf.specs.State.{EdfState}
 use Rattle.cx_actions.specs.Effects.{Performs, Replies}
 use Rattle.cx_actions.specs.Texts.{answer_text}
 use Rattle.cx_actions.specs.declared.actions.Action.{Action}
@@ -10,7 +11,7 @@ use Rattle.cx_script.specs.Transcript.{Runs}
 use Rattle.cx_look_stage.specs.Looking.{LookPerforms, NotedPerforms}
 use Rattle.cx_look_stage.specs.Runs.{HappensLooked, RunsOn, goes_on, still_running, turn_of}
 use Rattle.cx_look_stage.specs.State.{Looked}
-use Rattle.cx_look_stage.specs.Laws.Looks.{ArePartsOf, ChangesNothing, IsPart, LooksChangeNothing, Part, plain_of, text_of, written_of}
+use Rattle.cx_look_stage.specs.Laws.Looks.{ArePartsOf, ChangesNothing, IsPart, LooksChangeNothing, Part, kept_after, plain_of, text_of, written_of}
 use Rattle.cx_look_stage.specs.declared.action.LookAction.{LookAction}
 use Rattle.cx_look_stage.specs.declared.action.LookAction.TheVariants as action
 
@@ -21,7 +22,7 @@ runs_one old a text new p = (new, text, [], p, (refl, refl), sym (append-nil tex
 -- what `cicsedf` does and writes of an action
 pub performs : (old : Looked) (a : Action) (text : List ℕ) (new : Looked) → NotedPerforms old a text new → Performs old.edf a text new.edf
 unfolding NotedPerforms Performs Replies
-performs old (edf_action.Event e) text new p = (p.0, p.1.happens, p.2)
+performs old (edf_action.Event e) text new p = (p.0, p.1.noted.happens, p.2)
 performs old (edf_action.Image name image) text new p = p.0
 performs old (edf_action.Source name before image) text new p = p.0
 performs old (edf_action.Screen name) text new p = p.0
@@ -85,7 +86,9 @@ ran_turns old name (suc n) text new p =
 record Did (old : Looked) (a : LookAction) (text : List ℕ) (new : Looked) : Type 0 where
   part : Part
   is : IsPart old a part
-  runs : Runs NotedPerforms old part.plain part.written new
+  done : Looked
+  runs : Runs NotedPerforms old part.plain part.written done
+  kept : new ≡ kept_after old a done
   whole : text ≡ text_of part
 
 did : (old : Looked) (a : LookAction) (text : List ℕ) (new : Looked) → LookPerforms old a text new → Did old a text new
@@ -94,7 +97,18 @@ did old (action.Script a) text new p =
     record {
       part = record { plain = a ∷ []; written = text; looked = [] };
       is = (refl, refl);
+      done = new;
       runs = runs_one old a text new p;
+      kept = refl;
+      whole = sym (append-nil text);
+    }
+did old (action.Source name lines a) text new p =
+    record {
+      part = record { plain = a ∷ []; written = text; looked = [] };
+      is = (refl, refl);
+      done = p.done;
+      runs = runs_one old a text p.done p.performs;
+      kept = p.keeps;
       whole = sym (append-nil text);
     }
 did old (action.Run name n) text new p =
@@ -102,14 +116,18 @@ did old (action.Run name n) text new p =
     record {
       part = record { plain = replicate r.turns (edf_action.Event (turn_of name)); written = r.written; looked = r.looked };
       is = record { turns = r.turns; plain = refl; ended = r.ended };
+      done = new;
       runs = r.runs;
+      kept = refl;
       whole = r.whole;
     }
 did old (action.Look l) text new p =
     record {
       part = record { plain = []; written = []; looked = text };
       is = (refl, p.0);
+      done = new;
       runs = (refl, p.1);
+      kept = refl;
       whole = refl;
     }
 
@@ -121,14 +139,25 @@ append_plain old [] s mid ys t new p q =
 append_plain old (x ∷ xs) s mid ys t new p q =
     (p.0.edf, p.1, p.2 ++ t, performs old x p.1 p.0 p.3, append_plain p.0 xs p.2 mid ys t new p.4 q, ap (λ l. l ++ t) p.5 ∙ append_assoc p.1 p.2 t)
 
+-- what is kept of sources is no part of the region under EDF
+kept_same : (old : Looked) (a : LookAction) (done : Looked) → (kept_after old a done).edf ≡ done.edf
+kept_same old (action.Script a) done = refl
+kept_same old (action.Source name lines a) done = refl
+kept_same old (action.Run name n) done = refl
+kept_same old (action.Look l) done = refl
+
 in_front : (old : Looked) (a : LookAction) (first : List ℕ) (between : Looked) (actions : List LookAction) (rest text : List ℕ) (new : Looked)
     → Did old a first between → ChangesNothing between actions rest new → text ≡ first ++ rest → ChangesNothing old (a ∷ actions) text new
 unfolding ArePartsOf
 in_front old a first between actions rest text new d r e =
+    let plain : List Action = flat_map plain_of r.parts in
+    let written : List ℕ = flat_map written_of r.parts in
+    let same : between.edf ≡ d.done.edf = ap (λ (s : Looked). s.edf) d.kept ∙ kept_same old a d.done in
     record {
       parts = d.part ∷ r.parts;
-      each = (between, d.is, d.runs, r.each);
-      runs = append_plain old d.part.plain d.part.written between (flat_map plain_of r.parts) (flat_map written_of r.parts) new d.runs r.runs;
+      each = (d.done, between, d.is, d.runs, d.kept, r.each);
+      runs = append_plain old d.part.plain d.part.written d.done plain written new d.runs
+          (subst (λ (s : EdfState). Runs Performs s plain written new.edf) same r.runs);
       whole = e ∙ ap (λ l. l ++ rest) d.whole ∙ ap (λ l. text_of d.part ++ l) r.whole;
     }
 

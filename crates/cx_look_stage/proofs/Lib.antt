@@ -4,5 +4,7 @@ mod TableMarks
 mod CommandMarks
 mod AbendMarks
 mod TaskMarks
+mod FaultMarks
 mod MarkLemmas
+mod PlainLemmas
 mod SameLemmas

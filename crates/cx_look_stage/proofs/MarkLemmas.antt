@@ -2,13 +2,17 @@
 use Rattle.std.proofs.Common.{◌≡◌, ℕ, List, sym, ◌∙◌, subst}
 use Rattle.cx_look.specs.declared.look.Look.TheVariants as look
 use Rattle.cx_look_words.specs.Marked.{IsOfLooks}
+use Rattle.cx_region.specs.Tables.{program_of}
+use Rattle.cx_look_names.specs.Facts.Marked.{symbol_marked, symbols_marked}
 use Rattle.cx_look_storage.specs.Facts.Marked.{areas_marked, storage_marked, task_areas_marked}
 use Rattle.cx_look_task.specs.Facts.Marked.{task_marked}
 use Rattle.cx_look_tasks.specs.Laws.{ResourcesTextsDecide, TasksTextsDecide}
 use Rattle.cx_look_stage.specs.Looking.{IsLookText}
+use Rattle.cx_look_stage.specs.Sources.{source_lines}
 use Rattle.cx_look_stage.specs.Laws.Looks.{LooksAreMarked, LooksAreToldOnce}
 use Rattle.cx_look_stage.proofs.AbendMarks.{an_abend}
 use Rattle.cx_look_stage.proofs.CommandMarks.{a_command}
+use Rattle.cx_look_stage.proofs.FaultMarks.{faults_marked}
 use Rattle.cx_look_stage.proofs.TableMarks.{a_queue, all_programs, all_queues, an_item}
 use Rattle.cx_look_stage.proofs.TaskMarks.{resources_marked, tasks_marked}
 
@@ -27,8 +31,13 @@ looks_are_marked (look.Command name) state text e = marked text _ e (a_command s
 looks_are_marked (look.Storage at n) state text e = marked text _ e (storage_marked state.edf.region at n)
 looks_are_marked look.Areas state text e = marked text _ e (areas_marked state.edf.region)
 looks_are_marked (look.AreasOf name) state text e = marked text _ e (task_areas_marked state.edf.region name)
-looks_are_marked (look.Task name) state text e = marked text _ e (task_marked state.edf.region name)
-looks_are_marked (look.Abend name) state text e = marked text _ e (an_abend state.abends name)
+looks_are_marked (look.Task name) state text e = marked text _ e (task_marked state.sources.places state.edf.region name)
+looks_are_marked (look.Abend name) state text e = marked text _ e (an_abend state.sources.places state.abends name)
+looks_are_marked (look.Faults source) state text e = marked text _ e (faults_marked source)
+looks_are_marked (look.Symbol program name) state text e =
+    marked text _ e (symbol_marked (program_of state.edf.region program) (source_lines state.sources program) name)
+looks_are_marked (look.Symbols program) state text e =
+    marked text _ e (symbols_marked (program_of state.edf.region program) program (source_lines state.sources program))
 
 pub looks_are_told_once : TasksTextsDecide → ResourcesTextsDecide → LooksAreToldOnce
 unfolding IsLookText
@@ -44,3 +53,6 @@ looks_are_told_once tasks resources look.Areas state one other p q = p ∙ sym q
 looks_are_told_once tasks resources (look.AreasOf name) state one other p q = p ∙ sym q
 looks_are_told_once tasks resources (look.Task name) state one other p q = p ∙ sym q
 looks_are_told_once tasks resources (look.Abend name) state one other p q = p ∙ sym q
+looks_are_told_once tasks resources (look.Faults source) state one other p q = p ∙ sym q
+looks_are_told_once tasks resources (look.Symbol program name) state one other p q = p ∙ sym q
+looks_are_told_once tasks resources (look.Symbols program) state one other p q = p ∙ sym q

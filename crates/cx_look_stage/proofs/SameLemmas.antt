@@ -1,9 +1,10 @@
 -- A script of `cicsedf` is one of `cicslook`, and does the same.
-use Rattle.std.proofs.Common.{◌≡◌, ℕ, ◌+◌, Bool, true, false, Option, Some, None, List, [], ◌∷◌, codes, refl, sym, ap, ◌∙◌, subst}
+use Rattle.std.proofs.Common.{◌≡◌, ℕ, ◌+◌, Bool, true, false, Option, Some, None, List, [], ◌∷◌, codes, map, unwrap_or, refl, sym, ap, ◌∙◌, subst}
 use Rattle.std.specs.Prelude.{Result, Ok, Err, if◌then◌else◌}
 use Rattle.std.specs.Option.{ok_or, option_map}
 use Rattle.std.specs.Str.{bytes_eq}
 use Rattle.cx_actions.specs.Actions.{line_of}
+use Rattle.cx_actions.specs.Effects.{Performs}
 use Rattle.cx_actions.specs.Language.{edf_language}
 use Rattle.cx_actions.specs.declared.actions.Action.{Action}
 use Rattle.cx_actions.specs.declared.actions.Line.{Line}
@@ -20,121 +21,159 @@ use Rattle.cx_lines.specs.declared.input.Ending.{Ending}
 use Rattle.cx_prepare.specs.Prepared.{prepared_of}
 use Rattle.cx_prepare.specs.declared.faults.PrepareFault.{PrepareFault}
 use Rattle.cx_prepare.specs.declared.program.Prepared.{Prepared}
+use Rattle.cx_edf.specs.State.{EdfState}
 use Rattle.cx_script.specs.Script.{Script, before, led_to, script_from, script_in}
 use Rattle.cx_script.specs.Transcript.{Runs}
-use Rattle.cx_look_stage.specs.Laws.Scripts.{ActionsStay, HasNoBadLine, ScriptsStay, script_here}
+use Rattle.cx_look_stage.specs.Laws.Scripts.{ActionsStay, ArePlain, HasNoBadLine, IsSame, ScriptsStay, plain_action}
 use Rattle.cx_look_stage.specs.Looking.{LookPerforms}
 use Rattle.cx_look_stage.specs.State.{Looked}
 use Rattle.cx_look_stage.proofs.LawLemmas.{performs}
+use Rattle.cx_look_stage.proofs.PlainLemmas.{IsPlain, LeavesPlain, steps_leave}
 use Rattle.cx_look_stage.specs.Reading.{line_by, look_language, look_line_of, own_line, scripted}
 use Rattle.cx_look_stage.specs.declared.action.LookAction.{LookAction}
 use Rattle.cx_look_stage.specs.declared.action.LookAction.TheVariants as action
 
 -- ---- a line
-step_here : Step Action → Step LookAction
-step_here step = record { action = option_map (λ a. action.Script a) step.action; block = step.block }
+-- a step here is one of `cicsedf`: it leads to the same block, and its action is that action
+abbrev IsSameStep : Step Action → Step LookAction → Type 0
+IsSameStep step here = (here.block ≡ step.block) × (option_map plain_action here.action ≡ option_map (λ (a : Action). Some a) step.action)
 
-led_here : Result (Step Action) RunFault → Result (Step LookAction) RunFault
-led_here (Ok step) = Ok (step_here step)
-led_here (Err fault) = Err fault
+abbrev IsLedSame : Result (Step Action) RunFault → Result (Step LookAction) RunFault → Type 0
+IsLedSame (Ok step) (Ok here) = IsSameStep step here
+IsLedSame (Ok step) (Err fault) = ⊥
+IsLedSame (Err fault) here = here ≡ Err fault
 
-line_steps : (number : ℕ) (l : Line Action) → step_of number (scripted l) ≡ step_here (step_of number l)
-unfolding step_here
-line_steps number line.Idle = refl
-line_steps number (line.Image name stg_len) = refl
-line_steps number (line.Source name wanted) = refl
-line_steps number (line.Action a) = refl
+line_steps : (number : ℕ) (l : Line Action) → IsSameStep (step_of number l) (step_of number (scripted l))
+line_steps number line.Idle = (refl, refl)
+line_steps number (line.Image name stg_len) = (refl, refl)
+line_steps number (line.Source name wanted) = (refl, refl)
+line_steps number (line.Lines name) = (refl, refl)
+line_steps number (line.Action a) = (refl, refl)
 
-outside : (number : ℕ) (l : Option (Line Action)) (own : Option LookAction) → (ok_or (option_map (step_of number) l) (BadLine number) ≡ Err (BadLine number) → ⊥)
-    → ok_or (option_map (step_of number) (line_by l own)) (BadLine number) ≡ led_here (ok_or (option_map (step_of number) l) (BadLine number))
-unfolding led_here
+outside : (number : ℕ) (l : Option (Line Action)) (own : Option (Line LookAction)) → (ok_or (option_map (step_of number) l) (BadLine number) ≡ Err (BadLine number) → ⊥)
+    → IsLedSame (ok_or (option_map (step_of number) l) (BadLine number)) (ok_or (option_map (step_of number) (line_by l own)) (BadLine number))
 outside number None own good = absurd (good refl)
-outside number (Some l) own good = ap (λ (s : Step LookAction). Ok s) (line_steps number l)
+outside number (Some l) own good = line_steps number l
 
 source_steps : (block : SourceBlock) (prepared : Result Prepared PrepareFault)
-    → source_ended look_language block prepared ≡ led_here (source_ended edf_language block prepared)
-unfolding led_here step_here
-source_steps block (Ok prepared) = refl
+    → IsLedSame (source_ended edf_language block prepared) (source_ended look_language block prepared)
+source_steps block (Ok prepared) = (refl, refl)
 source_steps block (Err fault) = refl
 
-block_steps : (block : Block) → ended look_language block ≡ led_here (ended edf_language block)
-unfolding led_here step_here
-block_steps (kind.Image block) = refl
-block_steps (kind.Source block) = source_steps block (prepared_of block.wanted.listing block.wanted.disassembly block.lines)
+block_steps : (block : Block) → IsPlain (Some block) → IsLedSame (ended edf_language block) (ended look_language block)
+block_steps (kind.Image block) plain = (refl, refl)
+block_steps (kind.Lines block) plain = absurd plain
+block_steps (kind.Source block) plain = source_steps block (prepared_of block.wanted.listing block.wanted.disassembly block.lines)
 
 one_more : (number : ℕ) (next : Option Block) → (ok_or (option_map (λ b. continued {A = Action} b) next) (BadLine number) ≡ Err (BadLine number) → ⊥)
-    → ok_or (option_map (λ b. continued {A = LookAction} b) next) (BadLine number) ≡ led_here (ok_or (option_map (λ b. continued {A = Action} b) next) (BadLine number))
-unfolding led_here step_here
+    → IsLedSame (ok_or (option_map (λ b. continued {A = Action} b) next) (BadLine number)) (ok_or (option_map (λ b. continued {A = LookAction} b) next) (BadLine number))
 one_more number None good = absurd (good refl)
-one_more number (Some block) good = refl
+one_more number (Some block) good = (refl, refl)
 
-within : (number : ℕ) (block : Block) (text : List ℕ) → (step_within edf_language number block text ≡ Err (BadLine number) → ⊥)
-    → step_within look_language number block text ≡ led_here (step_within edf_language number block text)
-within number block text good = go (bytes_eq text (codes "/*")) good
+within : (number : ℕ) (block : Block) (text : List ℕ) → IsPlain (Some block) → (step_within edf_language number block text ≡ Err (BadLine number) → ⊥)
+    → IsLedSame (step_within edf_language number block text) (step_within look_language number block text)
+within number block text plain good = go (bytes_eq text (codes "/*")) good
   where
     go : (b : Bool)
         → ((if b then ended edf_language block else ok_or (option_map continued (with_line block text)) (BadLine number)) ≡ Err (BadLine number) → ⊥)
-        → (if b then ended look_language block else ok_or (option_map continued (with_line block text)) (BadLine number))
-        ≡ led_here (if b then ended edf_language block else ok_or (option_map continued (with_line block text)) (BadLine number))
-    go true h = block_steps block
+        → IsLedSame (if b then ended edf_language block else ok_or (option_map continued (with_line block text)) (BadLine number))
+        (if b then ended look_language block else ok_or (option_map continued (with_line block text)) (BadLine number))
+    go true h = block_steps block plain
     go false h = one_more number (with_line block text) h
 
-in_block : (number : ℕ) (block : Option Block) (text : List ℕ) → (step_in edf_language number block text ≡ Err (BadLine number) → ⊥)
-    → step_in look_language number block text ≡ led_here (step_in edf_language number block text)
+in_block : (number : ℕ) (block : Option Block) (text : List ℕ) → IsPlain block → (step_in edf_language number block text ≡ Err (BadLine number) → ⊥)
+    → IsLedSame (step_in edf_language number block text) (step_in look_language number block text)
 unfolding look_line_of
-in_block number None text good = outside number (line_of text) (own_line text) good
-in_block number (Some block) text good = within number block text good
+in_block number None text plain good = outside number (line_of text) (own_line text) good
+in_block number (Some block) text plain good = within number block text plain good
 
-steps_here : (number : ℕ) (block : Option Block) (text : List ℕ) → (step_at edf_language number block text ≡ Err (BadLine number) → ⊥)
-    → step_at look_language number block text ≡ led_here (step_at edf_language number block text)
-unfolding step_at led_here
-steps_here number block text good = go (is_too_long text) good
+steps_here : (number : ℕ) (block : Option Block) (text : List ℕ) → IsPlain block → (step_at edf_language number block text ≡ Err (BadLine number) → ⊥)
+    → IsLedSame (step_at edf_language number block text) (step_at look_language number block text)
+unfolding step_at
+steps_here number block text plain good = go (is_too_long text) good
   where
     go : (b : Bool)
         → ((if b then Err (BadLine number) else step_in edf_language number block text) ≡ Err (BadLine number) → ⊥)
-        → (if b then Err (BadLine number) else step_in look_language number block text)
-        ≡ led_here (if b then Err (BadLine number) else step_in edf_language number block text)
+        → IsLedSame (if b then Err (BadLine number) else step_in edf_language number block text)
+        (if b then Err (BadLine number) else step_in look_language number block text)
     go true h = absurd (h refl)
-    go false h = in_block number block text h
+    go false h = in_block number block text plain h
 
 -- ---- the lines behind it
-before_here : (a : Option Action) (script : Script Action) → before (option_map (λ a. action.Script a) a) (script_here script) ≡ script_here (before a script)
-before_here None script = refl
-before_here (Some a) script = refl
+some_same : {A : Type 0} (x y : A) → Some x ≡ Some y → x ≡ y
+some_same x y e = ap (λ o. unwrap_or o x) e
+
+before_here : (a : Option Action) (h : Option LookAction) (script : Script Action) (here : Script LookAction)
+    → option_map plain_action h ≡ option_map (λ (x : Action). Some x) a → IsSame script here → IsSame (before a script) (before h here)
+before_here None None script here e same = same
+before_here None (Some h) script here e same = cc
+before_here (Some a) None script here e same = cc
+before_here (Some a) (Some h) script here e same =
+    record {
+      actions = ap (λ (x : Option Action). x ∷ map plain_action here.actions) (some_same (plain_action h) (Some a) e)
+          ∙ ap (λ (l : List (Option Action)). Some a ∷ l) same.actions;
+      fault = same.fault;
+    }
 
 good_behind : (a : Option Action) (script : Script Action) → HasNoBadLine (before a script) → HasNoBadLine script
 good_behind None script good = good
 good_behind (Some a) script good = good
 
-led : (due : Result (Step Action) RunFault) (next : Option Block → Script Action) (others : Option Block → Script LookAction) → HasNoBadLine (led_to due next)
-    → ((block : Option Block) → HasNoBadLine (next block) → others block ≡ script_here (next block)) → led_to (led_here due) others ≡ script_here (led_to due next)
-unfolding led_here step_here
-led (Err fault) next others good behind = refl
-led (Ok step) next others good behind =
-    ap (λ (s : Script LookAction). before (option_map (λ a. action.Script a) step.action) s) (behind step.block (good_behind step.action (next step.block) good))
-    ∙ before_here step.action (next step.block)
+led : (due : Result (Step Action) RunFault) (here : Result (Step LookAction) RunFault) (next : Option Block → Script Action) (others : Option Block → Script LookAction)
+    → IsLedSame due here → LeavesPlain due → HasNoBadLine (led_to due next)
+    → ((block : Option Block) → IsPlain block → HasNoBadLine (next block) → IsSame (next block) (others block)) → IsSame (led_to due next) (led_to here others)
+led (Err fault) here next others same plain good behind =
+    subst (λ (h : Result (Step LookAction) RunFault). IsSame (led_to (Err fault) next) (led_to h others)) (sym same) (record { actions = refl; fault = refl })
+led (Ok step) (Err fault) next others same plain good behind = absurd same
+led (Ok step) (Ok here) next others same plain good behind =
+    let there : IsSame (next step.block) (others step.block) = behind step.block plain (good_behind step.action (next step.block) good) in
+    before_here step.action here.action (next step.block) (others here.block) same.1
+    (subst (λ (b : Option Block). IsSame (next step.block) (others b)) (sym same.0) there)
 
 bad_first : (number : ℕ) (due : Result (Step Action) RunFault) (next : Option Block → Script Action) → HasNoBadLine (led_to due next) → due ≡ Err (BadLine number) → ⊥
 bad_first number due next good e =
     good number (subst (λ (d : Result (Step Action) RunFault). (led_to d next).fault ≡ Some (BadLine number)) (sym e) refl)
 
-from_here : (ending : Ending) (number : ℕ) (block : Option Block) (lines : List (List ℕ)) → HasNoBadLine (script_from edf_language ending number block lines)
-    → script_from look_language ending number block lines ≡ script_here (script_from edf_language ending number block lines)
+from_here : (ending : Ending) (number : ℕ) (block : Option Block) (lines : List (List ℕ)) → IsPlain block → HasNoBadLine (script_from edf_language ending number block lines)
+    → IsSame (script_from edf_language ending number block lines) (script_from look_language ending number block lines)
 unfolding script_from
-from_here ending number block [] good = refl
-from_here ending number block (text ∷ lines) good =
+from_here ending number block [] plain good = record { actions = refl; fault = refl }
+from_here ending number block (text ∷ lines) plain good =
     let next : Option Block → Script Action = λ b. script_from edf_language ending (number + 1) b lines in
     let others : Option Block → Script LookAction = λ b. script_from look_language ending (number + 1) b lines in
-    ap (λ (d : Result (Step LookAction) RunFault). led_to d others)
-    (steps_here number block text (bad_first number (step_at edf_language number block text) next good))
-    ∙ led (step_at edf_language number block text) next others good (λ b h. from_here ending (number + 1) b lines h)
+    let due : Result (Step Action) RunFault = step_at edf_language number block text in
+    led due (step_at look_language number block text) next others (steps_here number block text plain (bad_first number due next good))
+    (steps_leave number block text plain) good (λ b p h. from_here ending (number + 1) b lines p h)
 
 pub scripts_stay : ScriptsStay
 unfolding script_in
-scripts_stay ending bytes good = from_here ending 1 None (lines_met ending bytes) good
+scripts_stay ending bytes good = from_here ending 1 None (lines_met ending bytes) tt good
+
+-- ---- what is done
+performs_same : (old : Looked) (a : LookAction) (b : Action) (text : List ℕ) (new : Looked) → plain_action a ≡ Some b → LookPerforms old a text new
+    → Performs old.edf b text new.edf
+unfolding LookPerforms
+performs_same old (action.Script a) b text new e p =
+    subst (λ (x : Action). Performs old.edf x text new.edf) (some_same a b e) (performs old a text new p)
+performs_same old (action.Source name lines a) b text new e p =
+    let kept : p.done.edf ≡ new.edf = sym (ap (λ (s : Looked). s.edf) p.keeps) in
+    subst (λ (x : Action). Performs old.edf x text new.edf) (some_same a b e)
+    (subst (λ (s : EdfState). Performs old.edf a text s) kept (performs old a text p.done p.performs))
+performs_same old (action.Run name n) b text new e p = cc
+performs_same old (action.Look l) b text new e p = cc
+
+first_same : {A : Type 0} (x y : A) (xs ys : List A) → x ∷ xs ≡ y ∷ ys → x ≡ y
+first_same x y xs ys e = cc
+
+rest_same : {A : Type 0} (x y : A) (xs ys : List A) → x ∷ xs ≡ y ∷ ys → xs ≡ ys
+rest_same x y xs ys e = cc
 
 pub actions_stay : ActionsStay
-unfolding Runs LookPerforms
-actions_stay old [] text new p = (p.0, ap (λ (s : Looked). s.edf) p.1)
-actions_stay old (a ∷ actions) text new p =
-    (p.0.edf, p.1, p.2, performs old a p.1 p.0 p.3, actions_stay p.0 actions p.2 new p.4, p.5)
+unfolding Runs
+actions_stay old [] [] text new e p = (p.0, ap (λ (s : Looked). s.edf) p.1)
+actions_stay old [] (b ∷ plain) text new e p = cc
+actions_stay old (a ∷ actions) [] text new e p = cc
+actions_stay old (a ∷ actions) (b ∷ plain) text new e p =
+    let first : plain_action a ≡ Some b = first_same (plain_action a) (Some b) (map plain_action actions) (map (λ (x : Action). Some x) plain) e in
+    let rest : ArePlain actions plain = rest_same (plain_action a) (Some b) (map plain_action actions) (map (λ (x : Action). Some x) plain) e in
+    (p.0.edf, p.1, p.2, performs_same old a b p.1 p.0 first p.3, actions_stay p.0 actions plain p.2 new rest p.4, p.5)

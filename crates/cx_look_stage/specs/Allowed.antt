@@ -7,4 +7,5 @@ use Rattle.cx_look_stage.specs.declared.action.LookAction.TheVariants as action
 -- an action of `cicsedf` as it may be asked there
 abbrev pub IsAllowedLook : LookAction → Type 0
 IsAllowedLook (action.Script a) = IsAllowed a
+IsAllowedLook (action.Source name lines a) = IsAllowed a
 IsAllowedLook _ = ⊤

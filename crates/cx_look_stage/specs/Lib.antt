@@ -1,8 +1,10 @@
 -- The definitions, in reading order.
 pub mod State
+pub mod Sources
 pub mod Reading
 pub mod Allowed
 pub mod Runs
+pub mod Faults
 pub mod Looking
 pub mod Laws
 pub mod Parts
@@ -11,6 +13,8 @@ pub use Rattle.cx_actions.specs.Language
 pub use Rattle.cx_actions.specs.Texts
 pub use Rattle.cx_actions.specs.Effects
 pub use Rattle.cx_look.specs.Looks
+pub use Rattle.cx_look_faults.specs.Faults as FaultyLines
+pub use Rattle.cx_prepare.specs.Kinds
 pub use Rattle.cx_look_words.specs.Words
 pub use Rattle.cx_look_words.specs.Marked
 pub use Rattle.cx_look_tables.specs.Queues
@@ -23,6 +27,8 @@ pub use Rattle.cx_look_task.specs.Levels
 pub use Rattle.cx_look_task.specs.Tasks as TasksLookedAt
 pub use Rattle.cx_look_commands.specs.Commands
 pub use Rattle.cx_look_commands.specs.Looks as LooksAtCommands
+pub use Rattle.cx_look_names.specs.Symbols
+pub use Rattle.cx_look_names.specs.Texts as SymbolTexts
 pub use Rattle.cx_look_tasks.specs.Activities
 pub use Rattle.cx_look_tasks.specs.Tasks
 pub use Rattle.cx_look_abend.specs.Abends as LastAbends

@@ -1,5 +1,6 @@
 -- What an action of a script with looks does, and what is written for it (own).
 use Rattle.std.specs.Prelude.{◌≡◌, ℕ, List}
+use Rattle.cx_region.specs.Tables.{program_of}
 use Rattle.cx_edf.specs.declared.answers.Answer.{Answer}
 use Rattle.cx_actions.specs.Effects.{Performs}
 use Rattle.cx_actions.specs.Texts.{answer_text}
@@ -10,13 +11,16 @@ use Rattle.cx_look.specs.declared.look.Look.TheVariants as look
 use Rattle.cx_look_tables.specs.Queues.{item_text, queue_text, queues_text}
 use Rattle.cx_look_tables.specs.Programs.{programs_text}
 use Rattle.cx_look_commands.specs.Looks.{command_text}
+use Rattle.cx_look_names.specs.Texts.{symbol_text, symbols_text}
 use Rattle.cx_look_storage.specs.Areas.{areas_text, task_areas_text}
 use Rattle.cx_look_storage.specs.Bytes.{storage_text}
 use Rattle.cx_look_task.specs.Tasks.{task_text}
 use Rattle.cx_look_tasks.specs.Tasks.{ResourcesText, TasksText}
 use Rattle.cx_look_abend.specs.Texts.{abend_text}
 use Rattle.cx_look_stage.specs.State.{Looked}
+use Rattle.cx_look_stage.specs.Sources.{source_lines, with_source}
 use Rattle.cx_look_stage.specs.Runs.{HappensLooked, RunsOn}
+use Rattle.cx_look_stage.specs.Faults.{faults_text}
 use Rattle.cx_look_stage.specs.declared.action.LookAction.{LookAction}
 use Rattle.cx_look_stage.specs.declared.action.LookAction.TheVariants as action
 
@@ -29,19 +33,31 @@ IsLookText look.Programs state text = text ≡ programs_text state.edf.region.pr
 IsLookText look.Tasks state text = TasksText state.edf.region text
 IsLookText look.Resources state text = ResourcesText state.edf.region text
 IsLookText (look.Command name) state text = text ≡ command_text state.edf.region name
-IsLookText (look.Task name) state text = text ≡ task_text state.edf.region name
+IsLookText (look.Task name) state text = text ≡ task_text state.sources.places state.edf.region name
 IsLookText look.Areas state text = text ≡ areas_text state.edf.region
 IsLookText (look.AreasOf name) state text = text ≡ task_areas_text state.edf.region name
 IsLookText (look.Storage at n) state text = text ≡ storage_text state.edf.region at n
-IsLookText (look.Abend name) state text = text ≡ abend_text state.abends name
+IsLookText (look.Abend name) state text = text ≡ abend_text state.sources.places state.abends name
+IsLookText (look.Faults source) state text = text ≡ faults_text source
+IsLookText (look.Symbol program name) state text =
+    text ≡ symbol_text (program_of state.edf.region program) (source_lines state.sources program) name
+IsLookText (look.Symbols program) state text =
+    text ≡ symbols_text (program_of state.edf.region program) program (source_lines state.sources program)
 
 -- an action of `cicsedf`: an event as its answer tells, and the abend that it led to is kept; any other leaves what is kept
 unfoldable pub NotedPerforms : Looked → Action → List ℕ → Looked → Type 0
 NotedPerforms old (edf_action.Event e) text new = (given : Answer) × HappensLooked old e given new × (text ≡ answer_text e given)
-NotedPerforms old a text new = Performs old.edf a text new.edf × (new.abends ≡ old.abends)
+NotedPerforms old a text new = Performs old.edf a text new.edf × (new.abends ≡ old.abends) × (new.sources ≡ old.sources)
+
+-- a source's end: what it does in `cicsedf`, and behind that the source's lines are kept, where it defined its program
+pub record SourcePerforms (old : Looked) (name : List ℕ) (lines : List (List ℕ)) (a : Action) (text : List ℕ) (new : Looked) : Type 0 where
+  pub done : Looked
+  pub performs : NotedPerforms old a text done
+  pub keeps : new ≡ with_source old name lines done
 
 -- One action: the state before, the action, what is written for it, and the state after.
 unfoldable pub LookPerforms : Looked → LookAction → List ℕ → Looked → Type 0
 LookPerforms old (action.Script a) text new = NotedPerforms old a text new
+LookPerforms old (action.Source name lines a) text new = SourcePerforms old name lines a text new
 LookPerforms old (action.Run name n) text new = RunsOn old name n text new
 LookPerforms old (action.Look l) text new = IsLookText l old text × (new ≡ old)

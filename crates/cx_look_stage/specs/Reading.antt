@@ -10,6 +10,7 @@ use Rattle.cx_actions.specs.declared.actions.Action.{Action}
 use Rattle.cx_actions.specs.declared.actions.Line.{Line}
 use Rattle.cx_actions.specs.declared.actions.Line.TheVariants as line
 use Rattle.cx_look.specs.Looks.{count_of, look_of}
+use Rattle.cx_look.specs.declared.look.Look.TheVariants as look
 use Rattle.cx_look_stage.specs.declared.action.LookAction.{LookAction}
 use Rattle.cx_look_stage.specs.declared.action.LookAction.TheVariants as action
 
@@ -21,25 +22,38 @@ turns_of name (Some text) = option_map (λ n. action.Run name n) (count_of 4096 
 abbrev pub run_of : List ℕ → Option LookAction
 run_of text = option_and_then (λ name. turns_of name (behind text)) (name_of 4 (word text))
 
--- RUN, or a look
-unfoldable pub own_line : List ℕ → Option LookAction
-own_line text = if bytes_eq (word text) (codes "RUN") then option_and_then run_of (behind text) else option_map (λ l. action.Look l) (look_of text)
+-- RUN, the beginning of a source's block for FAULTS, or a look
+unfoldable pub own_line : List ℕ → Option (Line LookAction)
+own_line text =
+    if bytes_eq (word text) (codes "RUN") then option_map (λ a. line.Action a) (option_and_then run_of (behind text))
+    else if bytes_eq (word text) (codes "FAULTS") then option_map (λ name. line.Lines name) (option_and_then (name_of 8) (behind text))
+    else option_map (λ l. line.Action (action.Look l)) (look_of text)
 
 -- a line of `cicsedf`'s scripts as one of these
 abbrev pub scripted : Line Action → Line LookAction
 scripted line.Idle = line.Idle
 scripted (line.Image name stg_len) = line.Image name stg_len
 scripted (line.Source name wanted) = line.Source name wanted
+scripted (line.Lines name) = line.Lines name
 scripted (line.Action a) = line.Action (action.Script a)
 
-abbrev pub line_by : Option (Line Action) → Option LookAction → Option (Line LookAction)
+abbrev pub line_by : Option (Line Action) → Option (Line LookAction) → Option (Line LookAction)
 line_by (Some l) own = Some (scripted l)
-line_by None own = option_map (λ a. line.Action a) own
+line_by None own = own
 
--- A line asks what it asks in a script of `cicsedf`; where it is a bad line there, it may be RUN or a look.
+-- A line asks what it asks in a script of `cicsedf`; where it is a bad line there, it may be RUN, FAULTS or a look.
 unfoldable pub look_line_of : List ℕ → Option (Line LookAction)
 look_line_of text = line_by (line_of text) (own_line text)
 
+-- the end of a block of FAULTS: the line that begins it, the name there, and the source's lines
+abbrev pub faults_asked : ℕ → List ℕ → List (List ℕ) → LookAction
+faults_asked first name lines = action.Look (look.Faults (record { first = first; name = name; lines = lines }))
+
 -- the language of `cicslook`
 abbrev pub look_language : Language LookAction
-look_language = record { line_of = look_line_of; of_block = λ a. action.Script a }
+look_language = record {
+  line_of = look_line_of;
+  of_block = λ a. action.Script a;
+  of_source = λ name lines a. action.Source name lines a;
+  of_lines = λ first name lines. Some (faults_asked first name lines);
+}

@@ -36,8 +36,9 @@ abbrev pub still_running : List ℕ → List ℕ
 still_running name = look_line (codes "RUN" ∷ shown_name name ∷ codes "STILL" ∷ codes "RUNNING" ∷ [])
 
 -- an event at a region that is looked at: its answer, the region after it, and the last abends that are kept
-abbrev pub HappensLooked : Looked → EdfEvent → Answer → Looked → Type 0
-HappensLooked old e given new = HappensNoted old.edf old.abends e given new.edf new.abends
+pub record HappensLooked (old : Looked) (e : EdfEvent) (given : Answer) (new : Looked) : Type 0 where
+  pub noted : HappensNoted old.edf old.abends e given new.edf new.abends
+  pub sources : new.sources ≡ old.sources
 
 -- At most so many turns of a terminal, one after another: the state before, what is written for them, and the state after.
 unfoldable pub RunsOn : Looked → List ℕ → ℕ → List ℕ → Looked → Type 0

@@ -6,9 +6,11 @@ ghost use Rattle.cx_look.specs.Looks.{count_of};
 ghost use Rattle.cx_look_stage.specs.Allowed.{IsAllowedLook};
 ghost use Rattle.cx_look_stage.specs.Reading.{look_language, look_line_of, own_line, run_of, scripted, turns_of};
 
-use cx_actions::{Action, Line, ScriptAction, line_of, name4, number, split_word};
-use cx_ebcdic::Name4;
-use cx_look::{Look, look_of};
+use cx_actions::{Action, Line, ScriptAction, line_of, name4, name8, number, split_word};
+use cx_ebcdic::{Name4, Name8};
+use cx_look::{Look, SourceLines, look_of};
+use cx_source::Text;
+use cx_tables::List;
 use std::alloc::{AllocError, Global};
 
 /// How many turns RUN does at most where no number says so.
@@ -22,6 +24,8 @@ const MOST_TURNS: u32 = 4_096;
 pub enum LookAction {
     /// What a script of `cicsedf` asks too.
     Script(Action),
+    /// What the end of a source's block asks there: its program's name, its lines, and what they are made into.
+    Source(Name8, List<Text>, Action),
     /// At most so many turns of a terminal.
     Run(Name4, u16),
     /// A look.
@@ -64,16 +68,21 @@ fn run_of(text: &[u8]) -> Option<LookAction>
 
 /// What a line asks that a script of `cicsedf` doesn't have.
 #[tactic(auto, unfolding(crate::specs::Reading::own_line))]
-fn own_line(text: &[u8]) -> Option<LookAction>
+fn own_line(text: &[u8]) -> Option<Line<LookAction>>
     ensures value { result ≡ own_line text.now }
-    ensures allowed { IfSome result IsAllowedLook }
+    ensures allowed { IfSome result (IsAllowedLine IsAllowedLook) }
 {
     let (word, rest) = split_word(text);
     if word == b"RUN".as_slice() {
-        return run_of(rest?);
+        let run = run_of(rest?)?;
+        return Some(Line::Action(run));
+    }
+    if word == b"FAULTS".as_slice() {
+        let name = name8(rest?)?;
+        return Some(Line::Lines(name));
     }
     let look = look_of(text)?;
-    Some(LookAction::Look(look))
+    Some(Line::Action(LookAction::Look(look)))
 }
 
 /// A line of `cicsedf`'s scripts as one of these.
@@ -86,6 +95,7 @@ fn scripted(line: Line<Action>) -> Line<LookAction>
         Line::Idle => Line::Idle,
         Line::Image(name, length) => Line::Image(name, length),
         Line::Source(name, wanted) => Line::Source(name, wanted),
+        Line::Lines(name) => Line::Lines(name),
         Line::Action(action) => Line::Action(LookAction::Script(action)),
     }
 }
@@ -100,10 +110,7 @@ fn look_line_of(alloc: Global, text: &[u8]) -> Result<Option<Line<LookAction>>, 
     if let Some(line) = line_of(alloc, text)? {
         return Ok(Some(scripted(line)));
     }
-    match own_line(text) {
-        Some(action) => Ok(Some(Line::Action(action))),
-        None => Ok(None),
-    }
+    Ok(own_line(text))
 }
 
 impl ScriptAction for LookAction {
@@ -113,6 +120,18 @@ impl ScriptAction for LookAction {
 
     fn of_block(action: Action) -> LookAction {
         LookAction::Script(action)
+    }
+
+    fn of_source(name: Name8, lines: Vec<Text>, action: Action) -> LookAction {
+        LookAction::Source(name, List::from_vec(lines), action)
+    }
+
+    fn of_lines(first: usize, name: Name8, lines: Vec<Text>) -> Option<LookAction> {
+        Some(LookAction::Look(Look::Faults(SourceLines {
+            first,
+            name,
+            lines: List::from_vec(lines),
+        })))
     }
 
     fn read_line(alloc: Global, text: &[u8]) -> Result<Option<Line<LookAction>>, AllocError> {

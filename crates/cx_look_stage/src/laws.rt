@@ -5,7 +5,8 @@ ghost use Rattle.cx_look_stage.specs.Laws.Scripts.{ActionsStay, ScriptsStay};
 
 /// A look changes nothing. Each run has for each of its actions a part, in which an action of `cicsedf` stands for itself, RUN for as
 /// many TURNs as it did, and a look for nothing: the actions of all parts are a run of `cicsedf` from the same state to the same
-/// state, and the text is the texts of that run, with each look's text, that of the state there, where it stands.
+/// state, and the text is the texts of that run, with each look's text, that of the state there, where it stands. The lines of a
+/// source are kept behind its part.
 pub fn looks_change_nothing()
     ensures { LooksChangeNothing }
 {}

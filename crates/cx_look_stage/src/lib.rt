@@ -2,8 +2,10 @@
 #![tactic(auto)]
 
 mod action;
+mod faults;
 pub mod laws;
 mod looks;
+mod sources;
 mod stage;
 mod turns;
 

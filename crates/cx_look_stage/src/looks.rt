@@ -2,10 +2,12 @@
 ghost use Rattle.std.specs.Prelude.{IfOk};
 ghost use Rattle.cx_look_stage.specs.Looking.{IsLookText};
 
+use crate::faults::faults_text;
 use crate::stage::Looking;
 use cx_look::Look;
 use cx_look_abend::abend_text;
 use cx_look_commands::command_text;
+use cx_look_names::{symbol_text, symbols_text};
 use cx_look_storage::{areas_text, storage_text, task_areas_text};
 use cx_look_tables::{item_text, programs_text, queue_text, queues_text};
 use cx_look_task::task_text;
@@ -31,10 +33,19 @@ pub(crate) fn look_text<S: Store + Drop>(
         Look::Tasks => tasks_text(alloc, region),
         Look::Resources => resources_text(alloc, region),
         Look::Command(name) => command_text(alloc, region, name),
-        Look::Task(name) => task_text(alloc, region, name),
+        Look::Task(name) => task_text(alloc, looking.sources.places(), region, name),
         Look::Areas => areas_text(alloc, region),
         Look::AreasOf(name) => task_areas_text(alloc, region, name),
         Look::Storage(address, n) => storage_text(alloc, region, address, n),
-        Look::Abend(name) => abend_text(alloc, &looking.abends, name),
+        Look::Abend(name) => abend_text(alloc, looking.sources.places(), &looking.abends, name),
+        Look::Faults(source) => faults_text(alloc, &source),
+        Look::Symbol(program, name) => {
+            let lines = looking.sources.lines_of(program);
+            symbol_text(alloc, region, program, lines, name)
+        }
+        Look::Symbols(program) => {
+            let lines = looking.sources.lines_of(program);
+            symbols_text(alloc, region, program, lines)
+        }
     }
 }

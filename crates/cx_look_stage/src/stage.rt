@@ -3,28 +3,34 @@ ghost use Rattle.std.specs.Prelude.{◌≡◌, [], IfOk};
 ghost use Rattle.cx_edf.specs.Runs.{IsAllowedEdf};
 ghost use Rattle.cx_actions.specs.Allowed.{IsAllowed};
 ghost use Rattle.cx_actions.specs.declared.actions.Action.TheVariants as edf_action;
-ghost use Rattle.cx_look_stage.specs.Looking.{LookPerforms, NotedPerforms};
+ghost use Rattle.cx_look_stage.specs.Looking.{LookPerforms, NotedPerforms, SourcePerforms};
 ghost use Rattle.cx_look_stage.specs.Runs.{HappensLooked};
 ghost use Rattle.cx_look_stage.specs.State.{fresh_looked};
 
 use crate::action::LookAction;
 use crate::looks::look_text;
+use crate::sources::{Sources, has_program, is_defined};
 use crate::turns::run;
 use cx_actions::{Action, Stage, answer_text};
+use cx_ebcdic::Name8;
 use cx_edf::{Answer, Debugged, EdfEvent};
 use cx_look_abend::{LastAbends, happen_noted};
+use cx_look_names::statement_places;
 use cx_pages::PagedStore;
 use cx_script::edf_stage;
+use cx_source::Text;
 use cx_storage::Store;
+use cx_tables::List;
 use indexmap::IndexMap;
 use std::alloc::{AllocError, Global};
 use std::marker::Model;
 
-/// A region under EDF that is looked at, with each terminal's last abend.
+/// A region under EDF that is looked at, with each terminal's last abend, and what is kept of the sources that defined programs.
 #[derive(Drop)]
 pub struct Looking<S: Store + Drop> {
     pub(crate) state: Debugged<S>,
     pub(crate) abends: LastAbends,
+    pub(crate) sources: Sources,
 }
 
 impl<S: Store + Drop> Model for Looking<S> {
@@ -32,17 +38,18 @@ impl<S: Store + Drop> Model for Looking<S> {
 
     ghost Value = { Looked };
 
-    ghost view = { λ looking. record { edf = looking.state; abends = looking.abends.entries } };
+    ghost view = { λ looking. record { edf = looking.state; abends = looking.abends.entries; sources = looking.sources } };
 }
 
 impl<S: Store + Drop> Looking<S> {
-    /// A region under EDF without a terminal, to be looked at. It takes no memory.
+    /// A region under EDF without a terminal and without a program, to be looked at. It takes no memory.
     pub fn new(alloc: Global, state: Debugged<S>) -> Looking<S>
-        ensures { result ≡ record { edf = state; abends = [] } }
+        ensures { result ≡ record { edf = state; abends = []; sources = record { lines = []; places = [] } } }
     {
         Looking {
             state,
             abends: IndexMap::new(alloc),
+            sources: Sources::new(alloc),
         }
     }
 
@@ -75,6 +82,27 @@ impl<S: Store + Drop> Looking<S> {
         }
         self.state.perform(alloc, action)
     }
+
+    /// Does what the end of a source's block asks in a script of `cicsedf`, and keeps the lines of the source where it defined its
+    /// program. Room for them is made before.
+    fn define(
+        &mut self,
+        alloc: Global,
+        name: Name8,
+        lines: List<Text>,
+        action: Action,
+    ) -> Result<Vec<u8>, AllocError>
+        requires { IsAllowed action }
+        ensures { IfOk result (λ text. SourcePerforms self.old name lines action text.items self.new) }
+    {
+        let was_there = has_program(self.state.region(), name);
+        let places = statement_places(alloc, lines.as_slice())?;
+        self.sources.make_room()?;
+        let text = self.do_action(alloc, action)?;
+        let is_new = is_defined(self.state.region(), name, was_there);
+        self.sources.keep(name, lines, places, is_new)?;
+        Ok(text)
+    }
 }
 
 /// What a script of `cicslook` is performed on.
@@ -96,6 +124,7 @@ impl<S: Store + Drop> Stage for Looking<S> {
     fn perform(&mut self, alloc: Global, action: LookAction) -> Result<Vec<u8>, AllocError> {
         match action {
             LookAction::Script(action) => self.do_action(alloc, action),
+            LookAction::Source(name, lines, action) => self.define(alloc, name, lines, action),
             LookAction::Run(name, n) => run(self, alloc, name, n),
             LookAction::Look(look) => look_text(alloc, self, look),
         }

@@ -9,5 +9,5 @@ mod uses;
 
 pub use areas::{areas_text, task_areas_text};
 pub use bytes::storage_text;
-pub use places::place_word;
+pub use places::{place_word, program_with};
 pub use uses::area_line;

@@ -15,8 +15,8 @@ fn is_in(address: u32, loaded: Loaded) -> bool
     loaded.at <= address && address - loaded.at < loaded.len
 }
 
-/// The program that has an address, with its name.
-fn program_with(programs: &IndexMap<Name8, Loaded>, address: u32) -> Option<(Name8, Loaded)>
+/// The program that has an address, with its name; the first, where several have it. It takes no memory.
+pub fn program_with(programs: &IndexMap<Name8, Loaded>, address: u32) -> Option<(Name8, Loaded)>
     ensures { result ≡ program_with programs.now.entries address }
 {
     for (name, loaded) in programs.iter() {

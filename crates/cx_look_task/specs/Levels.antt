@@ -21,7 +21,8 @@ use Rattle.cx_state.specs.State.{SharedState}
 use Rattle.cx_text.specs.Digits.{digits}
 use Rattle.cx_text.specs.Texts.{shown_name}
 use Rattle.cx_look_words.specs.Words.{look_line}
-use Rattle.cx_look_storage.specs.Places.{place_word}
+use Rattle.cx_look_names.specs.Lines.{SourcePlaces}
+use Rattle.cx_look_task.specs.Places.{place_with_line}
 
 -- a line of the level number k
 abbrev pub level_words : ℕ → List (List ℕ) → List ℕ
@@ -35,10 +36,10 @@ goes_on level = address_in (slice_index level.regs 14)
 abbrev pub cap_word : Storage → Level → List ℕ
 cap_word s level = option_map_or (digits 16 8) (word_at s (along level.stg (eistg_field Eicap).offset)) (codes "--")
 
-unfoldable pub level_line : SharedState → ℕ → Level → List ℕ
-level_line shared k level =
+unfoldable pub level_line : SourcePlaces → SharedState → ℕ → Level → List ℕ
+level_line sources shared k level =
     level_words k
-    (codes "PROGRAM" ∷ shown_name level.program ∷ codes "R14" ∷ digits 16 6 (goes_on level) ∷ place_word shared.programs (goes_on level)
+    (codes "PROGRAM" ∷ shown_name level.program ∷ codes "R14" ∷ digits 16 6 (goes_on level) ∷ place_with_line sources shared.programs (goes_on level)
     ∷ codes "DFHEISTG" ∷ digits 16 6 level.stg ∷ codes "LENGTH" ∷ digits 16 6 level.stg_len ∷ codes "DFHEICAP" ∷ cap_word shared.storage level
     ∷ codes "EIBCALEN" ∷ digits 16 4 level.calen ∷ codes "PUSHED" ∷ digits 10 2 (length level.handles.kept) ∷ [])
 
@@ -46,33 +47,34 @@ level_line shared k level =
 abbrev pub ignore_line : ℕ → Condition → List ℕ
 ignore_line k condition = level_words k (codes "IGNORE" ∷ (entry_of condition).name ∷ [])
 
-abbrev pub label_line : List (List ℕ × Loaded) → ℕ → Condition → ℕ → List ℕ
-label_line programs k condition label =
-    level_words k (codes "HANDLE" ∷ (entry_of condition).name ∷ digits 16 6 label ∷ place_word programs label ∷ [])
+abbrev pub label_line : SourcePlaces → List (List ℕ × Loaded) → ℕ → Condition → ℕ → List ℕ
+label_line sources programs k condition label =
+    level_words k (codes "HANDLE" ∷ (entry_of condition).name ∷ digits 16 6 label ∷ place_with_line sources programs label ∷ [])
 
-abbrev pub handle_line : List (List ℕ × Loaded) → ℕ → Condition → Entry → List ℕ
-handle_line programs k condition entry.NoEntry = []
-handle_line programs k condition entry.Ignored = ignore_line k condition
-handle_line programs k condition (entry.Label label) = label_line programs k condition label
+abbrev pub handle_line : SourcePlaces → List (List ℕ × Loaded) → ℕ → Condition → Entry → List ℕ
+handle_line sources programs k condition entry.NoEntry = []
+handle_line sources programs k condition entry.Ignored = ignore_line k condition
+handle_line sources programs k condition (entry.Label label) = label_line sources programs k condition label
 
-abbrev pub handle_lines : List (List ℕ × Loaded) → ℕ → Entries → List Condition → List ℕ
-handle_lines programs k entries conditions = flat_map (λ condition. handle_line programs k condition (entry_for entries condition)) conditions
+abbrev pub handle_lines : SourcePlaces → List (List ℕ × Loaded) → ℕ → Entries → List Condition → List ℕ
+handle_lines sources programs k entries conditions =
+    flat_map (λ condition. handle_line sources programs k condition (entry_for entries condition)) conditions
 
 -- ---- the exit, and whether it is on
-abbrev pub exit_words : List (List ℕ × Loaded) → ℕ → ℕ → List ℕ → List ℕ
-exit_words programs k label state = level_words k (codes "EXIT" ∷ digits 16 6 label ∷ place_word programs label ∷ state ∷ [])
+abbrev pub exit_words : SourcePlaces → List (List ℕ × Loaded) → ℕ → ℕ → List ℕ → List ℕ
+exit_words sources programs k label state = level_words k (codes "EXIT" ∷ digits 16 6 label ∷ place_with_line sources programs label ∷ state ∷ [])
 
-abbrev pub exit_line : List (List ℕ × Loaded) → ℕ → Exit → List ℕ
-exit_line programs k exit.NoExit = []
-exit_line programs k (exit.On label) = exit_words programs k label (codes "ON")
-exit_line programs k (exit.Off label) = exit_words programs k label (codes "OFF")
+abbrev pub exit_line : SourcePlaces → List (List ℕ × Loaded) → ℕ → Exit → List ℕ
+exit_line sources programs k exit.NoExit = []
+exit_line sources programs k (exit.On label) = exit_words sources programs k label (codes "ON")
+exit_line sources programs k (exit.Off label) = exit_words sources programs k label (codes "OFF")
 
 -- ---- a level, and levels from the number k on
-unfoldable pub level_text : SharedState → ℕ → Level → List ℕ
-level_text shared k level =
-    level_line shared k level ++ handle_lines shared.programs k level.handles.active.entries handled
-    ++ exit_line shared.programs k level.handles.active.exit
+unfoldable pub level_text : SourcePlaces → SharedState → ℕ → Level → List ℕ
+level_text sources shared k level =
+    level_line sources shared k level ++ handle_lines sources shared.programs k level.handles.active.entries handled
+    ++ exit_line sources shared.programs k level.handles.active.exit
 
-unfoldable pub levels_text : SharedState → ℕ → List Level → List ℕ
-levels_text shared k [] = []
-levels_text shared k (level ∷ levels) = level_text shared k level ++ levels_text shared (k + 1) levels
+unfoldable pub levels_text : SourcePlaces → SharedState → ℕ → List Level → List ℕ
+levels_text sources shared k [] = []
+levels_text sources shared k (level ∷ levels) = level_text sources shared k level ++ levels_text sources shared (k + 1) levels

@@ -1,4 +1,5 @@
 -- The definitions, in reading order.
+pub mod Places
 pub mod Levels
 pub mod Tasks
 pub mod Parts

@@ -13,7 +13,8 @@ use Rattle.cx_region.specs.Tables.{task_of}
 use Rattle.cx_text.specs.Digits.{digits}
 use Rattle.cx_text.specs.Texts.{shown_name}
 use Rattle.cx_look_words.specs.Words.{look_line}
-use Rattle.cx_look_storage.specs.Places.{place_word}
+use Rattle.cx_look_names.specs.Lines.{SourcePlaces}
+use Rattle.cx_look_task.specs.Places.{place_with_line}
 use Rattle.cx_look_task.specs.Levels.{levels_text}
 
 -- ---- the task: its transaction, its number, what it is doing
@@ -33,9 +34,9 @@ abbrev pub task_line : SharedState → List ℕ → TaskState → List ℕ
 task_line shared name task = task_words name task (due_word shared.storage task)
 
 -- ---- its condition code, and where it goes on
-unfoldable pub state_line : SharedState → TaskState → List ℕ
-state_line shared task =
-    look_line (codes "CC" ∷ digits 10 1 task.cc ∷ codes "NEXT" ∷ digits 16 6 task.next ∷ place_word shared.programs task.next ∷ [])
+unfoldable pub state_line : SourcePlaces → SharedState → TaskState → List ℕ
+state_line sources shared task =
+    look_line (codes "CC" ∷ digits 10 1 task.cc ∷ codes "NEXT" ∷ digits 16 6 task.next ∷ place_with_line sources shared.programs task.next ∷ [])
 
 -- ---- its registers, four a line
 unfoldable pub register_line : List ℕ → ℕ → List ℕ
@@ -47,12 +48,13 @@ unfoldable pub register_lines : List ℕ → List ℕ
 register_lines regs = register_line regs 0 ++ register_line regs 4 ++ register_line regs 8 ++ register_line regs 12
 
 -- ---- all, with its levels from the highest, which is number 1
-abbrev pub text_of : SharedState → List ℕ → TaskState → List ℕ
-text_of shared name task =
-    task_line shared name task ++ register_lines task.regs ++ state_line shared task ++ levels_text shared 1 (all_levels task.levels)
+abbrev pub text_of : SourcePlaces → SharedState → List ℕ → TaskState → List ℕ
+text_of sources shared name task =
+    task_line shared name task ++ register_lines task.regs ++ state_line sources shared task
+    ++ levels_text sources shared 1 (all_levels task.levels)
 
 abbrev pub none_line : List ℕ → List ℕ
 none_line name = look_line (codes "TASK" ∷ shown_name name ∷ codes "NONE" ∷ [])
 
-unfoldable pub task_text : RegionState → List ℕ → List ℕ
-task_text region name = option_map_or (text_of (shared_of region) name) (task_of region name) (none_line name)
+unfoldable pub task_text : SourcePlaces → RegionState → List ℕ → List ℕ
+task_text sources region name = option_map_or (text_of sources (shared_of region) name) (task_of region name) (none_line name)

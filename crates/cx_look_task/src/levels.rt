@@ -4,10 +4,11 @@ ghost use Rattle.cx_program.specs.Levels.{all_levels};
 ghost use Rattle.cx_look_task.specs.Parts.Levels.{level_at};
 ghost use Rattle.cx_look_task.specs.Levels.{cap_word, exit_line, exit_words, handle_line, handle_lines, ignore_line, label_line, level_line, level_text, levels_text};
 
+use crate::places::place_with_line;
 use cx_command::{Condition, EistgField};
 use cx_ebcdic::Name8;
 use cx_load::Loaded;
-use cx_look_storage::place_word;
+use cx_look_names::SourcePlaces;
 use cx_look_words::look_line;
 use cx_program::{Entries, Entry, Exit, Level, LevelStack};
 use cx_state::Shared;
@@ -30,17 +31,18 @@ fn cap_word<S: Store>(alloc: Global, store: &S, level: &Level) -> Result<Vec<u8>
 #[tactic(auto, unfolding(crate::specs::Levels::level_line))]
 fn level_line<S: Store + Drop>(
     alloc: Global,
+    sources: &SourcePlaces,
     shared: &Shared<S>,
     k: u32,
     level: &Level,
 ) -> Result<Vec<u8>, AllocError>
-    ensures { IfOk result (λ line. line.items ≡ level_line shared.now k level.now) }
+    ensures { IfOk result (λ line. line.items ≡ level_line sources.now.entries shared.now k level.now) }
 {
     let next = address_in(level.regs[14]);
     let number = decimal::<2>(k);
     let program = shown_name(alloc, level.program)?;
     let address = hexadecimal::<6>(next);
-    let place = place_word(alloc, &shared.programs, next)?;
+    let place = place_with_line(alloc, sources, &shared.programs, next)?;
     let stg = hexadecimal::<6>(level.stg);
     let len = hexadecimal::<6>(level.stg_len);
     let cap = cap_word(alloc, &shared.store, level)?;
@@ -82,17 +84,18 @@ fn ignore_line(alloc: Global, k: u32, condition: Condition) -> Result<Vec<u8>, A
 /// The line of a condition with a label.
 fn label_line(
     alloc: Global,
+    sources: &SourcePlaces,
     programs: &IndexMap<Name8, Loaded>,
     k: u32,
     condition: Condition,
     label: u32,
 ) -> Result<Vec<u8>, AllocError>
-    ensures { IfOk result (λ line. line.items ≡ label_line programs.now.entries k condition label) }
+    ensures { IfOk result (λ line. line.items ≡ label_line sources.now.entries programs.now.entries k condition label) }
 {
     let number = decimal::<2>(k);
     let name = condition.name().as_bytes();
     let address = hexadecimal::<6>(label);
-    let place = place_word(alloc, programs, label)?;
+    let place = place_with_line(alloc, sources, programs, label)?;
     look_line(
         alloc,
         &[b"LEVEL", &number, b"HANDLE", name, &address, &place],
@@ -103,18 +106,19 @@ fn label_line(
 fn push_handle(
     alloc: Global,
     text: &mut Vec<u8>,
+    sources: &SourcePlaces,
     programs: &IndexMap<Name8, Loaded>,
     k: u32,
     condition: Condition,
     entry: Entry,
 ) -> Result<(), AllocError>
-    ensures { OnOk result (text.new.items ≡ text.old.items ++ handle_line programs.now.entries k condition entry) }
+    ensures { OnOk result (text.new.items ≡ text.old.items ++ handle_line sources.now.entries programs.now.entries k condition entry) }
 {
     match entry {
         Entry::NoEntry => (),
         Entry::Ignored => text.extend_from_slice(&ignore_line(alloc, k, condition)?)?,
         Entry::Label(label) => {
-            text.extend_from_slice(&label_line(alloc, programs, k, condition, label)?)?;
+            text.extend_from_slice(&label_line(alloc, sources, programs, k, condition, label)?)?;
         }
     }
     Ok(())
@@ -124,17 +128,18 @@ fn push_handle(
 fn push_handles(
     alloc: Global,
     text: &mut Vec<u8>,
+    sources: &SourcePlaces,
     programs: &IndexMap<Name8, Loaded>,
     k: u32,
     entries: &Entries,
     conditions: &[Condition],
 ) -> Result<(), AllocError>
     ensures { OnOk result (text.new.items
-        ≡ text.old.items ++ handle_lines programs.now.entries k entries.now conditions.now) }
+        ≡ text.old.items ++ handle_lines sources.now.entries programs.now.entries k entries.now conditions.now) }
 {
     for condition in conditions {
         let entry = entries.entry_for(*condition);
-        push_handle(alloc, text, programs, k, *condition, entry)?;
+        push_handle(alloc, text, sources, programs, k, *condition, entry)?;
     }
     Ok(())
 }
@@ -142,16 +147,17 @@ fn push_handles(
 /// The line of an exit, with the word that tells whether it is on.
 fn exit_words(
     alloc: Global,
+    sources: &SourcePlaces,
     programs: &IndexMap<Name8, Loaded>,
     k: u32,
     label: u32,
     state: &[u8],
 ) -> Result<Vec<u8>, AllocError>
-    ensures { IfOk result (λ line. line.items ≡ exit_words programs.now.entries k label state.now) }
+    ensures { IfOk result (λ line. line.items ≡ exit_words sources.now.entries programs.now.entries k label state.now) }
 {
     let number = decimal::<2>(k);
     let address = hexadecimal::<6>(label);
-    let place = place_word(alloc, programs, label)?;
+    let place = place_with_line(alloc, sources, programs, label)?;
     look_line(
         alloc,
         &[b"LEVEL", &number, b"EXIT", &address, &place, state],
@@ -162,19 +168,20 @@ fn exit_words(
 fn push_exit(
     alloc: Global,
     text: &mut Vec<u8>,
+    sources: &SourcePlaces,
     programs: &IndexMap<Name8, Loaded>,
     k: u32,
     exit: Exit,
 ) -> Result<(), AllocError>
-    ensures { OnOk result (text.new.items ≡ text.old.items ++ exit_line programs.now.entries k exit) }
+    ensures { OnOk result (text.new.items ≡ text.old.items ++ exit_line sources.now.entries programs.now.entries k exit) }
 {
     match exit {
         Exit::NoExit => (),
         Exit::On(label) => {
-            text.extend_from_slice(&exit_words(alloc, programs, k, label, b"ON")?)?;
+            text.extend_from_slice(&exit_words(alloc, sources, programs, k, label, b"ON")?)?;
         }
         Exit::Off(label) => {
-            text.extend_from_slice(&exit_words(alloc, programs, k, label, b"OFF")?)?;
+            text.extend_from_slice(&exit_words(alloc, sources, programs, k, label, b"OFF")?)?;
         }
     }
     Ok(())
@@ -185,25 +192,27 @@ fn push_exit(
 fn push_level<S: Store + Drop>(
     alloc: Global,
     text: &mut Vec<u8>,
+    sources: &SourcePlaces,
     shared: &Shared<S>,
     k: u32,
     level: &Level,
 ) -> Result<(), AllocError>
-    ensures { OnOk result (text.new.items ≡ text.old.items ++ level_text shared.now k level.now) }
+    ensures { OnOk result (text.new.items ≡ text.old.items ++ level_text sources.now.entries shared.now k level.now) }
 {
     let programs = &shared.programs;
     let active = level.handles.active();
-    let line = level_line(alloc, shared, k, level)?;
+    let line = level_line(alloc, sources, shared, k, level)?;
     text.extend_from_slice(&line)?;
     push_handles(
         alloc,
         text,
+        sources,
         programs,
         k,
         &active.entries,
         Condition::handled(),
     )?;
-    push_exit(alloc, text, programs, k, active.exit)?;
+    push_exit(alloc, text, sources, programs, k, active.exit)?;
     Ok(())
 }
 
@@ -211,18 +220,19 @@ fn push_level<S: Store + Drop>(
 fn push_level_at<S: Store + Drop>(
     alloc: Global,
     text: &mut Vec<u8>,
+    sources: &SourcePlaces,
     shared: &Shared<S>,
     levels: &LevelStack,
     index: usize,
 ) -> Result<(), AllocError>
     requires { index ≤ 16 }
     ensures { OnOk result (text.new.items
-        ≡ text.old.items ++ level_at shared.now (index + 1) (slice_get (all_levels levels.now) index)) }
+        ≡ text.old.items ++ level_at sources.now.entries shared.now (index + 1) (slice_get (all_levels levels.now) index)) }
 {
     let Some(level) = levels.get(index) else {
         return Ok(());
     };
-    push_level(alloc, text, shared, index as u32 + 1, level)?;
+    push_level(alloc, text, sources, shared, index as u32 + 1, level)?;
     Ok(())
 }
 
@@ -230,13 +240,14 @@ fn push_level_at<S: Store + Drop>(
 pub(crate) fn push_levels<S: Store + Drop>(
     alloc: Global,
     text: &mut Vec<u8>,
+    sources: &SourcePlaces,
     shared: &Shared<S>,
     levels: &LevelStack,
 ) -> Result<(), AllocError>
-    ensures { OnOk result (text.new.items ≡ text.old.items ++ levels_text shared.now 1 (all_levels levels.now)) }
+    ensures { OnOk result (text.new.items ≡ text.old.items ++ levels_text sources.now.entries shared.now 1 (all_levels levels.now)) }
 {
     for index in 0..levels.len() {
-        push_level_at(alloc, text, shared, levels, index)?;
+        push_level_at(alloc, text, sources, shared, levels, index)?;
     }
     Ok(())
 }

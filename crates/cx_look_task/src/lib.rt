@@ -2,6 +2,7 @@
 #![tactic(auto)]
 
 mod levels;
+mod places;
 mod tasks;
 
 pub use tasks::task_text;

@@ -5,9 +5,10 @@ ghost use Rattle.cx_region.specs.Tables.{task_of};
 ghost use Rattle.cx_look_task.specs.Tasks.{due_word, none_line, register_line, register_lines, state_line, task_line, task_text, task_words, text_of};
 
 use crate::levels::push_levels;
+use crate::places::place_with_line;
 use cx_call::read_call;
 use cx_ebcdic::Name4;
-use cx_look_storage::place_word;
+use cx_look_names::SourcePlaces;
 use cx_look_words::look_line;
 use cx_region::Region;
 use cx_state::{Shared, Task};
@@ -62,14 +63,15 @@ fn task_line<S: Store + Drop>(
 #[tactic(auto, unfolding(crate::specs::Tasks::state_line))]
 fn state_line<S: Store + Drop>(
     alloc: Global,
+    sources: &SourcePlaces,
     shared: &Shared<S>,
     task: &Task,
 ) -> Result<Vec<u8>, AllocError>
-    ensures { IfOk result (λ line. line.items ≡ state_line shared.now task.now) }
+    ensures { IfOk result (λ line. line.items ≡ state_line sources.now.entries shared.now task.now) }
 {
     let cc = decimal::<1>(u32::from(task.cpu.cc));
     let next = hexadecimal::<6>(task.cpu.next);
-    let place = place_word(alloc, &shared.programs, task.cpu.next)?;
+    let place = place_with_line(alloc, sources, &shared.programs, task.cpu.next)?;
     look_line(alloc, &[b"CC", &cc, b"NEXT", &next, &place])
 }
 
@@ -114,16 +116,17 @@ fn push_all_registers(alloc: Global, text: &mut Vec<u8>, regs: &[u32; 16]) -> Re
 /// The lines of a task.
 fn text_of<S: Store + Drop>(
     alloc: Global,
+    sources: &SourcePlaces,
     shared: &Shared<S>,
     name: Name4,
     task: &Task,
 ) -> Result<Vec<u8>, AllocError>
-    ensures { IfOk result (λ text. text.items ≡ text_of shared.now name task.now) }
+    ensures { IfOk result (λ text. text.items ≡ text_of sources.now.entries shared.now name task.now) }
 {
     let mut text = task_line(alloc, shared, name, task)?;
     push_all_registers(alloc, &mut text, &task.cpu.regs)?;
-    text.extend_from_slice(&state_line(alloc, shared, task)?)?;
-    push_levels(alloc, &mut text, shared, &task.levels)?;
+    text.extend_from_slice(&state_line(alloc, sources, shared, task)?)?;
+    push_levels(alloc, &mut text, sources, shared, &task.levels)?;
     Ok(text)
 }
 
@@ -144,19 +147,21 @@ fn task_of<S: Store + Drop>(region: &Region<S>, name: Name4) -> Option<&Task>
 }
 
 /// Looks at the task of a terminal: its line, its registers, its condition code and next address, and the lines of each
-/// level, the highest first; NONE where there is no task, or no such terminal.
+/// level, the highest first; NONE where there is no task, or no such terminal. A place in a program that a source defined is told
+/// with the line of the statement whose bytes hold it.
 ///
 /// An error comes only where memory for the text was refused.
 #[tactic(auto, unfolding(crate::specs::Tasks::task_text))]
 pub fn task_text<S: Store + Drop>(
     alloc: Global,
+    sources: &SourcePlaces,
     region: &Region<S>,
     name: Name4,
 ) -> Result<Vec<u8>, AllocError>
-    ensures { IfOk result (λ text. text.items ≡ task_text region.now name) }
+    ensures { IfOk result (λ text. text.items ≡ task_text sources.now.entries region.now name) }
 {
     match task_of(region, name) {
-        Some(task) => text_of(alloc, region.shared(), name, task),
+        Some(task) => text_of(alloc, sources, region.shared(), name, task),
         None => none_line(alloc, name),
     }
 }

@@ -191,7 +191,7 @@ fields_agree form.TwoLengths c texts fields mask sixteen e = two_lengths_agree c
 fields_agree (form.Branch m) c texts fields mask sixteen e = branch_agrees m c texts fields mask sixteen e
 fields_agree (form.RegisterBranch m) c texts fields mask sixteen e = register_branch_agrees m c texts fields mask e
 
-branch_mask : (b : Branch) → (branch_of b).mask ≤ 15
+branch_mask : (b : Branch) → (branch_of b).1 ≤ 15
 branch_mask on.B = omega arith
 branch_mask on.Nop = omega arith
 branch_mask on.Bh = omega arith
@@ -209,7 +209,7 @@ branch_mask on.Bnz = omega arith
 branch_mask on.Bo = omega arith
 branch_mask on.Bno = omega arith
 
-register_branch_mask : (b : RegisterBranch) → (register_branch_of b).mask ≤ 15
+register_branch_mask : (b : RegisterBranch) → (register_branch_of b).1 ≤ 15
 register_branch_mask to.Br = omega arith
 register_branch_mask to.Nopr = omega arith
 
@@ -276,11 +276,11 @@ op_form Trt = (refl, tt, λ s. cc)
 op_form Pack = (refl, tt, λ s. cc)
 op_form Unpk = (refl, tt, λ s. cc)
 
-branch_form : (b : Branch) → FormOf Bc (form.Branch (branch_of b).mask)
+branch_form : (b : Branch) → FormOf Bc (form.Branch (branch_of b).1)
 unfolding row_of is_shift
 branch_form b = (refl, branch_mask b, λ s. cc)
 
-register_branch_form : (b : RegisterBranch) → FormOf Bcr (form.RegisterBranch (register_branch_of b).mask)
+register_branch_form : (b : RegisterBranch) → FormOf Bcr (form.RegisterBranch (register_branch_of b).1)
 unfolding row_of is_shift
 register_branch_form b = (refl, register_branch_mask b, λ s. cc)
 
@@ -291,8 +291,8 @@ agrees_well op f fields row agrees = (agrees.0 ∙ row.0, agrees.1, λ s. agrees
 
 operation_form : (o : Operation) (op : Op) (f : Form) → base_row o ≡ Some op → form_of o ≡ Some f → FormOf op f
 operation_form (operation.Machine m) op f e g = subst (λ x. FormOf op x) (same_Some _ _ g) (subst (λ y. FormOf y (form_of_op m)) (same_Some _ _ e) (op_form m))
-operation_form (operation.Branch b) op f e g = subst (λ x. FormOf op x) (same_Some _ _ g) (subst (λ y. FormOf y (form.Branch (branch_of b).mask)) (same_Some _ _ e) (branch_form b))
-operation_form (operation.RegisterBranch b) op f e g = subst (λ x. FormOf op x) (same_Some _ _ g) (subst (λ y. FormOf y (form.RegisterBranch (register_branch_of b).mask)) (same_Some _ _ e) (register_branch_form b))
+operation_form (operation.Branch b) op f e g = subst (λ x. FormOf op x) (same_Some _ _ g) (subst (λ y. FormOf y (form.Branch (branch_of b).1)) (same_Some _ _ e) (branch_form b))
+operation_form (operation.RegisterBranch b) op f e g = subst (λ x. FormOf op x) (same_Some _ _ g) (subst (λ y. FormOf y (form.RegisterBranch (register_branch_of b).1)) (same_Some _ _ e) (register_branch_form b))
 operation_form (operation.Directive d) op f e g = cc
 
 pub resolved_well : (o : Operation) (op : Op) (f : Form) (c : Context) (texts : List (List ℕ)) (fields : Fields)

@@ -1,13 +1,14 @@
 -- What an expression is worth stays within the bound of all numbers.
 use Rattle.std.proofs.Common.{◌≡◌, ℕ, ℤ, pos, ◌≤◌, ◌^◌, Option, Some, None, List, [], ◌∷◌, Ok, Err, refl, arith}
 use Rattle.std.specs.Prelude.{Result, unsigned_abs, option_and_then, option_map}
-use Rattle.std.specs.Option.{ok_or}
+use Rattle.std.specs.List.{filter_map}
+use Rattle.std.specs.Option.{ok_or, option_map_or}
 use Rattle.cx_terms.specs.declared.faults.FaultKind.TheVariants.{NotRelocatable}
 use Rattle.std.proofs.lemmas.Bool.Decides.{nat_tests}
 use Rattle.cx_terms.specs.Digits.{bound}
 use Rattle.cx_terms.specs.Terms.{Term, terms_of}
 use Rattle.cx_terms.specs.Weights.{relocation}
-use Rattle.cx_terms.specs.Expressions.{within_bound, with_sign, sum_from, located, leading_length, summed, unless, lowest_fault, values_of, valued, value_of}
+use Rattle.cx_terms.specs.Expressions.{within_bound, with_sign, sum_from, signed_worth, located, leading_length, summed, lowest_fault, valued, value_of}
 use Rattle.cx_terms.specs.declared.values.Value.{Value}
 use Rattle.cx_terms.specs.declared.expressions.Signed.{Signed}
 use Rattle.cx_terms.specs.declared.faults.FaultKind.{FaultKind}
@@ -38,13 +39,14 @@ unfolding summed
 summed_small vs v e =
     sum_small vs (pos 0) v.number (grind arith) (located_number (sum_from (pos 0) vs) (relocation vs) (leading_length vs) v e)
 
-unless_small : (fault : Option FaultKind) (vs : List Signed) (v : Value) → unless fault (summed vs) ≡ Ok v → unsigned_abs v.number ≤ bound
+unless_small : (fault : Option FaultKind) (vs : List Signed) (v : Value) → option_map_or Err fault (summed vs) ≡ Ok v → unsigned_abs v.number ≤ bound
 unless_small None vs v e = summed_small vs v e
 unless_small (Some fault) vs v e = cc
 
 valued_small : (find : List ℕ → Option Value) (here : Option Value) (terms : Option (List Term)) (v : Value) → valued find here terms ≡ Ok v → unsigned_abs v.number ≤ bound
 valued_small find here None v e = cc
-valued_small find here (Some terms) v e = unless_small (lowest_fault find here terms) (values_of find here terms) v e
+valued_small find here (Some terms) v e =
+    unless_small (lowest_fault find here terms) (filter_map (signed_worth find here) terms) v e
 
 pub worth_small : (find : List ℕ → Option Value) (here : Option Value) (text : List ℕ) (v : Value) → value_of find here text ≡ Ok v → unsigned_abs v.number ≤ bound
 unfolding value_of

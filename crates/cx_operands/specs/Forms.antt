@@ -67,8 +67,8 @@ form_of_op op = if is_shift op then form.Shift else form_of_format (format_of op
 
 abbrev pub form_of : Operation → Option Form
 form_of (operation.Machine op) = Some (form_of_op op)
-form_of (operation.Branch branch) = Some (form.Branch (branch_of branch).mask)
-form_of (operation.RegisterBranch branch) = Some (form.RegisterBranch (register_branch_of branch).mask)
+form_of (operation.Branch branch) = Some (form.Branch (branch_of branch).1)
+form_of (operation.RegisterBranch branch) = Some (form.RegisterBranch (register_branch_of branch).1)
 form_of (operation.Directive directive) = None
 
 -- ---- a statement's instruction

@@ -16,7 +16,7 @@ use Rattle.cx_operations.specs.declared.operations.Directive.{Directive}
 use Rattle.cx_operations.specs.declared.operations.Directive.TheVariants as is
 use Rattle.cx_operations.specs.declared.operations.Operation.{Operation}
 use Rattle.cx_operations.specs.declared.operations.Operation.TheVariants as kinds
-use Rattle.cx_operations.specs.Operations.{branch_of, register_branch_of, directive_name, branches, register_branches, directives, branch_named, register_branch_named, directive_named, name_of, operation_named}
+use Rattle.cx_operations.specs.Operations.{branch_of, register_branch_of, directive_name, branches, directives, branch_named, register_branch_named, directive_named, name_of, operation_named}
 
 find_step : {X : Type 0} (p : X → Bool) (y : X) (r : Option X) (x : X) (b : Bool) → p y ≡ b → (r ≡ Some x → p x ≡ true) → cond b (Some y) r ≡ Some x → p x ≡ true
 find_step p y r x true h behind e = ap p (sym (same_Some _ _ e)) ∙ h
@@ -26,15 +26,15 @@ find_passes : {X : Type 0} (p : X → Bool) (xs : List X) (x : X) → find p xs 
 find_passes p [] x e = absurd (none-some x e)
 find_passes p (y ∷ ys) x e = find_step p y (find p ys) x (p y) refl (find_passes p ys x) e
 
-branch_found : (name : List ℕ) (b : Branch) → branch_named name ≡ Some b → (branch_of b).name ≡ name
+branch_found : (name : List ℕ) (b : Branch) → branch_named name ≡ Some b → (branch_of b).0 ≡ name
 unfolding branch_named
 branch_found name b e =
-    (bytes_eq-Decides (branch_of b).name name).0 (find_passes (λ x. bytes_eq (branch_of x).name name) branches b e)
+    (bytes_eq-Decides (branch_of b).0 name).0 (find_passes (λ x. bytes_eq (branch_of x).0 name) branches b e)
 
-register_branch_found : (name : List ℕ) (b : RegisterBranch) → register_branch_named name ≡ Some b → (register_branch_of b).name ≡ name
+register_branch_found : (name : List ℕ) (b : RegisterBranch) → register_branch_named name ≡ Some b → (register_branch_of b).0 ≡ name
 unfolding register_branch_named
 register_branch_found name b e =
-    (bytes_eq-Decides (register_branch_of b).name name).0 (find_passes (λ x. bytes_eq (register_branch_of x).name name) register_branches b e)
+    (bytes_eq-Decides (register_branch_of b).0 name).0 (find_passes (λ x. bytes_eq (register_branch_of x).0 name) (to.Br ∷ to.Nopr ∷ []) b e)
 
 directive_found : (name : List ℕ) (d : Directive) → directive_named name ≡ Some d → directive_name d ≡ name
 unfolding directive_named
@@ -44,8 +44,8 @@ directive_found name d e =
 -- what is found in one of the tables has the name
 found_in_one : (name : List ℕ) (m : Option Op) (b : Option Branch) (r : Option RegisterBranch) (d : Option Directive) (o : Operation)
     → ((x : Op) → m ≡ Some x → machine_name x ≡ name)
-    → ((x : Branch) → b ≡ Some x → (branch_of x).name ≡ name)
-    → ((x : RegisterBranch) → r ≡ Some x → (register_branch_of x).name ≡ name)
+    → ((x : Branch) → b ≡ Some x → (branch_of x).0 ≡ name)
+    → ((x : RegisterBranch) → r ≡ Some x → (register_branch_of x).0 ≡ name)
     → ((x : Directive) → d ≡ Some x → directive_name x ≡ name)
     → option_or (option_map kinds.Machine m) (option_or (option_map kinds.Branch b) (option_or (option_map kinds.RegisterBranch r) (option_map kinds.Directive d))) ≡ Some o
     → name_of o ≡ name
@@ -56,7 +56,7 @@ found_in_one name None None None (Some x) o hm hb hr hd e = subst (λ z. name_of
 found_in_one name None None None None o hm hb hr hd e = absurd (none-some o e)
 
 -- a name of a branch or directive is no mnemonic, and is found in its table
-branch_finds : (b : Branch) → operation_named (branch_of b).name ≡ Some (kinds.Branch b)
+branch_finds : (b : Branch) → operation_named (branch_of b).0 ≡ Some (kinds.Branch b)
 unfolding operation_named op_named ops row_of branch_named branches
 branch_finds on.B = refl
 branch_finds on.Nop = refl
@@ -75,13 +75,13 @@ branch_finds on.Bnz = refl
 branch_finds on.Bo = refl
 branch_finds on.Bno = refl
 
-register_branch_finds : (b : RegisterBranch) → operation_named (register_branch_of b).name ≡ Some (kinds.RegisterBranch b)
-unfolding operation_named op_named ops row_of branch_named branches register_branch_named register_branches
+register_branch_finds : (b : RegisterBranch) → operation_named (register_branch_of b).0 ≡ Some (kinds.RegisterBranch b)
+unfolding operation_named op_named ops row_of branch_named branches register_branch_named
 register_branch_finds to.Br = refl
 register_branch_finds to.Nopr = refl
 
 directive_finds : (d : Directive) → operation_named (directive_name d) ≡ Some (kinds.Directive d)
-unfolding operation_named op_named ops row_of branch_named branches register_branch_named register_branches directive_named directives
+unfolding operation_named op_named ops row_of branch_named branches register_branch_named directive_named directives
 directive_finds is.Csect = refl
 directive_finds is.Dsect = refl
 directive_finds is.Start = refl

@@ -16,37 +16,29 @@ use Rattle.cx_operations.specs.declared.operations.Directive.TheVariants as is
 use Rattle.cx_operations.specs.declared.operations.Operation.{Operation}
 use Rattle.cx_operations.specs.declared.operations.Operation.TheVariants as kinds
 
--- a branch that has a name of its own: its mnemonic and its mask
-pub record BranchRow : Type 0 where
-  pub name : List ℕ
-  pub mask : ℕ
-
-abbrev pub branch : List ℕ → ℕ → BranchRow
-branch name mask = record { name = name; mask = mask }
-
--- branches to a storage operand
-abbrev pub branch_of : Branch → BranchRow
-branch_of on.B = branch (codes "B") 15
-branch_of on.Nop = branch (codes "NOP") 0
-branch_of on.Bh = branch (codes "BH") 2
-branch_of on.Bp = branch (codes "BP") 2
-branch_of on.Bl = branch (codes "BL") 4
-branch_of on.Bm = branch (codes "BM") 4
-branch_of on.Be = branch (codes "BE") 8
-branch_of on.Bz = branch (codes "BZ") 8
-branch_of on.Bnh = branch (codes "BNH") 13
-branch_of on.Bnp = branch (codes "BNP") 13
-branch_of on.Bnl = branch (codes "BNL") 11
-branch_of on.Bnm = branch (codes "BNM") 11
-branch_of on.Bne = branch (codes "BNE") 7
-branch_of on.Bnz = branch (codes "BNZ") 7
-branch_of on.Bo = branch (codes "BO") 1
-branch_of on.Bno = branch (codes "BNO") 14
+-- branches to a storage operand that have a name of their own: mnemonic and mask
+abbrev pub branch_of : Branch → List ℕ × ℕ
+branch_of on.B = (codes "B", 15)
+branch_of on.Nop = (codes "NOP", 0)
+branch_of on.Bh = (codes "BH", 2)
+branch_of on.Bp = (codes "BP", 2)
+branch_of on.Bl = (codes "BL", 4)
+branch_of on.Bm = (codes "BM", 4)
+branch_of on.Be = (codes "BE", 8)
+branch_of on.Bz = (codes "BZ", 8)
+branch_of on.Bnh = (codes "BNH", 13)
+branch_of on.Bnp = (codes "BNP", 13)
+branch_of on.Bnl = (codes "BNL", 11)
+branch_of on.Bnm = (codes "BNM", 11)
+branch_of on.Bne = (codes "BNE", 7)
+branch_of on.Bnz = (codes "BNZ", 7)
+branch_of on.Bo = (codes "BO", 1)
+branch_of on.Bno = (codes "BNO", 14)
 
 -- branches to the address in a register
-abbrev pub register_branch_of : RegisterBranch → BranchRow
-register_branch_of to.Br = branch (codes "BR") 15
-register_branch_of to.Nopr = branch (codes "NOPR") 0
+abbrev pub register_branch_of : RegisterBranch → List ℕ × ℕ
+register_branch_of to.Br = (codes "BR", 15)
+register_branch_of to.Nopr = (codes "NOPR", 0)
 
 -- what makes no instruction
 abbrev pub directive_name : Directive → List ℕ
@@ -71,18 +63,15 @@ directive_name is.Copy = codes "COPY"
 unfoldable pub branches : List Branch
 branches = on.B ∷ on.Nop ∷ on.Bh ∷ on.Bp ∷ on.Bl ∷ on.Bm ∷ on.Be ∷ on.Bz ∷ on.Bnh ∷ on.Bnp ∷ on.Bnl ∷ on.Bnm ∷ on.Bne ∷ on.Bnz ∷ on.Bo ∷ on.Bno ∷ []
 
-unfoldable pub register_branches : List RegisterBranch
-register_branches = to.Br ∷ to.Nopr ∷ []
-
 unfoldable pub directives : List Directive
 directives = is.Csect ∷ is.Dsect ∷ is.Start ∷ is.Using ∷ is.Drop ∷ is.Equ ∷ is.Ds ∷ is.Dc ∷ is.Ltorg ∷ is.End ∷ is.Title ∷ is.Print ∷ is.Eject ∷ is.Space ∷ is.Dfhregs ∷ is.Copy ∷ []
 
 -- the one that has a name
 unfoldable pub branch_named : List ℕ → Option Branch
-branch_named name = find (λ b. bytes_eq (branch_of b).name name) branches
+branch_named name = find (λ b. bytes_eq (branch_of b).0 name) branches
 
 unfoldable pub register_branch_named : List ℕ → Option RegisterBranch
-register_branch_named name = find (λ b. bytes_eq (register_branch_of b).name name) register_branches
+register_branch_named name = find (λ b. bytes_eq (register_branch_of b).0 name) (to.Br ∷ to.Nopr ∷ [])
 
 unfoldable pub directive_named : List ℕ → Option Directive
 directive_named name = find (λ d. bytes_eq (directive_name d) name) directives
@@ -90,8 +79,8 @@ directive_named name = find (λ d. bytes_eq (directive_name d) name) directives
 -- an operation's name
 abbrev pub name_of : Operation → List ℕ
 name_of (kinds.Machine op) = machine_name op
-name_of (kinds.Branch b) = (branch_of b).name
-name_of (kinds.RegisterBranch b) = (register_branch_of b).name
+name_of (kinds.Branch b) = (branch_of b).0
+name_of (kinds.RegisterBranch b) = (register_branch_of b).0
 name_of (kinds.Directive d) = directive_name d
 
 -- the operation that has a name
@@ -111,6 +100,6 @@ base_row (kinds.Directive d) = None
 -- the mask that a branch stands for
 abbrev pub mask_of : Operation → Option ℕ
 mask_of (kinds.Machine op) = None
-mask_of (kinds.Branch b) = Some (branch_of b).mask
-mask_of (kinds.RegisterBranch b) = Some (register_branch_of b).mask
+mask_of (kinds.Branch b) = Some (branch_of b).1
+mask_of (kinds.RegisterBranch b) = Some (register_branch_of b).1
 mask_of (kinds.Directive d) = None

@@ -2,7 +2,7 @@
 
 ghost use Rattle.std.specs.Prelude.{◌≡◌};
 ghost use Rattle.std.specs.Option.{option_or};
-ghost use Rattle.cx_operations.specs.Operations.{base_row, branch, branch_named, branch_of, branches, directive_named, directive_name, directives, mask_of, name_of, operation_named, register_branch_named, register_branch_of, register_branches};
+ghost use Rattle.cx_operations.specs.Operations.{base_row, branch_named, branch_of, branches, directive_named, directive_name, directives, mask_of, name_of, operation_named, register_branch_named, register_branch_of};
 
 use cx_code::Op;
 
@@ -126,7 +126,7 @@ impl Branch {
 
     /// The row of the table: mnemonic and mask.
     fn row(self) -> (&'static str, u8)
-        ensures { branch result.0.now result.1 ≡ branch_of self }
+        ensures { branch_of self ≡ (result.0.now, result.1) }
     {
         match self {
             Branch::B => ("B", 15),
@@ -150,14 +150,14 @@ impl Branch {
 
     /// The mnemonic, in capital letters.
     pub fn name(self) -> &'static str
-        ensures { result.now ≡ (branch_of self).name }
+        ensures { result.now ≡ (branch_of self).0 }
     {
         self.row().0
     }
 
     /// The mask: the condition codes that it branches on, 8 for code 0, 4 for 1, 2 for 2, 1 for 3.
     pub fn mask(self) -> u8
-        ensures { result ≡ (branch_of self).mask }
+        ensures { result ≡ (branch_of self).1 }
     {
         self.row().1
     }
@@ -180,7 +180,7 @@ impl RegisterBranch {
 
     /// The row of the table: mnemonic and mask.
     fn row(self) -> (&'static str, u8)
-        ensures { branch result.0.now result.1 ≡ register_branch_of self }
+        ensures { register_branch_of self ≡ (result.0.now, result.1) }
     {
         match self {
             RegisterBranch::Br => ("BR", 15),
@@ -190,20 +190,20 @@ impl RegisterBranch {
 
     /// The mnemonic, in capital letters.
     pub fn name(self) -> &'static str
-        ensures { result.now ≡ (register_branch_of self).name }
+        ensures { result.now ≡ (register_branch_of self).0 }
     {
         self.row().0
     }
 
     /// The mask: the condition codes that it branches on, 8 for code 0, 4 for 1, 2 for 2, 1 for 3.
     pub fn mask(self) -> u8
-        ensures { result ≡ (register_branch_of self).mask }
+        ensures { result ≡ (register_branch_of self).1 }
     {
         self.row().1
     }
 
     /// The one of this mnemonic (ASCII, in capital letters); None where none has it.
-    #[tactic(auto, unfolding(crate::specs::Operations::register_branch_named, crate::specs::Operations::register_branches))]
+    #[tactic(auto, unfolding(crate::specs::Operations::register_branch_named))]
     pub fn from_name(name: &[u8]) -> Option<RegisterBranch>
         ensures { result ≡ register_branch_named name.now }
     {

@@ -2,5 +2,6 @@ pub mod LayoutLemmas
 pub mod FaultLemmas
 pub mod SymbolLemmas
 pub mod LengthLemmas
+pub mod TableLemmas
 pub mod TakeLemmas
 pub mod FirstLemmas

@@ -11,7 +11,7 @@ use Rattle.cx_terms.specs.declared.faults.FaultKind.{FaultKind}
 use Rattle.cx_terms.specs.declared.values.Value.{Value}
 use Rattle.cx_pools.specs.Pools.{Pooled, Placed}
 use Rattle.cx_places.specs.Given.{definitions}
-use Rattle.cx_places.specs.Known.{Known, after, control_after, given_in, laid_in, length_after, literal_fault, first_fault_behind, own_fault, parts_in, pool_after, pools_after, role_in, name_in, section_after}
+use Rattle.cx_places.specs.Known.{Known, after, control_after, fault_in, given_in, laid_in, length_after, literal_fault, first_fault_behind, own_fault, parts_in, pool_after, pools_after, role_in, name_in, section_after}
 use Rattle.cx_places.specs.Parts.Judging.{heading_in}
 use Rattle.cx_places.specs.declared.faults.Heading.{Heading}
 use Rattle.cx_places.specs.declared.layout.Laid.{Laid}
@@ -59,3 +59,13 @@ taken line stmt known h l v f ps user number literals all told eh el ev ef eps e
     ∙ ap (λ (x : Option FaultKind). first_fault_behind line (lower (own_fault stmt known) x) known.fault)
     (elit ∙ ap (λ (x : Heading). literal_fault x.role user ps known.pool) eh ∙ ap (λ (x : List (List ℕ)). literal_fault (role_in stmt) user x known.pool) eps
     ∙ ap (λ (x : ℕ). literal_fault (role_in stmt) x (parts_in stmt) known.pool) eu))
+
+-- the statement's lowest fault
+pub fault_told : (stmt : Stmt) (known : Known) (h : Heading) (f : Option FaultKind) (ps : List (List ℕ)) (user : ℕ) (literals all : Option FaultKind)
+    → h ≡ heading_in stmt known → f ≡ own_fault stmt known → ps ≡ parts_in stmt → user ≡ length known.places
+    → literals ≡ literal_fault h.role user ps known.pool → all ≡ lower f literals → all ≡ fault_in stmt known
+fault_told stmt known h f ps user literals all eh ef eps eu elit eall =
+    eall ∙ ap (λ (x : Option FaultKind). lower x literals) ef
+    ∙ ap (λ (x : Option FaultKind). lower (own_fault stmt known) x)
+    (elit ∙ ap (λ (x : Heading). literal_fault x.role user ps known.pool) eh ∙ ap (λ (x : List (List ℕ)). literal_fault (role_in stmt) user x known.pool) eps
+    ∙ ap (λ (x : ℕ). literal_fault (role_in stmt) x (parts_in stmt) known.pool) eu)

@@ -5,3 +5,4 @@ pub mod Apart
 pub mod Kept
 pub mod Definitions
 pub mod First
+pub mod AllFaults

@@ -17,7 +17,7 @@ use Rattle.cx_terms.specs.declared.values.Value.{Value}
 use Rattle.cx_pools.specs.Pools.{capped}
 use Rattle.cx_places.specs.declared.layout.Laid.{Laid}
 use Rattle.cx_places.specs.declared.roles.Role.{Role}
-use Rattle.cx_places.specs.declared.roles.Role.TheVariants.{Instruction, Control, Dummy, Equate, Storage, Pool, Registers, Member}
+use Rattle.cx_places.specs.declared.roles.Role.TheVariants.{Unknown, Instruction, Control, Dummy, Equate, Storage, Pool, Registers, Member}
 
 -- a place in a section, with a length attribute
 abbrev pub place_value : Option (List ℕ) → ℕ → ℕ → Value
@@ -40,6 +40,7 @@ abbrev pub value_given : Role → Option (List ℕ) → (List ℕ → Option Val
 value_given (Instruction size) name find section operand laid = Ok (Some (place_value section laid.offset laid.length))
 value_given (Storage is_ds) name find section operand laid = Ok (Some (place_value section laid.offset laid.length))
 value_given Pool name find section operand laid = Ok (Some (place_value section laid.offset laid.length))
+value_given Unknown name find section operand laid = Ok (Some (place_value section laid.offset laid.length))
 value_given Control name find section operand laid = Ok (Some (place_value name 0 1))
 value_given Dummy name find section operand laid = Ok (Some (place_value name 0 1))
 value_given Equate name find section operand laid =

@@ -3,6 +3,7 @@ pub mod Layout
 pub mod Given
 pub mod Known
 pub mod Placed
+pub mod AllFaults
 -- Statements of laws.
 pub mod Laws
 -- Lemmas for the crates above.

@@ -1,3 +1,4 @@
 -- The vocabulary of private functions.
+pub mod Faulty
 pub mod Judging
 pub mod Passing

@@ -98,7 +98,7 @@ pub(crate) fn value_given(
     ensures { Answers (value_given role name (find_in symbols.now) section operand.now laid.now) result }
 {
     match role {
-        Role::Instruction(_) | Role::Storage { is_ds: _ } | Role::Pool => {
+        Role::Instruction(_) | Role::Storage { is_ds: _ } | Role::Pool | Role::Unknown => {
             Ok(Some(place_value(section, laid.offset, laid.length)))
         }
         Role::Control | Role::Dummy => Ok(Some(place_value(name, 0, 1))),

@@ -1,6 +1,7 @@
 //! The assembler's first pass: sections, symbols, literal pools, and where each statement stands.
 #![tactic(auto)]
 
+mod all_faults;
 mod faults;
 mod given;
 mod judged;
@@ -11,8 +12,9 @@ mod place;
 mod places;
 mod roles;
 
+pub use all_faults::LineFaults;
 pub use faults::first_fault_behind;
 pub use given::location_counter;
 pub use place::{ControlSection, LineFault, Place};
-pub use places::{Places, place_all};
+pub use places::{Places, place_all, place_with_faults};
 pub use roles::Role;

@@ -2,7 +2,8 @@
 
 ghost use Rattle.std.specs.Prelude.{◌≡◌, ◌≤◌, ◌+◌, [], List as Elements, ℕ, map, IfOk, OnOk};
 ghost use Rattle.cx_terms.specs.Digits.{bound};
-ghost use Rattle.cx_places.specs.Known.{after, after_line, at_start, control_after, length_after, length_of_section, literal_fault, next_in, parts_in, pool_after, pools_after, section_after};
+ghost use Rattle.cx_places.specs.AllFaults.{stmt_fault};
+ghost use Rattle.cx_places.specs.Known.{after, after_line, at_start, control_after, fault_in, length_after, length_of_section, literal_fault, next_in, parts_in, pool_after, pools_after, section_after};
 ghost use Rattle.cx_places.specs.Parts.Judging.{heading_in, judged_in};
 ghost use Rattle.cx_places.specs.Parts.Passing.{known_to, length_in};
 
@@ -173,10 +174,16 @@ impl<'a> Pass<'a> {
         Ok(Judged { laid, value, fault })
     }
 
-    /// Takes a statement in.
+    /// Takes a statement in, and answers its lowest fault.
     #[tactic(auto, unfolding(crate::specs::Known::after, crate::specs::Parts::Judging::judged_in))]
-    fn take(&mut self, alloc: Global, line: usize, stmt: &'a Stmt) -> Result<(), AllocError>
-        ensures { OnOk result (known_to self.new ≡ after line stmt.now (known_to self.old)) }
+    fn take(
+        &mut self,
+        alloc: Global,
+        line: usize,
+        stmt: &'a Stmt,
+    ) -> Result<Option<FaultKind>, AllocError>
+        ensures known { OnOk result (known_to self.new ≡ after line stmt.now (known_to self.old)) }
+        ensures fault { IfOk result (λ fault. fault ≡ fault_in stmt.now (known_to self.old)) }
     {
         let heading = self.heading(stmt);
         let operand = stmt.operand.as_slice();
@@ -194,8 +201,8 @@ impl<'a> Pass<'a> {
         )?;
         let user = self.places.len();
         let literals = use_pool(heading.role, user, parts.as_slice(), &mut self.pool)?;
-        let first = self.fault;
-        self.fault = first_fault_behind(line, lower(fault, literals), first);
+        let lowest = lower(fault, literals);
+        self.fault = first_fault_behind(line, lowest, self.fault);
         self.places.push(Place {
             section: self.section,
             offset: laid.offset,
@@ -204,16 +211,21 @@ impl<'a> Pass<'a> {
         })?;
         self.section = section_after(&heading);
         self.control = control_after(&heading);
-        Ok(())
+        Ok(lowest)
     }
 
-    /// Takes a line in.
-    pub(crate) fn take_line(&mut self, alloc: Global, item: &'a Item) -> Result<(), AllocError>
-        ensures { OnOk result (known_to self.new ≡ after_line item.now.line item.now.stmt (known_to self.old)) }
+    /// Takes a line in, and answers its statement's lowest fault.
+    pub(crate) fn take_line(
+        &mut self,
+        alloc: Global,
+        item: &'a Item,
+    ) -> Result<Option<FaultKind>, AllocError>
+        ensures known { OnOk result (known_to self.new ≡ after_line item.now.line item.now.stmt (known_to self.old)) }
+        ensures fault { IfOk result (λ fault. fault ≡ stmt_fault item.now.stmt (known_to self.old)) }
     {
-        if let Some(stmt) = &item.stmt {
-            self.take(alloc, item.line, stmt)?;
+        match &item.stmt {
+            Some(stmt) => self.take(alloc, item.line, stmt),
+            None => Ok(None),
         }
-        Ok(())
     }
 }

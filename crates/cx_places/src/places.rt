@@ -1,10 +1,12 @@
 //! Where everything stands.
 
-ghost use Rattle.std.specs.Prelude.{◌≡◌, IfOk, List as Elements, ℕ, reverse};
+ghost use Rattle.std.specs.Prelude.{◌≡◌, [], IfOk, List as Elements, OnOk, ℕ, reverse};
+ghost use Rattle.cx_places.specs.AllFaults.{faults_after, place_faults};
 ghost use Rattle.cx_places.specs.Known.{at_start, known_behind};
 ghost use Rattle.cx_places.specs.Parts.Passing.{known_to};
 ghost use Rattle.cx_places.specs.Placed.{IsPlaced, PlacesAs, closing, known_of, storage_length};
 
+use crate::all_faults::LineFaults;
 use crate::layout::Laid;
 use crate::pass::{Pass, length_of_section};
 use crate::place::{ControlSection, LineFault, Place};
@@ -104,4 +106,41 @@ pub fn place_all<'a>(
     }
     let places = finished(alloc, pass)?;
     Ok(Ok(places))
+}
+
+/// The pass over lines, and the faults of all of them.
+fn pass_with_faults<'a>(
+    alloc: Global,
+    items: &'a [Item],
+    faults: &mut LineFaults,
+) -> Result<Pass<'a>, AllocError>
+    requires { faults.old ≡ [] }
+    ensures pass { IfOk result (λ pass. known_to pass ≡ known_behind (reverse items.now)) }
+    ensures faults { OnOk result (faults.new ≡ faults_after (reverse items.now)) }
+{
+    let mut pass = Pass::start(alloc);
+    for item in items {
+        let fault = pass.take_line(alloc, item)?;
+        faults.add(item.line, fault)?;
+    }
+    Ok(pass)
+}
+
+/// Where everything of a source stands, whatever faults it has, and all faults of the first pass.
+///
+/// Where there is none the places are those that `place_all` answers. Of each line with a faulty statement the lowest fault of
+/// all its statements comes, in the order in which the lines' first faults are met. An error comes only where a growth was
+/// refused.
+pub fn place_with_faults<'a>(
+    alloc: Global,
+    source: &'a Source,
+) -> Result<(Places<'a>, List<LineFault>), AllocError>
+    ensures places { IfOk result (λ both. IsPlaced (known_of source.now) both.0) }
+    ensures faults { IfOk result (λ both. both.1 ≡ place_faults source.now) }
+{
+    let mut met = LineFaults::new(alloc);
+    let pass = pass_with_faults(alloc, source.items.as_slice(), &mut met)?;
+    let places = finished(alloc, pass)?;
+    let faults = met.to_list(alloc)?;
+    Ok((places, faults))
 }

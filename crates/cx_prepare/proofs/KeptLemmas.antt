@@ -1,13 +1,17 @@
 -- What stands behind line 10,001 of a source doesn't matter.
 use Rattle.std.proofs.Common.{◌≡◌, ◌≤◌, ℕ, zero, suc, ◌+◌, Bool, true, false, cond, List, [], ◌∷◌, length, map, take, Option, Some, None, refl, sym, ap, ◌∙◌, arith}
-use Rattle.std.specs.Prelude.{nat_lt, ◌||◌}
-use Rattle.std.specs.Option.{option_or}
-use Rattle.cx_source.specs.Faults.{fault_of, first_fault, has_bad_character, has_bad_continuation, has_bad_name, judged, source_from, source_in}
+use Rattle.std.specs.Prelude.{nat_lt, ◌||◌, Err, Ok, Result}
+use Rattle.std.specs.Option.{option_map_or, option_or}
+use Rattle.cx_source.specs.Faults.{fault_of, first_fault, source_from, source_in}
 use Rattle.cx_source.specs.Lines.{text_of}
 use Rattle.cx_source.specs.Statements.{is_continued, is_last, up_to_end}
+use Rattle.cx_source.specs.declared.source.Source.{Source}
 use Rattle.cx_source.specs.declared.source.SourceFault.{SourceFault}
-use Rattle.cx_source.specs.declared.source.SourceFault.TheVariants.{BadCharacter, BadName, BadContinuation, TooLong}
+use Rattle.cx_source.specs.declared.source.SourceFault.TheVariants.{TooLong}
 use Rattle.cx_prepare.specs.Prepared.{by_source, prepared_of}
+
+abbrev judged : Option SourceFault → Source → Result Source SourceFault
+judged fault source = option_map_or Err fault (Ok source)
 
 abbrev texts_up_to_end : Bool → List (List ℕ) → List (List ℕ)
 texts_up_to_end continues all = up_to_end continues (map text_of all)
@@ -23,12 +27,15 @@ or_true : (a b : Bool) → b ≡ true → (a || b) ≡ true
 or_true true b e = refl
 or_true false b e = e
 
+first_is : (b : Bool) (one other : Option SourceFault) → b ≡ true → cond b one other ≡ one
+first_is true one other e = refl
+first_is false one other e = cc
+
 past : (continues : Bool) (n : ℕ) (line : List ℕ) → n ≡ 10001 → fault_of continues n line ≡ Some (TooLong n)
 unfolding fault_of
 past continues n line e =
     let late : nat_lt 10000 n ≡ true = ap (nat_lt 10000) e in
-    ap (λ b. cond b (Some (TooLong n)) (cond (has_bad_character line) (Some (BadCharacter n)) (cond (has_bad_continuation continues line) (Some (BadContinuation n)) (cond (has_bad_name continues line) (Some (BadName n)) None))))
-    (or_true (nat_lt 80 (length line)) (nat_lt 10000 n) late)
+    first_is _ _ _ (or_true (nat_lt 80 (length line)) (nat_lt 10000 n) late)
 
 -- one line more
 longer : (continues : Bool) (n : ℕ) (line : List ℕ) (some all : List (List ℕ)) (fault : Option SourceFault) (last : Bool)

@@ -59,11 +59,11 @@ translation_told listing disassembly due fault given h e =
 source_due : (listing disassembly : Bool) (due : Result Source SourceFault) (fault : SourceFault) → reader.Answers due (Err fault)
     → Prepares (by_source listing disassembly due) (Err (of_source fault))
 unfolding of_source
-source_due listing disassembly (Ok s) (source.BadCharacter n) h = absurd h
-source_due listing disassembly (Ok s) (source.BadName n) h = absurd h
-source_due listing disassembly (Ok s) (source.BadContinuation n) h = absurd h
-source_due listing disassembly (Ok s) (source.TooLong n) h = absurd h
-source_due listing disassembly (Ok s) (source.NoEnd n) h = absurd h
+source_due listing disassembly (Ok s) (source.BadCharacter n) h = (let no : source.BadCharacter n ≡ source.Memory = h.1 in cc)
+source_due listing disassembly (Ok s) (source.BadName n) h = (let no : source.BadName n ≡ source.Memory = h.1 in cc)
+source_due listing disassembly (Ok s) (source.BadContinuation n) h = (let no : source.BadContinuation n ≡ source.Memory = h.1 in cc)
+source_due listing disassembly (Ok s) (source.TooLong n) h = (let no : source.TooLong n ≡ source.Memory = h.1 in cc)
+source_due listing disassembly (Ok s) (source.NoEnd n) h = (let no : source.NoEnd n ≡ source.Memory = h.1 in cc)
 source_due listing disassembly (Ok s) source.Memory h = tt
 source_due listing disassembly (Err kept) fault h =
     let same : kept ≡ fault = cc in

@@ -144,15 +144,14 @@ fn fed(alloc: Global, lines: &[Text]) -> Result<SourceReader, AllocError>
 #[tactic(auto, unfolding(crate::specs::Prepared::prepared_of))]
 pub fn prepare(
     alloc: Global,
-    lines: Vec<Text>,
+    lines: &[Text],
     listing: bool,
     disassembly: bool,
 ) -> Result<Prepared, PrepareFault>
-    ensures { Prepares (prepared_of listing disassembly lines.items) result }
+    ensures { Prepares (prepared_of listing disassembly lines.now) result }
 {
     cx_source::laws::lines_one_by_one_are_the_source();
-    let reader = fed(alloc, lines.as_slice())?;
-    drop(lines);
+    let reader = fed(alloc, lines)?;
     match reader.finish() {
         Ok(source) => by_translation(alloc, listing, disassembly, source),
         Err(fault) => Err(PrepareFault::from(fault)),

@@ -114,7 +114,7 @@ impl<S: Store + Drop> List<S> {
         requires { IsAllowedLine IsAllowed line }
     {
         match line {
-            Line::Idle => Ok(()),
+            Line::Idle | Line::Lines(_) => Ok(()),
             Line::Action(action) => self.action(rt, action),
             Line::Image(name, stg_len) => self.image_block(rt, name, stg_len, block),
             Line::Source(name, wanted) => self.source(rt, name, wanted, block),
@@ -149,7 +149,7 @@ impl<S: Store + Drop> List<S> {
 /// The lines of the block that a line begins, none where it begins none, and those behind it.
 fn block_of<'a>(line: &Line<Action>, behind: &'a [u8]) -> (&'a [u8], &'a [u8]) {
     match line {
-        Line::Image(_, _) | Line::Source(_, _) => split_block(behind),
+        Line::Image(_, _) | Line::Source(_, _) | Line::Lines(_) => split_block(behind),
         Line::Idle | Line::Action(_) => (b"", behind),
     }
 }

@@ -50,6 +50,7 @@ source_told language number block text (Err prepare.Memory) fault e =
 
 end_told : {A : Type 0} (language : Language A) (number : ℕ) (block : Block) (text : List ℕ) (fault : RunFault) → ended language block ≡ Err fault → Told language number (Some block) text fault
 end_told language number (kind.Image block) text fault e = cc
+end_told language number (kind.Lines block) text fault e = cc
 end_told language number (kind.Source block) text fault e =
     source_told language number block text (prepared_of block.wanted.listing block.wanted.disassembly block.lines) fault e
 
@@ -82,6 +83,7 @@ began_line number None step e = cc
 began_line number (Some line.Idle) step e = let same : step_of number line.Idle ≡ step = cc in subst (Began number None) same tt
 began_line number (Some (line.Image name len)) step e = let same : step_of number (line.Image name len) ≡ step = cc in subst (Began number None) same (refl, refl)
 began_line number (Some (line.Source name wanted)) step e = let same : step_of number (line.Source name wanted) ≡ step = cc in subst (Began number None) same (refl, refl)
+began_line number (Some (line.Lines name)) step e = let same : step_of number (line.Lines name) ≡ step = cc in subst (Began number None) same (refl, refl)
 began_line number (Some (line.Action a)) step e = let same : step_of number (line.Action a) ≡ step = cc in subst (Began number None) same tt
 
 began_more : {A : Type 0} (number : ℕ) (block : Block) (more : Option Block) (step : Step A) → IfSome more (λ next. first_line next ≡ first_line block)
@@ -97,18 +99,22 @@ same_first block (Some bytes) = refl
 line_kept : (block : Block) (text : List ℕ) → IfSome (with_line block text) (λ next. first_line next ≡ first_line block)
 line_kept (kind.Image block) text = same_first block (hex_bytes text)
 line_kept (kind.Source block) text = refl
+line_kept (kind.Lines block) text = refl
 
 began_source : {A : Type 0} (language : Language A) (number : ℕ) (block : SourceBlock) (due : Result Prepared PrepareFault) (step : Step A) → source_ended language block due ≡ Ok step
     → Began number (Some (kind.Source block)) step
 began_source language number block (Err fault) step e = cc
 began_source {A} language number block (Ok prepared) step e =
-    let done : Step A = record { action = Some (language.of_block (source_action block prepared)); block = None } in
+    let done : Step A = record { action = Some (language.of_source block.name block.lines (source_action block prepared)); block = None } in
     let same : done ≡ step = cc in subst (Began number (Some (kind.Source block))) same tt
 
 began_end : {A : Type 0} (language : Language A) (number : ℕ) (block : Block) (step : Step A) → ended language block ≡ Ok step → Began number (Some block) step
 began_end {A} language number (kind.Image block) step e =
     let done : Step A = record { action = Some (language.of_block (image_action block)); block = None } in
     let same : done ≡ step = cc in subst (Began number (Some (kind.Image block))) same tt
+began_end {A} language number (kind.Lines block) step e =
+    let done : Step A = record { action = language.of_lines block.line block.name block.lines; block = None } in
+    let same : done ≡ step = cc in subst (Began number (Some (kind.Lines block))) same tt
 began_end language number (kind.Source block) step e =
     began_source language number block (prepared_of block.wanted.listing block.wanted.disassembly block.lines) step e
 

@@ -57,6 +57,7 @@ own_source language block (Err prepare.Memory) h = absurd (h refl)
 
 own_end : {A : Type 0} (language : Language A) (block : Block) → MayBeLed (ended language block)
 own_end language (kind.Image block) = tt
+own_end language (kind.Lines block) = tt
 own_end language (kind.Source block) =
     own_source language block (prepared_of block.wanted.listing block.wanted.disassembly block.lines)
     (prepared_not_memory block.wanted.listing block.wanted.disassembly block.lines)

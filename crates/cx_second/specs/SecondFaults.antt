@@ -15,6 +15,7 @@ use Rattle.cx_operands.specs.Bases.{Bases, none_in_use}
 use Rattle.cx_operands.specs.Directives.{bases_in, copy_fault, entry_in}
 use Rattle.cx_operands.specs.Forms.{resolved}
 use Rattle.cx_places.specs.Given.{location_counter}
+use Rattle.cx_places.specs.AllFaults.{with_fault}
 use Rattle.cx_places.specs.Known.{first_fault_behind, parts_in}
 use Rattle.cx_places.specs.declared.place.LineFault.{LineFault}
 use Rattle.cx_second.specs.Statements.{Stated, operation_of, placed_items}
@@ -82,3 +83,9 @@ judged_after told number s before =
 abbrev pub judged_behind : Whole → List Stated → Judged
 judged_behind told [] = judged none_in_use None
 judged_behind told (s ∷ before) = judged_after told (length before) s (judged_behind told before)
+
+-- the faults of all lines, by statements, the latest first
+abbrev pub second_faults_after : Whole → List Stated → List LineFault
+second_faults_after told [] = []
+second_faults_after told (s ∷ before) =
+    with_fault s.line (second_fault told (judged_behind told before).bases (length before) s) (second_faults_after told before)

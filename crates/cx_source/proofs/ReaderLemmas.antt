@@ -1,7 +1,7 @@
 -- A reader that is fed in pieces answers what the whole source gives.
 use Rattle.std.proofs.Common.{◌≡◌, ◌≢◌, ℕ, ◌+◌, Bool, true, false, ◌||◌, cond, eqb, List, [], ◌∷◌, ◌++◌, length, map, take, fold, Option, Some, None, Result, Ok, Err, refl, sym, ◌∙◌, ap, subst, ◌⊎◌, inl, inr, ⊎_elim}
 use Rattle.std.specs.List.{list_any, slice_split, onto_first, concat, range_with_len}
-use Rattle.std.specs.Option.{option_or}
+use Rattle.std.specs.Option.{option_or, option_map_or}
 use Rattle.std.specs.Str.Lines.{lines, lines_of_parts, strip_carriage_return}
 use Rattle.std.proofs.lemmas.List.{append-nil, append_assoc, length_push, length-map, take_at}
 use Rattle.std.proofs.lemmas.Bool.{eqb-true}
@@ -9,8 +9,8 @@ use Rattle.std.proofs.lemmas.List.Folds.{fold_stays, list_any-append}
 use Rattle.std.proofs.lemmas.Grind.{fold-append}
 use Rattle.cx_source.specs.Lines.{text_of}
 use Rattle.cx_source.specs.Statements.{is_continued, is_last, up_to_end, items_from}
-use Rattle.cx_source.specs.Faults.{fault_of, first_fault, judged, source_from, source_in, source_of}
-use Rattle.cx_source.specs.Reader.{Reading, at_start, behind_fault, behind_line, texts_with, with_line, with_whole_line, take_byte, take_line, take_piece, with_last, closed, finish, Refuses, ReadsAs, IsNoEnd}
+use Rattle.cx_source.specs.Faults.{fault_of, first_fault, source_from, source_in, source_of}
+use Rattle.cx_source.specs.Reader.{Reading, at_start, behind_line, texts_with, with_line, with_whole_line, take_byte, take_line, take_piece, with_last, closed, finish, Refuses, ReadsAs, IsNoEnd}
 use Rattle.cx_source.specs.declared.source.Item.{Item}
 use Rattle.cx_source.specs.declared.source.Source.{Source}
 use Rattle.cx_source.specs.declared.source.SourceFault.{SourceFault}
@@ -20,6 +20,12 @@ use Rattle.cx_source.specs.declared.reader.Progress.TheVariants.{Expects, Ended,
 
 abbrev ends_line : ℕ → Bool
 ends_line b = eqb b 10
+
+abbrev judged : Option SourceFault → Source → Result Source SourceFault
+judged fault source = option_map_or Err fault (Ok source)
+
+abbrev behind_fault : Option SourceFault → Bool → Bool → Progress
+behind_fault fault last continues = option_map_or Faulty fault (cond last Ended (Expects continues))
 
 abbrev reading : List (List ℕ) → List ℕ → Progress → Reading
 reading texts unfinished progress = record { texts = texts; unfinished = unfinished; progress = progress }

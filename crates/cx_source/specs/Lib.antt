@@ -3,4 +3,5 @@ pub mod Marks
 pub mod Statements
 pub mod Faults
 pub mod Reader
+pub mod Facts
 pub use Rattle.cx_ebcdic.specs.Characters

@@ -1,7 +1,6 @@
 -- The lines of a source (OS/VS-DOS/VSE-VM/370 Assembler Language, GC33-4010, "Assembler Language Coding Conventions").
-use Rattle.std.specs.Prelude.{ℕ, ◌-◌, Bool, true, false, ◌&&◌, ◌||◌, not, ◌==◌, nat_le, List, [], ◌∷◌, length, take, drop, codes}
-use Rattle.std.specs.List.{list_all, list_any, suffix_len, position_or_len}
-use Rattle.std.specs.Str.{bytes_eq}
+use Rattle.std.specs.Prelude.{ℕ, ◌-◌, Bool, true, ◌&&◌, ◌||◌, not, ◌==◌, nat_le, List, [], ◌∷◌, length, take, drop, slice_index}
+use Rattle.std.specs.List.{list_all, list_any, suffix_len, position_or_len, before_first}
 
 -- a blank
 abbrev pub is_blank : ℕ → Bool
@@ -44,14 +43,9 @@ is_letter c = (nat_le 65 c && nat_le c 90) || (c == 64) || (c == 35) || (c == 36
 unfoldable pub is_name_character : ℕ → Bool
 is_name_character c = is_letter c || (nat_le 48 c && nat_le c 57)
 
--- It begins with a letter; an empty text doesn't.
-abbrev pub begins_with_letter : List ℕ → Bool
-begins_with_letter [] = false
-begins_with_letter (c ∷ cs) = is_letter c
-
 -- A name: 1 to 8 of these, the first a letter.
 unfoldable pub is_name : List ℕ → Bool
-is_name text = begins_with_letter text && list_all is_name_character text && nat_le (length text) 8
+is_name text = is_letter (slice_index text 0) && list_all is_name_character text && nat_le (length text) 8
 
 -- The entries of a statement's first line: the name from column 1 to the first blank, the operation, and what is behind it to column 71.
 pub record Entries : Type 0 where
@@ -59,10 +53,7 @@ pub record Entries : Type 0 where
   pub operation : List ℕ
   pub behind : List ℕ
 
--- up to the first blank, and from there on
-abbrev pub word : List ℕ → List ℕ
-word text = take (position_or_len is_blank text) text
-
+-- from the first blank on
 abbrev pub behind_word : List ℕ → List ℕ
 behind_word text = drop (position_or_len is_blank text) text
 
@@ -70,8 +61,4 @@ unfoldable pub entries_of : List ℕ → Entries
 entries_of text =
     let body = columns 1 71 text in
     let second = skip_blanks (behind_word body) in
-    record { name = word body; operation = word second; behind = behind_word second }
-
--- The operation END, with which a source ends.
-unfoldable pub is_end : List ℕ → Bool
-is_end text = bytes_eq (entries_of text).operation (codes "END")
+    record { name = before_first is_blank body; operation = before_first is_blank second; behind = behind_word second }

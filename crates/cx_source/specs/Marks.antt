@@ -1,6 +1,6 @@
 -- Which characters of an operand lie outside apostrophes, and cutting an operand there (GC33-4010, "Expressions" and "Terms").
-use Rattle.std.specs.Prelude.{ℕ, ◌+◌, ◌-◌, Bool, false, ◌&&◌, ◌||◌, not, ◌==◌, if◌then◌else◌, List, [], ◌∷◌, ◌++◌}
-use Rattle.cx_source.specs.Lines.{begins_with_letter, is_name_character}
+use Rattle.std.specs.Prelude.{ℕ, ◌+◌, ◌-◌, Bool, false, ◌&&◌, ◌||◌, not, ◌==◌, if◌then◌else◌, List, [], ◌∷◌, ◌++◌, slice_index}
+use Rattle.cx_source.specs.Lines.{is_letter, is_name_character}
 use Rattle.cx_source.specs.declared.marks.Scan.{Scan}
 use Rattle.cx_source.specs.declared.marks.Mark.{Mark}
 use Rattle.cx_source.specs.declared.marks.Mark.TheVariants.{TopComma, Blank, Parenthesis, Closing}
@@ -8,7 +8,7 @@ use Rattle.cx_source.specs.declared.marks.Mark.TheVariants.{TopComma, Blank, Par
 -- L' before a letter, where L begins a term: no name's character stands before it. `before` and `last` are the two characters before the apostrophe.
 unfoldable pub is_length_attribute : ℕ → ℕ → List ℕ → Bool
 is_length_attribute before last behind =
-    last == 76 && not (is_name_character before) && begins_with_letter behind
+    last == 76 && not (is_name_character before) && is_letter (slice_index behind 0)
 
 -- Before an operand's first character: outside apostrophes and parentheses, as behind a blank.
 abbrev pub at_start : Scan

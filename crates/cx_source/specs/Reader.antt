@@ -1,5 +1,6 @@
 -- What a reader of a source is after the bytes that it was fed (this product's own; the source is that of GC33-4010).
-use Rattle.std.specs.Prelude.{ℕ, ◌+◌, ◌≡◌, Bool, false, ◌==◌, if◌then◌else◌, Option, Some, None, Result, Ok, Err, List, [], ◌∷◌, ◌++◌, length, fold}
+use Rattle.std.specs.Prelude.{ℕ, ◌+◌, ◌≡◌, Bool, false, ◌==◌, if◌then◌else◌, Result, Ok, Err, IfOk, IsOkUnless, List, [], ◌∷◌, ◌++◌, length, fold}
+use Rattle.std.specs.Option.{option_map_or}
 use Rattle.std.specs.Str.Lines.{strip_carriage_return}
 use Rattle.cx_source.specs.Lines.{text_of}
 use Rattle.cx_source.specs.Statements.{is_continued, is_last}
@@ -26,19 +27,16 @@ abbrev pub number : Reading → ℕ
 number reading = length reading.texts + 1
 
 -- what a line leads to: by its fault, whether it is END's, and whether it is continued
-abbrev pub behind_fault : Option SourceFault → Bool → Bool → Progress
-behind_fault (Some fault) last continues = Faulty fault
-behind_fault None last continues = if last then Ended else Expects continues
-
 unfoldable pub behind_line : Bool → ℕ → List ℕ → Progress
 behind_line continues number line =
-    behind_fault (fault_of continues number line) (is_last continues (text_of line)) (is_continued continues (text_of line))
+    let text = text_of line in
+    option_map_or Faulty (fault_of continues number line)
+    (if is_last continues text then Ended else Expects (is_continued continues text))
 
 -- a faulty line isn't kept
 abbrev pub texts_with : Progress → List (List ℕ) → List ℕ → List (List ℕ)
 texts_with (Faulty fault) texts text = texts
-texts_with Ended texts text = texts ++ text ∷ []
-texts_with (Expects continues) texts text = texts ++ text ∷ []
+texts_with progress texts text = texts ++ text ∷ []
 
 -- after a whole line
 abbrev pub with_line : Bool → List ℕ → Reading → Reading
@@ -48,11 +46,10 @@ with_line continues line reading =
 
 -- After a byte: LF ends a line. After END and after a fault no byte changes anything.
 abbrev pub with_byte : Progress → Reading → ℕ → Reading
-with_byte Ended reading byte = reading
-with_byte (Faulty fault) reading byte = reading
 with_byte (Expects continues) reading byte =
     if byte == 10 then with_line continues (strip_carriage_return reading.unfinished) reading
     else record { texts = reading.texts; unfinished = reading.unfinished ++ byte ∷ []; progress = reading.progress }
+with_byte progress reading byte = reading
 
 unfoldable pub take_byte : Reading → ℕ → Reading
 take_byte reading byte = with_byte reading.progress reading byte
@@ -63,19 +60,17 @@ take_piece reading piece = fold take_byte reading piece
 
 -- After a line that comes at once, without its end: it goes on with what is unfinished. No byte of it is dropped.
 abbrev pub with_whole_line : Progress → Reading → List ℕ → Reading
-with_whole_line Ended reading line = reading
-with_whole_line (Faulty fault) reading line = reading
 with_whole_line (Expects continues) reading line = with_line continues (reading.unfinished ++ line) reading
+with_whole_line progress reading line = reading
 
 unfoldable pub take_line : Reading → List ℕ → Reading
 take_line reading line = with_whole_line reading.progress reading line
 
 -- the last line needs no LF
 abbrev pub with_last : Progress → Reading → Reading
-with_last Ended reading = reading
-with_last (Faulty fault) reading = reading
 with_last (Expects continues) reading =
     if length reading.unfinished == 0 then reading else with_line continues reading.unfinished reading
+with_last progress reading = reading
 
 -- the source, or the fault
 abbrev pub closed : Progress → Reading → Result Source SourceFault
@@ -89,16 +84,13 @@ finish reading = let last = with_last reading.progress reading in closed last.pr
 
 -- What a call answers whose only other answer is a refused growth: a fault always, a source unless memory runs out.
 abbrev pub Answers : Result Source SourceFault → Result Source SourceFault → Type 0
-Answers (Ok source) (Ok found) = found ≡ source
-Answers (Ok source) (Err Memory) = Unit {0}
-Answers (Ok source) (Err fault) = ⊥
+Answers (Ok source) result = IfOk result (λ found. found ≡ source) × IsOkUnless result Memory
 Answers (Err due) result = result ≡ Err due
 
 -- The answer is the one due, unless memory runs out.
 abbrev pub ReadsAs : Result Source SourceFault → Result Source SourceFault → Type 0
-ReadsAs due (Ok found) = due ≡ Ok found
 ReadsAs due (Err Memory) = Unit {0}
-ReadsAs due (Err fault) = due ≡ Err fault
+ReadsAs due result = due ≡ result
 
 -- What feeding leaves where it answers an error, by what it should leave: as it was where a growth was refused, else the fault, which is kept.
 abbrev pub Refuses : SourceFault → Reading → Reading → Reading → Type 0

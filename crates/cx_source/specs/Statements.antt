@@ -1,8 +1,8 @@
 -- A source as the list of its lines: which lines stand alone, which continue a statement, and the statements (GC33-4010, "Assembler Language Coding Conventions").
 -- A line's text is its columns 1 to 72 without the blanks at their end.
-use Rattle.std.specs.Prelude.{ℕ, ◌+◌, Bool, true, false, ◌&&◌, ◌||◌, not, if◌then◌else◌, Option, Some, None, List, [], ◌∷◌, ◌++◌, take, codes}
+use Rattle.std.specs.Prelude.{ℕ, ◌+◌, Bool, true, false, ◌&&◌, ◌||◌, not, if◌then◌else◌, Some, None, List, [], ◌∷◌, ◌++◌, take, codes}
 use Rattle.std.specs.Str.{bytes_eq}
-use Rattle.cx_source.specs.Lines.{trimmed, skip_blanks, columns, is_marked, is_comment, is_end, entries_of}
+use Rattle.cx_source.specs.Lines.{trimmed, skip_blanks, columns, is_marked, is_comment, entries_of}
 use Rattle.cx_source.specs.Marks.{first_mark}
 use Rattle.cx_source.specs.declared.marks.Mark.TheVariants.{Blank}
 use Rattle.cx_source.specs.declared.source.Stmt.{Stmt}
@@ -16,7 +16,7 @@ is_continued continues text = is_marked text && (continues || not (is_comment te
 
 -- The source ends with this line: it begins END's statement, which isn't continued.
 unfoldable pub is_last : Bool → List ℕ → Bool
-is_last continues text = not continues && not (is_comment text) && is_end text
+is_last continues text = not continues && not (is_comment text) && bytes_eq (entries_of text).operation (codes "END")
 
 -- the lines up to END's; those behind it aren't read
 abbrev pub up_to_end : Bool → List (List ℕ) → List (List ℕ)
@@ -42,12 +42,10 @@ statement_of text more =
     let entries = entries_of text in
     record { name = entries.name; operation = entries.operation; operand = operand_in entries.operation (entries.behind ++ written_on (is_marked text) more) }
 
--- A statement begins on each line that neither is a comment nor continues one.
-unfoldable pub statement_at : Bool → List ℕ → List (List ℕ) → Option Stmt
-statement_at continues text more = if continues || is_comment text then None else Some (statement_of text more)
-
--- the lines with their numbers and statements
+-- The lines with their numbers and statements. A statement begins on each line that neither is a comment nor continues
+-- one.
 abbrev pub items_from : Bool → ℕ → List (List ℕ) → List Item
 items_from continues number [] = []
 items_from continues number (text ∷ more) =
-    record { line = number; text = text; stmt = statement_at continues text more } ∷ items_from (is_continued continues text) (number + 1) more
+    let stmt = if continues || is_comment text then None else Some (statement_of text more) in
+    record { line = number; text = text; stmt = stmt } ∷ items_from (is_continued continues text) (number + 1) more

@@ -1,7 +1,10 @@
 //! What may be wrong with one line.
 
-ghost use Rattle.std.specs.Prelude.{◌≡◌, ◌≤◌, IfNone};
-ghost use Rattle.cx_source.specs.Faults.{fault_of, has_bad_character, has_bad_continuation, is_too_long, is_well_named};
+ghost use Rattle.std.specs.Prelude.{◌≡◌, ◌≤◌, ◌&&◌, ◌||◌, IfNone, is_none, length, nat_lt};
+ghost use Rattle.std.specs.List.{list_any};
+ghost use Rattle.cx_ebcdic.specs.Characters.{code_of};
+ghost use Rattle.cx_source.specs.Lines.{columns, is_written};
+ghost use Rattle.cx_source.specs.Faults.{fault_of, is_well_named};
 
 use crate::lines::{columns, entries_of, has_written, is_comment, is_name, text_of};
 use crate::source::SourceFault;
@@ -21,14 +24,14 @@ const MARGIN: usize = 15;
 
 /// Whether a line has too many columns, or comes behind too many lines.
 fn is_too_long(number: usize, line: &[u8]) -> bool
-    ensures { result ≡ is_too_long number line.now }
+    ensures { result ≡ (nat_lt 80 (length line.now) || nat_lt 10000 number) }
 {
     line.len() > COLUMNS || number > LINES
 }
 
 /// Whether a character in columns 1 to 72 has no EBCDIC code.
 fn has_bad_character(line: &[u8]) -> bool
-    ensures { result ≡ has_bad_character line.now }
+    ensures { result ≡ list_any (λ c. is_none (code_of c)) (columns 1 72 line.now) }
 {
     columns(line, 1, MARK)
         .iter()
@@ -37,7 +40,7 @@ fn has_bad_character(line: &[u8]) -> bool
 
 /// Whether a line that continues a statement has anything in its margin.
 fn has_bad_continuation(continues: bool, line: &[u8]) -> bool
-    ensures { result ≡ has_bad_continuation continues line.now }
+    ensures { result ≡ (continues && list_any is_written (columns 1 15 line.now)) }
 {
     continues && has_written(columns(line, 1, MARGIN))
 }

@@ -1,6 +1,7 @@
 //! The lines of an assembler source, and the statements that they hold.
 #![tactic(auto)]
 
+mod all_faults;
 mod faults;
 pub mod laws;
 mod lines;
@@ -9,6 +10,7 @@ mod reader;
 mod source;
 mod statements;
 
+pub use all_faults::source_or_faults;
 pub use lines::{
     begins_with_letter, is_letter, is_name, is_name_character, skip_blanks, text_of, trimmed,
 };

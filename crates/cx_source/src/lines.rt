@@ -1,8 +1,9 @@
 //! One line of a source.
 
-ghost use Rattle.std.specs.Prelude.{◌≡◌, ◌≤◌, length, position};
-ghost use Rattle.std.specs.List.{list_all, list_any, position_or_len};
-ghost use Rattle.cx_source.specs.Lines.{begins_with_letter, behind_word, columns, entries_of, is_blank, is_comment, is_end, is_letter, is_marked, is_name, is_name_character, is_written, skip_blanks, text_of, trimmed, word};
+ghost use Rattle.std.specs.Prelude.{◌≡◌, ◌≤◌, codes, length, position, slice_index};
+ghost use Rattle.std.specs.List.{before_first, list_all, list_any, position_or_len};
+ghost use Rattle.std.specs.Str.{bytes_eq};
+ghost use Rattle.cx_source.specs.Lines.{behind_word, columns, entries_of, is_blank, is_comment, is_letter, is_marked, is_name, is_name_character, is_written, skip_blanks, text_of, trimmed};
 
 /// A blank.
 pub(crate) const BLANK: u8 = b' ';
@@ -124,8 +125,9 @@ pub fn is_name_character(c: u8) -> bool
 }
 
 /// Whether a text begins with a letter; an empty one doesn't.
+#[tactic(auto, unfolding(crate::specs::Lines::is_letter))]
 pub fn begins_with_letter(text: &[u8]) -> bool
-    ensures { result ≡ begins_with_letter text.now }
+    ensures { result ≡ is_letter (slice_index text.now 0) }
 {
     match text {
         [] => false,
@@ -161,7 +163,7 @@ pub(crate) struct Entries<'a> {
 
 /// A text up to its first blank, and from there on.
 fn split_word(text: &[u8]) -> (&[u8], &[u8])
-    ensures word { result.0.now ≡ word text.now }
+    ensures word { result.0.now ≡ before_first is_blank text.now }
     ensures behind { result.1.now ≡ behind_word text.now }
 {
     text.split_at(word_len(text))
@@ -184,9 +186,8 @@ pub(crate) fn entries_of(text: &[u8]) -> Entries<'_>
 }
 
 /// Whether a statement's first line is END's.
-#[tactic(auto, unfolding(crate::specs::Lines::is_end))]
 pub(crate) fn is_end(text: &[u8]) -> bool
-    ensures { result ≡ is_end text.now }
+    ensures { result ≡ bytes_eq (entries_of text.now).operation (codes "END") }
 {
     entries_of(text).operation == b"END".as_slice()
 }

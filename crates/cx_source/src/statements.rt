@@ -1,8 +1,8 @@
 //! The statements of a source, made of the texts of its lines.
 
-ghost use Rattle.std.specs.Prelude.{◌≡◌, ◌++◌, IfOk, false};
-ghost use Rattle.cx_source.specs.Lines.{is_marked};
-ghost use Rattle.cx_source.specs.Statements.{is_continued, is_last, items_from, operand_in, statement_at, statement_of, written_on};
+ghost use Rattle.std.specs.Prelude.{◌≡◌, ◌++◌, ◌||◌, if◌then◌else◌, IfOk, None, Some, false};
+ghost use Rattle.cx_source.specs.Lines.{is_comment, is_marked};
+ghost use Rattle.cx_source.specs.Statements.{is_continued, is_last, items_from, operand_in, statement_of, written_on};
 
 use crate::lines::{columns, entries_of, is_comment, is_end, is_marked, skip_blanks, trimmed};
 use crate::marks::{Mark, first_mark};
@@ -82,14 +82,14 @@ fn statement_of(alloc: Global, first: &[u8], more: &VecDeque<Text>) -> Result<St
 }
 
 /// The statement that begins on a line, if one does.
-#[tactic(auto, unfolding(crate::specs::Statements::statement_at))]
 fn statement_at(
     alloc: Global,
     continues: bool,
     text: &[u8],
     more: &VecDeque<Text>,
 ) -> Result<Option<Stmt>, AllocError>
-    ensures { IfOk result (λ stmt. stmt ≡ statement_at continues text.now more.now.items) }
+    ensures { IfOk result (λ stmt. stmt
+        ≡ (if continues || is_comment text.now then None else Some (statement_of text.now more.now.items))) }
 {
     if continues || is_comment(text) {
         return Ok(None);

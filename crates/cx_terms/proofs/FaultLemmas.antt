@@ -6,9 +6,9 @@ use Rattle.std.specs.Result.{result_err}
 use Rattle.cx_terms.proofs.TermLemmas.{drop_item}
 use Rattle.cx_terms.specs.Terms.{Term}
 use Rattle.cx_terms.specs.Worth.{term_worth}
-use Rattle.cx_terms.specs.Expressions.{lowest_fault}
 use Rattle.cx_terms.specs.declared.values.Value.{Value}
 use Rattle.cx_terms.specs.Faults.{lower}
+use Rattle.cx_terms.specs.Expressions.{lowest_fault}
 use Rattle.cx_terms.specs.declared.faults.FaultKind.{FaultKind}
 
 pub lower_in_turn : (a b c : Option FaultKind) → lower (lower a b) c ≡ lower a (lower b c)

@@ -1,11 +1,54 @@
 -- One character more of values with commas between.
-use Rattle.std.proofs.Common.{◌≡◌, ◌+◌, ◌<◌, ◌≤◌, ℕ, Bool, true, false, List, [], ◌∷◌, ◌++◌, length, get_or, drop, add-one, append_assoc, refl, arith}
+use Rattle.std.proofs.Common.{◌≡◌, ◌+◌, ◌<◌, ◌≤◌, ℕ, Bool, true, false, cond, List, [], ◌∷◌, ◌++◌, length, get_or, drop, add-one, append_assoc, append-nil, sym, refl, ap, ◌∙◌, arith}
 use Rattle.std.specs.Prelude.{◌==◌, sum_by}
-use Rattle.std.specs.List.{slice_range, list_all}
+use Rattle.std.specs.List.{slice_range, list_all, slice_split, onto_first}
 use Rattle.std.proofs.lemmas.List.Sums.{sum_by-cons}
 use Rattle.std.proofs.Math.Seq.{drop-cons}
-use Rattle.cx_terms.specs.Fields.{fields_from, is_decimal}
+use Rattle.cx_terms.specs.Fields.{fields, is_decimal}
 use Rattle.cx_terms.proofs.TermLemmas.{range_more, range_none}
+
+-- the values between commas; `part` is what stands of the first already
+abbrev pub fields_from : List ℕ → List ℕ → List (List ℕ)
+fields_from part [] = part ∷ []
+fields_from part (c ∷ behind) = cond (c == 44) (part ∷ fields_from [] behind) (fields_from (part ++ c ∷ []) behind)
+
+abbrev onto : List ℕ → List (List ℕ) → List (List ℕ)
+onto part [] = part ∷ []
+onto part (one ∷ more) = (part ++ one) ∷ more
+
+onto_one : (part : List ℕ) (c : ℕ) (parts : List (List ℕ)) → onto (part ++ c ∷ []) parts ≡ onto part (onto_first c parts)
+onto_one part c [] = refl
+onto_one part c (one ∷ more) = ap (λ x. x ∷ more) (append_assoc part (c ∷ []) one)
+
+onto_none : (body : List ℕ) → onto [] (slice_split (λ c. c == 44) body) ≡ slice_split (λ c. c == 44) body
+onto_none [] = refl
+onto_none (c ∷ behind) = go (c == 44) (slice_split (λ c. c == 44) behind)
+  where
+    go : (b : Bool) (parts : List (List ℕ)) → onto [] (cond b ([] ∷ parts) (onto_first c parts)) ≡ cond b ([] ∷ parts) (onto_first c parts)
+    go true parts = refl
+    go false [] = refl
+    go false (one ∷ more) = refl
+
+from_split : (part body : List ℕ) → fields_from part body ≡ onto part (slice_split (λ c. c == 44) body)
+from_split part [] = ap (λ x. x ∷ []) (sym (append-nil part))
+from_split part (c ∷ behind) =
+    go (c == 44) (from_split [] behind ∙ onto_none behind) (from_split (part ++ c ∷ []) behind ∙ onto_one part c (slice_split (λ c. c == 44) behind))
+  where
+    go : (b : Bool) → fields_from [] behind ≡ slice_split (λ c. c == 44) behind
+        → fields_from (part ++ c ∷ []) behind ≡ onto part (onto_first c (slice_split (λ c. c == 44) behind))
+        → cond b (part ∷ fields_from [] behind) (fields_from (part ++ c ∷ []) behind)
+        ≡ onto part (cond b ([] ∷ slice_split (λ c. c == 44) behind) (onto_first c (slice_split (λ c. c == 44) behind)))
+    go true one other = ap (λ x. part ∷ x) one ∙ ap (λ x. x ∷ slice_split (λ c. c == 44) behind) (sym (append-nil part))
+    go false one other = other
+
+pub split_at_commas : (body : List ℕ) → fields_from [] body ≡ fields body
+split_at_commas body = from_split [] body ∙ onto_none body
+
+pub all_split : (body : List ℕ) → list_all is_decimal (fields_from [] body) ≡ list_all is_decimal (fields body)
+all_split body = ap (list_all is_decimal) (split_at_commas body)
+
+pub sum_split : (f : List ℕ → ℕ) (body : List ℕ) → 0 + sum_by f (fields_from [] body) ≡ sum_by f (fields body)
+sum_split f body = let e = ap (sum_by f) (split_at_commas body) in omega (arith, e)
 
 -- a comma ends a value
 pub fields_cut : (body : List ℕ) (start i : ℕ) → i < length body → (get_or body i 0 == 44) ≡ true

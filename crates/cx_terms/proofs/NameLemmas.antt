@@ -1,10 +1,11 @@
 -- A name's characters are ASCII, so that a name is a text.
 use Rattle.std.proofs.Common.{◌≡◌, ℕ, ◌<◌, zero, suc, Bool, true, false, ◌&&◌, List, [], ◌∷◌, refl, arith}
+use Rattle.std.specs.Prelude.{slice_index}
 use Rattle.std.specs.List.{list_all}
 use Rattle.std.specs.Str.{IsAscii, IsUtf8}
 use Rattle.std.proofs.lemmas.Str.{IsUtf8-from_ascii}
 use Rattle.std.proofs.lemmas.Bool.Decides.{nat_tests}
-use Rattle.cx_source.specs.Lines.{is_letter, is_name_character, is_name, begins_with_letter}
+use Rattle.cx_source.specs.Lines.{is_letter, is_name_character, is_name}
 
 both : (a b : Bool) → (a && b) ≡ true → (a ≡ true) × (b ≡ true)
 both true b e = (refl, e)
@@ -22,5 +23,5 @@ all_small (c ∷ cs) e (suc i) = all_small cs (both (is_name_character c) (list_
 pub names_are_text : (text : List ℕ) → is_name text ≡ true → IsUtf8 text
 unfolding is_name
 names_are_text text e =
-    let first : (begins_with_letter text && list_all is_name_character text) ≡ true = (both _ _ e).0 in
+    let first : (is_letter (slice_index text 0) && list_all is_name_character text) ≡ true = (both _ _ e).0 in
     IsUtf8-from_ascii text (all_small text (both _ _ first).1)

@@ -1,16 +1,20 @@
 -- Lemmas on the terms of an expression.
-use Rattle.std.proofs.Common.{◌≡◌, ℕ, suc, ◌+◌, ◌-◌, ◌<◌, take, ◌≤◌, ◌&&◌, Bool, true, false, get_or, drop, add-one, List, [], ◌∷◌, ◌++◌, length, refl, sym, ap, ◌∙◌, Option, Some, None, append_assoc, arith}
-use Rattle.std.specs.Prelude.{option_map}
+use Rattle.std.proofs.Common.{◌≡◌, ℕ, suc, ◌+◌, ◌-◌, ◌<◌, take, ◌≤◌, ◌&&◌, Bool, true, false, cond, get_or, drop, add-one, List, [], ◌∷◌, ◌++◌, length, refl, sym, ap, ◌∙◌, Option, Some, None, append_assoc, arith}
+use Rattle.std.specs.Prelude.{option_map, ◌==◌}
 use Rattle.std.specs.List.{slice_range}
 use Rattle.std.proofs.lemmas.List.{length-drop, take_more, get_or-drop}
 use Rattle.std.proofs.Math.Seq.{drop-cons}
 use Rattle.std.proofs.lemmas.Grind.{common_steps, pieces}
-use Rattle.cx_terms.specs.Terms.{Part, part_of, parts_from, is_sign, sign_of}
+use Rattle.cx_terms.specs.Terms.{Part, part_of, parts_from, is_sign}
 use Rattle.cx_terms.specs.declared.terms.Sign.{Sign}
+use Rattle.cx_terms.specs.declared.terms.Sign.TheVariants.{Plus, Minus}
 use Rattle.cx_source.specs.Marks.{outside, outside_from, passed}
 use Rattle.cx_source.specs.Marks.{at_start}
 use Rattle.cx_source.specs.declared.marks.Scan.{Scan}
 use Rattle.cx_ebcdic.specs.Lookup.{each_some}
+
+abbrev pub sign_of : ℕ → Sign
+sign_of c = cond (c == 45) Minus Plus
 
 from-length : (scan : Scan) (text : List ℕ) → length (outside_from scan text) ≡ length text
 from-length scan [] = refl

@@ -6,8 +6,14 @@ use Rattle.std.specs.List.{filter, list_all}
 use Rattle.std.specs.Map.{lookup}
 use Rattle.std.proofs.lemmas.Int.{ints}
 use Rattle.cx_terms.specs.Names.{is_same}
-use Rattle.cx_terms.specs.Weights.{Weights, Weighs, weight, weight_in, stands_in, unit, put, put_in, weights_from, is_heavy, section_in, relocation}
+use Rattle.cx_terms.specs.Weights.{Weights, Weighs, weight, stands_in, unit, put, put_in, weights_from, section_in, relocation}
 use Rattle.cx_terms.specs.declared.expressions.Signed.{Signed}
+
+abbrev pub is_heavy : List ℕ × ℤ → Bool
+is_heavy entry = not (int_eq entry.1 (pos 0))
+
+abbrev weight_in : List ℕ → Signed → ℤ
+weight_in name value = cond (stands_in name value.value.section) (unit value.sign) (pos 0)
 
 pub same_name : (a b : List ℕ) → is_same a b ≡ true → a ≡ b
 same_name a b e = search rules

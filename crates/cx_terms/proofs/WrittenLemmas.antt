@@ -10,9 +10,15 @@ use Rattle.cx_source.specs.Lines.{is_name}
 use Rattle.cx_source.specs.Marks.{outside}
 use Rattle.cx_terms.specs.Digits.{is_number}
 use Rattle.cx_terms.specs.Texts.{closed}
-use Rattle.cx_terms.specs.Terms.{Part, Term, is_sign, sign_of, parts_from, parts_of, plain_term, self_defining, quoted_term, read_term, terms_of, is_short_number, is_short_text, written_sign, written}
+use Rattle.cx_terms.specs.Terms.{Part, Term, is_sign, parts_from, parts_of, term_of, self_defining, quoted_term, read_term, terms_of, is_short_number, is_short_text, written_sign, written}
 use Rattle.cx_terms.specs.declared.terms.Sign.{Sign}
 use Rattle.cx_terms.specs.declared.terms.Sign.TheVariants.{Plus}
+use Rattle.cx_terms.specs.declared.terms.TermKind.TheVariants.{Symbol, Decimal}
+use Rattle.cx_terms.proofs.TermLemmas.{sign_of}
+
+-- a symbol or a decimal
+abbrev plain_term : Sign → List ℕ → Option Term
+plain_term sign text = cond (is_name text) (Some (term_of sign Symbol text)) (cond (is_number 10 text) (Some (term_of sign Decimal text)) None)
 
 -- a part behind its sign
 abbrev part_text : Part → List ℕ

@@ -1,6 +1,7 @@
 -- The bytes of a constant (GC33-4010, "DC -- Define Constant").
 use Rattle.std.specs.Prelude.{ℕ, zero, suc, ℤ, pos, neg_ℤ, int_le, int_lt, ◌+◌, ◌-◌, ◌*◌, ◌^◌, Bool, true, false, ◌&&◌, ◌==◌, nat_le, nat_lt, if◌then◌else◌, Option, Some, None, Result, Ok, Err, List, [], ◌∷◌, ◌++◌, length, map, take, replicate, slice_index, codes, unwrap_or}
 use Rattle.std.specs.List.{flat_map}
+use Rattle.std.specs.Option.{option_map_or}
 use Rattle.std.specs.Str.{bytes_eq}
 use Rattle.std.specs.Int.{w128}
 use Rattle.byteorder.specs.Endian.{big_bytes, low_bytes}
@@ -25,11 +26,6 @@ pub record Made : Type 0 where
 
 abbrev pub made : List ℕ → Bool → Made
 made bytes is_relocated = record { bytes = bytes; is_relocated = is_relocated }
-
--- ---- characters
--- so many bytes: filled with blanks, or cut, on the right
-abbrev pub left_justified : ℕ → List ℕ → List ℕ
-left_justified n bytes = take n (bytes ++ replicate n 64)
 
 -- ---- half bytes, counted from the right; those that aren't written are zero
 abbrev pub digit_from_right : List ℕ → ℕ → ℕ
@@ -59,23 +55,13 @@ half_bytes kind value zero = []
 half_bytes kind value (suc r) = (half_byte kind value (r * 2 + 1) * 16 + half_byte kind value (r * 2)) ∷ half_bytes kind value r
 
 -- ---- binary numbers
--- the numbers from 0 whose highest bit of n bytes is zero are below this
-abbrev pub half_range : ℕ → ℕ
-half_range n = 2 ^ (8 * n - 1)
-
 -- binary numbers have 1 to 4 bytes
 abbrev pub is_word : ℕ → Bool
 is_word n = nat_le 1 n && nat_le n 4
 
-abbrev pub is_between : ℕ → ℤ → ℕ → Bool
-is_between low number high = int_le (neg_ℤ (pos low)) number && int_lt number (pos high)
-
--- a signed number of n bytes; an absolute address may be an unsigned one too
-abbrev pub is_signed_word : ℕ → ℤ → Bool
-is_signed_word n number = is_word n && is_between (half_range n) number (half_range n)
-
-abbrev pub is_absolute_word : ℕ → ℤ → Bool
-is_absolute_word n number = is_word n && is_between (half_range n) number (2 ^ (8 * n))
+-- a number of n bytes, from the least signed one up to a bound
+abbrev pub is_below : ℕ → ℤ → ℕ → Bool
+is_below n number high = is_word n && int_le (neg_ℤ (pos (2 ^ (8 * n - 1)))) number && int_lt number (pos high)
 
 -- the lowest n bytes of a number in two's complement, the highest of them first
 abbrev pub integer_bytes : ℕ → ℤ → List ℕ
@@ -91,16 +77,13 @@ bounded_decimal value = if nat_le (number_in 10 (unsigned value)) bound then Som
 
 abbrev pub range_fault : ℕ → Option ℤ → Option FaultKind
 range_fault n None = Some ValueOutOfRange
-range_fault n (Some number) = if is_signed_word n number then None else Some ValueOutOfRange
+range_fault n (Some number) = if is_below n number (2 ^ (8 * n - 1)) then None else Some ValueOutOfRange
 
 abbrev pub integer_fault : ℕ → List ℕ → Option FaultKind
 integer_fault n value = if is_decimal value then range_fault n (bounded_decimal value) else Some BadOperand
 
 abbrev pub integer_of : List ℕ → ℤ
 integer_of value = unwrap_or (bounded_decimal value) (pos 0)
-
-abbrev pub is_command_entry : List ℕ → Bool
-is_command_entry value = bytes_eq value (codes "DFHEI1")
 
 abbrev pub value_fault : ConstantKind → ℕ → List ℕ → Option FaultKind
 value_fault Character n value = bad_unless (has_codes value)
@@ -109,69 +92,52 @@ value_fault Binary n value = bad_unless (is_number 2 value)
 value_fault Fullword n value = integer_fault n value
 value_fault Halfword n value = integer_fault n value
 value_fault Packed n value = bad_unless (is_decimal value)
-value_fault Address n value = None
-value_fault External n value = bad_unless (is_command_entry value)
-value_fault Doubleword n value = None
+value_fault External n value = bad_unless (bytes_eq value (codes "DFHEI1"))
+value_fault kind n value = None
 
+-- characters are filled with blanks, or cut, on the right
 abbrev pub value_bytes : ConstantKind → ℕ → List ℕ → List ℕ
-value_bytes Character n value = left_justified n (map code (characters value))
-value_bytes Hexadecimal n value = half_bytes Hexadecimal value n
-value_bytes Binary n value = half_bytes Binary value n
+value_bytes Character n value = take n (map code (characters value) ++ replicate n 64)
 value_bytes Fullword n value = integer_bytes n (integer_of value)
 value_bytes Halfword n value = integer_bytes n (integer_of value)
-value_bytes Packed n value = half_bytes Packed value n
 value_bytes Address n value = []
 value_bytes External n value = 0 ∷ 0 ∷ 8 ∷ 0 ∷ []
 value_bytes Doubleword n value = []
+value_bytes kind n value = half_bytes kind value n
 
 -- ---- all values of a constant that is no address
-abbrev pub fault_of_value : ConstantKind → Option ℕ → List ℕ → Option FaultKind
-fault_of_value kind modifier value = value_fault kind (value_length kind modifier value) value
-
-abbrev pub bytes_of_value : ConstantKind → Option ℕ → List ℕ → List ℕ
-bytes_of_value kind modifier value = value_bytes kind (value_length kind modifier value) value
-
 -- the lowest fault of all values
 abbrev pub values_fault : ConstantKind → Option ℕ → List (List ℕ) → Option FaultKind
-values_fault kind modifier values = lowest (map (fault_of_value kind modifier) values)
+values_fault kind modifier values =
+    lowest (map (λ value. value_fault kind (value_length kind modifier value) value) values)
 
 -- their bytes, one behind the other
 abbrev pub values_bytes : ConstantKind → Option ℕ → List (List ℕ) → List ℕ
-values_bytes kind modifier values = flat_map (bytes_of_value kind modifier) values
-
-abbrev pub made_unless : Option FaultKind → List ℕ → Result Made FaultKind
-made_unless None bytes = Ok (made bytes false)
-made_unless (Some fault) bytes = Err fault
+values_bytes kind modifier values = flat_map (λ value. value_bytes kind (value_length kind modifier value) value) values
 
 abbrev pub plain_made : ConstantKind → Option ℕ → List ℕ → Result Made FaultKind
 plain_made kind modifier body =
     let values = values_in (row_of kind).style body in
-    made_unless (values_fault kind modifier values) (values_bytes kind modifier values)
+    option_map_or Err (values_fault kind modifier values) (Ok (made (values_bytes kind modifier values) false))
 
 -- ---- an address of n bytes
 -- An absolute one is its number. A place must be of the control section and have 4 bytes, which hold its offset; the load address is added to it.
 abbrev pub placed : ℕ → Option (List ℕ) → Option (List ℕ) → ℤ → Result Made FaultKind
-placed n control None number = if is_absolute_word n number then Ok (made (integer_bytes n number) false) else Err ValueOutOfRange
+placed n control None number =
+    if is_below n number (2 ^ (8 * n)) then Ok (made (integer_bytes n number) false) else Err ValueOutOfRange
 placed n control (Some section) number =
     if n == 4 && stands_in section control then Ok (made (integer_bytes 4 number) true) else Err NotRelocatable
 
-abbrev pub addressed : ℕ → Option (List ℕ) → Value → Result Made FaultKind
-addressed n control value = placed n control value.section value.number
-
 abbrev pub address_made : ℕ → Option (List ℕ) → Result Value FaultKind → Result Made FaultKind
-address_made n control (Ok value) = addressed n control value
+address_made n control (Ok value) = placed n control value.section value.number
 address_made n control (Err fault) = Err fault
 
 -- ---- a constant
-abbrev pub is_address : ConstantKind → Bool
-is_address Address = true
-is_address kind = false
-
 abbrev pub body_made : (List ℕ → Option Value) → Option Value → Option (List ℕ) → ConstantKind → Option ℕ → Option (List ℕ) → Result Made FaultKind
 body_made find here control kind modifier None = Ok (made [] false)
-body_made find here control kind modifier (Some body) =
-    if is_address kind then address_made (value_length kind modifier body) control (value_of find here body)
-    else plain_made kind modifier body
+body_made find here control Address modifier (Some body) =
+    address_made (value_length Address modifier body) control (value_of find here body)
+body_made find here control kind modifier (Some body) = plain_made kind modifier body
 
 -- One copy of a constant, where `find` knows the symbols, `here` is what the location counter stands at and `control` is the control section; or the lowest fault of its values.
 unfoldable pub made_of : (List ℕ → Option Value) → Option Value → Option (List ℕ) → Constant → Result Made FaultKind

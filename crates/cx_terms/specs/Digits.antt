@@ -29,6 +29,6 @@ number_in base text = number_from_digits base (map worth_of text)
 abbrev pub bound : ℕ
 bound = 2 ^ 100
 
--- a number that isn't beyond the bound
-abbrev pub bounded : ℕ → Option ℕ
-bounded number = if nat_le number bound then Some number else None
+-- a number that isn't above a greatest one
+abbrev pub at_most : ℕ → ℕ → Option ℕ
+at_most most number = if nat_le number most then Some number else None

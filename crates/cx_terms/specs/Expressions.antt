@@ -1,6 +1,7 @@
 -- What an expression is worth, or what is wrong with it (GC33-4010, "Expressions").
 use Rattle.std.specs.Prelude.{◌≡◌, ℕ, ℤ, pos, ◌+ℤ◌, ◌-ℤ◌, nat_le, unsigned_abs, if◌then◌else◌, Option, Some, None, Result, Ok, Err, List, [], ◌∷◌, map, option_map, option_and_then}
 use Rattle.std.specs.List.{filter_map}
+use Rattle.std.specs.Option.{option_map_or}
 use Rattle.std.specs.Result.{result_ok, result_err}
 use Rattle.cx_terms.specs.Faults.{lowest}
 use Rattle.cx_terms.specs.Digits.{bound}
@@ -20,15 +21,10 @@ use Rattle.cx_terms.specs.declared.faults.TermFault.TheVariants.{Refused, Memory
 abbrev pub lowest_fault : (List ℕ → Option Value) → Option Value → List Term → Option FaultKind
 lowest_fault find here terms = lowest (map (λ term. result_err (term_worth find here term)) terms)
 
-abbrev pub signed : Sign → Value → Signed
-signed sign value = record { sign = sign; value = value }
-
+-- what a term is worth, with its sign
 abbrev pub signed_worth : (List ℕ → Option Value) → Option Value → Term → Option Signed
-signed_worth find here term = option_map (signed term.sign) (result_ok (term_worth find here term))
-
--- what the terms are worth, each with its sign
-abbrev pub values_of : (List ℕ → Option Value) → Option Value → List Term → List Signed
-values_of find here terms = filter_map (signed_worth find here) terms
+signed_worth find here term =
+    option_map (λ (value : Value). record { sign = term.sign; value = value }) (result_ok (term_worth find here term))
 
 -- one number more or less; None beyond the bound
 abbrev pub with_sign : Sign → ℤ → ℤ → ℤ
@@ -58,13 +54,9 @@ located (Some number) (Some section) length = Ok (record { section = section; nu
 unfoldable pub summed : List Signed → Result Value FaultKind
 summed values = located (sum_from (pos 0) values) (relocation values) (leading_length values)
 
-abbrev pub unless : Option FaultKind → Result Value FaultKind → Result Value FaultKind
-unless None result = result
-unless (Some fault) result = Err fault
-
 abbrev pub valued : (List ℕ → Option Value) → Option Value → Option (List Term) → Result Value FaultKind
 valued find here None = Err BadOperand
-valued find here (Some terms) = unless (lowest_fault find here terms) (summed (values_of find here terms))
+valued find here (Some terms) = option_map_or Err (lowest_fault find here terms) (summed (filter_map (signed_worth find here) terms))
 
 -- What an expression is worth, where `find` knows the symbols and `here` is what the location counter stands at. A text that is no expression is BadOperand alone; else the lowest of its terms' faults; then a sum out of bounds; then one that is neither absolute nor a place.
 unfoldable pub value_of : (List ℕ → Option Value) → Option Value → List ℕ → Result Value FaultKind

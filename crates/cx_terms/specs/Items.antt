@@ -1,18 +1,18 @@
 -- One item of a DC, a DS or a literal (GC33-4010, "DC -- Define Constant"): duplication factor, type, length modifier, nominal value.
-use Rattle.std.specs.Prelude.{ℕ, ◌+◌, ◌-◌, ◌*◌, ◌/◌, Bool, true, false, not, ◌&&◌, ◌==◌, nat_le, if◌then◌else◌, Option, Some, None, Result, Ok, Err, List, [], ◌∷◌, length, take, drop, slice_index, option_map, option_and_then, is_some, unwrap_or, sum_by}
-use Rattle.std.specs.List.{list_all}
+use Rattle.std.specs.Prelude.{ℕ, ◌+◌, ◌*◌, ◌/◌, Bool, true, false, not, ◌&&◌, ◌||◌, ◌==◌, if◌then◌else◌, Option, Some, None, Result, Ok, Err, List, [], ◌∷◌, length, take, drop, slice_index, option_map, option_and_then, is_some, unwrap_or, sum_by}
+use Rattle.std.specs.List.{list_all, prefix_len, take_while}
 use Rattle.std.specs.Option.{option_map_or}
 use Rattle.cx_source.specs.Marks.{first_mark}
 use Rattle.cx_source.specs.declared.marks.Mark.TheVariants.{Closing}
-use Rattle.cx_terms.specs.Digits.{is_digit, number_in}
+use Rattle.cx_terms.specs.Digits.{at_most, is_digit, number_in}
 use Rattle.cx_terms.specs.Texts.{closed, is_doubled, is_paired, characters}
 use Rattle.cx_terms.specs.Worth.{greatest}
-use Rattle.cx_terms.specs.Kinds.{row_of, kind_of, greatest_modifier, takes_modifier}
-use Rattle.cx_terms.specs.Fields.{fields, is_decimal, packed_length}
+use Rattle.cx_terms.specs.Kinds.{row_of, kind_of, greatest_modifier}
+use Rattle.cx_terms.specs.Fields.{fields, is_decimal, unsigned}
 use Rattle.cx_terms.specs.declared.kinds.ConstantKind.{ConstantKind}
-use Rattle.cx_terms.specs.declared.kinds.ConstantKind.TheVariants.{Character, Hexadecimal, Binary, Fullword, Halfword, Packed, Address, External, Doubleword}
+use Rattle.cx_terms.specs.declared.kinds.ConstantKind.TheVariants.{Character, Hexadecimal, Binary, Packed, Address, External}
 use Rattle.cx_terms.specs.declared.kinds.Style.{Style}
-use Rattle.cx_terms.specs.declared.kinds.Style.TheVariants.{Text, Values, Expression, Nothing}
+use Rattle.cx_terms.specs.declared.kinds.Style.TheVariants.{Values, Expression, Nothing}
 use Rattle.cx_terms.specs.declared.faults.FaultKind.{FaultKind}
 use Rattle.cx_terms.specs.declared.faults.FaultKind.TheVariants.{BadOperand, ValueOutOfRange}
 
@@ -37,17 +37,9 @@ abbrev pub constant : ℕ → ConstantKind → Option ℕ → Option (List ℕ) 
 constant duplication kind modifier value = record { duplication = duplication; kind = kind; modifier = modifier; value = value }
 
 -- ---- reading an item
--- how many digits a text begins with
-abbrev pub digit_count : List ℕ → ℕ
-digit_count [] = 0
-digit_count (c ∷ behind) = if is_digit 10 c then 1 + digit_count behind else 0
-
--- the digits that a text begins with, and what is behind them
-abbrev pub leading_digits : List ℕ → List ℕ
-leading_digits text = take (digit_count text) text
-
+-- what is behind the digits that a text begins with
 abbrev pub behind_digits : List ℕ → List ℕ
-behind_digits text = drop (digit_count text) text
+behind_digits text = drop (prefix_len (is_digit 10) text) text
 
 -- what stands in apostrophes
 abbrev pub quoted_body : List ℕ → Option (List ℕ)
@@ -60,22 +52,17 @@ parenthesized_body value =
     if slice_index value 0 == 40 && first_mark Closing behind + 1 == length behind then Some (take (first_mark Closing behind) behind) else None
 
 abbrev pub body_in : Style → List ℕ → Option (List ℕ)
-body_in Text value = quoted_body value
-body_in Values value = quoted_body value
 body_in Expression value = parenthesized_body value
 body_in Nothing value = None
+body_in style value = quoted_body value
 
 -- A value's text is whole: in C apostrophes and ampersands stand in twos, in other texts apostrophes do; the values of P without a length modifier are decimals, since they give the length.
 abbrev pub is_whole : ConstantKind → Bool → List ℕ → Bool
 is_whole Character modified body = is_paired body
-is_whole Hexadecimal modified body = is_doubled 39 false body
-is_whole Binary modified body = is_doubled 39 false body
-is_whole Fullword modified body = is_doubled 39 false body
-is_whole Halfword modified body = is_doubled 39 false body
-is_whole Packed modified body = is_doubled 39 false body && (if modified then true else list_all is_decimal (fields body))
+is_whole Packed modified body = is_doubled 39 false body && (modified || list_all is_decimal (fields body))
 is_whole Address modified body = true
 is_whole External modified body = true
-is_whole Doubleword modified body = true
+is_whole kind modified body = is_doubled 39 false body
 
 -- the value of an item, where it is one and isn't empty
 abbrev pub value_body : ConstantKind → Bool → List ℕ → Option (List ℕ)
@@ -92,31 +79,28 @@ with_value is_ds duplication kind modifier value =
 abbrev pub with_modifier : Bool → List ℕ → ConstantKind → List ℕ → Option Written
 with_modifier is_ds duplication kind rest =
     if slice_index rest 0 == 76 then
-    (let behind = drop 1 rest in
-    if takes_modifier kind && not (digit_count behind == 0)
-    then with_value is_ds duplication kind (Some (leading_digits behind)) (behind_digits behind) else None)
+    (let digits = take_while (is_digit 10) (drop 1 rest) in
+    if not ((row_of kind).greatest_in_dc == 0) && not (length digits == 0)
+    then with_value is_ds duplication kind (Some digits) (behind_digits (drop 1 rest)) else None)
     else with_value is_ds duplication kind None rest
 
 -- the item that a text writes, if it writes one
 unfoldable pub written_in : Bool → List ℕ → Option Written
 written_in is_ds text =
     let rest = behind_digits text in
-    option_and_then (λ kind. with_modifier is_ds (leading_digits text) kind (drop 1 rest)) (kind_of (slice_index rest 0))
+    let digits = take_while (is_digit 10) text in
+    option_and_then (λ kind. with_modifier is_ds digits kind (drop 1 rest)) (kind_of (slice_index rest 0))
 
 -- ---- the limits
-abbrev pub at_most : ℕ → ℕ → Option ℕ
-at_most most number = if nat_le number most then Some number else None
-
 abbrev pub duplication_in : List ℕ → Option ℕ
 duplication_in digits = if length digits == 0 then Some 1 else at_most greatest (number_in 10 digits)
-
-abbrev pub at_least_one : ℕ → Option ℕ
-at_least_one number = if number == 0 then None else Some number
 
 -- a length modifier within its limits; Some None where there is none
 abbrev pub modifier_in : Bool → ConstantKind → Option (List ℕ) → Option (Option ℕ)
 modifier_in is_ds kind None = Some None
-modifier_in is_ds kind (Some digits) = option_map Some (option_and_then at_least_one (at_most (greatest_modifier is_ds kind) (number_in 10 digits)))
+modifier_in is_ds kind (Some digits) =
+    let written = at_most (greatest_modifier is_ds kind) (number_in 10 digits) in
+    option_map Some (option_and_then (λ number. if number == 0 then None else Some number) written)
 
 abbrev pub limited : Option ℕ → Option (Option ℕ) → ConstantKind → Option (List ℕ) → Result Constant FaultKind
 limited None modifier kind value = Err ValueOutOfRange
@@ -137,38 +121,27 @@ alignment_of item = if is_some item.modifier then 1 else (row_of item.kind).alig
 
 -- the values of a constant: several only in F, H and P
 abbrev pub values_in : Style → List ℕ → List (List ℕ)
-values_in Text body = body ∷ []
 values_in Values body = fields body
-values_in Expression body = body ∷ []
-values_in Nothing body = body ∷ []
+values_in style body = body ∷ []
 
--- how many bytes hold half bytes, and bits
-abbrev pub rounded_up : ℕ → ℕ → ℕ
-rounded_up count each = (count + (each - 1)) / each
-
--- the length that a value gives itself
+-- The length that a value gives itself: the bytes that hold its characters, its half bytes, its bits, or its digits
+-- with the sign, half a byte each; else that of its type.
 abbrev pub natural_length : ConstantKind → List ℕ → ℕ
 natural_length Character value = length (characters value)
-natural_length Hexadecimal value = rounded_up (length value) 2
-natural_length Binary value = rounded_up (length value) 8
-natural_length Packed value = packed_length value
-natural_length Fullword value = 4
-natural_length Halfword value = 2
-natural_length Address value = 4
-natural_length External value = 4
-natural_length Doubleword value = 8
+natural_length Hexadecimal value = (length value + 1) / 2
+natural_length Binary value = (length value + 7) / 8
+natural_length Packed value = length (unsigned value) / 2 + 1
+natural_length kind value = (row_of kind).alignment
 
 -- the length of one value: the modifier, or its own
 abbrev pub value_length : ConstantKind → Option ℕ → List ℕ → ℕ
 value_length kind modifier value = unwrap_or modifier (natural_length kind value)
 
-abbrev pub body_length : ConstantKind → Option ℕ → Option (List ℕ) → ℕ
-body_length kind modifier None = unwrap_or modifier (row_of kind).own_length
-body_length kind modifier (Some body) = sum_by (value_length kind modifier) (values_in (row_of kind).style body)
-
 -- the length of one copy: of all its values, without duplication
 unfoldable pub length_of : Constant → ℕ
-length_of item = body_length item.kind item.modifier item.value
+length_of item =
+    option_map_or (λ body. sum_by (value_length item.kind item.modifier) (values_in (row_of item.kind).style body))
+    item.value (unwrap_or item.modifier (row_of item.kind).alignment)
 
 -- the length of all copies
 abbrev pub size_of : Constant → ℕ

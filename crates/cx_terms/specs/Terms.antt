@@ -1,5 +1,5 @@
 -- The terms of an expression (GC33-4010, "Terms" and "Expressions").
-use Rattle.std.specs.Prelude.{ℕ, Bool, not, ◌&&◌, ◌||◌, ◌==◌, nat_le, if◌then◌else◌, Option, Some, None, List, [], ◌∷◌, ◌++◌, length, map, drop, slice_index, option_and_then}
+use Rattle.std.specs.Prelude.{ℕ, Bool, not, ◌&&◌, ◌||◌, ◌==◌, nat_le, if◌then◌else◌, Option, Some, None, List, [], ◌∷◌, ◌++◌, length, map, drop, slice_index, option_and_then, codes}
 use Rattle.cx_ebcdic.specs.Lookup.{each_some}
 use Rattle.cx_source.specs.Lines.{is_name}
 use Rattle.cx_source.specs.Marks.{outside}
@@ -30,26 +30,17 @@ term_of sign kind text = record { sign = sign; kind = kind; text = text }
 abbrev pub is_sign : ℕ → Bool
 is_sign c = c == 43 || c == 45
 
-abbrev pub sign_of : ℕ → Sign
-sign_of c = if c == 45 then Minus else Plus
-
 -- The parts between signs. With each character comes whether it lies outside apostrophes; `text` is what stands of the first part already.
 abbrev pub parts_from : Sign → List ℕ → List ℕ → List Bool → List Part
 parts_from sign text [] outs = part_of sign text ∷ []
 parts_from sign text (c ∷ behind) [] = parts_from sign (text ++ c ∷ []) behind []
 parts_from sign text (c ∷ behind) (out ∷ outs) =
-    if out && is_sign c then part_of sign text ∷ parts_from (sign_of c) [] behind outs
+    if out && is_sign c then part_of sign text ∷ parts_from (if c == 45 then Minus else Plus) [] behind outs
     else parts_from sign (text ++ c ∷ []) behind outs
 
 -- the parts of an expression, cut at the signs that lie outside apostrophes; before the first stands a plus
 abbrev pub parts_of : List ℕ → List Part
 parts_of text = parts_from Plus [] text (outside text)
-
--- a symbol or a decimal
-abbrev pub plain_term : Sign → List ℕ → Option Term
-plain_term sign text =
-    if is_name text then Some (term_of sign Symbol text)
-    else (if is_number 10 text then Some (term_of sign Decimal text) else None)
 
 -- 1 to so many digits of a base
 abbrev pub is_short_number : ℕ → ℕ → List ℕ → Bool
@@ -72,11 +63,14 @@ quoted_term sign letter behind =
     if letter == 76 then (if is_name behind then Some (term_of sign LengthOf behind) else None)
     else option_and_then (self_defining sign letter) (closed behind)
 
--- the term that a part writes, if it writes one
+-- The term that a part writes, if it writes one: a letter and an apostrophe begin it, or it is an asterisk, a symbol
+-- or a decimal.
 unfoldable pub read_term : Part → Option Term
 read_term part =
     if slice_index part.text 1 == 39 then quoted_term part.sign (slice_index part.text 0) (drop 2 part.text)
-    else (if slice_index part.text 0 == 42 && length part.text == 1 then Some (term_of part.sign Here []) else plain_term part.sign part.text)
+    else (if slice_index part.text 0 == 42 && length part.text == 1 then Some (term_of part.sign Here [])
+    else (if is_name part.text then Some (term_of part.sign Symbol part.text)
+    else (if is_number 10 part.text then Some (term_of part.sign Decimal part.text) else None)))
 
 -- the terms of an expression; None where a part writes none
 unfoldable pub terms_of : List ℕ → Option (List Term)
@@ -84,17 +78,17 @@ terms_of text = each_some (map read_term (parts_of text))
 
 -- ---- writing terms
 abbrev pub written_sign : Sign → List ℕ
-written_sign Plus = 43 ∷ []
-written_sign Minus = 45 ∷ []
+written_sign Plus = codes "+"
+written_sign Minus = codes "-"
 
 abbrev pub written_kind : TermKind → List ℕ → List ℕ
 written_kind Symbol text = text
 written_kind Decimal text = text
-written_kind Hexadecimal text = 88 ∷ 39 ∷ (text ++ 39 ∷ [])
-written_kind Binary text = 66 ∷ 39 ∷ (text ++ 39 ∷ [])
-written_kind Characters text = 67 ∷ 39 ∷ (text ++ 39 ∷ [])
-written_kind Here text = 42 ∷ []
-written_kind LengthOf text = 76 ∷ 39 ∷ text
+written_kind Hexadecimal text = codes "X'" ++ text ++ codes "'"
+written_kind Binary text = codes "B'" ++ text ++ codes "'"
+written_kind Characters text = codes "C'" ++ text ++ codes "'"
+written_kind Here text = codes "*"
+written_kind LengthOf text = codes "L'" ++ text
 
 -- a term behind its sign
 abbrev pub written : Term → List ℕ

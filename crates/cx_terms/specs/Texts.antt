@@ -31,12 +31,9 @@ characters body = single false body
 abbrev pub code : ℕ → ℕ
 code c = unwrap_or (code_of c) 0
 
-abbrev pub has_code : ℕ → Bool
-has_code c = is_some (code_of c)
-
 -- every character has a code
 abbrev pub has_codes : List ℕ → Bool
-has_codes body = list_all has_code body
+has_codes body = list_all (λ c. is_some (code_of c)) body
 
 -- the codes, one behind the other as one number
 abbrev pub character_number : List ℕ → ℕ

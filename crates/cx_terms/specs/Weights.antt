@@ -15,14 +15,11 @@ abbrev pub stands_in : List ℕ → Option (List ℕ) → Bool
 stands_in name None = false
 stands_in name (Some section) = is_same name section
 
--- what one value adds to a section's weight
-abbrev pub weight_in : List ℕ → Signed → ℤ
-weight_in name value = if stands_in name value.value.section then unit value.sign else pos 0
-
 -- a section's weight: the sum of the signs of the values in it
 abbrev pub weight : List ℕ → List Signed → ℤ
 weight name [] = pos 0
-weight name (value ∷ values) = weight_in name value +ℤ weight name values
+weight name (value ∷ values) =
+    (if stands_in name value.value.section then unit value.sign else pos 0) +ℤ weight name values
 
 -- A sum is absolute where every section weighs nothing: its values come in pairs of opposite signs. It is a place in the section that weighs one, where every other weighs nothing.
 abbrev pub Weighs : List Signed → Option (List ℕ) → Type 0
@@ -49,9 +46,6 @@ abbrev pub weights_from : Weights → List Signed → Weights
 weights_from entries [] = entries
 weights_from entries (value ∷ values) = weights_from (put_in value.value.section (unit value.sign) entries) values
 
-abbrev pub is_heavy : List ℕ × ℤ → Bool
-is_heavy entry = not (int_eq entry.1 (pos 0))
-
 -- by the sections that weigh something: absolute without any, a place in one that weighs one, and else neither
 abbrev pub section_in : Weights → Option (Option (List ℕ))
 section_in [] = Some None
@@ -59,4 +53,5 @@ section_in (entry ∷ []) = if int_eq entry.1 (pos 1) then Some (Some entry.0) e
 section_in (one ∷ other ∷ more) = None
 
 unfoldable pub relocation : List Signed → Option (Option (List ℕ))
-relocation values = section_in (filter is_heavy (weights_from [] values))
+relocation values =
+    section_in (filter (λ (entry : List ℕ × ℤ). not (int_eq entry.1 (pos 0))) (weights_from [] values))

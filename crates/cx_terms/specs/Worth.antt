@@ -16,27 +16,24 @@ use Rattle.cx_terms.specs.declared.faults.FaultKind.TheVariants.{UndefinedSymbol
 abbrev pub greatest : ℕ
 greatest = 4294967295
 
--- a self-defining term of this number
-abbrev pub self_defined : ℕ → Result Value FaultKind
-self_defined number = if nat_le number greatest then Ok (absolute (pos number)) else Err ValueOutOfRange
+-- a number as a term, where it isn't above a greatest one
+abbrev pub number_worth : ℕ → ℕ → Result Value FaultKind
+number_worth most number = if nat_le number most then Ok (absolute (pos number)) else Err ValueOutOfRange
 
 -- what a symbol is worth, by what `find` knows of names
 abbrev pub look_up : (List ℕ → Option Value) → List ℕ → Option Value
 look_up find text = option_and_then find (symbol_name text)
 
--- a length attribute as a term
-abbrev pub length_worth : Value → Result Value FaultKind
-length_worth value = if nat_le value.length bound then Ok (absolute (pos value.length)) else Err ValueOutOfRange
-
 -- What a term is worth by its kind: `find` knows the symbols, and `here` is what the location counter stands at, if anything.
 abbrev pub kind_worth : (List ℕ → Option Value) → Option Value → TermKind → List ℕ → Result Value FaultKind
 kind_worth find here Symbol text = ok_or (look_up find text) UndefinedSymbol
-kind_worth find here Decimal text = self_defined (number_in 10 text)
-kind_worth find here Hexadecimal text = self_defined (number_in 16 text)
-kind_worth find here Binary text = self_defined (number_in 2 text)
-kind_worth find here Characters text = self_defined (character_number text)
+kind_worth find here Decimal text = number_worth greatest (number_in 10 text)
+kind_worth find here Hexadecimal text = number_worth greatest (number_in 16 text)
+kind_worth find here Binary text = number_worth greatest (number_in 2 text)
+kind_worth find here Characters text = number_worth greatest (character_number text)
 kind_worth find here Here text = ok_or here BadOperand
-kind_worth find here LengthOf text = option_map_or length_worth (look_up find text) (Err UndefinedSymbol)
+kind_worth find here LengthOf text =
+    option_map_or (λ (value : Value). number_worth bound value.length) (look_up find text) (Err UndefinedSymbol)
 
 unfoldable pub term_worth : (List ℕ → Option Value) → Option Value → Term → Result Value FaultKind
 term_worth find here term = kind_worth find here term.kind term.text

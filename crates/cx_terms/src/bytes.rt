@@ -1,14 +1,14 @@
 //! The bytes of a constant.
 
-ghost use Rattle.std.specs.Prelude.{◌≡◌, ◌≤◌, ◌<◌, ◌^◌, IfOk, map};
+ghost use Rattle.std.specs.Prelude.{◌≡◌, ◌≤◌, ◌<◌, ◌-◌, ◌*◌, ◌^◌, ◌++◌, IfOk, map, replicate, take};
 ghost use Rattle.std.specs.Option.{option_copied};
 ghost use Rattle.cx_terms.specs.Digits.{worth_of};
 ghost use Rattle.cx_terms.specs.Symbols.{find_in};
 ghost use Rattle.cx_terms.specs.Expressions.{Answers};
-ghost use Rattle.cx_terms.specs.Items.{values_in};
+ghost use Rattle.cx_terms.specs.Items.{value_length, values_in};
 ghost use Rattle.cx_terms.specs.Weights.{stands_in};
 ghost use Rattle.cx_terms.specs.Texts.{characters, code};
-ghost use Rattle.cx_terms.specs.Bytes.{addressed, bad_unless, bit_from_right, bits_from_right, bounded_decimal, bytes_of_value, digit_from_right, fault_of_value, half_byte, half_bytes, integer_bytes, integer_fault, is_absolute_word, is_signed_word, left_justified, made, made_of, plain_made, packed_from_right, values_bytes, values_fault};
+ghost use Rattle.cx_terms.specs.Bytes.{bad_unless, bit_from_right, bits_from_right, bounded_decimal, digit_from_right, half_byte, half_bytes, integer_bytes, integer_fault, is_below, made, made_of, placed, plain_made, packed_from_right, value_bytes, value_fault, values_bytes, values_fault};
 
 use crate::digits::{digit, is_number, number};
 use crate::expressions::value_of;
@@ -99,7 +99,7 @@ fn codes_of(alloc: Global, body: &[u8]) -> Result<Vec<u8>, AllocError>
 
 /// So many bytes of characters: filled with blanks, or cut, on the right.
 fn character_bytes(alloc: Global, n: usize, body: &[u8]) -> Result<Vec<u8>, AllocError>
-    ensures { IfOk result (λ found. found.items ≡ left_justified n (map code (characters body.now))) }
+    ensures { IfOk result (λ found. found.items ≡ take n (map code (characters body.now) ++ replicate n 64)) }
 {
     let mut found = codes_of(alloc, body)?;
     let blanks = vec![in alloc; BLANK; n]?;
@@ -208,7 +208,7 @@ fn half_bytes(
 
 /// Whether n bytes hold a signed number.
 fn is_signed_word(n: usize, number: i128) -> bool
-    ensures { result ≡ is_signed_word n number }
+    ensures { result ≡ is_below n number (2 ^ (8 * n - 1)) }
 {
     match n {
         1 => -128 <= number && number < 128,
@@ -221,7 +221,7 @@ fn is_signed_word(n: usize, number: i128) -> bool
 
 /// Whether n bytes hold a number, signed or unsigned.
 fn is_absolute_word(n: usize, number: i128) -> bool
-    ensures { result ≡ is_absolute_word n number }
+    ensures { result ≡ is_below n number (2 ^ (8 * n)) }
 {
     match n {
         1 => -128 <= number && number < 256,
@@ -283,7 +283,7 @@ fn bad_unless(good: bool) -> Option<FaultKind>
 
 /// The fault of one value.
 fn fault_of_value(kind: ConstantKind, modifier: Option<u16>, value: &[u8]) -> Option<FaultKind>
-    ensures { result ≡ fault_of_value kind modifier value.now }
+    ensures { result ≡ value_fault kind (value_length kind modifier value.now) value.now }
 {
     match kind {
         ConstantKind::Character => bad_unless(has_codes(value)),
@@ -305,7 +305,7 @@ fn bytes_of_value(
     modifier: Option<u16>,
     value: &[u8],
 ) -> Result<Vec<u8>, AllocError>
-    ensures { IfOk result (λ found. found.items ≡ bytes_of_value kind modifier value.now) }
+    ensures { IfOk result (λ found. found.items ≡ value_bytes kind (value_length kind modifier value.now) value.now) }
 {
     let n = value_length(kind, modifier, value);
     match kind {
@@ -397,7 +397,7 @@ fn address_bytes(
     control: Option<Name8>,
     value: Value,
 ) -> Result<ConstantBytes, TermFault>
-    ensures { Answers (addressed n control value) result }
+    ensures { Answers (placed n control value.section value.number) result }
 {
     let section: Option<Name8> = value.section;
     let Some(section) = section else {
@@ -439,10 +439,12 @@ impl Constant<'_> {
         let Some(body) = self.value() else {
             return Ok(ConstantBytes::new(Vec::new(alloc), false));
         };
-        if kind != ConstantKind::Address {
-            return plain_bytes(alloc, kind, modifier, body);
+        match kind {
+            ConstantKind::Address => {
+                let value = value_of(alloc, body, symbols, here)?;
+                address_bytes(alloc, value_length(kind, modifier, body), control, value)
+            }
+            _ => plain_bytes(alloc, kind, modifier, body),
         }
-        let value = value_of(alloc, body, symbols, here)?;
-        address_bytes(alloc, value_length(kind, modifier, body), control, value)
     }
 }

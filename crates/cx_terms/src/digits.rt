@@ -2,7 +2,7 @@
 
 ghost use Rattle.std.specs.Prelude.{◌≡◌, ◌≤◌, ◌<◌, IfSome};
 ghost use Rattle.std.specs.List.{list_all};
-ghost use Rattle.cx_terms.specs.Digits.{bounded, digit, is_digit, is_number, number_in};
+ghost use Rattle.cx_terms.specs.Digits.{at_most, bound, digit, is_digit, is_number, number_in};
 
 /// No number goes beyond this one: what does is out of range.
 pub(crate) const BOUND: u128 = 1_267_650_600_228_229_401_496_703_205_376;
@@ -48,7 +48,7 @@ fn has_digits(text: &[u8], base: u8) -> bool
 pub(crate) fn number(text: &[u8], base: u8) -> Option<u128>
     requires positive { 1 ≤ base }
     requires small { base ≤ 16 }
-    ensures { result ≡ bounded (number_in base text.now) }
+    ensures { result ≡ at_most bound (number_in base text.now) }
 {
     let mut number = 0;
     for c in text {

@@ -1,9 +1,10 @@
 //! What an expression is worth.
 
 ghost use Rattle.std.specs.Prelude.{◌≡◌, pos, IfOk};
+ghost use Rattle.std.specs.List.{filter_map};
 ghost use Rattle.std.specs.Option.{option_copied};
 ghost use Rattle.cx_terms.specs.Symbols.{find_in};
-ghost use Rattle.cx_terms.specs.Expressions.{Answers, leading_length, lowest_fault, sum_from, summed, value_of, values_of, with_sign, within_bound};
+ghost use Rattle.cx_terms.specs.Expressions.{Answers, leading_length, lowest_fault, signed_worth, sum_from, summed, value_of, with_sign, within_bound};
 
 use crate::digits::BOUND;
 use crate::faults::{FaultKind, TermFault, lower};
@@ -47,7 +48,8 @@ fn values_of(
     symbols: &SymbolTable,
     here: Option<&Value>,
 ) -> Result<Vec<Signed>, AllocError>
-    ensures { IfOk result (λ values. values.items ≡ values_of (find_in symbols.now) (option_copied here.entry) terms.now) }
+    ensures { IfOk result (λ values. values.items
+        ≡ filter_map (signed_worth (find_in symbols.now) (option_copied here.entry)) terms.now) }
 {
     let mut values = Vec::new(alloc);
     for term in terms {

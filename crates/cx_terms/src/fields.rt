@@ -1,8 +1,8 @@
 //! Values with commas between, and signed decimals.
 
-ghost use Rattle.std.specs.Prelude.{◌≡◌, ◌≤◌, ◌+◌, IfOk, length, map};
+ghost use Rattle.std.specs.Prelude.{◌≡◌, ◌≤◌, ◌+◌, ◌/◌, IfOk, length, map};
 ghost use Rattle.std.specs.List.{list_all};
-ghost use Rattle.cx_terms.specs.Fields.{fields, is_decimal, packed_length, unsigned};
+ghost use Rattle.cx_terms.specs.Fields.{fields, is_decimal, unsigned};
 
 use crate::digits::is_number;
 use crate::terms::is_sign;
@@ -29,13 +29,14 @@ pub(crate) fn is_decimal(field: &[u8]) -> bool
 
 /// The least number of bytes that hold a decimal's digits and its sign.
 pub(crate) fn packed_length(field: &[u8]) -> usize
-    ensures length { result ≡ packed_length field.now }
+    ensures length { result ≡ length (unsigned field.now) / 2 + 1 }
     ensures bound { result ≤ length field.now + 1 }
 {
     unsigned(field).len() / 2 + 1
 }
 
 /// Whether each of the values between commas is a decimal.
+#[tactic(auto, using(crate::proofs::FieldLemmas::all_split))]
 pub(crate) fn are_decimals(body: &[u8]) -> bool
     ensures { result ≡ list_all is_decimal (fields body.now) }
 {
@@ -52,6 +53,7 @@ pub(crate) fn are_decimals(body: &[u8]) -> bool
 }
 
 /// The values between commas.
+#[tactic(auto, using(crate::proofs::FieldLemmas::split_at_commas))]
 pub(crate) fn fields(alloc: Global, body: &[u8]) -> Result<Vec<&[u8]>, AllocError>
     ensures { IfOk result (λ found. map (λ field. field.now) found.items ≡ fields body.now) }
 {

@@ -1,10 +1,11 @@
 //! Reading one item of a DC, a DS or a literal.
 
 ghost use Rattle.std.specs.Prelude.{◌≡◌, ◌≤◌, ◌<◌, ◌^◌, is_some, slice_index, length, drop, Some, None};
+ghost use Rattle.std.specs.List.{prefix_len, take_while};
 ghost use Rattle.std.specs.Option.{option_map};
-ghost use Rattle.cx_terms.specs.Digits.{bound, number_in};
+ghost use Rattle.cx_terms.specs.Digits.{at_most, bound, is_digit, number_in};
 ghost use Rattle.cx_terms.specs.Kinds.{kind_of};
-ghost use Rattle.cx_terms.specs.Items.{at_most, behind_digits, body_in, constant, constant_in, digit_count, duplication_in, is_whole, judged, leading_digits, modifier_in, parenthesized_body, quoted_body, value_body, with_modifier, with_value, written_in, written_item};
+ghost use Rattle.cx_terms.specs.Items.{behind_digits, body_in, constant, constant_in, duplication_in, is_whole, judged, modifier_in, parenthesized_body, quoted_body, value_body, with_modifier, with_value, written_in, written_item};
 
 use crate::digits::{is_digit, number};
 use crate::faults::FaultKind;
@@ -54,7 +55,7 @@ impl<'a> Model for Constant<'a> {
 
 /// How many digits a text begins with.
 fn digit_count(text: &[u8]) -> usize
-    ensures count { result ≡ digit_count text.now }
+    ensures count { result ≡ prefix_len (is_digit 10) text.now }
     ensures bound { result ≤ length text.now }
 {
     for (i, c) in text.iter().enumerate() {
@@ -67,7 +68,7 @@ fn digit_count(text: &[u8]) -> usize
 
 /// The digits that a text begins with, and what is behind them.
 fn split_digits(text: &[u8]) -> (&[u8], &[u8])
-    ensures digits { result.0.now ≡ leading_digits text.now }
+    ensures digits { result.0.now ≡ take_while (is_digit 10) text.now }
     ensures behind { result.1.now ≡ behind_digits text.now }
 {
     text.split_at(digit_count(text))
@@ -117,9 +118,10 @@ fn is_whole(kind: ConstantKind, modified: bool, body: &[u8]) -> bool
         ConstantKind::Hexadecimal
         | ConstantKind::Binary
         | ConstantKind::Fullword
-        | ConstantKind::Halfword => is_doubled(APOSTROPHE, body),
+        | ConstantKind::Halfword
+        | ConstantKind::Doubleword => is_doubled(APOSTROPHE, body),
         ConstantKind::Packed => is_doubled(APOSTROPHE, body) && (modified || are_decimals(body)),
-        ConstantKind::Address | ConstantKind::External | ConstantKind::Doubleword => true,
+        ConstantKind::Address | ConstantKind::External => true,
     }
 }
 
@@ -237,7 +239,7 @@ impl<'a> Written<'a> {
         }
         let (_, behind) = rest.split_at(1);
         let (digits, value) = split_digits(behind);
-        if !kind.takes_modifier() || digit_count(behind) == 0 {
+        if !kind.takes_modifier() || digits.is_empty() {
             return None;
         }
         Written::with_value(is_ds, duplication, kind, Some(digits), value)

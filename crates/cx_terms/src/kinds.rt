@@ -1,7 +1,7 @@
 //! The types of constants.
 
-ghost use Rattle.std.specs.Prelude.{◌≡◌, ◌<◌, ◌≤◌, ◌^◌};
-ghost use Rattle.cx_terms.specs.Kinds.{greatest_modifier, kind_of, row_of, takes_modifier};
+ghost use Rattle.std.specs.Prelude.{◌≡◌, ◌<◌, ◌≤◌, ◌^◌, ◌==◌, not};
+ghost use Rattle.cx_terms.specs.Kinds.{greatest_modifier, kind_of, row_of};
 
 /// A type of constant (GC33-4010, "DC -- Define Constant").
 #[derive(Clone, Copy, Debug, PartialEq, Eq)]
@@ -90,7 +90,7 @@ impl ConstantKind {
 
     /// Its own length, where its value doesn't give one.
     pub fn own_length(self) -> usize
-        ensures length { result ≡ (row_of self).own_length }
+        ensures length { result ≡ (row_of self).alignment }
         ensures bound { result ≤ 8 }
     {
         match self {
@@ -119,7 +119,7 @@ impl ConstantKind {
 
     /// Whether it takes a length modifier.
     pub fn takes_modifier(self) -> bool
-        ensures { result ≡ takes_modifier self }
+        ensures { result ≡ not ((row_of self).greatest_in_dc == 0) }
     {
         !matches!(self, ConstantKind::External | ConstantKind::Doubleword)
     }

@@ -1,8 +1,8 @@
 //! The alignment and the length of a constant.
 
-ghost use Rattle.std.specs.Prelude.{◌≡◌, ◌≤◌, ◌<◌, ◌+◌, ◌*◌, ◌^◌, length, sum_by};
+ghost use Rattle.std.specs.Prelude.{◌≡◌, ◌≤◌, ◌<◌, ◌+◌, ◌-◌, ◌*◌, ◌/◌, ◌^◌, length, sum_by};
 ghost use Rattle.cx_terms.specs.Fields.{fields};
-ghost use Rattle.cx_terms.specs.Items.{alignment_of, length_of, natural_length, rounded_up, size_of, value_length};
+ghost use Rattle.cx_terms.specs.Items.{alignment_of, length_of, natural_length, size_of, value_length};
 
 use crate::fields::packed_length;
 use crate::items::Constant;
@@ -12,7 +12,7 @@ use crate::texts::character_count;
 /// How many bytes hold so many half bytes or bits, `each` of which make a byte.
 fn rounded_up(count: usize, each: u8) -> usize
     requires { 1 ≤ each }
-    ensures length { result ≡ rounded_up count each }
+    ensures length { result ≡ (count + (each - 1)) / each }
     ensures bound { result ≤ count }
 {
     let each = u128::from(each);
@@ -48,6 +48,7 @@ pub(crate) fn value_length(kind: ConstantKind, modifier: Option<u16>, value: &[u
 }
 
 /// The length of values between commas.
+#[tactic(auto, using(crate::proofs::FieldLemmas::sum_split))]
 fn fields_length(kind: ConstantKind, modifier: Option<u16>, body: &[u8]) -> u128
     ensures length { result ≡ sum_by (value_length kind modifier) (fields body.now) }
     ensures bound { result ≤ 65537 * (length body.now + 1) }

@@ -1,8 +1,8 @@
 //! The terms of an expression.
 
-ghost use Rattle.std.specs.Prelude.{◌≡◌, ◌&&◌, IfOk, MatchOption, map};
+ghost use Rattle.std.specs.Prelude.{◌≡◌, ◌&&◌, ◌==◌, if◌then◌else◌, IfOk, MatchOption, map};
 ghost use Rattle.cx_ebcdic.specs.Lookup.{each_some};
-ghost use Rattle.cx_terms.specs.Terms.{is_short_number, is_short_text, is_sign, part_of, parts_of, plain_term, quoted_term, read_term, self_defining, sign_of, term_of, terms_of};
+ghost use Rattle.cx_terms.specs.Terms.{is_short_number, is_short_text, is_sign, part_of, parts_of, quoted_term, read_term, self_defining, term_of, terms_of};
 
 use crate::digits::is_number;
 use crate::texts::{APOSTROPHE, character_count, closed, has_codes, is_paired};
@@ -78,7 +78,7 @@ pub(crate) fn is_sign(c: u8) -> bool
 
 /// The sign that a character is.
 fn sign_of(c: u8) -> Sign
-    ensures { result ≡ sign_of c }
+    ensures { result ≡ (if c == 45 then Sign.Minus else Sign.Plus) }
 {
     if c == b'-' { Sign::Minus } else { Sign::Plus }
 }
@@ -159,19 +159,6 @@ impl<'a> Term<'a> {
         self.text
     }
 
-    /// A symbol or a decimal.
-    fn plain(sign: Sign, text: &'a [u8]) -> Option<Term<'a>>
-        ensures { result ≡ plain_term sign text.now }
-    {
-        if is_name(text) {
-            Some(Term::new(sign, TermKind::Symbol, text))
-        } else if is_number(text, 10) {
-            Some(Term::new(sign, TermKind::Decimal, text))
-        } else {
-            None
-        }
-    }
-
     /// X'..', B'..' and C'..', of at most 4 bytes.
     fn self_defining(sign: Sign, letter: u8, body: &'a [u8]) -> Option<Term<'a>>
         ensures { result ≡ self_defining sign letter body.now }
@@ -215,7 +202,13 @@ impl<'a> Term<'a> {
             let (_, nothing) = text.split_at(1);
             return Some(Term::new(part.sign, TermKind::Here, nothing));
         }
-        Term::plain(part.sign, text)
+        if is_name(text) {
+            Some(Term::new(part.sign, TermKind::Symbol, text))
+        } else if is_number(text, 10) {
+            Some(Term::new(part.sign, TermKind::Decimal, text))
+        } else {
+            None
+        }
     }
 }
 

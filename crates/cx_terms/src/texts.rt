@@ -2,7 +2,7 @@
 
 ghost use Rattle.std.specs.Prelude.{◌≡◌, ◌≤◌, ◌&&◌, false, length};
 ghost use Rattle.std.specs.Option.{option_map};
-ghost use Rattle.cx_terms.specs.Digits.{bounded};
+ghost use Rattle.cx_terms.specs.Digits.{at_most, bound};
 ghost use Rattle.cx_terms.specs.Texts.{character_number, characters, closed, code, has_codes, is_doubled, is_mark, is_paired};
 
 use crate::digits::BOUND;
@@ -96,7 +96,7 @@ pub(crate) fn has_codes(body: &[u8]) -> bool
 
 /// The codes of a text's characters as one number, or None where it is beyond the bound.
 pub(crate) fn character_number(body: &[u8]) -> Option<u128>
-    ensures { result ≡ bounded (character_number body.now) }
+    ensures { result ≡ at_most bound (character_number body.now) }
 {
     let mut number = 0;
     let mut opened = false;

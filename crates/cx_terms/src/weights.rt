@@ -1,11 +1,12 @@
 //! Whether a sum of values is absolute, or a place in a section.
 
-ghost use Rattle.std.specs.Prelude.{◌≡◌, ◌∷◌, [], pos, unwrap_or, IfOk, OnOk};
+ghost use Rattle.std.specs.Prelude.{◌≡◌, ◌∷◌, [], List, ℕ, ℤ, not, pos, unwrap_or, IfOk, OnOk};
 ghost use Rattle.std.specs.Map.{lookup};
+ghost use Rattle.std.specs.Ordering.{int_eq};
 ghost use Rattle.indexmap.specs.IndexMap.{insert_entry};
 ghost use Rattle.cx_terms.specs.Names.{is_same};
 ghost use Rattle.std.specs.List.{filter};
-ghost use Rattle.cx_terms.specs.Weights.{is_heavy, relocation, section_in, unit, weights_from};
+ghost use Rattle.cx_terms.specs.Weights.{relocation, section_in, unit, weights_from};
 
 use crate::expressions::Signed;
 use crate::terms::Sign;
@@ -63,7 +64,8 @@ fn heavy_sections(
     alloc: Global,
     weights: &IndexMap<Name8, i128>,
 ) -> Result<Vec<(Name8, i128)>, AllocError>
-    ensures { IfOk result (λ found. found.items ≡ filter is_heavy weights.now.entries) }
+    ensures { IfOk result (λ found. found.items
+        ≡ filter (λ (entry : List ℕ × ℤ). not (int_eq entry.1 (pos 0))) weights.now.entries) }
 {
     let mut found = Vec::new(alloc);
     for (section, weight) in weights.iter() {

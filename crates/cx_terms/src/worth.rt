@@ -4,11 +4,11 @@ ghost use Rattle.std.specs.Prelude.{◌≡◌, ◌≤◌, ◌++◌, [], OnOk};
 ghost use Rattle.std.specs.List.{cons_option};
 ghost use Rattle.std.specs.Result.{result_err};
 ghost use Rattle.std.specs.Option.{ok_or, option_copied};
-ghost use Rattle.cx_terms.specs.Digits.{number_in};
+ghost use Rattle.cx_terms.specs.Digits.{bound, number_in};
 ghost use Rattle.cx_terms.specs.Texts.{character_number};
 ghost use Rattle.cx_terms.specs.Symbols.{find_in};
 ghost use Rattle.cx_terms.specs.Expressions.{signed_worth};
-ghost use Rattle.cx_terms.specs.Worth.{length_worth, look_up, self_defined, term_worth};
+ghost use Rattle.cx_terms.specs.Worth.{greatest, look_up, number_worth, term_worth};
 
 use crate::digits::{BOUND, number};
 use crate::expressions::Signed;
@@ -25,7 +25,7 @@ pub(crate) const GREATEST: u128 = 4_294_967_295;
 
 /// A self-defining term of this number.
 fn self_defined(number: u128) -> Result<Value, FaultKind>
-    ensures { result ≡ self_defined number }
+    ensures { result ≡ number_worth greatest number }
 {
     if number <= GREATEST {
         Ok(Value::absolute(number as i128))
@@ -39,7 +39,7 @@ fn self_defined(number: u128) -> Result<Value, FaultKind>
 fn digits_worth(text: &[u8], base: u8) -> Result<Value, FaultKind>
     requires positive { 1 ≤ base }
     requires small { base ≤ 16 }
-    ensures { result ≡ self_defined (number_in base text.now) }
+    ensures { result ≡ number_worth greatest (number_in base text.now) }
 {
     match number(text, base) {
         Some(number) => self_defined(number),
@@ -50,7 +50,7 @@ fn digits_worth(text: &[u8], base: u8) -> Result<Value, FaultKind>
 /// The self-defining term that characters write.
 #[tactic(auto, using(crate::proofs::NumberLemmas::bounded_number, crate::proofs::NumberLemmas::unbounded_number))]
 fn characters_worth(text: &[u8]) -> Result<Value, FaultKind>
-    ensures { result ≡ self_defined (character_number text.now) }
+    ensures { result ≡ number_worth greatest (character_number text.now) }
 {
     match character_number(text) {
         Some(number) => self_defined(number),
@@ -60,7 +60,7 @@ fn characters_worth(text: &[u8]) -> Result<Value, FaultKind>
 
 /// A length attribute as a term.
 fn length_worth(value: Value) -> Result<Value, FaultKind>
-    ensures { result ≡ length_worth value }
+    ensures { result ≡ number_worth bound value.length }
 {
     if value.length <= BOUND {
         Ok(Value::absolute(value.length as i128))

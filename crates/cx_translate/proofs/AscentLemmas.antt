@@ -16,7 +16,7 @@ use Rattle.cx_translate.specs.Sections.{name_at, bases, begins_exec, begins_sect
 use Rattle.cx_translate.specs.Translation.{continues_exec, expanded, expansion, first_fault, is_dropped, translated, translation_of}
 use Rattle.cx_translate.specs.Laws.Ascent.{AscendFrom, number_of, statement_lines}
 use Rattle.cx_translate.proofs.KeptLemmas.{answered}
-use Rattle.cx_translate.proofs.Parts.{bases_behind, continued, eib_before, judged, line_of, made_lines, storage_before, storage_behind}
+use Rattle.cx_translate.specs.Facts.Found.{bases_behind, continued, eib_before, judged, line_of, made_lines, storage_before, storage_behind}
 
 abbrev Ascend : ℕ → List Item → Type 0
 Ascend n items = AscendFrom n (statement_lines items)

@@ -9,7 +9,7 @@ use Rattle.cx_translate.specs.declared.faults.TransFault.{TransFault}
 use Rattle.cx_translate.specs.Sections.{begins_exec, begins_section, begins_storage, behind, is_end, put, with_bases, with_eib, with_storage}
 use Rattle.cx_translate.specs.Translation.{continues_exec, expanded, expansion, first_fault, is_dropped, translated, translation_of}
 use Rattle.cx_translate.specs.Laws.Kept.{AreAmong, kept}
-use Rattle.cx_translate.proofs.Parts.{bases_behind, eib_before, judged, made_lines, storage_before, storage_behind}
+use Rattle.cx_translate.specs.Facts.Found.{bases_behind, eib_before, judged, made_lines, storage_before, storage_behind}
 
 one_more : (y : Item) (xs ys : List Item) → AreAmong xs ys → AreAmong xs (y ∷ ys)
 one_more y [] ys w = tt

@@ -1,4 +1,4 @@
-mod Parts
+pub mod AllFaultsLemmas
 pub mod AscentLemmas
 pub mod CountLemmas
 pub mod KeptLemmas

@@ -12,7 +12,7 @@ use Rattle.cx_translate.specs.Refusals.{IsDue, fault_in, first_byte, has_argumen
 use Rattle.cx_translate.specs.Translation.{AnswersAs, translation_of}
 use Rattle.cx_translate.specs.Sections.{begins_exec}
 use Rattle.std.specs.List.{list_any}
-use Rattle.cx_translate.proofs.Parts.{judged}
+use Rattle.cx_translate.specs.Facts.Found.{judged}
 
 chain : (a b c d e : Bool) (f g h i j : TransFault) → cond a (Some f) (cond b (Some g) (cond c (Some h) (cond d (Some i) (cond e None (Some j))))) ≡ None → c ≡ false
 chain false false false d e f g h i j p = refl

@@ -9,6 +9,7 @@ pub mod Made
 pub mod Sections
 pub mod Translation
 pub mod Laws
+pub mod Facts
 pub use Rattle.cx_source.specs.Lines
 pub use Rattle.cx_source.specs.Marks
 pub use Rattle.cx_source.specs.Statements

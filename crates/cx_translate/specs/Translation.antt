@@ -1,11 +1,11 @@
 -- A source translated (Application Programmer's Reference Manual, SC33-0077, "EXEC CICS" command format; what stands in place
 -- of an EXEC statement is this product's own).
-use Rattle.std.specs.Prelude.{option_and_then, ℕ, ◌≡◌, Bool, false, ◌&&◌, ◌||◌, if◌then◌else◌, List, [], ◌∷◌, ◌++◌, Option, Some, None, is_none, Result, Ok, Err}
-use Rattle.std.specs.List.{list_any}
+use Rattle.std.specs.Prelude.{option_and_then, ◌≡◌, Bool, false, ◌&&◌, ◌||◌, if◌then◌else◌, List, [], ◌∷◌, ◌++◌, Option, None, is_none, Result, Ok, Err}
+use Rattle.std.specs.List.{filter_map, list_any}
 use Rattle.std.specs.Option.{option_map_or, option_or}
 use Rattle.cx_source.specs.declared.source.Item.{Item}
 use Rattle.cx_source.specs.declared.source.Source.{Source}
-use Rattle.cx_source.specs.declared.source.Stmt.{Stmt}
+use Rattle.cx_source.specs.Faults.{unless_faulty}
 use Rattle.cx_source.specs.Statements.{is_continued}
 use Rattle.cx_translate.specs.declared.faults.TransFault.{TransFault}
 use Rattle.cx_translate.specs.declared.faults.TransFault.TheVariants.{Memory}
@@ -59,3 +59,16 @@ abbrev pub AnswersAs : Result Source TransFault → Result Source TransFault →
 AnswersAs due (Ok found) = due ≡ Ok found
 AnswersAs due (Err Memory) = Unit {0}
 AnswersAs due (Err fault) = due ≡ Err fault
+
+-- ---- all faults
+-- those of all EXEC statements, in their order
+abbrev pub statement_faults : List Item → List TransFault
+statement_faults items = filter_map fault_at items
+
+-- what a source is translated to where no EXEC statement is faulty
+unfoldable pub made_source : Source → Source
+made_source source = if list_any begins_exec source.items then record { items = translated source.items } else source
+
+-- the source translated, or all its faults
+unfoldable pub translation_or_faults : Source → Result Source (List TransFault)
+translation_or_faults source = unless_faulty (statement_faults source.items) (made_source source)

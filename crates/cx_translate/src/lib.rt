@@ -16,5 +16,5 @@ mod words;
 pub use due::Due;
 pub use faults::TransFault;
 pub use pieces::Piece;
-pub use translation::translate;
+pub use translation::{translate, translate_or_faults};
 pub use words::{Argument, Word};

@@ -1,7 +1,9 @@
 //! A source translated.
 
-ghost use Rattle.std.specs.Prelude.{◌≡◌, ◌++◌, IfErr, IfOk, None, OnOk, false};
+ghost use Rattle.std.specs.Prelude.{◌≡◌, ◌++◌, [], IfErr, IfOk, None, OnOk, false};
 ghost use Rattle.std.specs.List.{list_any};
+ghost use Rattle.std.specs.Option.{option_to_list};
+ghost use Rattle.cx_source.specs.Faults.{unless_faulty};
 ghost use Rattle.cx_translate.specs.Refusals.{IsDue};
 ghost use Rattle.cx_translate.specs.Sections.{begins_exec, with_bases, with_eib, with_storage};
 ghost use Rattle.cx_translate.specs.Translation.{
@@ -12,13 +14,17 @@ ghost use Rattle.cx_translate.specs.Translation.{
   fault_at,
   first_fault,
   is_dropped,
+  made_source,
+  statement_faults,
   translation_of,
+  translation_or_faults,
 };
 
 use crate::faults::TransFault;
 use crate::made::statements_of;
 use crate::sections::{begins_exec, lines, put_bases, put_eib, put_storage};
 use cx_source::{Item, Items, Source, is_continued};
+use cx_tables::List;
 use std::alloc::{AllocError, Global};
 
 /// Whether a line continues an EXEC statement, where such a line is expected.
@@ -127,4 +133,88 @@ pub fn translate(alloc: Global, source: &Source) -> Result<Source, TransFault>
     Ok(Source {
         items: Items::from_vec(made),
     })
+}
+
+/// Puts what stands for a line at the end of made lines, or its fault at the end of others.
+fn expand(
+    alloc: Global,
+    continues: bool,
+    item: &Item,
+    made: &mut Vec<Item>,
+    faults: &mut Vec<TransFault>,
+) -> Result<(), AllocError>
+    ensures faults { OnOk result (faults.new.items ≡ faults.old.items ++ option_to_list (fault_at item.now)) }
+    ensures made { OnOk result (fault_at item.now ≡ None → made.new.items ≡ made.old.items ++ expansion continues item.now) }
+{
+    match expansion(alloc, continues, item) {
+        Ok(mut lines) => {
+            made.append(&mut lines)?;
+            Ok(())
+        }
+        Err(TransFault::Memory) => Err(AllocError),
+        Err(fault) => {
+            faults.push(fault)?;
+            Ok(())
+        }
+    }
+}
+
+/// The lines of a source with made lines in place of its EXEC statements, where these have no fault, and their faults.
+fn expand_all(
+    alloc: Global,
+    items: &[Item],
+    faults: &mut Vec<TransFault>,
+) -> Result<Vec<Item>, AllocError>
+    requires { faults.old.items ≡ [] }
+    ensures faults { OnOk result (faults.new.items ≡ statement_faults items.now) }
+    ensures made { IfOk result (λ made. statement_faults items.now ≡ [] → made.items ≡ expanded false items.now) }
+{
+    let mut made = Vec::new(alloc);
+    let mut continues = false;
+    for item in items {
+        expand(alloc, continues, item, &mut made, faults)?;
+        continues = continues_exec(continues, item);
+    }
+    Ok(made)
+}
+
+/// The source of made lines, or its faults where it has any.
+fn unless_faulty(
+    alloc: Global,
+    mut made: Vec<Item>,
+    faults: Vec<TransFault>,
+) -> Result<Result<Source, List<TransFault>>, AllocError>
+    ensures { let items = with_eib (with_bases (with_storage made.items)) in
+        IfOk result (λ answer. answer ≡ unless_faulty faults.items (record { items = items })) }
+{
+    if !faults.is_empty() {
+        return Ok(Err(List::from_vec(faults)));
+    }
+    put_sections(alloc, &mut made)?;
+    Ok(Ok(Source {
+        items: Items::from_vec(made),
+    }))
+}
+
+/// A source with its EXEC CICS statements made into assembler statements, as by `translate`, or the faults of all its EXEC
+/// statements, in order.
+///
+/// A statement has at most one, the first that applies, with the line on which it begins. An error comes only where a growth
+/// was refused.
+#[tactic(auto, using(crate::specs::Facts::AllFaults::no_exec_no_fault), unfolding(crate::specs::Translation::translation_or_faults, crate::specs::Translation::made_source))]
+pub fn translate_or_faults(
+    alloc: Global,
+    source: &Source,
+) -> Result<Result<Source, List<TransFault>>, AllocError>
+    ensures { IfOk result (λ answer. answer ≡ translation_or_faults source.now) }
+{
+    let items = source.items.as_slice();
+    if !has_exec(items) {
+        return Ok(Ok(Source {
+            items: Items::from_vec(copied(alloc, items)?),
+        }));
+    }
+    let mut faults = Vec::new(alloc);
+    let made = expand_all(alloc, items, &mut faults)?;
+    unless_faulty(alloc, made, faults)
 }

@@ -9,6 +9,7 @@ use Rattle.cx_look_words.specs.Marked.{IsOfLooks}
 use Rattle.cx_look.specs.declared.look.Look.{Look}
 use Rattle.cx_look_stage.specs.Looking.{IsLookText, LookPerforms, NotedPerforms}
 use Rattle.cx_look_stage.specs.Runs.{still_running, turn_of}
+use Rattle.cx_look_stage.specs.Sources.{with_source}
 use Rattle.cx_look_stage.specs.State.{Looked}
 use Rattle.cx_look_stage.specs.declared.action.LookAction.{LookAction}
 use Rattle.cx_look_stage.specs.declared.action.LookAction.TheVariants as action
@@ -28,14 +29,21 @@ pub record IsPartOfRun (name : List ℕ) (n : ℕ) (part : Part) : Type 0 where
 -- an action of `cicsedf` is itself, and a look is none: its text is that of the state there
 abbrev pub IsPart : Looked → LookAction → Part → Type 0
 IsPart there (action.Script a) part = (part.plain ≡ a ∷ []) × (part.looked ≡ [])
+IsPart there (action.Source name lines a) part = (part.plain ≡ a ∷ []) × (part.looked ≡ [])
 IsPart there (action.Run name n) part = IsPartOfRun name n part
 IsPart there (action.Look look) part = (part.plain ≡ []) × IsLookText look there part.looked
+
+-- behind the actions of a source's part its lines are kept
+abbrev pub kept_after : Looked → LookAction → Looked → Looked
+kept_after old (action.Source name lines a) new = with_source old name lines new
+kept_after old _ new = new
 
 -- a part for each action, from the state that those before leave, with the last abends that their events lead to
 unfoldable pub ArePartsOf : Looked → List LookAction → List Part → Looked → Type 0
 ArePartsOf old [] [] new = new ≡ old
 ArePartsOf old (a ∷ actions) (part ∷ parts) new =
-    (between : Looked) × IsPart old a part × Runs NotedPerforms old part.plain part.written between × ArePartsOf between actions parts new
+    (done between : Looked) × IsPart old a part × Runs NotedPerforms old part.plain part.written done × (between ≡ kept_after old a done)
+    × ArePartsOf between actions parts new
 ArePartsOf old _ _ new = ⊥
 
 abbrev pub plain_of : Part → List Action

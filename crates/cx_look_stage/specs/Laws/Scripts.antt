@@ -1,5 +1,5 @@
 -- A script of `cicsedf` is one of `cicslook`, and does the same.
-use Rattle.std.specs.Prelude.{◌≡◌, ℕ, List, map, Some}
+use Rattle.std.specs.Prelude.{◌≡◌, ℕ, List, map, Option, Some, None}
 use Rattle.cx_actions.specs.Effects.{Performs}
 use Rattle.cx_actions.specs.declared.actions.Action.{Action}
 use Rattle.cx_blocks.specs.declared.faults.RunFault.TheVariants.{BadLine}
@@ -12,12 +12,20 @@ use Rattle.cx_look_stage.specs.State.{Looked}
 use Rattle.cx_look_stage.specs.declared.action.LookAction.{LookAction}
 use Rattle.cx_look_stage.specs.declared.action.LookAction.TheVariants as action
 
--- each action as one of `cicslook`
-abbrev pub here : List Action → List LookAction
-here actions = map (λ a. action.Script a) actions
+-- the action of `cicsedf` that one of `cicslook` is, where it is one
+abbrev pub plain_action : LookAction → Option Action
+plain_action (action.Script a) = Some a
+plain_action (action.Source name lines a) = Some a
+plain_action _ = None
 
-abbrev pub script_here : Script Action → Script LookAction
-script_here script = record { actions = here script.actions; fault = script.fault }
+-- actions of `cicslook` that are these of `cicsedf`, in their order
+abbrev pub ArePlain : List LookAction → List Action → Type 0
+ArePlain actions plain = map plain_action actions ≡ map (λ a. Some a) plain
+
+-- the same script
+pub record IsSame (script : Script Action) (here : Script LookAction) : Type 0 where
+  pub actions : ArePlain here.actions script.actions
+  pub fault : here.fault ≡ script.fault
 
 abbrev pub HasNoBadLine : Script Action → Type 0
 HasNoBadLine script = (number : ℕ) → script.fault ≡ Some (BadLine number) → ⊥
@@ -25,9 +33,9 @@ HasNoBadLine script = (number : ℕ) → script.fault ≡ Some (BadLine number) 
 -- bytes that are a script of `cicsedf` without a bad line are the same script here
 abbrev pub ScriptsStay : Type 0
 ScriptsStay = (ending : Ending) (bytes : List ℕ) → HasNoBadLine (script_of ending bytes)
-    → script_in look_language ending bytes ≡ script_here (script_of ending bytes)
+    → IsSame (script_of ending bytes) (script_in look_language ending bytes)
 
 -- and its actions write the same, from the same state to the same state
 abbrev pub ActionsStay : Type 0
-ActionsStay = (old : Looked) (actions : List Action) (text : List ℕ) (new : Looked)
-    → Runs LookPerforms old (here actions) text new → Runs Performs old.edf actions text new.edf
+ActionsStay = (old : Looked) (actions : List LookAction) (plain : List Action) (text : List ℕ) (new : Looked)
+    → ArePlain actions plain → Runs LookPerforms old actions text new → Runs Performs old.edf plain text new.edf

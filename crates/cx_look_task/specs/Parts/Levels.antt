@@ -3,7 +3,8 @@ use Rattle.std.specs.Prelude.{ℕ, List, [], Option}
 use Rattle.std.specs.Option.{option_map_or}
 use Rattle.cx_program.specs.declared.level.Level.{Level}
 use Rattle.cx_state.specs.State.{SharedState}
+use Rattle.cx_look_names.specs.Lines.{SourcePlaces}
 use Rattle.cx_look_task.specs.Levels.{level_text}
 
-abbrev pub level_at : SharedState → ℕ → Option Level → List ℕ
-level_at shared k level = option_map_or (level_text shared k) level []
+abbrev pub level_at : SourcePlaces → SharedState → ℕ → Option Level → List ℕ
+level_at sources shared k level = option_map_or (level_text sources shared k) level []

@@ -193,7 +193,7 @@ source_fault_sound (source.TooLong n) h = tt
 source_fault_sound (source.NoEnd n) h = tt
 source_fault_sound source.Memory h = absurd h
 
-read_sound : (listing disassembly : Bool) (fault : Option SourceFault) (s : Source) → sound_line fault → Sound (by_source listing disassembly (lines.judged fault s))
+read_sound : (listing disassembly : Bool) (fault : Option SourceFault) (s : Source) → sound_line fault → Sound (by_source listing disassembly (option_map_or Err fault (Ok s)))
 read_sound listing disassembly None s h = translation_sound listing disassembly s
 read_sound listing disassembly (Some fault) s h = source_fault_sound fault h
 

@@ -5,4 +5,4 @@ use Rattle.cx_look_task.proofs.levels.push_levels.Given as goal
 
 abbrev pub invariant-loop-index : goal.invariant-loop-index
 invariant-loop-index g l =
-    l.text.items ++ levels_text l.shared (l.index + 1) (drop l.index (all_levels l.levels)) ≡ l.initial.text.items ++ levels_text l.shared 1 (all_levels l.levels)
+    l.text.items ++ levels_text l.sources.entries l.shared (l.index + 1) (drop l.index (all_levels l.levels)) ≡ l.initial.text.items ++ levels_text l.sources.entries l.shared 1 (all_levels l.levels)

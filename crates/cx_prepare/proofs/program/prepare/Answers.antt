@@ -9,7 +9,7 @@ use Rattle.cx_prepare.proofs.program.prepare.Goals as goal
 pub returns-in-Err : goal.returns-in-Err
 unfolding prepared_of
 returns-in-Err c =
-    let fed : c.in_ok-reader.reader ≡ fold take_line at_start c.args.lines.items = first_of (search rules, grind (arith, common_steps)) in
-    let whole : finish c.in_ok-reader.reader ≡ source_in c.args.lines.items = ap finish fed ∙ c.lines_one_by_one_are_the_source.ensures c.args.lines.items in
-    source_told c.args.listing c.args.disassembly (source_in c.args.lines.items) c.in-Err.fault c.from.result
+    let fed : c.in_ok-reader.reader ≡ fold take_line at_start c.args.lines.now = first_of (search rules, grind (arith, common_steps)) in
+    let whole : finish c.in_ok-reader.reader ≡ source_in c.args.lines.now = ap finish fed ∙ c.lines_one_by_one_are_the_source.ensures c.args.lines.now in
+    source_told c.args.listing c.args.disassembly (source_in c.args.lines.now) c.in-Err.fault c.from.result
     (subst (λ due. Answers due (Err c.in-Err.fault)) whole c.in-Err.ensures) c.from.ensures

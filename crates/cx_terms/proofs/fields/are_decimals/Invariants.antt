@@ -1,6 +1,7 @@
 use Rattle.std.proofs.Common.{◌≡◌, ◌≤◌, drop}
 use Rattle.std.specs.List.{list_all, slice_range}
-use Rattle.cx_terms.specs.Fields.{fields, fields_from, is_decimal}
+use Rattle.cx_terms.specs.Fields.{fields, is_decimal}
+use Rattle.cx_terms.proofs.FieldLemmas.{fields_from}
 use Rattle.cx_terms.proofs.fields.are_decimals.Given as goal
 
 abbrev pub invariant-loop-i : goal.invariant-loop-i

@@ -1,6 +1,7 @@
 use Rattle.std.proofs.Common.{◌≡◌, ◌≤◌, ◌++◌, drop, map}
 use Rattle.std.specs.List.{slice_range}
-use Rattle.cx_terms.specs.Fields.{fields, fields_from}
+use Rattle.cx_terms.specs.Fields.{fields}
+use Rattle.cx_terms.proofs.FieldLemmas.{fields_from}
 use Rattle.cx_terms.proofs.fields.fields.Given as goal
 
 abbrev pub invariant-loop-i : goal.invariant-loop-i

@@ -1,7 +1,8 @@
 use Rattle.std.proofs.Common.{◌≡◌, ◌≤◌, ◌+◌, ◌*◌, drop}
 use Rattle.std.specs.Prelude.{sum_by}
 use Rattle.std.specs.List.{slice_range}
-use Rattle.cx_terms.specs.Fields.{fields, fields_from}
+use Rattle.cx_terms.specs.Fields.{fields}
+use Rattle.cx_terms.proofs.FieldLemmas.{fields_from}
 use Rattle.cx_terms.specs.Items.{value_length}
 use Rattle.cx_terms.proofs.lengths.fields_length.Given as goal
 

@@ -1,6 +1,6 @@
 use Rattle.std.proofs.Common.{◌≡◌, ◌++◌}
 use Rattle.std.specs.List.{filter}
-use Rattle.cx_terms.specs.Weights.{is_heavy}
+use Rattle.cx_terms.proofs.WeighLemmas.{is_heavy}
 use Rattle.cx_terms.proofs.weights.heavy_sections.Given as goal
 
 abbrev pub invariant-loop-section : goal.invariant-loop-section

@@ -1,4 +1,4 @@
--- Parts of a translation, by what was found.
+-- Parts of a translation by what was found, for the lemmas of this crate and of those above.
 use Rattle.std.specs.Prelude.{ℕ, Bool, false, Option, Some, option_and_then, Result, Ok, Err, List, [], drop, take}
 use Rattle.std.specs.List.{position}
 use Rattle.std.specs.Option.{option_map_or}
@@ -10,7 +10,7 @@ use Rattle.cx_translate.specs.declared.faults.TransFault.{TransFault}
 use Rattle.cx_command.specs.declared.commands.Command.{Command}
 use Rattle.cx_translate.specs.declared.faults.TransFault.TheVariants.{UnknownCommand}
 use Rattle.cx_translate.specs.declared.words.Word.{Word}
-use Rattle.cx_translate.specs.Made.{made_in}
+use Rattle.cx_translate.specs.Made.{made_in, made_of}
 use Rattle.cx_translate.specs.Refusals.{fault_in, fault_of}
 use Rattle.cx_translate.specs.Sections.{bases, begins_section, eib_section, lines, name_at, put_before, put_behind, storage_fields, storage_section}
 use Rattle.cx_translate.specs.Words.{words_of}
@@ -33,6 +33,9 @@ bases_behind place items = option_map_or (λ p. put_behind (bases (name_at p ite
 
 abbrev pub eib_before : Option ℕ → List Item → List Item
 eib_before place items = option_map_or (λ p. put_before eib_section p items) place items
+
+abbrev pub made_lines : ℕ → Option Stmt → List Item
+made_lines line statement = option_map_or (λ exec. lines line (made_of exec.name (words_of exec.operand))) statement []
 
 abbrev pub judged : Option TransFault → Source → Result Source TransFault
 judged fault source = option_map_or (λ f. Err f) fault (Ok source)

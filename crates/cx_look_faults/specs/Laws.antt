@@ -1,0 +1,2 @@
+-- Statements of laws.
+pub mod First

@@ -1,0 +1,10 @@
+-- The definitions, in reading order.
+pub mod Symbols
+pub mod Texts
+pub mod Statements
+pub mod Lines
+-- Statements of laws.
+pub mod Laws
+pub mod Parts
+pub mod Facts
+pub use Rattle.cx_look_words.specs.Words

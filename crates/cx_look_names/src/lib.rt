@@ -1,0 +1,18 @@
+//! Looks at the names of a program's source, and the lines of its statements.
+#![tactic(auto)]
+
+mod all;
+pub mod laws;
+mod lengths;
+mod lines;
+mod looks;
+mod reading;
+mod rows;
+mod statements;
+mod symbols;
+mod texts;
+
+pub use lines::{SourcePlaces, line_at, line_word};
+pub use looks::{symbol_text, symbols_text};
+pub use rows::Symbol;
+pub use statements::{StatementPlace, statement_places};

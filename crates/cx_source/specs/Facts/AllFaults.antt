@@ -1,0 +1,19 @@
+-- The first of all faults is the first fault.
+use Rattle.std.proofs.Common.{◌≡◌, ◌+◌, ℕ, Bool, true, false, cond, Option, Some, None, List, [], ◌∷◌, ◌++◌, slice_get, refl}
+use Rattle.std.specs.Option.{option_or, option_to_list}
+use Rattle.cx_source.specs.Faults.{fault_of, first_fault, line_faults}
+use Rattle.cx_source.specs.Lines.{text_of}
+use Rattle.cx_source.specs.Statements.{is_continued, is_last}
+use Rattle.cx_source.specs.declared.source.SourceFault.{SourceFault}
+
+with_rest : (fault : Option SourceFault) (last : Bool) (faults : List SourceFault) (first : Option SourceFault) → slice_get faults 0 ≡ first
+    → slice_get (option_to_list fault ++ cond last [] faults) 0 ≡ option_or fault (cond last None first)
+with_rest (Some fault) last faults first e = refl
+with_rest None true faults first e = refl
+with_rest None false faults first e = e
+
+pub first_of_faults : (continues : Bool) (number : ℕ) (all : List (List ℕ)) → slice_get (line_faults continues number all) 0 ≡ first_fault continues number all
+first_of_faults continues number [] = refl
+first_of_faults continues number (line ∷ more) =
+    with_rest (fault_of continues number line) (is_last continues (text_of line)) _ _
+    (first_of_faults (is_continued continues (text_of line)) (number + 1) more)

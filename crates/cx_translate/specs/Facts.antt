@@ -1,0 +1,3 @@
+-- Lemmas and words for the crates above.
+pub mod AllFaults
+pub mod Found
