@@ -21,7 +21,7 @@ SECONDS = 20  # no run may take longer, but one that is given more, and no sessi
 BYTES = 1 << 25  # no run may write more to a file: the system ends it
 ANSWERED = 1 << 20  # nor may a session answer more
 CLOCK, CLOCK_SET = "CLOCK 000000 00000", "CLOCK SET"
-OF_CICSLOOK = {"RUN", "QUEUES", "QUEUE", "PROGRAMS", "TASKS", "RESOURCES", "COMMAND", "TASK", "AREAS", "STORAGE", "ABEND", "SYMBOL", "SYMBOLS", "FAULTS"}
+OF_CICSLOOK = {"RUN", "QUEUES", "QUEUE", "PROGRAMS", "TASKS", "RESOURCES", "COMMAND", "TASK", "AREAS", "STORAGE", "ABEND", "SYMBOL", "SYMBOLS", "XREF", "FAULTS"}
 
 os.chdir(FOLDER)
 resource.setrlimit(resource.RLIMIT_FSIZE, (BYTES, resource.getrlimit(resource.RLIMIT_FSIZE)[1]))

@@ -11,3 +11,4 @@ mod standing;
 
 pub use assembly::{Assembly, assemble, assembly_faults, disassembly};
 pub use faults::{AsmFault, fault_at};
+pub use listing::object_length;

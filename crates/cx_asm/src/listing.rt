@@ -53,8 +53,14 @@ fn end_behind(at: u128, items: &[StatementItem<'_>]) -> u128
     }
 }
 
-/// How many bytes a statement of a role has.
-fn object_length(alloc: Global, statement: &Statement<'_>, role: Role) -> Result<u128, AllocError>
+/// How many bytes a statement of a role is listed with: an instruction's or a DC's, items and the bytes before them; none of others.
+///
+/// An error comes only where memory for a DC's items was refused.
+pub fn object_length(
+    alloc: Global,
+    statement: &Statement<'_>,
+    role: Role,
+) -> Result<u128, AllocError>
     ensures { IfOk result (λ length. length ≡ object_length statement.now role) }
 {
     match role {

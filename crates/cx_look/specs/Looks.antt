@@ -25,11 +25,12 @@ subject_name subject.Programs = codes "PROGRAMS"
 subject_name subject.Command = codes "COMMAND"
 subject_name subject.Symbol = codes "SYMBOL"
 subject_name subject.Symbols = codes "SYMBOLS"
+subject_name subject.Xref = codes "XREF"
 
 abbrev pub subjects : List Subject
 subjects =
     subject.Storage ∷ subject.Areas ∷ subject.Task ∷ subject.Tasks ∷ subject.Abend ∷ subject.Queues ∷ subject.Queue ∷ subject.Resources
-    ∷ subject.Programs ∷ subject.Command ∷ subject.Symbol ∷ subject.Symbols ∷ []
+    ∷ subject.Programs ∷ subject.Command ∷ subject.Symbol ∷ subject.Symbols ∷ subject.Xref ∷ []
 
 unfoldable pub subject_of : List ℕ → Option Subject
 subject_of text = find (λ s. bytes_eq (subject_name s) text) subjects
@@ -65,6 +66,7 @@ looked subject.Programs None = Some look.Programs
 looked subject.Command (Some text) = option_map (λ name. look.Command name) (name_of 4 text)
 looked subject.Symbol (Some text) = option_map (λ p. look.Symbol p.0 p.1) (pair_of (name_of 8) (name_of 8) text)
 looked subject.Symbols (Some text) = option_map (λ name. look.Symbols name) (name_of 8 text)
+looked subject.Xref (Some text) = option_map (λ name. look.Xref name) (name_of 8 text)
 looked _ _ = None
 
 -- What a line looks at; None where it is no look.

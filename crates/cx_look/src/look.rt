@@ -63,6 +63,8 @@ pub enum Look {
     Symbol(Name8, Name8),
     /// All symbols of a program's source.
     Symbols(Name8),
+    /// Where a program's source uses its names, its literals and its base registers.
+    Xref(Name8),
     /// The faulty lines of a source.
     Faults(SourceLines),
 }
@@ -82,11 +84,12 @@ pub enum Subject {
     Command,
     Symbol,
     Symbols,
+    Xref,
 }
 
 impl Subject {
     /// All of these words.
-    pub const ALL: [Subject; 12] = [
+    pub const ALL: [Subject; 13] = [
         Subject::Storage,
         Subject::Areas,
         Subject::Task,
@@ -99,6 +102,7 @@ impl Subject {
         Subject::Command,
         Subject::Symbol,
         Subject::Symbols,
+        Subject::Xref,
     ];
 
     /// The word as it is written.
@@ -118,6 +122,7 @@ impl Subject {
             Subject::Command => b"COMMAND",
             Subject::Symbol => b"SYMBOL",
             Subject::Symbols => b"SYMBOLS",
+            Subject::Xref => b"XREF",
         }
     }
 }
@@ -259,6 +264,7 @@ fn at(subject: Subject, text: &[u8]) -> Option<Look>
         Subject::Command => name4(text).map(|name| Look::Command(name)),
         Subject::Symbol => symbol(text),
         Subject::Symbols => name8(text).map(|name| Look::Symbols(name)),
+        Subject::Xref => name8(text).map(|name| Look::Xref(name)),
         _ => None,
     }
 }

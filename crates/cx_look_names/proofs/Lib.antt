@@ -1,3 +1,4 @@
 pub mod RowLemmas
 pub mod StatementLemmas
 pub mod LineLemmas
+pub mod ReadingLemmas

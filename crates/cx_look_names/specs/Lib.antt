@@ -1,5 +1,6 @@
 -- The definitions, in reading order.
 pub mod Symbols
+pub mod Names
 pub mod Texts
 pub mod Statements
 pub mod Lines

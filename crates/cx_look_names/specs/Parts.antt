@@ -1,3 +1,2 @@
 -- The vocabulary of private functions.
 pub mod Rows
-pub mod Names

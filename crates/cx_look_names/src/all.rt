@@ -14,8 +14,10 @@ use indexmap::IndexMap;
 use std::alloc::{AllocError, Global};
 use std::collections::BTreeMap;
 
-/// The symbols in the order of their names.
-fn in_order(
+/// The symbols in the order of their names, letters before digits.
+///
+/// An error comes only where memory for them was refused.
+pub fn in_order(
     alloc: Global,
     symbols: &IndexMap<Name8, Symbol>,
 ) -> Result<BTreeMap<Name8, Symbol>, AllocError>

@@ -3,7 +3,6 @@
 
 mod all;
 pub mod laws;
-mod lengths;
 mod lines;
 mod looks;
 mod reading;
@@ -12,7 +11,10 @@ mod statements;
 mod symbols;
 mod texts;
 
+pub use all::in_order;
 pub use lines::{SourcePlaces, line_at, line_word};
 pub use looks::{symbol_text, symbols_text};
+pub use reading::translated_in;
 pub use rows::Symbol;
 pub use statements::{StatementPlace, statement_places};
+pub use symbols::{Names, names_of_places};

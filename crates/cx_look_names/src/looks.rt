@@ -3,7 +3,7 @@ ghost use Rattle.std.specs.Prelude.{◌≡◌, ◌++◌, IfOk, None, Some, codes
 ghost use Rattle.cx_region.specs.Tables.{program_of};
 ghost use Rattle.cx_look_names.specs.Texts.{symbol_among, symbol_found, symbol_text, symbols_text};
 ghost use Rattle.cx_look_words.specs.Words.{written_name};
-ghost use Rattle.cx_look_names.specs.Parts.Names.{named};
+ghost use Rattle.cx_look_names.specs.Names.{named};
 
 use crate::all::symbols_among;
 use crate::symbols::{Names, names_in};

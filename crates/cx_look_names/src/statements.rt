@@ -6,9 +6,9 @@ ghost use Rattle.cx_second.specs.Whole.{told_by};
 ghost use Rattle.cx_places.specs.Placed.{IsPlaced, known_of};
 ghost use Rattle.cx_look_names.specs.Statements.{place_of, places_in, statement_places};
 
-use crate::lengths::object_length;
 use crate::reading::translated_in;
 use crate::texts::is_control;
+use cx_asm::object_length;
 use cx_ebcdic::Name8;
 use cx_places::{Places, place_all};
 use cx_pools::capped;

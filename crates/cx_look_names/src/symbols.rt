@@ -4,7 +4,7 @@ ghost use Rattle.std.specs.Option.{option_map};
 ghost use Rattle.cx_places.specs.declared.place.ControlSection.{ControlSection};
 ghost use Rattle.cx_places.specs.Placed.{IsPlaced, known_of};
 ghost use Rattle.cx_look_names.specs.Symbols.{named_in, named_of};
-ghost use Rattle.cx_look_names.specs.Parts.Names.{named};
+ghost use Rattle.cx_look_names.specs.Names.{named};
 
 use crate::reading::translated_in;
 use crate::rows::{Symbol, symbols_of};
@@ -16,11 +16,11 @@ use std::alloc::{AllocError, Global};
 
 /// The names of a source.
 #[derive(Drop)]
-pub(crate) struct Names {
+pub struct Names {
     /// The control section's.
-    pub(crate) control: Option<Name8>,
+    pub control: Option<Name8>,
     /// The symbols, in the order of the lines that define them.
-    pub(crate) symbols: IndexMap<Name8, Symbol>,
+    pub symbols: IndexMap<Name8, Symbol>,
 }
 
 /// The control section's name.
@@ -33,9 +33,15 @@ fn control_of(places: &Places<'_>) -> Option<Name8>
     }
 }
 
-/// The names of a source whose first pass has no fault.
+/// The names of a source whose first pass has no fault: `places` is where everything of it stands.
+///
+/// An error comes only where memory for them was refused.
 #[tactic(auto, using(crate::proofs::RowLemmas::named_is))]
-fn names_of_places(alloc: Global, source: &Source, places: &Places<'_>) -> Result<Names, AllocError>
+pub fn names_of_places(
+    alloc: Global,
+    source: &Source,
+    places: &Places<'_>,
+) -> Result<Names, AllocError>
     requires fault { (known_of source.now).fault ≡ None }
     requires placed { IsPlaced (known_of source.now) places.now }
     ensures { IfOk result (λ names. Some (named names) ≡ named_of source.now) }

@@ -13,7 +13,7 @@ use Rattle.cx_look_faults.specs.declared.faults.FaultyLine.{FaultyLine}
 use Rattle.cx_look_words.specs.Facts.Marked.{a_line, lines_of_each}
 use Rattle.cx_look_words.specs.Facts.Words.{decimal_is_word, name_is_word, word_first}
 use Rattle.cx_look_words.specs.Marked.{IsOfLooks, IsWord}
-use Rattle.cx_look_stage.specs.Faults.{fault_line, fault_lines, faults_text, is_in_line, text_at}
+use Rattle.cx_look_stage.specs.Faults.{fault_line, fault_lines, faults_text, is_in_line, is_kept, text_at}
 
 -- no kind's name has an LF
 kind_is_word : (k : SourceKind) → IsWord (kind_name k)
@@ -57,4 +57,4 @@ lines_marked source (fault ∷ faults) = lines_of_each (fault_line source) (faul
 
 pub faults_marked : (source : SourceLines) → IsOfLooks (faults_text source)
 unfolding faults_text
-faults_marked source = lines_marked source (faults_of source.lines)
+faults_marked source = lines_marked source (filter is_kept (faults_of source.lines))

@@ -6,6 +6,7 @@ use Rattle.cx_region.specs.Tables.{program_of}
 use Rattle.cx_look_names.specs.Facts.Marked.{symbol_marked, symbols_marked}
 use Rattle.cx_look_storage.specs.Facts.Marked.{areas_marked, storage_marked, task_areas_marked}
 use Rattle.cx_look_task.specs.Facts.Marked.{task_marked}
+use Rattle.cx_look_xref.specs.Facts.Marked.{xref_marked}
 use Rattle.cx_look_tasks.specs.Laws.{ResourcesTextsDecide, TasksTextsDecide}
 use Rattle.cx_look_stage.specs.Looking.{IsLookText}
 use Rattle.cx_look_stage.specs.Sources.{source_lines}
@@ -38,6 +39,7 @@ looks_are_marked (look.Symbol program name) state text e =
     marked text _ e (symbol_marked (program_of state.edf.region program) (source_lines state.sources program) name)
 looks_are_marked (look.Symbols program) state text e =
     marked text _ e (symbols_marked (program_of state.edf.region program) program (source_lines state.sources program))
+looks_are_marked (look.Xref program) state text e = marked text _ e (xref_marked program (source_lines state.sources program))
 
 pub looks_are_told_once : TasksTextsDecide → ResourcesTextsDecide → LooksAreToldOnce
 unfolding IsLookText
@@ -56,3 +58,4 @@ looks_are_told_once tasks resources (look.Abend name) state one other p q = p �
 looks_are_told_once tasks resources (look.Faults source) state one other p q = p ∙ sym q
 looks_are_told_once tasks resources (look.Symbol program name) state one other p q = p ∙ sym q
 looks_are_told_once tasks resources (look.Symbols program) state one other p q = p ∙ sym q
+looks_are_told_once tasks resources (look.Xref program) state one other p q = p ∙ sym q

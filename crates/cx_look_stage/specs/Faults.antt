@@ -1,5 +1,5 @@
 -- FAULTS: the faulty lines of a source that stands in a script (own).
-use Rattle.std.specs.Prelude.{ℕ, ◌+◌, ◌-◌, ◌==◌, not, Bool, List, [], ◌∷◌, codes, slice_get, unwrap_or}
+use Rattle.std.specs.Prelude.{ℕ, ◌+◌, ◌-◌, ◌==◌, nat_lt, not, Bool, List, [], ◌∷◌, codes, slice_get, unwrap_or}
 use Rattle.std.specs.Fmt.{decimal}
 use Rattle.std.specs.List.{filter, flat_map}
 use Rattle.std.specs.Str.{byte}
@@ -26,6 +26,10 @@ abbrev pub fault_lines : SourceLines → List FaultyLine → List ℕ
 fault_lines source [] = look_line (codes "FAULTS" ∷ shown_name source.name ∷ codes "NONE" ∷ [])
 fault_lines source (fault ∷ faults) = flat_map (fault_line source) (fault ∷ faults)
 
+-- of a source's lines the first 10,001 are kept, and so only their faults are known
+abbrev pub is_kept : FaultyLine → Bool
+is_kept fault = nat_lt fault.line 10002
+
 -- What is written for the lines of a source.
 unfoldable pub faults_text : SourceLines → List ℕ
-faults_text source = fault_lines source (faults_of source.lines)
+faults_text source = fault_lines source (filter is_kept (faults_of source.lines))

@@ -12,6 +12,7 @@ use Rattle.cx_look_tables.specs.Queues.{item_text, queue_text, queues_text}
 use Rattle.cx_look_tables.specs.Programs.{programs_text}
 use Rattle.cx_look_commands.specs.Looks.{command_text}
 use Rattle.cx_look_names.specs.Texts.{symbol_text, symbols_text}
+use Rattle.cx_look_xref.specs.Texts.{xref_text}
 use Rattle.cx_look_storage.specs.Areas.{areas_text, task_areas_text}
 use Rattle.cx_look_storage.specs.Bytes.{storage_text}
 use Rattle.cx_look_task.specs.Tasks.{task_text}
@@ -43,6 +44,7 @@ IsLookText (look.Symbol program name) state text =
     text ≡ symbol_text (program_of state.edf.region program) (source_lines state.sources program) name
 IsLookText (look.Symbols program) state text =
     text ≡ symbols_text (program_of state.edf.region program) program (source_lines state.sources program)
+IsLookText (look.Xref program) state text = text ≡ xref_text program (source_lines state.sources program)
 
 -- an action of `cicsedf`: an event as its answer tells, and the abend that it led to is kept; any other leaves what is kept
 unfoldable pub NotedPerforms : Looked → Action → List ℕ → Looked → Type 0

@@ -1,7 +1,8 @@
 //! FAULTS: the faulty lines of a source that stands in a script.
 ghost use Rattle.std.specs.Prelude.{◌≡◌, ◌+◌, ◌++◌, IfOk, OnOk};
 ghost use Rattle.std.specs.List.{filter, flat_map};
-ghost use Rattle.cx_look_stage.specs.Faults.{fault_line, fault_lines, faults_text, is_in_line, text_at};
+ghost use Rattle.cx_look_faults.specs.Faults.{faults_of};
+ghost use Rattle.cx_look_stage.specs.Faults.{fault_line, fault_lines, faults_text, is_in_line, is_kept, text_at};
 
 use cx_look::SourceLines;
 use cx_look_faults::{FaultyLine, faults_of};
@@ -77,11 +78,20 @@ fn fault_lines(
     Ok(text)
 }
 
+/// The faulty lines of a source, of whose lines the first 10,001 are kept.
+fn kept_faults(alloc: Global, source: &SourceLines) -> Result<Vec<FaultyLine>, AllocError>
+    ensures { IfOk result (λ faults. faults.items ≡ filter is_kept (faults_of source.now.lines)) }
+{
+    let mut faults = faults_of(alloc, source.lines.as_slice())?;
+    faults.retain(|fault| fault.line < 10_002);
+    Ok(faults)
+}
+
 /// What is written for the lines of a source.
 #[tactic(auto, unfolding(crate::specs::Faults::faults_text))]
 pub(crate) fn faults_text(alloc: Global, source: &SourceLines) -> Result<Vec<u8>, AllocError>
     ensures { IfOk result (λ text. text.items ≡ faults_text source.now) }
 {
-    let faults = faults_of(alloc, source.lines.as_slice())?;
+    let faults = kept_faults(alloc, source)?;
     fault_lines(alloc, source, &faults)
 }

@@ -12,6 +12,7 @@ use cx_look_storage::{areas_text, storage_text, task_areas_text};
 use cx_look_tables::{item_text, programs_text, queue_text, queues_text};
 use cx_look_task::task_text;
 use cx_look_tasks::{resources_text, tasks_text};
+use cx_look_xref::xref_text;
 use cx_storage::Store;
 use std::alloc::{AllocError, Global};
 
@@ -47,5 +48,6 @@ pub(crate) fn look_text<S: Store + Drop>(
             let lines = looking.sources.lines_of(program);
             symbols_text(alloc, region, program, lines)
         }
+        Look::Xref(program) => xref_text(alloc, program, looking.sources.lines_of(program)),
     }
 }

@@ -1,0 +1,8 @@
+-- The definitions, in reading order.
+pub mod References
+pub mod Literals
+pub mod Usings
+pub mod Texts
+pub mod Parts
+pub mod Facts
+pub use Rattle.cx_look_names.specs.Texts as SymbolTexts

@@ -1,0 +1,95 @@
+//! The cross-reference of a source.
+ghost use Rattle.std.specs.Prelude.{◌≡◌, IfOk, None};
+ghost use Rattle.cx_places.specs.Placed.{IsPlaced, known_of};
+ghost use Rattle.cx_look_names.specs.Symbols.{named_of, translated_in};
+ghost use Rattle.std.specs.Result.{result_ok};
+ghost use Rattle.cx_asm.specs.Assembly.{assembly_of, last_line};
+ghost use Rattle.cx_look_xref.specs.Texts.{xref_among, xref_assembled, xref_named};
+
+use crate::literals::push_literals;
+use crate::references::references_of;
+use crate::symbols::push_symbols;
+use crate::usings::push_usings;
+use cx_asm::{AsmFault, assemble};
+use cx_look_names::{in_order, names_of_places, translated_in};
+use cx_places::{Places, place_all};
+use cx_second::{placed_lines, stated};
+use cx_source::{Source, Text};
+use std::alloc::{AllocError, Global};
+
+/// The number of a source's last line; 0 where it has none.
+fn last_line(source: &Source) -> usize
+    ensures { result ≡ last_line source.now }
+{
+    match source.items.as_slice().last() {
+        Some(item) => item.line,
+        None => 0,
+    }
+}
+
+/// The lines of a source that is placed, whose control section has this text.
+#[tactic(auto, using(crate::proofs::ToldLemmas::told_is))]
+fn xref_placed(
+    alloc: Global,
+    source: &Source,
+    section: &[u8],
+    places: &Places<'_>,
+) -> Result<Vec<u8>, AllocError>
+    requires fault { (known_of source.now).fault ≡ None }
+    requires placed { IsPlaced (known_of source.now) places.now }
+    ensures { IfOk result (λ text. text.items ≡ xref_named source.now section.now (named_of source.now)) }
+{
+    let names = names_of_places(alloc, source, places)?;
+    let symbols = in_order(alloc, &names.symbols)?;
+    let references = references_of(alloc, source)?;
+    let placed = placed_lines(alloc, source, places.statements.as_slice())?;
+    let statements = stated(alloc, placed.as_slice())?;
+    let mut text = Vec::new(alloc);
+    push_symbols(alloc, &mut text, references.as_slice(), &symbols)?;
+    push_literals(
+        alloc,
+        &mut text,
+        section,
+        statements.as_slice(),
+        places.pools.as_slice(),
+    )?;
+    push_usings(
+        alloc,
+        &mut text,
+        places,
+        last_line(source),
+        statements.as_slice(),
+    )?;
+    Ok(text)
+}
+
+/// The lines of a source, whose control section has this text.
+fn xref_with(alloc: Global, source: &Source, section: &[u8]) -> Result<Vec<u8>, AllocError>
+    ensures { IfOk result (λ text. text.items ≡ xref_named source.now section.now (named_of source.now)) }
+{
+    match place_all(alloc, source)? {
+        Ok(places) => xref_placed(alloc, source, section, &places),
+        Err(_) => Ok(Vec::new(alloc)),
+    }
+}
+
+/// The lines of a source.
+fn xref_of(alloc: Global, source: &Source) -> Result<Vec<u8>, AllocError>
+    ensures { IfOk result (λ text. text.items ≡ xref_assembled source.now (result_ok (assembly_of source.now))) }
+{
+    match assemble(alloc, source) {
+        Ok(assembly) => xref_with(alloc, source, assembly.image().text.as_slice()),
+        Err(AsmFault::Memory) => Err(AllocError),
+        Err(_) => Ok(Vec::new(alloc)),
+    }
+}
+
+/// The lines of the source that lines make.
+pub(crate) fn xref_among(alloc: Global, lines: &[Text]) -> Result<Vec<u8>, AllocError>
+    ensures { IfOk result (λ text. text.items ≡ xref_among (translated_in lines.now)) }
+{
+    let Some(source) = translated_in(alloc, lines)? else {
+        return Ok(Vec::new(alloc));
+    };
+    xref_of(alloc, &source)
+}

@@ -1,0 +1,19 @@
+//! The cross-reference of a program's source.
+#![tactic(auto)]
+
+mod all;
+pub mod laws;
+mod lines;
+mod literals;
+mod looks;
+mod names;
+mod references;
+mod symbols;
+mod uses;
+mod usings;
+
+pub use lines::used_word;
+pub use literals::push_literals;
+pub use looks::xref_text;
+pub use references::{Reference, references_of};
+pub use usings::push_usings;

@@ -1,0 +1,34 @@
+//! A look at the cross-reference of a program's source.
+ghost use Rattle.std.specs.Prelude.{◌≡◌, ◌++◌, IfOk, codes};
+ghost use Rattle.cx_look_words.specs.Words.{written_name};
+ghost use Rattle.cx_look_xref.specs.Texts.{xref_text};
+
+use crate::all::xref_among;
+use cx_ebcdic::Name8;
+use cx_look_words::{or_none, written_name};
+use cx_source::Text;
+use std::alloc::{AllocError, Global};
+
+/// The words that the look begins with where it finds nothing.
+fn xref_word(alloc: Global, program: Name8) -> Result<Vec<u8>, AllocError>
+    ensures { IfOk result (λ text. text.items ≡ codes "XREF " ++ written_name program) }
+{
+    let name = written_name(alloc, &program.bytes())?;
+    let mut text = b"XREF ".to_vec(alloc)?;
+    text.extend_from_slice(&name)?;
+    Ok(text)
+}
+
+/// Looks at the cross-reference of a program, whose source has these lines: a line for each symbol, in the order of their names,
+/// letters before digits, with the number of the line that defines it, from 1, and the numbers of the lines whose statements use it,
+/// ascending, those made of an EXEC statement with that one's; NONE where the lines are no source without a fault.
+///
+/// An error comes only where memory for the text was refused.
+#[tactic(auto, unfolding(crate::specs::Texts::xref_text))]
+pub fn xref_text(alloc: Global, program: Name8, lines: &[Text]) -> Result<Vec<u8>, AllocError>
+    ensures { IfOk result (λ text. text.items ≡ xref_text program lines.now) }
+{
+    let text = xref_among(alloc, lines)?;
+    let word = xref_word(alloc, program)?;
+    or_none(alloc, &word, text)
+}

@@ -1,0 +1,172 @@
+//! The names that operands use.
+ghost use Rattle.std.specs.Prelude.{◌≡◌, ◌++◌, ◌≤◌, [], IfOk, OnOk, length, map};
+ghost use Rattle.std.specs.List.{flat_map, prefix_len};
+ghost use Rattle.std.specs.Option.{option_to_list};
+ghost use Rattle.cx_source.specs.Lines.{is_name_character};
+ghost use Rattle.cx_terms.specs.Names.{symbol_name};
+ghost use Rattle.cx_operations.specs.Operations.{operation_named};
+ghost use Rattle.cx_places.specs.Known.{parts_in};
+ghost use Rattle.cx_look_xref.specs.References.{name_ended, names_from, names_in, names_of_constant, names_of_part, names_used};
+
+use cx_ebcdic::Name8;
+use cx_operations::{Directive, Operation};
+use cx_pools::literal_text;
+use cx_source::{Mark, Stmt, cut, is_name_character, outside};
+use cx_terms::symbol_name;
+use std::alloc::{AllocError, Global};
+
+/// Adds the name that characters are, if they are one.
+fn push_name(names: &mut Vec<Name8>, run: &[u8]) -> Result<(), AllocError>
+    ensures { OnOk result (names.new.items ≡ names.old.items ++ option_to_list (symbol_name run.now)) }
+{
+    let Some(name) = symbol_name(run) else {
+        return Ok(());
+    };
+    names.push(name)?;
+    Ok(())
+}
+
+/// Adds the name that characters are, by the character that ends them.
+fn push_ended(names: &mut Vec<Name8>, run: &[u8], next: u8) -> Result<(), AllocError>
+    ensures { OnOk result (names.new.items ≡ names.old.items ++ name_ended run.now next) }
+{
+    if next == b'\'' {
+        return Ok(());
+    }
+    push_name(names, run)?;
+    Ok(())
+}
+
+/// Adds the names in a text, of whose characters those lie outside apostrophes.
+#[tactic(auto, using(crate::proofs::NameLemmas::names_end))]
+fn push_outside(
+    alloc: Global,
+    names: &mut Vec<Name8>,
+    text: &[u8],
+    outside: &[bool],
+) -> Result<(), AllocError>
+    ensures { OnOk result (names.new.items ≡ names.old.items ++ names_from [] text.now outside.now) }
+{
+    let mut run = Vec::new(alloc);
+    for (i, c) in text.iter().enumerate() {
+        let Some(lies_outside) = outside.get(i) else {
+            push_name(names, &run)?;
+            return Ok(());
+        };
+        if *lies_outside && is_name_character(*c) {
+            run.push(*c)?;
+            continue;
+        }
+        push_ended(names, &run, *c)?;
+        run.clear();
+    }
+    push_name(names, &run)?;
+    Ok(())
+}
+
+/// Adds the names in a text.
+fn push_names(alloc: Global, names: &mut Vec<Name8>, text: &[u8]) -> Result<(), AllocError>
+    ensures { OnOk result (names.new.items ≡ names.old.items ++ names_in text.now) }
+{
+    let outside = outside(alloc, text)?;
+    push_outside(alloc, names, text, outside.as_slice())?;
+    Ok(())
+}
+
+/// How many letters and digits a text begins with.
+fn front_len(text: &[u8]) -> usize
+    ensures count { result ≡ prefix_len is_name_character text.now }
+    ensures bound { result ≤ length text.now }
+{
+    for (i, c) in text.iter().enumerate() {
+        if !is_name_character(*c) {
+            return i;
+        }
+    }
+    text.len()
+}
+
+/// Adds the names in a constant.
+fn push_constant(alloc: Global, names: &mut Vec<Name8>, text: &[u8]) -> Result<(), AllocError>
+    ensures { OnOk result (names.new.items ≡ names.old.items ++ names_of_constant text.now) }
+{
+    let (_, value) = text.split_at(front_len(text));
+    push_names(alloc, names, value)?;
+    Ok(())
+}
+
+/// Adds the names in an operand that may be a literal.
+fn push_part(alloc: Global, names: &mut Vec<Name8>, part: &[u8]) -> Result<(), AllocError>
+    ensures { OnOk result (names.new.items ≡ names.old.items ++ names_of_part part.now) }
+{
+    let Some(text) = literal_text(part) else {
+        push_names(alloc, names, part)?;
+        return Ok(());
+    };
+    push_constant(alloc, names, text)?;
+    Ok(())
+}
+
+/// Adds the names in constants.
+fn push_constants(alloc: Global, names: &mut Vec<Name8>, parts: &[&[u8]]) -> Result<(), AllocError>
+    ensures { OnOk result (names.new.items
+        ≡ names.old.items ++ flat_map names_of_constant (map (λ part. part.now) parts.now)) }
+{
+    for part in parts {
+        push_constant(alloc, names, part)?;
+    }
+    Ok(())
+}
+
+/// Adds the names in operands that may be literals.
+fn push_parts(alloc: Global, names: &mut Vec<Name8>, parts: &[&[u8]]) -> Result<(), AllocError>
+    ensures { OnOk result (names.new.items
+        ≡ names.old.items ++ flat_map names_of_part (map (λ part. part.now) parts.now)) }
+{
+    for part in parts {
+        push_part(alloc, names, part)?;
+    }
+    Ok(())
+}
+
+/// Adds the names that the operands of an operation use.
+fn push_used(
+    alloc: Global,
+    names: &mut Vec<Name8>,
+    operation: Option<Operation>,
+    parts: &[&[u8]],
+) -> Result<(), AllocError>
+    ensures { OnOk result (names.new.items
+        ≡ names.old.items ++ names_used operation (map (λ part. part.now) parts.now)) }
+{
+    match operation {
+        Some(Operation::Directive(Directive::Dc | Directive::Ds)) => {
+            push_constants(alloc, names, parts)?;
+            Ok(())
+        }
+        Some(
+            Operation::Directive(
+                Directive::Equ | Directive::Using | Directive::Drop | Directive::End,
+            ),
+        ) => {
+            push_parts(alloc, names, parts)?;
+            Ok(())
+        }
+        Some(Operation::Directive(_)) => Ok(()),
+        _ => {
+            push_parts(alloc, names, parts)?;
+            Ok(())
+        }
+    }
+}
+
+/// The names that a statement uses, in their order.
+pub(crate) fn names_used(alloc: Global, stmt: &Stmt) -> Result<Vec<Name8>, AllocError>
+    ensures { IfOk result (λ names. names.items ≡ names_used (operation_named stmt.now.operation) (parts_in stmt.now)) }
+{
+    let parts = cut(alloc, stmt.operand.as_slice(), Mark::TopComma)?;
+    let operation = Operation::from_name(stmt.operation.as_slice());
+    let mut names = Vec::new(alloc);
+    push_used(alloc, &mut names, operation, parts.as_slice())?;
+    Ok(names)
+}
