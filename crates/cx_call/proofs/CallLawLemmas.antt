@@ -22,7 +22,7 @@ use Rattle.cx_storage.specs.Facts.Spans.{span_length}
 use Rattle.cx_storage.specs.Word.{word_at}
 use Rattle.cx_call.specs.declared.call.CallFault.{CallFault}
 use Rattle.cx_call.specs.declared.call.CallFault.TheVariants.{Xarg, Xfun}
-use Rattle.cx_call.specs.Call.{Call, Block, argument_count, block_at, block_from, block_of, call_of, command_of, conditions_of, has_high_bit, has_resp, listed_in, marks_last_alone, only_if, place_of, places_of, resp_place, has_label, then_result, words_at}
+use Rattle.cx_call.specs.Call.{Call, Block, argument_count, block_from, block_of, call_of, command_of, conditions_of, has_high_bit, has_resp, listed_in, marks_last_alone, only_if, place_of, places_of, resp_place, has_label, then_result, words_at}
 use Rattle.cx_call.specs.Laws.Calls.{IsCallAt, arguments_of, bytes_of_block, list_word}
 
 -- ---- results
@@ -138,7 +138,7 @@ block_read s list block ok e = go (word_at s list) refl (some_ok _ _ _ e)
         let parts = four place bytes block (span_length s place 4 bytes f) (span_small s place 4 bytes ok f) (cc) in
         (parts.0, ap Some parts.1)
 
-    go : (o : Option ℕ) → word_at s list ≡ o → option_and_then (λ word. block_at s (address_in word)) o ≡ Some block
+    go : (o : Option ℕ) → word_at s list ≡ o → option_and_then (λ word. option_map (block_from (address_in word)) (span s (address_in word) 4)) o ≡ Some block
         → (word : ℕ) × (word_at s list ≡ Some word) × (block.place ≡ address_in word)
         × (span s (address_in word) 4 ≡ Some (block.function / 256 ∷ block.function % 256 ∷ block.first ∷ block.second ∷ []))
     go None f g = cc
@@ -265,7 +265,7 @@ block_there s list f a b e = go (word_at s list) e
     whole = omega arith
 
     go : (o : Option ℕ) → option_and_then (λ word. span s (along (address_in word) 0) 4) o ≡ Some (f / 256 ∷ f % 256 ∷ a ∷ b ∷ [])
-        → (word : ℕ) × (o ≡ Some word) × (ok_or (option_and_then (λ word. block_at s (address_in word)) o) Xarg ≡ Ok (record { place = address_in word; function = f; first = a; second = b }))
+        → (word : ℕ) × (o ≡ Some word) × (ok_or (option_and_then (λ word. option_map (block_from (address_in word)) (span s (address_in word) 4)) o) Xarg ≡ Ok (record { place = address_in word; function = f; first = a; second = b }))
     go None g = cc
     go (Some word) g =
         let bytes : span s (address_in word) 4 ≡ Some (f / 256 ∷ f % 256 ∷ a ∷ b ∷ []) = rw (place_itself word) at g in

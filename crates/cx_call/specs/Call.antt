@@ -72,12 +72,11 @@ block_from place bytes =
       second = slice_index bytes 3;
     }
 
-abbrev pub block_at : Storage → ℕ → Option Block
-block_at s place = option_map (block_from place) (span s place 4)
-
 -- the block at the address in word 0
 unfoldable pub block_of : Storage → ℕ → Result Block CallFault
-block_of s list = ok_or (option_and_then (λ word. block_at s (address_in word)) (word_at s list)) Xarg
+block_of s list =
+    ok_or (option_and_then (λ word. option_map (block_from (address_in word)) (span s (address_in word) 4))
+    (word_at s list)) Xarg
 
 -- the block's command, with legal option bytes
 unfoldable pub command_of : Block → Result Command CallFault

@@ -1,9 +1,8 @@
 -- What a command reads of its program's storage (Application Programmer's Reference Manual, SC33-0077, "Argument
 -- Values" and the syntax of each command). All of it is read as the command finds storage.
-use Rattle.std.specs.Prelude.{ℕ, ℤ, ◌^◌, Bool, true, false, ◌&&◌, nat_le, List, Option, Some, None, is_some}
+use Rattle.std.specs.Prelude.{ℕ, ◌^◌, Bool, true, false, ◌&&◌, nat_le, List, Option, is_some}
 use Rattle.std.specs.Option.{option_map, option_map_or, option_and_then}
 use Rattle.std.specs.List.{list_all}
-use Rattle.std.specs.Int.{w16, cast_signed}
 use Rattle.cx_command.specs.declared.options.CommandOption.{CommandOption}
 use Rattle.cx_command.specs.declared.options.OptionName.{OptionName}
 use Rattle.cx_command.specs.declared.options.OptionName.TheVariants.{Length}
@@ -22,18 +21,9 @@ bytes_of s call name n = option_and_then (λ place. span s place n) (place_of ca
 unfoldable pub halfword_of : Storage → Call → OptionName → Option ℕ
 halfword_of s call name = option_and_then (λ place. halfword_at s place) (place_of call name)
 
--- the halfword as a signed number
-unfoldable pub signed_of : Storage → Call → OptionName → Option ℤ
-signed_of s call name = option_map (cast_signed w16) (halfword_of s call name)
-
--- a halfword is there, and its sign bit is set
-abbrev pub is_negative : Option ℕ → Bool
-is_negative None = false
-is_negative (Some halfword) = nat_le (2 ^ 15) halfword
-
--- LENGTH is there, and is negative
+-- LENGTH is there, and its sign bit is set
 unfoldable pub is_length_negative : Storage → Call → Bool
-is_length_negative s call = is_negative (halfword_of s call Length)
+is_length_negative s call = option_map_or (nat_le (2 ^ 15)) (halfword_of s call Length) false
 
 -- how many bytes LENGTH says: none where it is negative or isn't there
 unfoldable pub measured : Storage → Call → ℕ
@@ -51,11 +41,8 @@ piece_bytes s piece = span s piece.place piece.len
 unfoldable pub input_of : Storage → Call → CommandOption → Option (List ℕ)
 input_of s call option = bytes_of s call option.name (input_len option.mark (has_option call.command call.first) (halfword_of s call Length))
 
--- RESP's word is in storage, where RESP is there
-unfoldable pub can_respond : Storage → Call → Bool
-can_respond s call = option_map_or (λ place. is_some (span s place 4)) (resp_place call) true
-
 -- each byte that the command reads is in storage, and so is RESP's word
 unfoldable pub are_inputs_there : Storage → Call → Bool
 are_inputs_there s call =
-    list_all (λ option. is_some (input_of s call option)) (arguments_in (row_of call.command).options call.first) && can_respond s call
+    list_all (λ option. is_some (input_of s call option)) (arguments_in (row_of call.command).options call.first)
+    && option_map_or (λ place. is_some (span s place 4)) (resp_place call) true

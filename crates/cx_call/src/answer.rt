@@ -1,6 +1,8 @@
 //! What a command reports: in the EXEC interface block, and then in RESP's word.
-ghost use Rattle.std.specs.Prelude.{◌≡◌, ◌<◌, ◌^◌, Some, None, IfSome};
-ghost use Rattle.cx_call.specs.Answer.{answered, one_byte, resource_of, with_eib, with_resp, with_set};
+ghost use Rattle.std.specs.Prelude.{◌≡◌, ◌<◌, ◌^◌, Some, None, IfSome, [], ◌∷◌, option_map};
+ghost use Rattle.std.specs.Int.{to_be_bytes, w32};
+ghost use Rattle.cx_call.specs.Answer.{answered, resource_of, with_eib, with_set};
+ghost use Rattle.cx_call.specs.Outputs.{with_output};
 
 use crate::call::Call;
 use crate::eib::{put, put_calen};
@@ -50,7 +52,8 @@ fn put_resource<S: Store>(store: &mut S, eib: u32, resource: Option<Name8>)
 #[tactic(auto, unfolding(crate::specs::Answer::with_set))]
 fn put_aid<S: Store>(store: &mut S, eib: u32, aid: Option<u8>)
     requires { eib < 2 ^ 24 }
-    ensures { S.storage store.new ≡ with_set (S.storage store.old) eib EibField.Aid (one_byte aid) }
+    ensures { S.storage store.new
+        ≡ with_set (S.storage store.old) eib EibField.Aid (option_map (λ byte. byte ∷ []) aid) }
 {
     if let Some(aid) = aid {
         put(store, eib, EibField::Aid, &[aid]);
@@ -81,17 +84,6 @@ fn put_eib<S: Store>(store: &mut S, eib: u32, answer: &Answer)
     put_calen(store, eib, answer.calen);
 }
 
-/// Writes RESP's word, where RESP is there.
-#[tactic(auto, unfolding(crate::specs::Answer::with_resp))]
-fn put_resp<S: Store>(store: &mut S, place: Option<u32>, condition: u8)
-    requires { IfSome place (λ place. place < 2 ^ 24) }
-    ensures { S.storage store.new ≡ with_resp (S.storage store.old) place condition }
-{
-    if let Some(place) = place {
-        store.write(place, &u32::from(condition).to_be_bytes());
-    }
-}
-
 /// Writes a command's report: into the EIB at an address (below 2^24) EIBFN, EIBRCODE and EIBRESP, and EIBRSRCE, EIBAID
 /// and EIBCALEN where the command sets them; then RESP's word, over whatever stands there. Each is written where all its
 /// bytes are in storage. No other byte changes.
@@ -101,5 +93,7 @@ pub fn put_answer<S: Store>(store: &mut S, eib: u32, call: &Call, answer: &Answe
     ensures { S.storage store.new ≡ answered (S.storage store.old) eib call.now answer.now }
 {
     put_eib(store, eib, answer);
-    put_resp(store, call.resp(), answer.condition);
+    if let Some(place) = call.resp() {
+        store.write(place, &u32::from(answer.condition).to_be_bytes());
+    }
 }

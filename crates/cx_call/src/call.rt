@@ -220,13 +220,6 @@ fn read_block<S: Store>(store: &S, list: u32) -> Result<Block, CallFault>
     })
 }
 
-/// Whether bit 0 of a word is set.
-fn has_high_bit(word: u32) -> bool
-    ensures { result ≡ has_high_bit word }
-{
-    word >= 0x8000_0000
-}
-
 /// Conditions that HANDLE or IGNORE CONDITION lists, at most sixteen.
 #[derive(Debug, Drop)]
 struct Conditions {
@@ -334,18 +327,12 @@ fn argument_count(command: Command, block: &Block, conditions: &Conditions) -> u
     } else {
         0
     };
-    command.argument_count(block.first) + labels(conditions.as_slice()) + resp
-}
-
-/// How many conditions have a label.
-fn labels(conditions: &[ListedCondition]) -> usize
-    ensures value { result ≡ count_by has_label conditions.now }
-    ensures most { result ≤ length conditions.now }
-{
-    conditions
+    let labels = conditions
+        .as_slice()
         .iter()
         .filter(|listed| listed.label == 0x80)
-        .count()
+        .count();
+    command.argument_count(block.first) + labels + resp
 }
 
 /// The addresses of the arguments of a list.
@@ -357,7 +344,8 @@ fn read_places<S: Store>(
 ) -> Result<ArrayVec<u32, ARGUMENTS>, CallFault>
     requires list { list < 2 ^ 24 }
     requires most { count ≤ 17 }
-    ensures value { result_map_both (λ places. places.items) (λ fault. fault) result ≡ places_of (S.storage store.now) list count }
+    ensures value { let read = places_of (S.storage store.now) list count in
+        result_map_both (λ places. places.items) (λ fault. fault) result ≡ read }
     ensures addresses { IfOk result (λ places. AllByRecursion (λ place. place < 2 ^ 24) places.items) }
 {
     let words = read_words(store, list, 1 + count).ok_or(CallFault::Xarg)?;
@@ -403,7 +391,7 @@ fn marks_last_alone(words: &[u32]) -> bool
 fn first_marked(words: &[u32]) -> Option<usize>
     ensures { result ≡ position has_high_bit words.now }
 {
-    words.iter().position(|word| has_high_bit(*word))
+    words.iter().position(|word| *word >= 0x8000_0000)
 }
 
 /// The addresses in some words.

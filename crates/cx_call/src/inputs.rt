@@ -1,9 +1,13 @@
 //! What a command reads at its arguments.
-ghost use Rattle.std.specs.Prelude.{◌≡◌, ◌<◌, ◌≤◌, ◌^◌, IfSome, is_some, length, option_map, unwrap_or};
+ghost use Rattle.std.specs.Prelude.{◌≡◌, ◌<◌, ◌≤◌, ◌^◌, IfSome, is_some, length, option_map, unwrap_or, true};
 ghost use Rattle.std.specs.List.{list_all};
+ghost use Rattle.std.specs.Int.{cast_signed, w16};
+ghost use Rattle.std.specs.Option.{option_map_or};
 ghost use Rattle.cx_command.specs.Arguments.{arguments_in, has_option};
 ghost use Rattle.cx_command.specs.Commands.{row_of};
-ghost use Rattle.cx_call.specs.Inputs.{are_inputs_there, bytes_of, can_respond, halfword_of, input_of, is_length_negative, measured, piece_of, signed_of};
+ghost use Rattle.cx_call.specs.Inputs.{are_inputs_there, bytes_of, halfword_of, input_of, is_length_negative, measured, piece_of};
+ghost use Rattle.cx_call.specs.Call.{resp_place};
+ghost use Rattle.cx_storage.specs.Storage.{span};
 
 use crate::call::Call;
 use cx_command::{CommandOption, OptionName};
@@ -30,9 +34,8 @@ pub fn halfword<S: Store>(store: &S, call: &Call, name: OptionName) -> Option<u1
 
 /// The halfword at an option's argument, signed. None where the option isn't there, or a byte of the halfword is
 /// in no area.
-#[tactic(auto, unfolding(crate::specs::Inputs::signed_of))]
 pub fn signed_halfword<S: Store>(store: &S, call: &Call, name: OptionName) -> Option<i16>
-    ensures { result ≡ signed_of (S.storage store.now) call.now name }
+    ensures { result ≡ option_map (cast_signed w16) (halfword_of (S.storage store.now) call.now name) }
 {
     let halfword = halfword(store, call, name)?;
     Some(halfword.cast_signed())
@@ -80,7 +83,8 @@ pub fn measured_piece<S: Store>(store: &S, call: &Call, name: OptionName) -> Opt
 pub fn read_argument<S: Store>(store: &S, call: &Call, name: OptionName, buffer: &mut [u8]) -> bool
     requires { length buffer.old ≤ 65536 }
     ensures present { result ≡ is_some (bytes_of (S.storage store.now) call.now name (length buffer.old)) }
-    ensures after { buffer.new ≡ unwrap_or (bytes_of (S.storage store.now) call.now name (length buffer.old)) buffer.old }
+    ensures after { let bytes = bytes_of (S.storage store.now) call.now name (length buffer.old) in
+        buffer.new ≡ unwrap_or bytes buffer.old }
 {
     let Some(place) = call.place(name) else {
         return false;
@@ -128,23 +132,13 @@ fn is_input_there<S: Store>(store: &S, call: &Call, option: &CommandOption) -> b
 /// Whether what the command reads at the arguments of some options is in storage.
 #[tactic(auto, unfolding(cx_command::specs::Arguments::arguments_in))]
 fn are_all_there<S: Store>(store: &S, call: &Call, options: &[CommandOption]) -> bool
-    ensures { result ≡ list_all (λ option. is_some (input_of (S.storage store.now) call.now option)) (arguments_in options.now call.now.first) }
+    ensures { let arguments = arguments_in options.now call.now.first in
+        result ≡ list_all (λ option. is_some (input_of (S.storage store.now) call.now option)) arguments }
 {
     options
         .iter()
         .filter(|option| option.is_argument(call.first()))
         .all(|option| is_input_there(store, call, option))
-}
-
-/// Whether RESP's word is in storage, where RESP is there.
-#[tactic(auto, unfolding(crate::specs::Inputs::can_respond))]
-fn can_respond<S: Store>(store: &S, call: &Call) -> bool
-    ensures { result ≡ can_respond (S.storage store.now) call.now }
-{
-    match call.resp() {
-        Some(place) => store.has_span(place, 4),
-        None => true,
-    }
 }
 
 /// Whether each byte that the command reads is in storage, and RESP's word too, where RESP is there.
@@ -156,5 +150,11 @@ fn can_respond<S: Store>(store: &S, call: &Call) -> bool
 pub fn are_inputs_there<S: Store>(store: &S, call: &Call) -> bool
     ensures { result ≡ are_inputs_there (S.storage store.now) call.now }
 {
-    are_all_there(store, call, call.command().options()) && can_respond(store, call)
+    if !are_all_there(store, call, call.command().options()) {
+        return false;
+    }
+    match call.resp() {
+        Some(place) => store.has_span(place, 4),
+        None => true,
+    }
 }

@@ -64,22 +64,14 @@ impl Outputs {
         }
     }
 
-    /// One more output, the last.
-    fn push(&mut self, output: Output)
-        requires { length self.old < 4 }
-        ensures { self.new ≡ self.old ++ output ∷ [] }
-    {
-        self.entries[self.count] = output;
-        self.count += 1;
-    }
-
     /// The outputs, and one more behind them.
     pub fn with(self, option: OptionName, source: Source) -> Outputs
         requires { length self < 4 }
         ensures { result ≡ self ++ record { option = option; source = source } ∷ [] }
     {
         let mut outputs = self;
-        outputs.push(Output { option, source });
+        outputs.entries[outputs.count] = Output { option, source };
+        outputs.count += 1;
         outputs
     }
 

@@ -1,5 +1,5 @@
 -- Each command, condition and option is found by its number and by its name.
-use Rattle.std.proofs.Common.{◌≡◌, ℕ, ◌==◌, ◌↔◌, Some, List, refl, sym, ◌∙◌, ap}
+use Rattle.std.proofs.Common.{◌≡◌, ℕ, ◌==◌, ◌↔◌, Some, List, refl, sym, ◌∙◌, ap, arith}
 use Rattle.std.specs.List.{find}
 use Rattle.std.specs.Str.{bytes_eq}
 use Rattle.std.proofs.lemmas.Bool.{eqb-true}
@@ -9,11 +9,11 @@ use Rattle.cx_command.specs.Commands.{all_commands, command_called, command_with
 use Rattle.cx_command.specs.Conditions.{entry_of}
 use Rattle.cx_command.specs.Options.{option_name}
 use Rattle.cx_command.specs.Facts.Commands.{function_finds}
+use Rattle.cx_command.specs.Facts.Conditions.{number_finds}
 use Rattle.cx_command.specs.declared.commands.Command.{Command}
 use Rattle.cx_command.specs.declared.commands.Command.TheVariants as command
 use Rattle.cx_command.specs.declared.commands.TheConstants as commands
 use Rattle.cx_command.specs.declared.conditions.Condition.{Condition}
-use Rattle.cx_command.specs.declared.conditions.Condition.TheVariants as condition
 use Rattle.cx_command.specs.declared.conditions.TheConstants as conditions
 use Rattle.cx_command.specs.declared.options.OptionName.{OptionName}
 use Rattle.cx_command.specs.declared.options.OptionName.TheVariants as option
@@ -59,35 +59,14 @@ command_by_name t x = (
   λ e. ap (λ n. find (λ y. bytes_eq (row_of y).name n) all_commands) (sym e) ∙ name_finds x,
 )
 
-condition_number_finds : (x : Condition) → find (λ y. (entry_of y).number == (entry_of x).number) conditions.Condition.ALL ≡ Some x
-condition_number_finds condition.Normal = refl
-condition_number_finds condition.Error = refl
-condition_number_finds condition.Invreq = refl
-condition_number_finds condition.Nospace = refl
-condition_number_finds condition.Lengerr = refl
-condition_number_finds condition.Itemerr = refl
-condition_number_finds condition.Pgmiderr = refl
-condition_number_finds condition.Nostg = refl
-condition_number_finds condition.Qiderr = refl
-condition_number_finds condition.Enqbusy = refl
-
 pub found_by_condition_number : (n : ℕ) (x : Condition) → (find (λ y. (entry_of y).number == n) conditions.Condition.ALL ≡ Some x) ↔ ((entry_of x).number ≡ n)
 found_by_condition_number n x = (
   λ e. eqb-true _ _ (find_passes (λ y. (entry_of y).number == n) conditions.Condition.ALL x e),
-  λ e. ap (λ k. find (λ y. (entry_of y).number == k) conditions.Condition.ALL) (sym e) ∙ condition_number_finds x,
+  λ e. ap (λ k. find (λ y. (entry_of y).number == k) conditions.Condition.ALL) (sym e) ∙ number_finds x,
 )
 
 condition_name_finds : (x : Condition) → find (λ y. bytes_eq ((entry_of y).name) ((entry_of x).name)) conditions.Condition.ALL ≡ Some x
-condition_name_finds condition.Normal = refl
-condition_name_finds condition.Error = refl
-condition_name_finds condition.Invreq = refl
-condition_name_finds condition.Nospace = refl
-condition_name_finds condition.Lengerr = refl
-condition_name_finds condition.Itemerr = refl
-condition_name_finds condition.Pgmiderr = refl
-condition_name_finds condition.Nostg = refl
-condition_name_finds condition.Qiderr = refl
-condition_name_finds condition.Enqbusy = refl
+condition_name_finds x = grind arith
 
 pub found_by_condition_name : (t : List ℕ) (x : Condition) → (find (λ y. bytes_eq ((entry_of y).name) t) conditions.Condition.ALL ≡ Some x) ↔ ((entry_of x).name ≡ t)
 found_by_condition_name t x = (

@@ -6,6 +6,9 @@ ghost use Rattle.cx_command.specs.Conditions.{abend_code_of, entry_of, handled, 
 
 use cx_ebcdic::Name4;
 
+/// How many conditions there are, NORMAL among them.
+pub const CONDITIONS: usize = 10;
+
 /// An exceptional condition that a command can meet, or NORMAL.
 ///
 /// Application Programmer's Reference Manual, SC33-0077, "Exceptional conditions".
@@ -26,7 +29,7 @@ pub enum Condition {
 
 impl Condition {
     /// All conditions, in the order of their numbers.
-    const ALL: [Condition; 10] = [
+    const ALL: [Condition; CONDITIONS] = [
         Condition::Normal,
         Condition::Error,
         Condition::Invreq,
@@ -46,10 +49,10 @@ impl Condition {
         &Condition::ALL[1..]
     }
 
-    /// The condition's place among all ten, in the order of their numbers: 0 for NORMAL, 9 for ENQBUSY.
+    /// The condition's place among all, in the order of their numbers: 0 for NORMAL.
     pub fn place(self) -> usize
         ensures value { result ≡ place_of self }
-        ensures bound { result < 10 }
+        ensures bound { result < CONDITIONS }
     {
         self as usize
     }

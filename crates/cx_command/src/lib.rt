@@ -14,7 +14,7 @@ mod options;
 
 pub use abends::Abend;
 pub use commands::Command;
-pub use conditions::Condition;
+pub use conditions::{CONDITIONS, Condition};
 pub use eib::{EibField, EibPiece, eib_pieces};
 pub use eistg::EistgField;
 pub use legal::{ListedCondition, has_bit};

@@ -9,11 +9,11 @@ use Rattle.cx_code.specs.declared.disassembly.What.TheVariants.{Data}
 use Rattle.cx_code.specs.Table.{op_named, ops, row_of as op_row_of}
 use Rattle.cx_command.specs.declared.commands.Command.{Command}
 use Rattle.cx_command.specs.declared.conditions.Condition.{Condition}
-use Rattle.cx_command.specs.declared.conditions.Condition.TheVariants as condition
 use Rattle.cx_command.specs.declared.options.CommandOption.{CommandOption}
 use Rattle.cx_command.specs.declared.options.CommonOption.TheVariants.{Nohandle, Resp}
 use Rattle.cx_command.specs.Commands.{row_of}
 use Rattle.cx_command.specs.Facts.Commands.{each_command}
+use Rattle.cx_command.specs.Facts.Conditions.{each_condition}
 use Rattle.cx_command.specs.Conditions.{entry_of}
 use Rattle.cx_command.specs.Legal.{is_legal, is_legal_second, is_legal_set, lists_conditions}
 use Rattle.cx_command.specs.Options.{common_of, option_name}
@@ -94,16 +94,7 @@ second_small words = go (is_given words (common_of Nohandle).name) (is_given wor
     go false false = omega arith
 
 condition_small : (c : Condition) → (entry_of c).number < 256
-condition_small condition.Normal = omega arith
-condition_small condition.Error = omega arith
-condition_small condition.Invreq = omega arith
-condition_small condition.Nospace = omega arith
-condition_small condition.Lengerr = omega arith
-condition_small condition.Itemerr = omega arith
-condition_small condition.Pgmiderr = omega arith
-condition_small condition.Nostg = omega arith
-condition_small condition.Qiderr = omega arith
-condition_small condition.Enqbusy = omega arith
+condition_small c = ltb-true _ _ (each_condition (λ x. nat_lt (entry_of x).number 256) refl c)
 
 listed_small : (words : List Word) → AreBytes (flat_map two_bytes (listed_of words))
 listed_small [] = tt

@@ -64,9 +64,6 @@ status_of (kind.Over (ending.Abended code)) = codes "TASK ABENDED"
 abbrev pub list_of : Seen → ℕ
 list_of task = address_in (slice_index task.regs 1)
 
-unfoldable pub function_due : Storage → Seen → Option ℕ
-function_due storage task = option_and_then (λ w. halfword_at storage (address_in w)) (word_at storage (list_of task))
-
 abbrev pub field_at : Seen → EibField → ℕ
 field_at task f = along task.eib (eib_field f).offset
 
@@ -75,7 +72,8 @@ name_of_function None = codes "?"
 name_of_function (Some function) = option_map_or (λ command. (row_of command).name) (command_with function) (codes "?")
 
 unfoldable pub command_text : Storage → Seen → Kind → List ℕ
-command_text storage task kind.Before = name_of_function (function_due storage task)
+command_text storage task kind.Before =
+    name_of_function (option_and_then (λ w. halfword_at storage (address_in w)) (word_at storage (list_of task)))
 command_text storage task (kind.After condition) = name_of_function (halfword_at storage (field_at task eib.Fn))
 command_text storage task other = []
 
@@ -168,16 +166,12 @@ unfoldable pub storage_page : Storage → Option Seen → List (List ℕ)
 storage_page storage None = blank_page
 storage_page storage (Some task) = fold (with_row storage task) (with_line blank_page 1 (storage_heading task)) rows
 
--- the user's screen
-unfoldable pub user_page : RegionState → List ℕ → List (List ℕ)
-user_page region name = option_map_or (λ terminal. map shown terminal.screen) (terminal_of region name) blank_page
-
--- the display of a terminal at a stop of some kind
+-- the display of a terminal at a stop of some kind; the user page is the terminal's screen
 unfoldable pub display_of : RegionState → List ℕ → Kind → Display
 display_of region name stop =
     record {
       kind = stop;
       main = main_page region.storage name stop (seen_at region name stop);
       storage = storage_page region.storage (seen_at region name stop);
-      user = user_page region name;
+      user = option_map_or (λ terminal. map shown terminal.screen) (terminal_of region name) blank_page;
     }

@@ -1,5 +1,6 @@
 -- Bytes of storage as a display shows them (own).
-use Rattle.std.specs.Prelude.{ℕ, ◌+◌, ◌-◌, nat_lt, if◌then◌else◌, Option, Some, None, List, [], ◌∷◌, codes, fold, map, slice_set}
+use Rattle.std.specs.Prelude.{ℕ, ◌+◌, ◌-◌, nat_lt, if◌then◌else◌, List, [], ◌∷◌, codes, fold, map, slice_set}
+use Rattle.std.specs.Option.{option_map_or}
 use Rattle.cx_ebcdic.specs.Characters.{shown_as}
 use Rattle.cx_storage.specs.Address.{along}
 use Rattle.cx_storage.specs.Storage.{Storage, byte_at}
@@ -13,21 +14,15 @@ with_line page line pieces = slice_set page (line - 1) (in_columns 80 (joined pi
 abbrev pub with_lines : List (List ℕ) → List (ℕ × List (List ℕ)) → List (List ℕ)
 with_lines page lines = fold (λ page line. with_line page line.0 line.1) page lines
 
--- a byte in hexadecimal, and its character: an absent one is shown by hyphens
-unfoldable pub hex_of : Option ℕ → List ℕ
-hex_of None = codes "--"
-hex_of (Some byte) = digits 16 2 byte
-
-unfoldable pub character_of : Option ℕ → List ℕ
-character_of None = codes "-"
-character_of (Some byte) = shown_as byte ∷ []
-
--- the byte that is k bytes after an address, of a row of so many: blanks stand for what is behind the row's end
+-- the byte that is k bytes after an address, of a row of so many, in hexadecimal, and its character: an absent one is shown by
+-- hyphens, and blanks stand for what is behind the row's end
 unfoldable pub hex_at : Storage → ℕ → ℕ → ℕ → List ℕ
-hex_at storage address count k = if nat_lt k count then hex_of (byte_at storage (along address k)) else codes "  "
+hex_at storage address count k =
+    if nat_lt k count then option_map_or (digits 16 2) (byte_at storage (along address k)) (codes "--") else codes "  "
 
 unfoldable pub character_at : Storage → ℕ → ℕ → ℕ → List ℕ
-character_at storage address count k = if nat_lt k count then character_of (byte_at storage (along address k)) else codes " "
+character_at storage address count k =
+    if nat_lt k count then option_map_or (λ byte. shown_as byte ∷ []) (byte_at storage (along address k)) (codes "-") else codes " "
 
 -- four bytes of such a row from the one that is k bytes after the address on, in hexadecimal, and as characters
 abbrev pub four : ℕ → List ℕ

@@ -1,9 +1,12 @@
 //! The main page of a display.
 ghost use Rattle.std.specs.Prelude.{◌≡◌, ◌∷◌, [], ◌+◌, ◌≤◌, Some, codes, map};
 ghost use Rattle.std.specs.List.{AllByRecursion};
+ghost use Rattle.std.specs.Option.{option_and_then};
+ghost use Rattle.cx_storage.specs.Address.{address_in};
+ghost use Rattle.cx_storage.specs.Word.{halfword_at, word_at};
 ghost use Rattle.cx_text.specs.Texts.{shown};
 ghost use Rattle.cx_display.specs.Texts.{with_line, with_lines};
-ghost use Rattle.cx_display.specs.Displays.{argument, arguments, arguments_due, command_text, eib_line, function_due, heading, main_page, name_of_function, outcome, quarters, registers, state_line, status_of, task_heading, task_lines};
+ghost use Rattle.cx_display.specs.Displays.{argument, arguments, arguments_due, command_text, eib_line, heading, list_of, main_page, name_of_function, outcome, quarters, registers, state_line, status_of, task_heading, task_lines};
 
 use crate::rows::{character_group, hex_at, hex_group};
 use crate::seen::{Seen, halfword, word};
@@ -110,9 +113,9 @@ fn command<S: Store + Drop>(region: &Region<S>, kind: &Kind, task: &Seen) -> &'s
 }
 
 /// The function value of the block that register 1 leads to.
-#[tactic(auto, unfolding(crate::specs::Displays::function_due))]
 fn function_due<S: Store + Drop>(region: &Region<S>, task: &Seen) -> Option<u16>
-    ensures { result ≡ function_due region.now.storage task.now }
+    ensures { result ≡ option_and_then (λ w. halfword_at region.now.storage (address_in w))
+        (word_at region.now.storage (list_of task.now)) }
 {
     let first = word(region, address_in(task.regs[1]))?;
     halfword(region, address_in(first))

@@ -1,15 +1,17 @@
 //! Bytes of storage as a display shows them.
-ghost use Rattle.std.specs.Prelude.{◌≡◌, ◌<◌};
-ghost use Rattle.cx_display.specs.Texts.{character_at, character_group, character_of, hex_at, hex_group, hex_of};
+ghost use Rattle.std.specs.Prelude.{◌≡◌, ◌<◌, ◌∷◌, [], codes};
+ghost use Rattle.std.specs.Option.{option_map_or};
+ghost use Rattle.cx_ebcdic.specs.Characters.{shown_as};
+ghost use Rattle.cx_text.specs.Digits.{digits};
+ghost use Rattle.cx_display.specs.Texts.{character_at, character_group, hex_at, hex_group};
 
 use cx_region::Region;
 use cx_storage::{Store, along};
 use cx_text::{hexadecimal, in_columns, shown_byte};
 
 /// A byte in hexadecimal; an absent one is two hyphens.
-#[tactic(auto, unfolding(crate::specs::Texts::hex_of))]
 fn hex_of(byte: Option<u8>) -> [u8; 2]
-    ensures { result ≡ hex_of byte }
+    ensures { result ≡ option_map_or (digits 16 2) byte (codes "--") }
 {
     match byte {
         Some(byte) => hexadecimal::<2>(u32::from(byte)),
@@ -18,9 +20,8 @@ fn hex_of(byte: Option<u8>) -> [u8; 2]
 }
 
 /// The character of a byte; that of an absent one is a hyphen.
-#[tactic(auto, unfolding(crate::specs::Texts::character_of))]
 fn character_of(byte: Option<u8>) -> [u8; 1]
-    ensures { result ≡ character_of byte }
+    ensures { result ≡ option_map_or (λ byte. shown_as byte ∷ []) byte (codes "-") }
 {
     match byte {
         Some(byte) => [shown_byte(byte)],

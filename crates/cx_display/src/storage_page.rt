@@ -1,8 +1,12 @@
 //! The pages of the working storage and of the user's screen.
-ghost use Rattle.std.specs.Prelude.{◌≡◌, ◌≤◌, fold};
+ghost use Rattle.std.specs.Prelude.{◌≡◌, ◌≤◌, fold, map};
 ghost use Rattle.std.specs.List.{AllByRecursion};
+ghost use Rattle.std.specs.Option.{option_map_or};
+ghost use Rattle.cx_region.specs.Tables.{terminal_of};
+ghost use Rattle.cx_text.specs.Pages.{blank_page};
+ghost use Rattle.cx_text.specs.Texts.{shown};
 ghost use Rattle.cx_display.specs.Texts.{with_line};
-ghost use Rattle.cx_display.specs.Displays.{storage_heading, storage_page, user_page, with_row};
+ghost use Rattle.cx_display.specs.Displays.{storage_heading, storage_page, with_row};
 
 use crate::rows::{character_group, hex_group};
 use crate::seen::Seen;
@@ -79,9 +83,9 @@ fn put_row<S: Store + Drop>(page: &mut Page, region: &Region<S>, task: &Seen, ro
 }
 
 /// The user's screen; a blank page where there is no such terminal.
-#[tactic(auto, unfolding(crate::specs::Displays::user_page, cx_text::specs::Pages::IsPage, cx_service::specs::Screen::IsScreen))]
+#[tactic(auto, unfolding(cx_text::specs::Pages::IsPage, cx_service::specs::Screen::IsScreen))]
 pub(crate) fn user_page<S: Store + Drop>(region: &Region<S>, name: Name4) -> Page
-    ensures { result ≡ user_page region.now name }
+    ensures { result ≡ option_map_or (λ terminal. map shown terminal.screen) (terminal_of region.now name) blank_page }
 {
     match region.screen(name) {
         Some(screen) => Page::of_bytes(screen.cells()),

@@ -1,6 +1,6 @@
 -- What EDF does with each event, told once for all that follows from it.
-use Rattle.std.proofs.Common.{◌≡◌, ℕ, Bool, true, false, List, Option, Some, None, refl, is_some}
-use Rattle.std.specs.Prelude.{if◌then◌else◌, not}
+use Rattle.std.proofs.Common.{◌≡◌, ℕ, Bool, true, false, List, Some, None, refl, is_some}
+use Rattle.std.specs.Prelude.{◌&&◌, if◌then◌else◌, not}
 use Rattle.cx_region.specs.Tables.{task_of, terminal_of}
 use Rattle.cx_region.specs.declared.changes.Change.TheVariants as change
 use Rattle.cx_region.specs.declared.replies.Event.{Event}
@@ -11,7 +11,7 @@ use Rattle.cx_edf.specs.declared.answers.EdfReply.TheVariants as edf
 use Rattle.cx_edf.specs.declared.answers.Answer.{Answer}
 use Rattle.cx_edf.specs.declared.answers.Answer.TheVariants as answer
 use Rattle.cx_edf.specs.Sessions.{after_key, fresh_session, with_session}
-use Rattle.cx_edf.specs.State.{EdfState, ends_by_key, holds, refuses, session_at, stopped_at}
+use Rattle.cx_edf.specs.State.{EdfState, ends_by_key, holds, session_at, stopped_at}
 use Rattle.cx_edf.specs.Steps.{Door, Keeps, Passes, changed, door_of}
 use Rattle.cx_edf.specs.Laws.Edf.{ends_task, is_edfs}
 use Rattle.cx_edf.proofs.EndLemmas.{ends_live}
@@ -56,7 +56,7 @@ fits old (edf_event.Plain (event.Key name aid bytes)) =
 fits old (edf_event.Plain (event.Turn name)) =
     by_test (Fits old (edf_event.Plain (event.Turn name))) (holds old name) (Keeps answer.Held old.sessions) (Passes (event.Turn name) None) (λ _. (refl, refl)) (λ _. (refl, refl))
 fits old (edf_event.Plain (event.Alter name c)) =
-    by_test (Fits old (edf_event.Plain (event.Alter name c))) (refuses old name) (Keeps answer.NotStopped old.sessions) (Passes (event.Alter name c) None) (λ _. (refl, refl)) (λ _. (refl, refl))
+    by_test (Fits old (edf_event.Plain (event.Alter name c))) (is_some (terminal_of old.region name) && not (stopped_at old name)) (Keeps answer.NotStopped old.sessions) (Passes (event.Alter name c) None) (λ _. (refl, refl)) (λ _. (refl, refl))
 fits old (edf_event.Plain (event.Program name image)) = (refl, refl)
 fits old (edf_event.Plain (event.Transaction tran program)) = (refl, refl)
 fits old (edf_event.Plain (event.Terminal name)) = (refl, refl)

@@ -1,6 +1,6 @@
 -- What is kept of a terminal's displays after one event.
 use Rattle.std.proofs.Common.{◌≡◌, ℕ, Bool, true, false, List, [], ◌∷◌, ◌++◌, map, Option, Some, None, refl, sym, ap, ◌∙◌, subst, is_some}
-use Rattle.std.specs.Prelude.{if◌then◌else◌, length, not, unwrap_or}
+use Rattle.std.specs.Prelude.{◌&&◌, if◌then◌else◌, length, not, unwrap_or}
 use Rattle.std.proofs.lemmas.Bool.{true≢false}
 use Rattle.std.specs.List.{cons_option, filter_map}
 use Rattle.std.specs.Option.{option_and_then, option_map_or}
@@ -14,7 +14,7 @@ use Rattle.cx_ebcdic.specs.declared.aids.Aid.{Aid}
 use Rattle.cx_ebcdic.specs.declared.aids.Aid.TheVariants as aid
 use Rattle.cx_region.specs.State.{RegionState}
 use Rattle.cx_region.specs.Tables.{terminal_of}
-use Rattle.cx_region.specs.Names.{is_name4}
+use Rattle.cx_ebcdic.specs.Names.{is_name}
 use Rattle.cx_region.specs.declared.changes.AlterReply.TheVariants as alter
 use Rattle.cx_region.specs.declared.changes.Change.{Change}
 use Rattle.cx_region.specs.declared.changes.Change.TheVariants as change
@@ -32,7 +32,7 @@ use Rattle.cx_edf.specs.declared.modes.Mode.TheVariants as mode
 use Rattle.cx_edf.specs.declared.modes.PageName.TheVariants as page
 use Rattle.cx_edf.specs.Sessions.{SessionState, Sessions, after_change, after_key, after_reply, fresh_session, older, operators_end, session_in, stop_of_turn, stopped, turned_to, with_session}
 use Rattle.cx_edf.specs.Stops.{stops_named}
-use Rattle.cx_edf.specs.State.{EdfState, ends_by_key, holds, refuses, session_at, stopped_at}
+use Rattle.cx_edf.specs.State.{EdfState, ends_by_key, holds, session_at, stopped_at}
 use Rattle.cx_edf.specs.Steps.{Done, Door, EdfHappens, Keeps, Passes, changed, door_of, sessions_after}
 use Rattle.cx_edf.specs.Erasure.{is_refused, left_in, left_of}
 use Rattle.cx_edf.specs.Runs.{IsKept, displays_after, stop_taken}
@@ -55,10 +55,10 @@ had_kept (Some s) all h = h s refl
 
 -- one session set
 had_set : (old : Sessions) (name q : List ℕ) (to : Option SessionState) (all : List Display)
-    → (is_name4 name q ≡ true → Had to all) → (is_name4 name q ≡ false → Had (session_in old q) all) → Had (session_in (with_session old name to) q) all
-had_set old name q to all here there = go (is_name4 name q) refl
+    → (is_name name q ≡ true → Had to all) → (is_name name q ≡ false → Had (session_in old q) all) → Had (session_in (with_session old name to) q) all
+had_set old name q to all here there = go (is_name name q) refl
   where
-    go : (b : Bool) → is_name4 name q ≡ b → Had (session_in (with_session old name to) q) all
+    go : (b : Bool) → is_name name q ≡ b → Had (session_in (with_session old name to) q) all
     go true is =
         subst (λ (x : List ℕ). Had (session_in (with_session old name to) x) all) (same_name name q is)
         (subst (λ (o : Option SessionState). Had o all) (sym (at_same old name to)) (here is))
@@ -66,19 +66,19 @@ had_set old name q to all here there = go (is_name4 name q) refl
 
 -- one session changed
 had_changed : (old : Sessions) (name q : List ℕ) (to : SessionState → Option SessionState) (all : List Display)
-    → ((s : SessionState) → is_name4 name q ≡ true → session_in old q ≡ Some s → Had (to s) all) → (is_name4 name q ≡ false → Had (session_in old q) all)
+    → ((s : SessionState) → is_name name q ≡ true → session_in old q ≡ Some s → Had (to s) all) → (is_name name q ≡ false → Had (session_in old q) all)
     → Had (session_in (changed old name to) q) all
 had_changed old name q to all here there = by_session (session_in old name) refl
   where
-    found : (o : Option SessionState) → session_in old name ≡ o → is_name4 name q ≡ true → session_in old q ≡ o
+    found : (o : Option SessionState) → session_in old name ≡ o → is_name name q ≡ true → session_in old q ≡ o
     found o is same = subst (λ (x : List ℕ). session_in old x ≡ o) (same_name name q same) is
 
-    nowhere : (b : Bool) → session_in old name ≡ None → is_name4 name q ≡ b → Had (session_in old q) all
+    nowhere : (b : Bool) → session_in old name ≡ None → is_name name q ≡ b → Had (session_in old q) all
     nowhere true is same = λ s here_too. absurd (none-some s (sym (found None is same) ∙ here_too))
     nowhere false is same = there same
 
     by_session : (o : Option SessionState) → session_in old name ≡ o → Had (session_in (option_map_or (λ s. with_session old name (to s)) o old) q) all
-    by_session None is = nowhere (is_name4 name q) is refl
+    by_session None is = nowhere (is_name name q) is refl
     by_session (Some s) is = had_set old name q (to s) all (λ same. here s same (found (Some s) is same)) there
 
 -- a session that keeps its displays
@@ -137,7 +137,7 @@ keeping old (edf_event.Plain (event.Key name a bytes)) q all kept =
 keeping old (edf_event.Plain (event.Turn name)) q all kept =
     by_test (Keeping old q all) (holds old name) (Keeps answer.Held old.sessions) (Passes (event.Turn name) None) (λ _. had (session_at old q) all kept) (λ _. tt)
 keeping old (edf_event.Plain (event.Alter name c)) q all kept =
-    by_test (Keeping old q all) (refuses old name) (Keeps answer.NotStopped old.sessions) (Passes (event.Alter name c) None) (λ _. had (session_at old q) all kept) (λ _. tt)
+    by_test (Keeping old q all) (is_some (terminal_of old.region name) && not (stopped_at old name)) (Keeps answer.NotStopped old.sessions) (Passes (event.Alter name c) None) (λ _. had (session_at old q) all kept) (λ _. tt)
 keeping old (edf_event.Plain (event.Program name image)) q all kept = tt
 keeping old (edf_event.Plain (event.Transaction tran program)) q all kept = tt
 keeping old (edf_event.Plain (event.Terminal name)) q all kept = tt
@@ -166,24 +166,24 @@ had_replied s r region name q all same kept = subst (λ (x : List ℕ). Had (Som
     go (Some stop) = had_stopped s stop (display_of region q stop) all kept
 
 -- the list of one stop, by the name and the session
-turn_stops : (old : EdfState) (name q : List ℕ) (r : TurnReply) (s : SessionState) → is_name4 name q ≡ true → session_at old q ≡ Some s
+turn_stops : (old : EdfState) (name q : List ℕ) (r : TurnReply) (s : SessionState) → is_name name q ≡ true → session_at old q ≡ Some s
     → cons_option (stop_taken old q (event.Turn name) (reply.Turn r)) [] ≡ cons_option (stop_of_turn s r) []
 turn_stops old name q r s is there =
     ap (λ (b : Bool). cons_option (if b then option_and_then (λ x. stop_of_turn x r) (session_at old q) else None) []) is
     ∙ ap (λ (o : Option SessionState). cons_option (option_and_then (λ x. stop_of_turn x r) o) []) there
 
-turn_elsewhere : (old : EdfState) (name q : List ℕ) (r : TurnReply) → is_name4 name q ≡ false → cons_option (stop_taken old q (event.Turn name) (reply.Turn r)) [] ≡ []
+turn_elsewhere : (old : EdfState) (name q : List ℕ) (r : TurnReply) → is_name name q ≡ false → cons_option (stop_taken old q (event.Turn name) (reply.Turn r)) [] ≡ []
 turn_elsewhere old name q r is = ap (λ (b : Bool). cons_option (if b then option_and_then (λ x. stop_of_turn x r) (session_at old q) else None) []) is
 
 end_stops : (b c : Bool) → b ≡ c → cons_option (if b then Some operators_end else None) [] ≡ cons_option (if c then Some operators_end else None) []
 end_stops b c is = ap (λ (d : Bool). cons_option (if d then Some operators_end else None) []) is
 
 had_altered : (s : SessionState) (c : Change) (region : RegionState) (name q : List ℕ) (all : List Display) → name ≡ q → s.displays ≡ keep_last 10 all
-    → (old : EdfState) → is_name4 name q ≡ true
+    → (old : EdfState) → is_name name q ≡ true
     → Had (Some (after_change s c (display_of region name))) (all ++ map (display_of region q) (cons_option (stop_taken old q (event.Alter name c) (reply.Alter alter.Altered)) []))
 unfolding after_change
 had_altered s change.Abend region name q all same kept old is =
-    subst (λ (ks : List Kind). Had (Some (stopped s operators_end (display_of region name operators_end))) (all ++ map (display_of region q) ks)) (sym (end_stops (is_name4 name q) true is))
+    subst (λ (ks : List Kind). Had (Some (stopped s operators_end (display_of region name operators_end))) (all ++ map (display_of region q) ks)) (sym (end_stops (is_name name q) true is))
     (subst (λ (x : List ℕ). Had (Some (stopped s operators_end (display_of region x operators_end))) (all ++ display_of region q operators_end ∷ [])) (sym same)
     (had_stopped s operators_end (display_of region q operators_end) all kept))
 had_altered s change.Nop region name q all same kept old is =
@@ -191,8 +191,8 @@ had_altered s change.Nop region name q all same kept old is =
 had_altered s (change.Register r v) region name q all same kept old is = none_more (Some s) all (had (Some s) all kept)
 had_altered s (change.Byte a v) region name q all same kept old is = none_more (Some s) all (had (Some s) all kept)
 
-alter_elsewhere : (c : Change) (old : EdfState) (name q : List ℕ) → is_name4 name q ≡ false → cons_option (stop_taken old q (event.Alter name c) (reply.Alter alter.Altered)) [] ≡ []
-alter_elsewhere change.Abend old name q is = end_stops (is_name4 name q) false is
+alter_elsewhere : (c : Change) (old : EdfState) (name q : List ℕ) → is_name name q ≡ false → cons_option (stop_taken old q (event.Alter name c) (reply.Alter alter.Altered)) [] ≡ []
+alter_elsewhere change.Abend old name q is = end_stops (is_name name q) false is
 alter_elsewhere change.Nop old name q is = refl
 alter_elsewhere (change.Register r v) old name q is = refl
 alter_elsewhere (change.Byte a v) old name q is = refl

@@ -9,7 +9,7 @@ use Rattle.cx_display.specs.declared.stops.Kind.{Kind}
 use Rattle.cx_region.specs.State.{RegionState, TerminalState}
 use Rattle.cx_region.specs.Tables.{task_of, terminal_of}
 use Rattle.cx_region.specs.Events.{Happens, Run}
-use Rattle.cx_region.specs.Turn.{TaskTurned, TerminalTurned, Turned}
+use Rattle.cx_region.specs.Turn.{TaskTurned, Turned}
 use Rattle.cx_region_laws.specs.Laws.Regions.{EventsDecide, RunsDecide}
 use Rattle.cx_region.specs.declared.changes.AlterReply.TheVariants as alter
 use Rattle.cx_region.specs.declared.changes.Change.TheVariants as change
@@ -26,15 +26,15 @@ use Rattle.cx_edf.specs.declared.answers.Answer.{Answer}
 use Rattle.cx_edf.specs.declared.answers.Answer.TheVariants as answer
 use Rattle.cx_edf.specs.declared.modes.Mode.{Mode}
 use Rattle.cx_edf.specs.declared.modes.Mode.TheVariants as mode
-use Rattle.cx_edf.specs.Sessions.{Sessions, after_key, is_stopped, is_stopped_in, stop_of, takes_in}
+use Rattle.cx_edf.specs.Sessions.{Sessions, after_key, is_stopped, session_in, stop_of, takes_in}
 use Rattle.cx_edf.specs.State.{EdfState, ends_by_key, holds, stopped_at}
 use Rattle.cx_edf.specs.Steps.{Done, Door, EdfHappens, Keeps, Passed, Passes, changed, door_of, sessions_after}
-use Rattle.cx_edf.specs.Erasure.{answers_itself, is_own, is_refused, left_in, left_of, reply_in, told}
+use Rattle.cx_edf.specs.Erasure.{answers_itself, is_own, is_refused, left_in, left_of, told}
 use Rattle.cx_edf.specs.Runs.{Trace, last_state}
 use Rattle.cx_edf.specs.Laws.Edf.{EdfEventsDecide, EdfRunsDecide, ErasedEvents, ErasedEventsLeaveTheRegion, OffIsTheRegion, OtherEventsArePassed, OwnEventsHaveOwnAnswers, PlainRunsAgree, StopsAreMissedUnderSuppression, ToldAreThoseGiven, ends_task, given_by, given_in, is_alteration, is_edfs, is_refusal}
 use Rattle.cx_edf.proofs.EndLemmas.{ends_stopped}
 use Rattle.cx_edf.proofs.DoorLemmas.{Fits, by_test, by_tests, fits}
-use Rattle.cx_edf.proofs.StepLemmas.{left_runs, told_reply}
+use Rattle.cx_edf.proofs.StepLemmas.{left_runs}
 
 -- ---- one outcome
 same_state : (a b : EdfState) → a.region ≡ b.region → a.sessions ≡ b.sessions → a ≡ b
@@ -171,7 +171,7 @@ turn_without_task r name given new stop h idle stops = by_terminal (terminal_of 
     by_task t None h idle = never turn.Idle refl h.0
     by_task t (Some task) h idle = true≢false idle
 
-    by_terminal : (o : Option TerminalState) → MatchOption o ((given ≡ turn.NoSuchTerminal) × (new ≡ r)) (λ t. TerminalTurned r name t given new) → is_some (option_and_then (λ t. t.task) o) ≡ false → ⊥
+    by_terminal : (o : Option TerminalState) → MatchOption o ((given ≡ turn.NoSuchTerminal) × (new ≡ r)) (λ t. MatchOption t.task ((given ≡ turn.Idle) × (new ≡ r)) (λ task. TaskTurned r name t task given new)) → is_some (option_and_then (λ t. t.task) o) ≡ false → ⊥
     by_terminal None h idle = never turn.NoSuchTerminal refl h.0
     by_terminal (Some t) h idle = by_task t t.task h idle
 
@@ -222,7 +222,7 @@ none_after sessions (event.Alter name c) r region off plain = absurd (true≢fal
 none_after sessions _ r region off plain = off
 
 not_stopped : (old : EdfState) (name : List ℕ) → old.sessions ≡ [] → stopped_at old name ≡ false
-not_stopped old name off = ap (λ s. is_stopped_in s name) off
+not_stopped old name off = ap (λ (s : Sessions). option_map_or (λ session. is_stopped session.mode) (session_in s name) false) off
 
 not_held : (old : EdfState) (name : List ℕ) → old.sessions ≡ [] → holds old name ≡ false
 not_held old name off = ap (λ b. b && is_some (task_of old.region name)) (not_stopped old name off)

@@ -1,6 +1,6 @@
 -- Every event under EDF has an outcome, also one that was refused memory.
-use Rattle.std.proofs.Common.{◌≡◌, Some, None, refl, subst, sym}
-use Rattle.std.specs.Prelude.{⊤, Ok, Err, Option, unwrap_or}
+use Rattle.std.proofs.Common.{Some, None, refl, subst, sym}
+use Rattle.std.specs.Prelude.{Ok, Err, Option, unwrap_or}
 use Rattle.std.specs.declared.alloc.AllocError.{AllocError}
 use Rattle.cx_region.specs.Events.{MayTakeMemory}
 use Rattle.cx_region.specs.declared.replies.Event.{Event}

@@ -1,5 +1,5 @@
 -- Why an event under EDF leads to an abend (own).
-use Rattle.std.specs.Prelude.{◌≡◌, ℕ, Bool, true, false, Option, None, MatchBool}
+use Rattle.std.specs.Prelude.{◌≡◌, Option, None, MatchBool}
 use Rattle.cx_task.specs.declared.cause.Trouble.{Trouble}
 use Rattle.cx_region.specs.Causes.{TurnTroubled}
 use Rattle.cx_region.specs.declared.replies.Event.TheVariants as event

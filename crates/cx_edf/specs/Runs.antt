@@ -1,13 +1,13 @@
 -- Runs under EDF (own).
 use Rattle.std.specs.Prelude.{◌≡◌, ℕ, ◌<◌, ◌⊎◌, ⊤, List, [], ◌∷◌, ◌++◌, Option, Some, None, IsSomeAnd, is_some, length, map, take, slice_get, Result, IfOk, OnErr, if◌then◌else◌}
-use Rattle.std.specs.List.{AllByRecursion, filter_map}
+use Rattle.std.specs.List.{filter_map}
 use Rattle.std.specs.Option.{option_and_then}
 use Rattle.std.specs.declared.alloc.AllocError.{AllocError}
 use Rattle.circular_buffer.specs.Buffer.{keep_last}
 use Rattle.cx_display.specs.declared.displays.Display.{Display}
 use Rattle.cx_display.specs.declared.stops.Kind.{Kind}
 use Rattle.cx_display.specs.Displays.{display_of}
-use Rattle.cx_region.specs.Names.{is_name4}
+use Rattle.cx_ebcdic.specs.Names.{is_name}
 use Rattle.cx_region.specs.State.{RegionState}
 use Rattle.cx_region.specs.Events.{IsAllowed, MayTakeMemory, Run}
 use Rattle.cx_region.specs.declared.changes.AlterReply.TheVariants as alter
@@ -43,8 +43,8 @@ last_state old (new ∷ states) = last_state new states
 -- takes it, and the end by an alteration whatever its mode is
 abbrev pub stop_taken : EdfState → List ℕ → Event → Reply → Option Kind
 stop_taken old q (event.Turn name) (reply.Turn r) =
-    if is_name4 name q then option_and_then (λ session. stop_of_turn session r) (session_at old q) else None
-stop_taken old q (event.Alter name change.Abend) (reply.Alter alter.Altered) = if is_name4 name q then Some operators_end else None
+    if is_name name q then option_and_then (λ session. stop_of_turn session r) (session_at old q) else None
+stop_taken old q (event.Alter name change.Abend) (reply.Alter alter.Altered) = if is_name name q then Some operators_end else None
 stop_taken old q _ _ = None
 
 -- All displays of a terminal's session so far, after one more event: it takes one of the region right after the event. There
@@ -101,8 +101,4 @@ pub record EdfRunStopped (old : EdfState) (events : List EdfEvent) (done : ℕ) 
 -- what the calls take, of an event
 abbrev pub IsAllowedEdf : EdfEvent → Type 0
 IsAllowedEdf (edf_event.Plain e) = IsAllowed e
-IsAllowedEdf (edf_event.On name) = ⊤
-IsAllowedEdf (edf_event.Off name) = ⊤
-
-abbrev pub AreAllowedEdf : List EdfEvent → Type 0
-AreAllowedEdf events = AllByRecursion IsAllowedEdf events
+IsAllowedEdf _ = ⊤

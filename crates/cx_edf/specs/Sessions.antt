@@ -1,6 +1,6 @@
 -- EDF sessions: modes, keys, stops and displays (Application Programmer's Reference Manual, SC33-0077, "Execution
 -- (Command-Level) Diagnostic Facility"; suppression, keys and texts are this product's own).
-use Rattle.std.specs.Prelude.{ℕ, ◌+◌, ◌-◌, ◌<◌, slice_get, ⊤, Bool, true, false, nat_lt, not, List, [], ◌∷◌, ◌++◌, length, Option, Some, None, unwrap_or, if◌then◌else◌}
+use Rattle.std.specs.Prelude.{ℕ, ◌+◌, ◌-◌, slice_get, Bool, true, false, nat_lt, not, List, [], ◌∷◌, ◌++◌, length, Option, Some, None, unwrap_or, if◌then◌else◌}
 use Rattle.std.specs.Option.{option_and_then, option_map, option_map_or}
 use Rattle.std.specs.List.{filter}
 use Rattle.std.specs.Map.{lookup}
@@ -17,7 +17,7 @@ use Rattle.cx_display.specs.declared.stops.Kind.TheVariants as kind
 use Rattle.cx_display.specs.declared.stops.Ending.TheVariants as ending
 use Rattle.cx_region.specs.declared.changes.Change.{Change}
 use Rattle.cx_region.specs.declared.changes.Change.TheVariants as change
-use Rattle.cx_region.specs.Names.{is_name4}
+use Rattle.cx_ebcdic.specs.Names.{is_name}
 use Rattle.cx_state.specs.declared.replies.TurnReply.{TurnReply}
 use Rattle.cx_state.specs.declared.replies.TurnReply.TheVariants as turn
 use Rattle.cx_edf.specs.declared.modes.Mode.{Mode}
@@ -26,7 +26,7 @@ use Rattle.cx_edf.specs.declared.modes.PageName.{PageName}
 use Rattle.cx_edf.specs.declared.modes.PageName.TheVariants as page
 use Rattle.cx_edf.specs.declared.modes.View.{View}
 use Rattle.cx_edf.specs.declared.stop_words.Stops.{Stops}
-use Rattle.cx_edf.specs.Stops.{stops_at_first, stops_named, takes}
+use Rattle.cx_edf.specs.Stops.{no_stops, stops_named, takes}
 
 -- A session of a terminal: its mode, its stop conditions, which display and page are shown, and the kept displays, the
 -- newest last.
@@ -41,20 +41,20 @@ abbrev pub Sessions : Type 0
 Sessions = List (List ℕ × SessionState)
 
 abbrev pub session_in : Sessions → List ℕ → Option SessionState
-session_in sessions name = lookup (is_name4 name) sessions
+session_in sessions name = lookup (is_name name) sessions
 
 -- the sessions with this one, or none, under the name
 abbrev pub with_session : Sessions → List ℕ → Option SessionState → Sessions
-with_session sessions name None = filter (λ entry. not (is_name4 name entry.0)) sessions
-with_session sessions name (Some session) = insert_entry is_name4 sessions name session
+with_session sessions name None = filter (λ entry. not (is_name name entry.0)) sessions
+with_session sessions name (Some session) = insert_entry is_name sessions name session
 
 -- the view of the newest display's main page
 abbrev pub newest : View
 newest = record { back = 0; page = page.Main }
 
--- a session as EDF ON makes it
+-- a session as EDF ON makes it: it stops at ABEND alone
 abbrev pub fresh_session : SessionState
-fresh_session = record { mode = mode.Free; stops = stops_at_first; view = newest; displays = [] }
+fresh_session = record { mode = mode.Free; stops = record no_stops { abend = true }; view = newest; displays = [] }
 
 -- ---- stops
 -- where a turn's reply stops the task: nowhere for a terminal without a task, or a command that waits
@@ -67,9 +67,7 @@ stop_of turn.Returned = Some (kind.After condition.Normal)
 stop_of (turn.TookExit code) = Some (kind.Exit code)
 stop_of turn.Ended = Some (kind.Over ending.Ended)
 stop_of (turn.Abended code) = Some (kind.Over (ending.Abended code))
-stop_of turn.Waiting = None
-stop_of turn.Idle = None
-stop_of turn.NoSuchTerminal = None
+stop_of _ = None
 
 -- whether a mode takes a stop
 abbrev pub takes_in : Mode → Stops → Kind → Bool
@@ -106,13 +104,8 @@ after_change session other display_at = session
 
 -- ---- keys
 abbrev pub is_stopped : Mode → Bool
-is_stopped mode.Free = false
 is_stopped (mode.Stopped stop) = true
-is_stopped mode.Suppressed = false
-
--- a terminal is in Stopped
-abbrev pub is_stopped_in : Sessions → List ℕ → Bool
-is_stopped_in sessions name = option_map_or (λ session. is_stopped session.mode) (session_in sessions name) false
+is_stopped _ = false
 
 -- the page that a key asks for, or the main page if that very page is shown
 abbrev pub turned_to : PageName → PageName → PageName
@@ -143,10 +136,3 @@ nth_back displays k = if nat_lt k (length displays) then slice_get displays (len
 -- in Stopped the display and the page that the view says
 abbrev pub shown_of : SessionState → Option (Display × View)
 shown_of session = if is_stopped session.mode then option_map (λ display. (display, session.view)) (nth_back session.displays session.view.back) else None
-
--- ---- what always holds of a session
--- in Stopped there is a display to show
-abbrev pub IsShowing : Mode → View → ℕ → Type 0
-IsShowing mode.Free view kept = ⊤
-IsShowing (mode.Stopped stop) view kept = view.back < kept
-IsShowing mode.Suppressed view kept = ⊤

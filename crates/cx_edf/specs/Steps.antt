@@ -1,5 +1,5 @@
 -- One event under EDF (own).
-use Rattle.std.specs.Prelude.{◌≡◌, ℕ, List, Option, Some, None, is_some, not, unwrap_or, if◌then◌else◌}
+use Rattle.std.specs.Prelude.{◌≡◌, ℕ, List, Option, Some, None, is_some, ◌&&◌, not, unwrap_or, if◌then◌else◌}
 use Rattle.std.specs.Option.{option_map_or}
 use Rattle.cx_display.specs.Displays.{display_of}
 use Rattle.cx_region.specs.State.{RegionState}
@@ -17,7 +17,7 @@ use Rattle.cx_edf.specs.declared.answers.EdfReply.TheVariants as edf
 use Rattle.cx_edf.specs.declared.answers.Answer.{Answer}
 use Rattle.cx_edf.specs.declared.answers.Answer.TheVariants as answer
 use Rattle.cx_edf.specs.Sessions.{SessionState, Sessions, after_change, after_key, after_reply, fresh_session, session_in, with_session}
-use Rattle.cx_edf.specs.State.{EdfState, ends_by_key, holds, refuses, session_at, stopped_at}
+use Rattle.cx_edf.specs.State.{EdfState, ends_by_key, holds, session_at, stopped_at}
 
 -- What EDF does with an event. It keeps it: it answers so, and the sessions become these. Or it passes an event to the
 -- region, and answers so, or what the region replies where it has no answer of its own.
@@ -30,7 +30,8 @@ abbrev pub changed : Sessions → List ℕ → (SessionState → Option SessionS
 changed sessions name change = option_map_or (λ session. with_session sessions name (change session)) (session_in sessions name) sessions
 
 -- What EDF does with each event. It keeps EDF ON and EDF OFF, a key met in Stopped, a turn met in Stopped with a live task,
--- and an alteration met in another mode. PF12 that ends a task is passed as the alteration that does so.
+-- and an alteration met in another mode, but for one of an unknown terminal, which is the region's to refuse. PF12 that ends
+-- a task is passed as the alteration that does so.
 unfoldable pub door_of : EdfState → EdfEvent → Door
 door_of old (edf_event.On name) =
     if not (is_some (terminal_of old.region name)) then Keeps (answer.Edf edf.NoSuchTerminal) old.sessions
@@ -47,7 +48,8 @@ door_of old (edf_event.Plain (event.Key name aid bytes)) =
 door_of old (edf_event.Plain (event.Turn name)) =
     if holds old name then Keeps answer.Held old.sessions else Passes (event.Turn name) None
 door_of old (edf_event.Plain (event.Alter name change)) =
-    if refuses old name then Keeps answer.NotStopped old.sessions else Passes (event.Alter name change) None
+    if is_some (terminal_of old.region name) && not (stopped_at old name) then Keeps answer.NotStopped old.sessions
+    else Passes (event.Alter name change) None
 door_of old (edf_event.Plain e) = Passes e None
 
 -- the sessions after what the region did and replied, with displays of the region right after it

@@ -19,23 +19,17 @@ stop_word_name word.Abend = codes "ABEND"
 stop_word_name word.End = codes "END"
 stop_word_name (word.Met condition) = (entry_of condition).name
 
-abbrev pub stop_words : List StopWord
-stop_words = word.Abend ∷ word.End ∷ map word.Met handled
-
 -- bytes are shown as a text: they are as many, and each is shown as its character
 abbrev pub is_shown_as : List ℕ → List ℕ → Bool
 is_shown_as text bytes = (length bytes == length text) && list_all (λ p. shown_as p.0 == p.1) (zip bytes text)
 
 -- the stop condition that bytes spell
 unfoldable pub stop_word_of : List ℕ → Option StopWord
-stop_word_of bytes = find (λ w. is_shown_as (stop_word_name w) bytes) stop_words
+stop_word_of bytes = find (λ w. is_shown_as (stop_word_name w) bytes) (word.Abend ∷ word.End ∷ map word.Met handled)
 
--- no stop condition, and those of a new session: ABEND alone
+-- no stop condition
 abbrev pub no_stops : Stops
-no_stops = record { abend = false; end = false; met = replicate 10 false }
-
-abbrev pub stops_at_first : Stops
-stops_at_first = record no_stops { abend = true }
+no_stops = record { abend = false; end = false; met = replicate (length (condition.Normal ∷ handled)) false }
 
 -- these and one more
 abbrev pub with_stop : Stops → StopWord → Stops
@@ -56,15 +50,11 @@ takes stops (kind.Exit code) = stops.abend
 takes stops (kind.Over ending.Ended) = stops.end
 takes stops (kind.Over (ending.Abended code)) = stops.abend
 
--- the words of a text are its parts between blanks
-abbrev pub is_blank : ℕ → Bool
-is_blank byte = byte == 0x40
-
 -- stop conditions and that of one more part: an empty part is none, and there are none where a word isn't one
 abbrev pub with_part : Option Stops → List ℕ → Option Stops
 with_part None part = None
 with_part (Some stops) part = if length part == 0 then Some stops else option_map (with_stop stops) (stop_word_of part)
 
--- the stop conditions that a text names
+-- the stop conditions that a text names: its words are its parts between blanks
 unfoldable pub stops_named : List ℕ → Option Stops
-stops_named text = fold with_part (Some no_stops) (slice_split is_blank text)
+stops_named text = fold with_part (Some no_stops) (slice_split (λ byte. byte == 0x40) text)

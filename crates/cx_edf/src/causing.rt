@@ -28,7 +28,8 @@ impl<S: Store + Drop> Debugged<S> {
         &mut self,
         name: Name4,
     ) -> Result<(TurnAnswer, Option<Trouble>), AllocError>
-        ensures happens { IfOk result (λ told. EdfHappens self.old (edf_event.Plain (event.Turn name)) (turn_answer told.0) self.new) }
+        ensures happens { let turn = edf_event.Plain (event.Turn name) in
+            IfOk result (λ told. EdfHappens self.old turn (turn_answer told.0) self.new) }
         ensures troubled { IfOk result (λ told. EdfTroubled self.old (edf_event.Plain (event.Turn name)) told.1) }
         ensures memory { OnErr result (MayTakeEdf self.old (edf_event.Plain (event.Turn name))) }
         ensures held { holds self.old name ≡ true → IsOk result }

@@ -77,7 +77,8 @@ impl<S: Store + Drop> Debugged<S> {
     #[tactic(auto, unfolding(crate::specs::Steps::EdfHappens, crate::specs::Steps::door_of, crate::specs::Runs::MayTakeEdf, cx_region::specs::Events::Happens, cx_region::specs::Events::MayTakeMemory))]
     pub fn key(&mut self, name: Name4, aid: Aid, bytes: &[u8]) -> Result<KeyAnswer, AllocError>
         requires { length bytes.now ≤ 1920 }
-        ensures happens { IfOk result (λ given. EdfHappens self.old (edf_event.Plain (event.Key name aid bytes.now)) (key_answer given) self.new) }
+        ensures happens { let key = edf_event.Plain (event.Key name aid bytes.now) in
+            IfOk result (λ given. EdfHappens self.old key (key_answer given) self.new) }
         ensures memory { OnErr result (MayTakeEdf self.old (edf_event.Plain (event.Key name aid bytes.now))) }
         ensures succeeds { stopped_at self.old name ≡ true → IsOk result }
         ensures err { OnErr result (self.new ≡ self.old) }
@@ -131,7 +132,8 @@ impl<S: Store + Drop> Debugged<S> {
     #[tactic(auto, unfolding(crate::specs::Steps::EdfHappens, crate::specs::Steps::door_of, cx_region::specs::Events::Happens))]
     pub fn alter(&mut self, name: Name4, change: Change) -> AlterAnswer
         requires { IsAllowedChange change }
-        ensures happens { EdfHappens self.old (edf_event.Plain (event.Alter name change)) (alter_answer result) self.new }
+        ensures happens { let alter = edf_event.Plain (event.Alter name change) in
+            EdfHappens self.old alter (alter_answer result) self.new }
         ensures sound { IsSound self.new.region }
     {
         if self.region.screen(name).is_some() && !table::is_stopped(&self.sessions, name) {
@@ -148,7 +150,8 @@ impl<S: Store + Drop> Debugged<S> {
     /// An error comes only where the region's turn was refused a growth. Then all is as before.
     #[tactic(auto, unfolding(crate::specs::Steps::EdfHappens, crate::specs::Steps::door_of, crate::specs::Runs::MayTakeEdf, cx_region::specs::Events::Happens, cx_region::specs::Events::MayTakeMemory))]
     pub fn turn(&mut self, name: Name4) -> Result<TurnAnswer, AllocError>
-        ensures happens { IfOk result (λ given. EdfHappens self.old (edf_event.Plain (event.Turn name)) (turn_answer given) self.new) }
+        ensures happens { let turn = edf_event.Plain (event.Turn name) in
+            IfOk result (λ given. EdfHappens self.old turn (turn_answer given) self.new) }
         ensures memory { OnErr result (MayTakeEdf self.old (edf_event.Plain (event.Turn name))) }
         ensures held { holds self.old name ≡ true → IsOk result }
         ensures err { OnErr result (self.new ≡ self.old) }
@@ -223,10 +226,13 @@ impl<S: Store + Drop> Debugged<S> {
         name: Name8,
         image: &CheckedImage,
     ) -> Result<Loaded, DefineFault>
-        ensures defined { IfOk result (λ loaded. EdfHappens self.old (edf_event.Plain (event.Program name image.now)) (answer.Region (reply.Program (Ok loaded))) self.new) }
-        ensures refused { IfErr result (λ fault. fault ≢ DefineFault.Memory
-            → EdfHappens self.old (edf_event.Plain (event.Program name image.now)) (answer.Region (reply.Program (Err fault))) self.new) }
-        ensures memory { IsErrOf result DefineFault.Memory → MayTakeMemory self.old.region (event.Program name image.now) }
+        ensures defined { let define = edf_event.Plain (event.Program name image.now) in
+            IfOk result (λ loaded. EdfHappens self.old define (answer.Region (reply.Program (Ok loaded))) self.new) }
+        ensures refused { let define = edf_event.Plain (event.Program name image.now) in
+            IfErr result (λ fault. let refusal = answer.Region (reply.Program (Err fault)) in
+            fault ≢ DefineFault.Memory → EdfHappens self.old define refusal self.new) }
+        ensures memory { let defined = event.Program name image.now in
+            IsErrOf result DefineFault.Memory → MayTakeMemory self.old.region defined }
         ensures err { OnErr result (self.new ≡ self.old) }
         ensures sound { IsSound self.new.region }
     {
@@ -238,10 +244,13 @@ impl<S: Store + Drop> Debugged<S> {
     /// The faults are the region's, and so is when each comes. Then all is as before.
     #[tactic(auto, unfolding(crate::specs::Steps::EdfHappens, crate::specs::Steps::door_of, cx_region::specs::Events::Happens, cx_region::specs::Events::MayTakeMemory, cx_region::specs::Defining::DefinesTransaction, cx_region::specs::Defining::transaction_fault))]
     pub fn define_transaction(&mut self, name: Name4, program: Name8) -> Result<(), DefineFault>
-        ensures defined { IfOk result (λ done. EdfHappens self.old (edf_event.Plain (event.Transaction name program)) (answer.Region (reply.Transaction (Ok done))) self.new) }
-        ensures refused { IfErr result (λ fault. fault ≢ DefineFault.Memory
-            → EdfHappens self.old (edf_event.Plain (event.Transaction name program)) (answer.Region (reply.Transaction (Err fault))) self.new) }
-        ensures memory { IsErrOf result DefineFault.Memory → MayTakeMemory self.old.region (event.Transaction name program) }
+        ensures defined { let define = edf_event.Plain (event.Transaction name program) in
+            IfOk result (λ done. EdfHappens self.old define (answer.Region (reply.Transaction (Ok done))) self.new) }
+        ensures refused { let define = edf_event.Plain (event.Transaction name program) in
+            IfErr result (λ fault. let refusal = answer.Region (reply.Transaction (Err fault)) in
+            fault ≢ DefineFault.Memory → EdfHappens self.old define refusal self.new) }
+        ensures memory { let defined = event.Transaction name program in
+            IsErrOf result DefineFault.Memory → MayTakeMemory self.old.region defined }
         ensures err { OnErr result (self.new ≡ self.old) }
         ensures sound { IsSound self.new.region }
     {
@@ -253,9 +262,11 @@ impl<S: Store + Drop> Debugged<S> {
     /// The faults are the region's, and so is when each comes. Then all is as before.
     #[tactic(auto, unfolding(crate::specs::Steps::EdfHappens, crate::specs::Steps::door_of, cx_region::specs::Events::Happens, cx_region::specs::Events::MayTakeMemory, cx_region::specs::Defining::DefinesTerminal, cx_region::specs::Defining::terminal_fault))]
     pub fn define_terminal(&mut self, name: Name4) -> Result<(), DefineFault>
-        ensures defined { IfOk result (λ done. EdfHappens self.old (edf_event.Plain (event.Terminal name)) (answer.Region (reply.Terminal (Ok done))) self.new) }
-        ensures refused { IfErr result (λ fault. fault ≢ DefineFault.Memory
-            → EdfHappens self.old (edf_event.Plain (event.Terminal name)) (answer.Region (reply.Terminal (Err fault))) self.new) }
+        ensures defined { let define = edf_event.Plain (event.Terminal name) in
+            IfOk result (λ done. EdfHappens self.old define (answer.Region (reply.Terminal (Ok done))) self.new) }
+        ensures refused { let define = edf_event.Plain (event.Terminal name) in
+            IfErr result (λ fault. let refusal = answer.Region (reply.Terminal (Err fault)) in
+            fault ≢ DefineFault.Memory → EdfHappens self.old define refusal self.new) }
         ensures memory { IsErrOf result DefineFault.Memory → MayTakeMemory self.old.region (event.Terminal name) }
         ensures err { OnErr result (self.new ≡ self.old) }
         ensures sound { IsSound self.new.region }
@@ -269,7 +280,8 @@ impl<S: Store + Drop> Debugged<S> {
     pub fn set_clock(&mut self, time: u32, date: u32)
         requires time { time ≤ 999999 }
         requires date { date ≤ 99999 }
-        ensures happens { EdfHappens self.old (edf_event.Plain (event.Clock time date)) (answer.Region reply.Clock) self.new }
+        ensures happens { let clock_set = edf_event.Plain (event.Clock time date) in
+            EdfHappens self.old clock_set (answer.Region reply.Clock) self.new }
         ensures sound { IsSound self.new.region }
     {
         self.region.set_clock(time, date);
@@ -316,7 +328,8 @@ impl<S: Store + Drop> Debugged<S> {
     /// The display that is so many before the newest one of a terminal's session, 0 being the newest; None past the oldest,
     /// and where EDF is Off. It takes no memory.
     pub fn previous(&self, name: Name4, back: usize) -> Option<&Display>
-        ensures { option_copied result ≡ option_and_then (λ session. nth_back session.displays back) (session_at self.now name) }
+        ensures { let session = session_at self.now name in
+            option_copied result ≡ option_and_then (λ it. nth_back it.displays back) session }
     {
         let session = self.sessions.get(&name)?;
         session.previous(back)

@@ -1,10 +1,11 @@
 //! Events under EDF, and runs of them.
 ghost use Rattle.std.specs.Prelude.{◌≡◌, IfOk, IfErr, OnErr};
+ghost use Rattle.std.specs.List.{AllByRecursion};
 ghost use Rattle.cx_region.specs.Events.{IsAllowed};
 ghost use Rattle.cx_region.specs.Sound.{IsSound};
 ghost use Rattle.cx_edf.specs.Answers.{alter_answer, key_answer, turn_answer};
 ghost use Rattle.cx_edf.specs.Steps.{EdfHappens};
-ghost use Rattle.cx_edf.specs.Runs.{AreAllowedEdf, EdfRun, EdfRunStopped, IsAllowedEdf, IsDoneEdf, MayTakeEdf};
+ghost use Rattle.cx_edf.specs.Runs.{EdfRun, EdfRunStopped, IsAllowedEdf, IsDoneEdf, MayTakeEdf};
 ghost use Rattle.cx_edf.specs.declared.answers.EdfEvent.TheVariants as edf_event;
 
 use crate::answers::{AlterAnswer, Answer, EdfEvent, KeyAnswer, TurnAnswer};
@@ -104,7 +105,7 @@ impl<S: Store + Drop> Debugged<S> {
     /// It stops where a growth was refused: in front of the first event, where there is no memory for the answers, else at
     /// an event that may take memory. The state is as the events done left it.
     pub fn run(&mut self, events: &[EdfEvent]) -> Result<Vec<Answer>, RunStop>
-        requires { AreAllowedEdf events.now }
+        requires { AllByRecursion IsAllowedEdf events.now }
         ensures ok { IfOk result (λ answers. EdfRun self.old events.now answers.items self.new) }
         ensures stopped { IfErr result (λ stop. EdfRunStopped self.old events.now stop.done self.new) }
         ensures sound { IsSound self.new.region }

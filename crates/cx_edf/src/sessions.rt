@@ -28,14 +28,15 @@ pub struct Session {
 }
 
 impl Model for Session {
-    ghost use Rattle.std.specs.Prelude.{◌≡◌, length};
-    ghost use Rattle.cx_edf.specs.Sessions.{IsShowing, SessionState};
+    ghost use Rattle.std.specs.Prelude.{◌≡◌, ◌<◌, IsTrue, length};
+    ghost use Rattle.cx_edf.specs.Sessions.{SessionState, is_stopped};
 
     ghost Value = { SessionState };
 
     ghost view = { λ s. record { mode = s.mode; stops = s.stops; view = s.view; displays = s.displays.items } };
 
-    ghost invariant = { λ s. (s.displays.capacity ≡ 10) × IsShowing s.mode s.view (length s.displays.items) };
+    ghost invariant = { λ s. (s.displays.capacity ≡ 10)
+        × (IsTrue (is_stopped s.mode) → s.view.back < length s.displays.items) };
 }
 
 impl Session {

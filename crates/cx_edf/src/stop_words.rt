@@ -1,12 +1,12 @@
 //! Where a task stops under suppression.
-ghost use Rattle.std.specs.Prelude.{◌≡◌, ◌==◌, false, map};
+ghost use Rattle.std.specs.Prelude.{◌≡◌, ◌==◌, false, true, map};
 ghost use Rattle.std.specs.List.{find, list_all, zip};
 ghost use Rattle.std.specs.Str.{bytes_eq};
 ghost use Rattle.cx_ebcdic.specs.Characters.{shown_as};
 ghost use Rattle.cx_command.specs.Conditions.{entry_of};
-ghost use Rattle.cx_edf.specs.Stops.{is_shown_as, names, stop_word_name, stop_word_of, stops_at_first, stops_named, takes, with_part, with_stop};
+ghost use Rattle.cx_edf.specs.Stops.{is_shown_as, names, no_stops, stop_word_name, stop_word_of, stops_named, takes, with_part, with_stop};
 
-use cx_command::Condition;
+use cx_command::{CONDITIONS, Condition};
 use cx_display::{Ending, Kind};
 use cx_text::shown_byte;
 
@@ -40,7 +40,7 @@ pub struct Stops {
     pub abend: bool,
     pub end: bool,
     /// The conditions, each at its place (`Condition::place`).
-    pub met: [bool; 10],
+    pub met: [bool; CONDITIONS],
 }
 
 impl Stops {
@@ -48,12 +48,12 @@ impl Stops {
     const NONE: Stops = Stops {
         abend: false,
         end: false,
-        met: [false; 10],
+        met: [false; CONDITIONS],
     };
 
     /// Those that a session begins with: ABEND alone.
     pub(crate) fn at_first() -> Stops
-        ensures { result ≡ stops_at_first }
+        ensures { result ≡ record no_stops { abend = true } }
     {
         Stops {
             abend: true,

@@ -5,8 +5,8 @@ ghost use Rattle.std.specs.List.{IsDistinct};
 ghost use Rattle.std.specs.Map.{keys_of};
 ghost use Rattle.indexmap.specs.IndexMap.{insert_entry};
 ghost use Rattle.cx_display.specs.Displays.{display_of};
-ghost use Rattle.cx_region.specs.Names.{is_name4};
-ghost use Rattle.cx_edf.specs.Sessions.{SessionState, after_change, after_key, fresh_session, is_stopped, is_stopped_in, session_in, with_session};
+ghost use Rattle.cx_ebcdic.specs.Names.{is_name};
+ghost use Rattle.cx_edf.specs.Sessions.{SessionState, after_change, after_key, fresh_session, is_stopped, session_in, with_session};
 ghost use Rattle.cx_edf.specs.Steps.{changed, sessions_after};
 ghost use Rattle.cx_region.specs.declared.replies.Event.TheVariants as event;
 ghost use Rattle.cx_region.specs.declared.replies.Reply.TheVariants as reply;
@@ -38,14 +38,14 @@ pub(crate) fn end(sessions: &mut IndexMap<Name4, Session>, name: Name4)
 {
     sessions.retain(
         |other: &Name4, session: &mut Session| -> bool
-            ensures { (result ≡ not (is_name4 name other.now)) × (session.new ≡ session.old) }
+            ensures { (result ≡ not (is_name name other.now)) × (session.new ≡ session.old) }
         { name != *other },
     );
 }
 
 /// A key in Stopped, other than PF3.
 fn press(sessions: &mut IndexMap<Name4, Session>, name: Name4, aid: Aid, bytes: &[u8])
-    requires { (session : SessionState) → session_in sessions.old.entries name ≡ Some session → IsTrue (is_stopped session.mode) }
+    requires { (it : SessionState) → session_in sessions.old.entries name ≡ Some it → IsTrue (is_stopped it.mode) }
     ensures { aid ≢ Aid.Pf3 → (session : SessionState) → session_in sessions.old.entries name ≡ Some session
         → sessions.new.entries ≡ changed sessions.old.entries name (λ session. after_key session aid bytes.now) }
 {
@@ -57,7 +57,7 @@ fn press(sessions: &mut IndexMap<Name4, Session>, name: Name4, aid: Aid, bytes: 
 
 /// Whether a terminal is in Stopped.
 pub(crate) fn is_stopped(sessions: &IndexMap<Name4, Session>, name: Name4) -> bool
-    ensures { result ≡ is_stopped_in sessions.now.entries name }
+    ensures { result ≡ option_map_or (λ s. is_stopped s.mode) (session_in sessions.now.entries name) false }
 {
     match sessions.get(&name) {
         Some(session) => session.is_stopped(),
@@ -68,7 +68,7 @@ pub(crate) fn is_stopped(sessions: &IndexMap<Name4, Session>, name: Name4) -> bo
 /// A key of a terminal in Stopped.
 #[tactic(auto, using(crate::proofs::TableLemmas::ended_there), unfolding(crate::specs::Sessions::after_key))]
 pub(crate) fn key(sessions: &mut IndexMap<Name4, Session>, name: Name4, aid: Aid, bytes: &[u8])
-    requires { IsTrue (is_stopped_in sessions.old.entries name) }
+    requires { IsTrue (option_map_or (λ s. is_stopped s.mode) (session_in sessions.old.entries name) false) }
     ensures { sessions.new.entries ≡ changed sessions.old.entries name (λ session. after_key session aid bytes.now) }
 {
     match aid {
@@ -84,7 +84,8 @@ pub(crate) fn note<S: Store + Drop>(
     name: Name4,
     turn: &TurnReply,
 )
-    ensures { sessions.new.entries ≡ sessions_after sessions.old.entries (event.Turn name) (reply.Turn turn.now) region.now }
+    ensures { let told = reply.Turn turn.now in
+        sessions.new.entries ≡ sessions_after sessions.old.entries (event.Turn name) told region.now }
 {
     let Some(session) = sessions.get_mut(&name) else {
         return;
@@ -101,7 +102,8 @@ pub(crate) fn alter<S: Store + Drop>(
     change: Change,
     given: AlterReply,
 )
-    ensures { sessions.new.entries ≡ sessions_after sessions.old.entries (event.Alter name change) (reply.Alter given) region.now }
+    ensures { let altered = event.Alter name change in
+        sessions.new.entries ≡ sessions_after sessions.old.entries altered (reply.Alter given) region.now }
 {
     match given {
         AlterReply::Altered => altered(sessions, region, name, change),
@@ -116,7 +118,8 @@ fn altered<S: Store + Drop>(
     name: Name4,
     change: Change,
 )
-    ensures { sessions.new.entries ≡ changed sessions.old.entries name (λ session. Some (after_change session change (display_of region.now name))) }
+    ensures { let display = display_of region.now name in
+        sessions.new.entries ≡ changed sessions.old.entries name (λ it. Some (after_change it change display)) }
 {
     let Some(session) = sessions.get_mut(&name) else {
         return;

@@ -24,12 +24,12 @@ use Rattle.cx_region.specs.declared.replies.Event.TheVariants as event
 use Rattle.cx_region.specs.declared.replies.KeyReply.{KeyReply}
 use Rattle.cx_region.specs.declared.replies.KeyReply.TheVariants as key
 use Rattle.cx_region.specs.declared.replies.Reply.TheVariants as reply
-use Rattle.cx_region.specs.Names.{is_name4}
+use Rattle.cx_ebcdic.specs.Names.{is_name}
 use Rattle.cx_region.specs.State.{RegionState, TerminalState, terminal_with}
 use Rattle.cx_region.specs.Tables.{fresh_terminal, program_of, terminal_of, transaction_of, with_terminal}
-use Rattle.cx_region.specs.Defining.{DefinesProgram, DefinesTerminal, DefinesTransaction, Loads, fresh_region, program_fault, terminal_fault, transaction_fault, with_new_terminal, with_transaction}
-use Rattle.cx_region.specs.Attach.{Attaches, Gives, Keyed, OnlyAnswers, Starts, TerminalKeyed, commarea_kept, first_level, fresh_task, input_from, next_number, transaction_named, with_task}
-use Rattle.cx_region.specs.Turn.{TaskTurned, TerminalTurned, Turned, reach_of, task_after}
+use Rattle.cx_region.specs.Defining.{DefinesProgram, DefinesTerminal, DefinesTransaction, Loads, fresh_region, program_fault, terminal_fault, transaction_fault}
+use Rattle.cx_region.specs.Attach.{Attaches, Gives, Keyed, OnlyAnswers, Starts, commarea_kept, first_level, fresh_task, input_from, next_number, transaction_named, with_task}
+use Rattle.cx_region.specs.Turn.{TaskTurned, Turned, reach_of, task_after}
 use Rattle.cx_region.specs.Alter.{Alters, alter_refusal, altered, altered_at, altered_region, ends_task, task_left}
 use Rattle.cx_region.specs.Events.{Happens, Run}
 use Rattle.cx_region_laws.specs.Laws.Alterations.{AlterationsKeepLevels}
@@ -68,7 +68,7 @@ own_kept region name t kept there = subst (λ (o : Option TerminalState). KeepsD
 
 put_kept : (old new : RegionState) (name : List ℕ) (t : TerminalState) → terminal_of new name ≡ Some t → OthersAsBefore old name new
     → KeepsDueIn t.task → KeepsWhatIsDue old → KeepsWhatIsDue new
-put_kept old new name t there others own kept other = elim (cases_Bool (is_name4 name other)) [
+put_kept old new name t there others own kept other = elim (cases_Bool (is_name name other)) [
   | inl same ↦
       let is : name ≡ other = (is_name-decides name other).0 same in
       let found : terminal_of new other ≡ Some t = subst (λ (n : List ℕ). terminal_of new n ≡ Some t) is there in
@@ -77,10 +77,10 @@ put_kept old new name t there others own kept other = elim (cases_Bool (is_name4
 ]
 
 set_kept : (old new : RegionState) (name : List ℕ) (before t : TerminalState) → terminal_of old name ≡ Some before
-    → new.terminals ≡ set_value (is_name4 name) old.terminals t → KeepsDueIn t.task → KeepsWhatIsDue old → KeepsWhatIsDue new
+    → new.terminals ≡ set_value (is_name name) old.terminals t → KeepsDueIn t.task → KeepsWhatIsDue old → KeepsWhatIsDue new
 set_kept old new name before t there is own kept =
-    put_kept old new name t (ap (lookup (is_name4 name)) is ∙ lookup-set_value-same is_name4 is_name-laws old.terminals name before t there)
-    (λ other apart. ap (lookup (is_name4 other)) is ∙ lookup-set_value-other is_name4 is_name-laws old.terminals name other t apart) own kept
+    put_kept old new name t (ap (lookup (is_name name)) is ∙ lookup-set_value-same is_name is_name-laws old.terminals name before t there)
+    (λ other apart. ap (lookup (is_name other)) is ∙ lookup-set_value-other is_name is_name-laws old.terminals name other t apart) own kept
 
 -- ---- definitions
 program_kept : (old new : RegionState) (name : List ℕ) (image : Image) (result : Result Loaded DefineFault)
@@ -97,30 +97,34 @@ program_kept old new name image result kept h = by_fault (program_fault old name
     by_fault None h = loads result h
     by_fault (Some fault) h = subst KeepsWhatIsDue (sym h.1) kept
 
+-- a definition that is done or refused
+done_kept : (old after new : RegionState) (o : Option DefineFault) (result : Result (Unit {0}) DefineFault)
+    → MatchOption o ((result ≡ Ok tt) × (new ≡ after)) (λ fault. (result ≡ Err fault) × (new ≡ old))
+    → KeepsWhatIsDue old → KeepsWhatIsDue after → KeepsWhatIsDue new
+done_kept old after new None result h kept done = subst KeepsWhatIsDue (sym h.1) done
+done_kept old after new (Some fault) result h kept done = subst KeepsWhatIsDue (sym h.1) kept
+
 transaction_kept : (old new : RegionState) (tran program : List ℕ) (result : Result (Unit {0}) DefineFault)
     → KeepsWhatIsDue old → DefinesTransaction old tran program result new → KeepsWhatIsDue new
 unfolding DefinesTransaction
-transaction_kept old new tran program result kept h = by_fault (transaction_fault old tran program) h
-  where
-    by_fault : (o : Option DefineFault) → MatchOption o ((result ≡ Ok tt) × (new ≡ with_transaction old tran program)) (λ fault. (result ≡ Err fault) × (new ≡ old)) → KeepsWhatIsDue new
-    by_fault None h = subst KeepsWhatIsDue (sym h.1) kept
-    by_fault (Some fault) h = subst KeepsWhatIsDue (sym h.1) kept
+transaction_kept old new tran program result kept h = done_kept old _ new (transaction_fault old tran program) result h kept kept
+
+-- a terminal that is new, under its name
+added_kept : (old after new : RegionState) (name : List ℕ) (fresh : TerminalState) (o : Option DefineFault) (result : Result (Unit {0}) DefineFault)
+    → MatchOption o ((result ≡ Ok tt) × (new ≡ after)) (λ fault. (result ≡ Err fault) × (new ≡ old))
+    → KeepsWhatIsDue old → terminal_of after name ≡ Some fresh → OthersAsBefore old name after → KeepsDueIn fresh.task → KeepsWhatIsDue new
+added_kept old after new name fresh o result h kept there others own =
+    done_kept old after new o result h kept (put_kept old after name fresh there others own kept)
 
 -- a new terminal has no task
 terminal_kept : (old new : RegionState) (name : List ℕ) (result : Result (Unit {0}) DefineFault)
     → KeepsWhatIsDue old → DefinesTerminal old name result new → KeepsWhatIsDue new
 unfolding DefinesTerminal
-terminal_kept old new name result kept h = by_fault (terminal_fault old name) h
-  where
-    with_fresh : KeepsWhatIsDue (with_new_terminal old name)
-    with_fresh =
-        let fresh = fresh_terminal (length old.terminals + 1) in
-        put_kept old (with_new_terminal old name) name fresh (lookup-insert_entry-same is_name4 is_name-laws old.terminals name fresh)
-        (λ other apart. lookup-insert_entry-other is_name4 is_name-laws old.terminals name other fresh apart) no_task kept
-
-    by_fault : (o : Option DefineFault) → MatchOption o ((result ≡ Ok tt) × (new ≡ with_new_terminal old name)) (λ fault. (result ≡ Err fault) × (new ≡ old)) → KeepsWhatIsDue new
-    by_fault None h = subst KeepsWhatIsDue (sym h.1) with_fresh
-    by_fault (Some fault) h = subst KeepsWhatIsDue (sym h.1) kept
+terminal_kept old new name result kept h =
+    let fresh = fresh_terminal (length old.terminals + 1) in
+    added_kept old _ new name fresh (terminal_fault old name) result h kept
+    (lookup-insert_entry-same is_name is_name-laws old.terminals name fresh)
+    (λ other apart. lookup-insert_entry-other is_name is_name-laws old.terminals name other fresh apart) no_task
 
 -- ---- keys
 -- nothing is due in a task that is attached
@@ -168,7 +172,7 @@ key_kept old new name input reply kept h = at_terminal (terminal_of old name) re
         let tran = transaction_named t.following input.bytes in at_tran t tran there (transaction_of old tran) h
     at_task t there (Some task) h = at_input t there t.input h
 
-    at_terminal : (o : Option TerminalState) → terminal_of old name ≡ o → MatchOption o (OnlyAnswers key.NoSuchTerminal old reply new) (λ t. TerminalKeyed old name t input reply new) → KeepsWhatIsDue new
+    at_terminal : (o : Option TerminalState) → terminal_of old name ≡ o → MatchOption o (OnlyAnswers key.NoSuchTerminal old reply new) (λ t. MatchOption t.task (Starts old name t input (transaction_named t.following input.bytes) reply new) (λ task. Gives old name t input reply new)) → KeepsWhatIsDue new
     at_terminal None there h = only key.NoSuchTerminal h
     at_terminal (Some t) there h = at_task t there t.task h
 
@@ -188,7 +192,7 @@ turn_kept law old new name reply kept h = at_terminal (terminal_of old name) ref
     at_task t there (Some task) live h = turned t task there live h
 
     at_terminal : (o : Option TerminalState) → terminal_of old name ≡ o
-        → MatchOption o ((reply ≡ turn.NoSuchTerminal) × (new ≡ old)) (λ t. TerminalTurned old name t reply new) → KeepsWhatIsDue new
+        → MatchOption o ((reply ≡ turn.NoSuchTerminal) × (new ≡ old)) (λ t. MatchOption t.task ((reply ≡ turn.Idle) × (new ≡ old)) (λ task. TaskTurned old name t task reply new)) → KeepsWhatIsDue new
     at_terminal None there h = subst KeepsWhatIsDue (sym h.1) kept
     at_terminal (Some t) there h = at_task t there t.task refl h
 

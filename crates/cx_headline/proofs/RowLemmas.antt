@@ -18,7 +18,7 @@ use Rattle.cx_state.specs.State.{TaskState}
 use Rattle.cx_task.specs.Laws.HalfTurns.{HalfTurnsDecide}
 use Rattle.cx_region.specs.State.{RegionState, TerminalState}
 use Rattle.cx_region.specs.Tables.{task_of, terminal_of}
-use Rattle.cx_region.specs.Turn.{TaskTurned, TerminalTurned, Turned, reach_of}
+use Rattle.cx_region.specs.Turn.{TaskTurned, Turned, reach_of}
 use Rattle.cx_region.specs.Alter.{Alters}
 use Rattle.cx_region.specs.Events.{Happens}
 use Rattle.cx_region_laws.specs.Facts.Alterations.{abends_are_done, alter_reply}
@@ -82,7 +82,7 @@ of_task decide old name t (Some task) r given new is h =
     }
 
 of_terminal : HalfTurnsDecide → (old : RegionState) (name : List ℕ) (o : Option TerminalState) (r : TurnReply) (given : Answer) (new : RegionState) → given ≡ answer.Region (reply.Turn r)
-    → MatchOption o ((r ≡ turn.NoSuchTerminal) × (new ≡ old)) (λ t. TerminalTurned old name t r new)
+    → MatchOption o ((r ≡ turn.NoSuchTerminal) × (new ≡ old)) (λ t. MatchOption t.task ((r ≡ turn.Idle) × (new ≡ old)) (λ task. TaskTurned old name t task r new))
     → MatchOption o (new ≡ old) (λ t. MatchOption t.task (new ≡ old) (λ task. IsHalfTurn old name t task given new))
 of_terminal decide old name None r given new is h = h.1
 of_terminal decide old name (Some t) r given new is h = of_task decide old name t t.task r given new is h

@@ -4,7 +4,7 @@ use Rattle.std.specs.Map.{set_value}
 use Rattle.std.specs.Option.{option_map_or}
 use Rattle.indexmap.specs.IndexMap.{insert_entry}
 use Rattle.cx_task.specs.declared.cause.Trouble.{Trouble}
-use Rattle.cx_region.specs.Names.{is_name4}
+use Rattle.cx_ebcdic.specs.Names.{is_name}
 use Rattle.cx_region.specs.State.{RegionState}
 use Rattle.cx_region.specs.declared.changes.AlterReply.TheVariants as alter
 use Rattle.cx_region.specs.declared.changes.Change.{Change}
@@ -28,7 +28,7 @@ Abends = List (List ℕ × Option LastAbend)
 
 -- the same, with this as a terminal's last abend
 abbrev pub with_last : Abends → List ℕ → LastAbend → Abends
-with_last abends name last = set_value (is_name4 name) abends (Some last)
+with_last abends name last = set_value (is_name name) abends (Some last)
 
 -- a terminal that is defined has had no abend
 abbrev pub is_defined : Answer → Bool
@@ -36,7 +36,7 @@ is_defined (answer.Region (reply.Terminal (Ok done))) = true
 is_defined _ = false
 
 abbrev pub kept_terminal : Abends → List ℕ → Answer → Abends
-kept_terminal abends name given = if is_defined given then insert_entry is_name4 abends name None else abends
+kept_terminal abends name given = if is_defined given then insert_entry is_name abends name None else abends
 
 -- an abend to which a turn led, in the region after it
 abbrev pub kept_turn : Abends → List ℕ → Answer → Option Trouble → RegionState → Abends

@@ -13,7 +13,7 @@ use Rattle.cx_storage.specs.Address.{address_in}
 use Rattle.cx_task.specs.declared.cause.Cause.{Cause}
 use Rattle.cx_task.specs.declared.cause.Cause.TheVariants as cause
 use Rattle.cx_task.specs.declared.cause.Trouble.{Trouble}
-use Rattle.cx_region.specs.Names.{is_name4}
+use Rattle.cx_ebcdic.specs.Names.{is_name}
 use Rattle.cx_text.specs.Digits.{digits}
 use Rattle.cx_text.specs.Texts.{shown, shown_name, written_line}
 use Rattle.cx_look_names.specs.Lines.{SourcePlaces, line_word}
@@ -118,7 +118,7 @@ abbrev pub none_line : List ℕ → List ℕ
 none_line name = line (codes "ABEND" ∷ shown_name name ∷ codes "NONE" ∷ [])
 
 abbrev pub last_of : Abends → List ℕ → Option LastAbend
-last_of abends name = option_and_then (λ last. last) (lookup (is_name4 name) abends)
+last_of abends name = option_and_then (λ last. last) (lookup (is_name name) abends)
 
 unfoldable pub abend_text : SourcePlaces → Abends → List ℕ → List ℕ
 abend_text sources abends name = option_map_or (last_text sources name) (last_of abends name) (none_line name)

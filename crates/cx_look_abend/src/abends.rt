@@ -2,7 +2,7 @@
 ghost use Rattle.std.specs.Prelude.{◌≡◌, ◌≤◌, None, Some};
 ghost use Rattle.std.specs.List.{find};
 ghost use Rattle.indexmap.specs.IndexMap.{insert_entry, spare};
-ghost use Rattle.cx_region.specs.Names.{is_name4};
+ghost use Rattle.cx_ebcdic.specs.Names.{is_name};
 ghost use Rattle.cx_look_abend.specs.Abends.{abend_code_in, by_operator, covers, exit_place, last_of_turn, next_of, place_in, told_place};
 
 use cx_command::Abend;
@@ -81,7 +81,7 @@ pub type LastAbends = IndexMap<Name4, Kept>;
 /// Keeps that a terminal, for which there is room, has had no abend.
 pub(crate) fn put_none(abends: &mut LastAbends, name: Name4)
     requires { 1 ≤ spare abends.old }
-    ensures { abends.new.entries ≡ insert_entry is_name4 abends.old.entries name None }
+    ensures { abends.new.entries ≡ insert_entry is_name abends.old.entries name None }
 {
     match abends.insert(name, Kept::none()) {
         Ok(_before) => (),

@@ -12,7 +12,7 @@ mod symbols;
 mod texts;
 
 pub use all::in_order;
-pub use lines::{SourcePlaces, line_at, line_word};
+pub use lines::{SourcePlaces, line_word};
 pub use looks::{symbol_text, symbols_text};
 pub use reading::translated_in;
 pub use rows::Symbol;

@@ -21,7 +21,7 @@ fn holds(place: &StatementPlace, offset: u32) -> bool
 }
 
 /// The line of the first statement whose bytes hold an offset.
-pub fn line_at(places: &[StatementPlace], offset: u32) -> Option<usize>
+fn line_at(places: &[StatementPlace], offset: u32) -> Option<usize>
     ensures { result ≡ line_at places.now offset }
 {
     let place = places.iter().find(|place| holds(place, offset))?;

@@ -1,17 +1,18 @@
 -- The lines of commands are marked.
 use Rattle.std.proofs.Common.{ℕ, Option, None, Some, List, [], ◌∷◌, ◌++◌, codes, map, min, refl}
-use Rattle.std.specs.Prelude.{Bool, true, false, Result, Ok, Err, if◌then◌else◌}
-use Rattle.std.specs.List.{filter}
+use Rattle.std.specs.Prelude.{Bool, true, false, ◌==◌, not, Result, Ok, Err, if◌then◌else◌}
+use Rattle.std.specs.List.{filter, list_all}
 use Rattle.std.specs.Option.{option_map_or}
+use Rattle.std.specs.Str.{byte}
 use Rattle.cx_command.specs.Arguments.{arguments_in, has_option, takes_argument}
 use Rattle.cx_command.specs.Commands.{row_of}
 use Rattle.cx_command.specs.Conditions.{entry_of}
+use Rattle.cx_command.specs.Facts.Commands.{each_command}
+use Rattle.cx_command.specs.Facts.Conditions.{each_condition}
 use Rattle.cx_command.specs.Legal.{has_bit}
 use Rattle.cx_command.specs.Options.{option_name}
 use Rattle.cx_command.specs.declared.commands.Command.{Command}
-use Rattle.cx_command.specs.declared.commands.Command.TheVariants as command
 use Rattle.cx_command.specs.declared.conditions.Condition.{Condition}
-use Rattle.cx_command.specs.declared.conditions.Condition.TheVariants as condition
 use Rattle.cx_command.specs.declared.options.CommandOption.{CommandOption}
 use Rattle.cx_command.specs.declared.options.Mark.{Mark}
 use Rattle.cx_command.specs.declared.options.Mark.TheVariants as mark
@@ -65,38 +66,10 @@ option_named option.Set = refl
 option_named option.Transid = refl
 
 pub condition_named : (c : Condition) → IsWord (entry_of c).name
-condition_named condition.Normal = refl
-condition_named condition.Error = refl
-condition_named condition.Invreq = refl
-condition_named condition.Nospace = refl
-condition_named condition.Lengerr = refl
-condition_named condition.Itemerr = refl
-condition_named condition.Pgmiderr = refl
-condition_named condition.Nostg = refl
-condition_named condition.Qiderr = refl
-condition_named condition.Enqbusy = refl
+condition_named = each_condition (λ c. list_all (λ b. not (b == byte "\n")) (entry_of c).name) refl
 
 pub command_named : (c : Command) → IsWord (row_of c).name
-command_named command.Address = refl
-command_named command.HandleCondition = refl
-command_named command.IgnoreCondition = refl
-command_named command.PushHandle = refl
-command_named command.PopHandle = refl
-command_named command.Receive = refl
-command_named command.WriteqTs = refl
-command_named command.ReadqTs = refl
-command_named command.DeleteqTs = refl
-command_named command.Getmain = refl
-command_named command.Freemain = refl
-command_named command.Link = refl
-command_named command.Xctl = refl
-command_named command.Return = refl
-command_named command.Abend = refl
-command_named command.HandleAbend = refl
-command_named command.Enq = refl
-command_named command.Deq = refl
-command_named command.Suspend = refl
-command_named command.SendText = refl
+command_named = each_command (λ c. list_all (λ b. not (b == byte "\n")) (row_of c).name) refl
 
 -- ---- values
 either : (b : Bool) (one other : List ℕ) → IsWord one → IsWord other → IsWord (if b then one else other)

@@ -2,7 +2,7 @@
 use Rattle.std.specs.Prelude.{ℕ, Bool, ◌&&◌, not, is_some, if◌then◌else◌, List, [], unwrap_or}
 use Rattle.std.specs.Map.{lookup}
 use Rattle.indexmap.specs.IndexMap.{insert_entry}
-use Rattle.cx_region.specs.Names.{is_name8}
+use Rattle.cx_ebcdic.specs.Names.{is_name}
 use Rattle.cx_region.specs.State.{RegionState}
 use Rattle.cx_region.specs.Tables.{program_of}
 use Rattle.cx_look_names.specs.Statements.{statement_places}
@@ -10,7 +10,7 @@ use Rattle.cx_look_stage.specs.State.{Looked, Sources}
 
 -- the lines of a program's source; none of a program that no source defined
 abbrev pub source_lines : Sources → List ℕ → List (List ℕ)
-source_lines sources name = unwrap_or (lookup (is_name8 name) sources.lines) []
+source_lines sources name = unwrap_or (lookup (is_name name) sources.lines) []
 
 -- whether a program was defined: the region had none of this name, and has one
 abbrev pub is_defined : RegionState → List ℕ → RegionState → Bool
@@ -19,8 +19,8 @@ is_defined old name new = not (is_some (program_of old name)) && is_some (progra
 abbrev pub with_lines : Sources → List ℕ → List (List ℕ) → Sources
 with_lines sources name lines =
     record {
-      lines = insert_entry is_name8 sources.lines name lines;
-      places = insert_entry is_name8 sources.places name (statement_places lines);
+      lines = insert_entry is_name sources.lines name lines;
+      places = insert_entry is_name sources.places name (statement_places lines);
     }
 
 -- what is kept behind a source's end: its lines, where it defined the program

@@ -13,7 +13,6 @@ use Rattle.cx_call.specs.Inputs.{are_inputs_there}
 use Rattle.cx_state.specs.declared.replies.TurnReply.{TurnReply}
 use Rattle.cx_state.specs.declared.replies.TurnReply.TheVariants as turn
 use Rattle.cx_state.specs.declared.verdict.Change.{Change}
-use Rattle.cx_state.specs.declared.verdict.Change.TheVariants as change
 use Rattle.cx_state.specs.declared.verdict.Verdict.{Verdict}
 use Rattle.cx_state.specs.declared.verdict.Verdict.TheVariants.{Refuses, Waits, Meets}
 use Rattle.cx_state.specs.State.{Reach, TaskState}
@@ -22,26 +21,14 @@ use Rattle.cx_task.specs.declared.way.Way.{Way}
 use Rattle.cx_task.specs.declared.way.Way.TheVariants as way
 use Rattle.cx_task.specs.Abends.{Abends, AbendsAt}
 use Rattle.cx_task.specs.Answers.{Answers, Does, LeavesAll, MeetsWith, has_room, way_at}
-use Rattle.cx_task.specs.Performing.{Called, Commanded, Performs, fault_code, list_of}
+use Rattle.cx_task.specs.Performing.{Called, Commanded, Performs, fault_abend, list_of}
 use Rattle.cx_task.specs.Turn.{HalfTurn, Halted, RunsOn}
-use Rattle.cx_task.specs.Ways.{Goes, is_wait, way_by}
+use Rattle.cx_task.specs.Ways.{Goes, is_wait}
 use Rattle.cx_region.specs.Turn.{TaskTurned, Turned, reach_of}
 use Rattle.cx_look_tasks.specs.Activities.{Acts, ActsByCall, ActsByCommand, ActsByVerdict, IsActivity, activity_by, is_waiting, wait_by, waits_by}
 use Rattle.cx_look_tasks.specs.Laws.{ActivitiesDecide, WaitsAreTold, is_wait_reply}
 use Rattle.cx_look_tasks.specs.declared.activities.Activity.{Activity}
 use Rattle.cx_look_tasks.specs.declared.activities.Activity.TheVariants.{Due, NoTask, Running, Waiting}
-
--- the way of a change isn't a wait
-pub change_goes : (change : Change) → is_wait (way_by change) ≡ false
-change_goes change.Nothing = refl
-change_goes (change.Makes made) = refl
-change_goes (change.Ends ended) = refl
-change_goes (change.Gets got) = refl
-change_goes (change.Enters level) = refl
-change_goes (change.Replaces copying level) = refl
-change_goes change.LevelEnds = refl
-change_goes (change.TaskEnds next) = refl
-change_goes (change.AbendsWith code cancel) = refl
 
 -- ---- the reply of a half-turn
 abend_replies : (code : List ℕ) (cancel : Bool) (mid after : Reach) (reply : TurnReply) → Abends code cancel mid reply after → is_wait_reply reply ≡ false
@@ -114,10 +101,10 @@ half once before after reply activity turns acts = by_due before.task.due turns 
     by_inputs call true it acts = performs once call before after reply activity it acts
     by_inputs call false abends is = rw is (abend_replies (abend_code abend.Xarg) false before after reply abends)
 
-    by_call : (r : Result Call CallFault) → MatchResult r (λ call. Called call before reply after) (λ fault. Abends (fault_code fault) false before reply after)
+    by_call : (r : Result Call CallFault) → MatchResult r (λ call. Called call before reply after) (λ fault. Abends (abend_code (fault_abend fault)) false before reply after)
         → MatchResult r (λ call. ActsByCall call before activity) (λ fault. activity ≡ Due None) → is_wait_reply reply ≡ is_waiting activity
     by_call (Ok call) called acts = by_inputs call (are_inputs_there before.shared.storage call) called acts
-    by_call (Err fault) abends is = rw is (abend_replies (fault_code fault) false before after reply abends)
+    by_call (Err fault) abends is = rw is (abend_replies (abend_code (fault_abend fault)) false before after reply abends)
 
     by_due : (b : Bool) → MatchBool b (Commanded before reply after) (RunsOn before reply after) → MatchBool b (ActsByCommand before activity) (activity ≡ Running)
         → is_wait_reply reply ≡ is_waiting activity

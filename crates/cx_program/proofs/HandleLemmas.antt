@@ -1,12 +1,12 @@
 -- Entries given to conditions, and the conditions that wait.
 use Rattle.std.specs.Prelude.{◌≡◌, ◌≢◌, not, is_some}
-use Rattle.std.proofs.Common.{ℕ, zero, suc, ◌<◌, List, ◌∷◌, length, get_or, refl, sym, ◌∙◌, ap, subst, arith}
+use Rattle.std.proofs.Common.{ℕ, ◌<◌, List, ◌∷◌, length, get_or, sym, ◌∙◌, ap, subst, arith}
 use Rattle.std.proofs.lemmas.List.{ext_get_or, get_or-set_other, get_or-set_same}
 use Rattle.cx_ebcdic.specs.Characters.{code_of, table}
 use Rattle.cx_ebcdic.specs.Names.{is_name_character, name_code, name_of}
 use Rattle.cx_command.specs.Conditions.{abend_code_of, handled, place_of}
 use Rattle.cx_command.specs.declared.conditions.Condition.{Condition}
-use Rattle.cx_command.specs.declared.conditions.Condition.TheVariants.{Normal, Error, Invreq, Nospace, Lengerr, Itemerr, Pgmiderr, Nostg, Qiderr, Enqbusy}
+use Rattle.cx_command.specs.declared.conditions.Condition.TheVariants.{Normal, Error}
 use Rattle.cx_program.specs.declared.entries.Entry.{Entry}
 use Rattle.cx_program.specs.declared.entries.Entry.TheVariants.{NoEntry}
 use Rattle.cx_program.specs.declared.entries.Entries.{Entries}
@@ -16,61 +16,24 @@ use Rattle.cx_program.specs.Handles.{waits}
 -- a condition for which a choice is made leads to an abend exactly where it doesn't wait
 pub has_code_or_waits : (condition : Condition) → condition ≢ Normal → condition ≢ Error → is_some (abend_code_of condition) ≡ not (waits condition)
 unfolding abend_code_of name_of name_code is_name_character code_of table
-has_code_or_waits Normal exceptional not_error = absurd (exceptional refl)
-has_code_or_waits Error exceptional not_error = absurd (not_error refl)
-has_code_or_waits Invreq exceptional not_error = refl
-has_code_or_waits Nospace exceptional not_error = refl
-has_code_or_waits Lengerr exceptional not_error = refl
-has_code_or_waits Itemerr exceptional not_error = refl
-has_code_or_waits Pgmiderr exceptional not_error = refl
-has_code_or_waits Nostg exceptional not_error = refl
-has_code_or_waits Qiderr exceptional not_error = refl
-has_code_or_waits Enqbusy exceptional not_error = refl
+has_code_or_waits condition exceptional not_error = grind (arith, exceptional, not_error)
 
 -- each condition stands at its place
 at_place : (condition : Condition) → get_or (Normal ∷ handled) (place_of condition) Normal ≡ condition
-at_place Normal = refl
-at_place Error = refl
-at_place Invreq = refl
-at_place Nospace = refl
-at_place Lengerr = refl
-at_place Itemerr = refl
-at_place Pgmiderr = refl
-at_place Nostg = refl
-at_place Qiderr = refl
-at_place Enqbusy = refl
+at_place condition = grind arith
 
 -- each place is that of the condition there
-place_at : (i : ℕ) → i < 10 → place_of (get_or (Normal ∷ handled) i Normal) ≡ i
-place_at zero less = refl
-place_at (suc zero) less = refl
-place_at (suc (suc zero)) less = refl
-place_at (suc (suc (suc zero))) less = refl
-place_at (suc (suc (suc (suc zero)))) less = refl
-place_at (suc (suc (suc (suc (suc zero))))) less = refl
-place_at (suc (suc (suc (suc (suc (suc zero)))))) less = refl
-place_at (suc (suc (suc (suc (suc (suc (suc zero))))))) less = refl
-place_at (suc (suc (suc (suc (suc (suc (suc (suc zero)))))))) less = refl
-place_at (suc (suc (suc (suc (suc (suc (suc (suc (suc zero))))))))) less = refl
-place_at (suc (suc (suc (suc (suc (suc (suc (suc (suc (suc i)))))))))) less = absurd (omega (arith, less))
+place_at : (i : ℕ) → i < length (Normal ∷ handled) → place_of (get_or (Normal ∷ handled) i Normal) ≡ i
+place_at i less = grind (arith, less)
 
 place_once : (a b : Condition) → place_of a ≡ place_of b → a ≡ b
 place_once a b same = sym (at_place a) ∙ ap (λ i. get_or (Normal ∷ handled) i Normal) same ∙ at_place b
 
-place_within : (condition : Condition) → place_of condition < 10
-place_within Normal = omega arith
-place_within Error = omega arith
-place_within Invreq = omega arith
-place_within Nospace = omega arith
-place_within Lengerr = omega arith
-place_within Itemerr = omega arith
-place_within Pgmiderr = omega arith
-place_within Nostg = omega arith
-place_within Qiderr = omega arith
-place_within Enqbusy = omega arith
+place_within : (condition : Condition) → place_of condition < length (Normal ∷ handled)
+place_within condition = grind arith
 
 -- a condition has the entry that it was given
-pub entry_for_same : (entries : Entries) (condition : Condition) (entry : Entry) → length entries.of ≡ 10 → entry_for (with_entry entries condition entry) condition ≡ entry
+pub entry_for_same : (entries : Entries) (condition : Condition) (entry : Entry) → length entries.of ≡ length (Normal ∷ handled) → entry_for (with_entry entries condition entry) condition ≡ entry
 unfolding entry_for with_entry
 entry_for_same entries condition entry ten = get_or-set_same entries.of (place_of condition) entry NoEntry (omega (arith, place_within condition, ten))
 
@@ -80,7 +43,7 @@ unfolding entry_for with_entry
 entry_for_other entries condition other entry apart = get_or-set_other entries.of (place_of condition) (place_of other) entry NoEntry (λ same. apart (place_once other condition same))
 
 -- the entries are what they answer for each condition
-pub entries_same : (a b : Entries) → length a.of ≡ 10 → length b.of ≡ 10 → ((condition : Condition) → entry_for a condition ≡ entry_for b condition) → a ≡ b
+pub entries_same : (a b : Entries) → length a.of ≡ length (Normal ∷ handled) → length b.of ≡ length (Normal ∷ handled) → ((condition : Condition) → entry_for a condition ≡ entry_for b condition) → a ≡ b
 unfolding entry_for
 entries_same a b a_ten b_ten same =
     ap

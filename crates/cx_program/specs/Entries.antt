@@ -1,8 +1,9 @@
 -- What a level's program has asked to be done for each condition, and on an abend
 -- (Application Programmer's Reference Manual, SC33-0077, HANDLE CONDITION, IGNORE CONDITION, HANDLE ABEND).
-use Rattle.std.specs.Prelude.{ℕ, Option, Some, None, get_or, replicate, slice_set}
-use Rattle.cx_command.specs.Conditions.{place_of}
+use Rattle.std.specs.Prelude.{ℕ, Option, Some, None, ◌∷◌, get_or, length, replicate, slice_set}
+use Rattle.cx_command.specs.Conditions.{handled, place_of}
 use Rattle.cx_command.specs.declared.conditions.Condition.{Condition}
+use Rattle.cx_command.specs.declared.conditions.Condition.TheVariants.{Normal}
 use Rattle.cx_program.specs.declared.entries.Entry.{Entry}
 use Rattle.cx_program.specs.declared.entries.Entry.TheVariants.{NoEntry}
 use Rattle.cx_program.specs.declared.entries.Exit.{Exit}
@@ -20,25 +21,19 @@ with_entry entries condition entry = record entries { of = slice_set entries.of 
 
 -- HANDLE ABEND CANCEL: the exit is off; without one nothing happens
 abbrev pub turned_off : Exit → Exit
-turned_off NoExit = NoExit
-turned_off (Off label) = Off label
 turned_off (On label) = Off label
+turned_off exit = exit
 
 -- HANDLE ABEND RESET: the exit is on again; without one nothing happens
 abbrev pub turned_on : Exit → Exit
-turned_on NoExit = NoExit
 turned_on (Off label) = On label
-turned_on (On label) = On label
+turned_on exit = exit
 
 -- the exit's label, where there is one and it is on
 abbrev pub label_on : Exit → Option ℕ
-label_on NoExit = None
-label_on (Off label) = None
 label_on (On label) = Some label
+label_on _ = None
 
 -- no entry for any condition, and no exit
-abbrev pub no_entries : Entries
-no_entries = record { of = replicate 10 NoEntry }
-
 abbrev pub nothing_asked : Handling
-nothing_asked = record { entries = no_entries; exit = NoExit }
+nothing_asked = record { entries = record { of = replicate (length (Normal ∷ handled)) NoEntry }; exit = NoExit }

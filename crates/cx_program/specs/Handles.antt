@@ -51,19 +51,15 @@ waits _ = false
 abbrev pub abend_code : Condition → List ℕ
 abend_code condition = unwrap_or (abend_code_of condition) []
 
--- by ERROR's entry: its label takes control, or the program goes on, or the condition abends with its code
-abbrev pub choice_by_error : Entry → Condition → Choice
-choice_by_error (entry.Label label) condition = Label label
-choice_by_error entry.Ignored condition = GoOn
-choice_by_error entry.NoEntry condition = Abend (abend_code condition)
+-- by an entry: its label takes control, or the program goes on; without one this is done
+abbrev pub choice_by_entry : Entry → Choice → Choice
+choice_by_entry (entry.Label label) otherwise = Label label
+choice_by_entry entry.Ignored otherwise = GoOn
+choice_by_entry entry.NoEntry otherwise = otherwise
 
--- by the condition's own entry: its label takes control, or the program goes on; without one NOSPACE, NOSTG and ENQBUSY
--- wait, and every other condition goes by ERROR's entry
-abbrev pub choice_by_own : Entry → Entry → Condition → Choice
-choice_by_own (entry.Label label) error condition = Label label
-choice_by_own entry.Ignored error condition = GoOn
-choice_by_own entry.NoEntry error condition = if waits condition then Wait else choice_by_error error condition
-
--- what is done for a condition that a command met, where neither NOHANDLE nor RESP was given
+-- What is done for a condition that a command met, where neither NOHANDLE nor RESP was given: by its own entry; without
+-- one NOSPACE, NOSTG and ENQBUSY wait, and every other condition goes by ERROR's entry, or abends with its code.
 unfoldable pub choice : Entries → Condition → Choice
-choice entries condition = choice_by_own (entry_for entries condition) (entry_for entries Error) condition
+choice entries condition =
+    choice_by_entry (entry_for entries condition)
+    (if waits condition then Wait else choice_by_entry (entry_for entries Error) (Abend (abend_code condition)))

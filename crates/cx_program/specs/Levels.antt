@@ -1,22 +1,8 @@
 -- The program levels of a task (Application Programmer's Reference Manual, SC33-0077, "Program Control"; HANDLE ABEND).
-use Rattle.std.specs.Prelude.{◌≡◌, ◌<◌, ℕ, Bool, true, false, Option, Some, None, List, [], ◌∷◌, ◌++◌, is_some, replicate, reverse, slice_get}
+use Rattle.std.specs.Prelude.{◌≡◌, ◌<◌, ℕ, Bool, true, false, Option, Some, None, List, [], ◌∷◌, ◌++◌, is_some, reverse, slice_get}
 use Rattle.std.specs.Option.{option_map_or}
 use Rattle.cx_program.specs.declared.level.Level.{Level}
 use Rattle.cx_program.specs.Entries.{label_on}
-use Rattle.cx_program.specs.Handles.{no_handles}
-
--- what stands in an unused place of a stack: a level of no program, of which nothing is kept
-abbrev pub unused : Level
-unused =
-    record {
-      program = replicate 8 0x40;
-      stg = 0;
-      stg_len = 0;
-      calen = 0;
-      regs = replicate 16 0;
-      cc = 0;
-      handles = no_handles;
-    }
 
 -- The current level, and the levels that called it one after another, the nearest first.
 pub record Levels : Type 0 where
@@ -34,11 +20,6 @@ highest level = record { callers = []; current = level }
 -- LINK: a level under the current one, which has called it
 abbrev pub under : Levels → Level → Levels
 under levels level = record { callers = levels.current ∷ levels.callers; current = level }
-
--- RETURN, from the callers: the nearest is the current level again; None where there is none
-abbrev pub after_leave : List Level → Option Levels
-after_leave [] = None
-after_leave (caller ∷ rest) = Some (record { callers = rest; current = caller })
 
 -- the levels with another as the current one
 abbrev pub with_current : Levels → Level → Levels

@@ -2,7 +2,7 @@
 ghost use Rattle.std.specs.Prelude.{◌≡◌};
 ghost use Rattle.cx_program.specs.Entries.{entry_for, label_on, turned_off, turned_on, with_entry};
 
-use cx_command::Condition;
+use cx_command::{CONDITIONS, Condition};
 
 /// What is to be done where a command meets a condition.
 ///
@@ -69,18 +69,18 @@ impl Exit {
 #[derive(Clone, Copy, Debug, PartialEq, Eq)]
 pub struct Entries {
     /// The entries in the order of the conditions' numbers.
-    pub of: [Entry; 10],
+    pub of: [Entry; CONDITIONS],
 }
 
 impl Default for Entries {
-    ghost use Rattle.cx_program.specs.Entries.{no_entries};
+    ghost use Rattle.cx_program.specs.Entries.{nothing_asked};
 
-    ghost is_default = { λ entries. entries ≡ no_entries };
+    ghost is_default = { λ entries. entries ≡ nothing_asked.entries };
 
     /// No entry for any condition.
     fn default() -> Entries {
         Entries {
-            of: [Entry::NoEntry; 10],
+            of: [Entry::NoEntry; CONDITIONS],
         }
     }
 }

@@ -1,7 +1,7 @@
 //! The handle entries and the exit of one level.
-ghost use Rattle.std.specs.Prelude.{◌≡◌, ◌≢◌, ◌<◌, ◌≤◌, ◌↔◌, false, length, IsOk, OnOk, OnErr, IfErr};
+ghost use Rattle.std.specs.Prelude.{◌≡◌, ◌≢◌, ◌<◌, ◌≤◌, ◌↔◌, if◌then◌else◌, false, length, IsOk, OnOk, OnErr, IfErr};
 ghost use Rattle.cx_program.specs.Entries.{label_on, turned_off, turned_on};
-ghost use Rattle.cx_program.specs.Handles.{abend_code, after_pop, after_push, choice, choice_by_own, no_handles, put_entry, put_exit, waits};
+ghost use Rattle.cx_program.specs.Handles.{abend_code, after_pop, after_push, choice, choice_by_entry, no_handles, put_entry, put_exit, waits};
 
 use crate::choice::Choice;
 use crate::entries::{Entry, Exit, Handling};
@@ -165,7 +165,8 @@ impl HandleTable {
 fn without_entry(condition: Condition, error: Entry) -> Choice
     requires exceptional { condition ≢ Condition.Normal }
     requires not_error { condition ≢ Condition.Error }
-    ensures { result ≡ choice_by_own Entry.NoEntry error condition }
+    ensures { result
+        ≡ (if waits condition then Choice.Wait else choice_by_entry error (Choice.Abend (abend_code condition))) }
 {
     match (condition, error) {
         (Condition::Nospace | Condition::Nostg | Condition::Enqbusy, _) => Choice::Wait,

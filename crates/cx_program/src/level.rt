@@ -23,12 +23,20 @@ pub struct Level {
 }
 
 impl Default for Level {
-    ghost use Rattle.std.specs.Prelude.{◌≡◌};
-    ghost use Rattle.cx_program.specs.Levels.{unused};
+    ghost use Rattle.std.specs.Prelude.{◌≡◌, replicate};
+    ghost use Rattle.cx_program.specs.Handles.{no_handles};
 
-    ghost is_default = { λ level. level ≡ unused };
+    ghost is_default = { λ level. level ≡ record {
+      program = replicate 8 0x40;
+      stg = 0;
+      stg_len = 0;
+      calen = 0;
+      regs = replicate 16 0;
+      cc = 0;
+      handles = no_handles;
+    } };
 
-    /// What stands in an unused place of a stack: a level of no program.
+    /// What stands in an unused place of a stack: a level of no program, of which nothing is kept.
     fn default() -> Level {
         Level {
             program: Name8::from_bytes([0x40; 8]),

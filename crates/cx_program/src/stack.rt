@@ -3,7 +3,7 @@ ghost use Rattle.std.specs.Prelude.{◌≡◌, ◌+◌, ◌<◌, ◌≤◌, ◌�
 ghost use Rattle.std.specs.Borrow.{sem};
 ghost use Rattle.std.specs.Option.{option_copied};
 ghost use Rattle.cx_program.specs.Lending.{LendsCurrent};
-ghost use Rattle.cx_program.specs.Levels.{IsNearestExit, after_leave, all_levels, highest, under};
+ghost use Rattle.cx_program.specs.Levels.{IsNearestExit, all_levels, highest, under};
 
 use crate::faults::ProgramFault;
 use crate::level::Level;
@@ -104,7 +104,7 @@ impl LevelStack {
     pub fn leave(&mut self) -> Option<Level>
         ensures lower { IsSome result ↔ (0 < length self.old.callers) }
         ensures left { IfSome result (λ level. level ≡ self.old.current) }
-        ensures above { OnSome result (after_leave self.old.callers ≡ Some self.new) }
+        ensures above { OnSome result (self.old.callers ≡ self.new.current ∷ self.new.callers) }
         ensures none { IfNone result (self.new ≡ self.old) }
     {
         let caller = self.callers.pop()?;

@@ -13,7 +13,7 @@ use Rattle.cx_region.specs.declared.changes.Change.{Change}
 use Rattle.cx_region.specs.declared.changes.AlterReply.{AlterReply}
 use Rattle.cx_region.specs.declared.changes.AlterReply.TheVariants as alter
 use Rattle.cx_region.specs.State.{RegionState, TerminalState, shared_of, terminal_with}
-use Rattle.cx_region.specs.Names.{is_name4}
+use Rattle.cx_ebcdic.specs.Names.{is_name}
 use Rattle.cx_region.specs.Turn.{reach_of}
 use Rattle.cx_region.specs.Alter.{Alters, alter_refusal, altered_at, altered_region, ends_task}
 use Rattle.cx_region.specs.Parts.Altering.{AlteredAt, AlteredIn, AlteredNowhere, AlteredThere, HeldAltered, PartAltered, PartStays}
@@ -49,18 +49,18 @@ altered_on change shared after station left (Some task) held kept h is =
 pub altered_whole : (r : RegionState) (name : List ℕ) (change : Change) (shared : SharedState) (terminals : Terminals)
     → AlteredIn change (shared_of r) r.terminals name shared terminals → with_parts r shared terminals ≡ altered_region r name change
 unfolding altered_region AlteredIn AlteredAt
-altered_whole r name change shared terminals done = by_terminal (lookup (is_name4 name) r.terminals) refl done
+altered_whole r name change shared terminals done = by_terminal (lookup (is_name name) r.terminals) refl done
   where
     new : RegionState
     new = with_parts r shared terminals
 
-    by_task : (t left : TerminalState) → lookup (is_name4 name) r.terminals ≡ Some t → terminals ≡ set_value (is_name4 name) r.terminals left → (o : Option TaskState)
+    by_task : (t left : TerminalState) → lookup (is_name name) r.terminals ≡ Some t → terminals ≡ set_value (is_name name) r.terminals left → (o : Option TaskState)
         → MatchOption o (PartStays (shared_of r) t shared left) (λ task. PartAltered change (reach_of r t task) shared left)
         → new ≡ option_map_or (altered_at r name change t) o r
-    by_task t left there back None stays = same_parts r shared terminals stays.shared_stays (back ∙ ap (set_value (is_name4 name) r.terminals) stays.terminal_stays ∙ set_value_same (is_name4 name) r.terminals t there)
+    by_task t left there back None stays = same_parts r shared terminals stays.shared_stays (back ∙ ap (set_value (is_name name) r.terminals) stays.terminal_stays ∙ set_value_same (is_name name) r.terminals t there)
     by_task t left there back (Some task) done = rw (done.shared_is, back, done.terminal_is) refl
 
-    by_terminal : (o : Option TerminalState) → lookup (is_name4 name) r.terminals ≡ o
+    by_terminal : (o : Option TerminalState) → lookup (is_name name) r.terminals ≡ o
         → MatchOption o (AlteredNowhere (shared_of r) r.terminals shared terminals) (λ t. AlteredThere change (shared_of r) r.terminals name t shared terminals)
         → new ≡ option_map_or (λ t. option_map_or (altered_at r name change t) t.task r) o r
     by_terminal None e nowhere = same_parts r shared terminals nowhere.shared_stays nowhere.terminals_stay

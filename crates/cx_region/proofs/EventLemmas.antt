@@ -1,13 +1,11 @@
 -- An event that was answered by want of memory may take some.
-use Rattle.std.proofs.Common.{◌≡◌, ℕ, Bool, true, false, cond, List, length, None, Some, Option, Result, Ok, Err, MatchOption, IsOkUnless, IsErrOf, OnErr, refl, ap, subst}
-use Rattle.cx_code.specs.declared.image.Image.{Image}
+use Rattle.std.proofs.Common.{◌≡◌, ℕ, Bool, true, false, cond, List, None, Some, Option, Result, Ok, Err, MatchOption, IsOkUnless, IsErrOf, OnErr, refl, ap, subst}
 use Rattle.cx_ebcdic.specs.declared.aids.Aid.{Aid}
-use Rattle.cx_load.specs.Program.{IsProgramPlace}
-use Rattle.cx_load.specs.declared.program.Loaded.{Loaded}
 use Rattle.std.specs.declared.alloc.AllocError.{AllocError}
 use Rattle.cx_region.specs.State.{RegionState}
-use Rattle.cx_region.specs.Attach.{KeyGrows, input_from}
-use Rattle.cx_region.specs.Defining.{program_fault, transaction_fault, terminal_fault}
+use Rattle.cx_region.specs.Attach.{input_from}
+use Rattle.cx_region.specs.Parts.Asking.{KeyGrows}
+use Rattle.cx_region.specs.Defining.{transaction_fault, terminal_fault}
 use Rattle.cx_region.specs.Events.{IsDone, MayTakeMemory}
 use Rattle.cx_region.specs.declared.replies.DefineFault.{DefineFault}
 use Rattle.cx_region.specs.declared.replies.DefineFault.TheVariants.{Duplicate, Full, Memory, NoProgram}
@@ -31,11 +29,6 @@ none_due None r never h e = refl
 none_due (Some fault) (Ok done) never h e = cc
 none_due (Some fault) (Err other) never h e = let same : fault ≡ Memory = cc in absurd (never (ap Some same))
 
-pub program_memory : (old : RegionState) (name : List ℕ) (image : Image) (r : Result Loaded DefineFault)
-    → (IsErrOf r Memory → (program_fault old name ≡ None) × (IsProgramPlace old.storage (length image.text) None → ⊥)) → IsErrOf r Memory → MayTakeMemory old (event.Program name image)
-unfolding MayTakeMemory
-program_memory old name image r h e = h e
-
 pub transaction_memory : (old : RegionState) (tran program : List ℕ) (r : Result (Unit {0}) DefineFault)
     → MatchOption (transaction_fault old tran program) (IsOkUnless r Memory) (IsErrOf r) → r ≡ Err Memory → MayTakeMemory old (event.Transaction tran program)
 unfolding MayTakeMemory transaction_fault
@@ -47,7 +40,7 @@ unfolding MayTakeMemory terminal_fault
 terminal_memory old name r h e = none_due (terminal_fault old name) r (λ m. two _ _ m) h e
 
 pub key_memory : (old : RegionState) (name : List ℕ) (aid : Aid) (bytes : List ℕ) → KeyGrows old name (input_from aid bytes).bytes → MayTakeMemory old (event.Key name aid bytes)
-unfolding MayTakeMemory
+unfolding MayTakeMemory KeyGrows
 key_memory old name aid bytes h = h
 
 -- an event whose call was refused memory

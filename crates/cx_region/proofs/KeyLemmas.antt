@@ -17,10 +17,11 @@ use Rattle.cx_region.specs.declared.asking.Start.{Start}
 use Rattle.cx_region.specs.declared.replies.KeyReply.{KeyReply}
 use Rattle.cx_region.specs.declared.replies.KeyReply.TheVariants as key
 use Rattle.cx_region.specs.State.{RegionState, TerminalState, shared_of}
-use Rattle.cx_region.specs.Names.{is_name4}
+use Rattle.cx_ebcdic.specs.Names.{is_name}
 use Rattle.cx_region.specs.Tables.{program_of, terminal_of, transaction_of, with_terminal}
-use Rattle.cx_region.specs.Attach.{ArePlaced, Attached, Attaches, Gives, HasNoPlaces, KeyGrows, Keyed, OnlyAnswers, Starts, TaskAreas, TerminalKeyed, commarea_kept, eib_at_attach, filled, next_number, transaction_named, with_task, with_task_areas}
-use Rattle.cx_region.specs.Parts.Asking.{asked, asked_at, input_asked, level_of, start_asked, start_of, task_of_start}
+use Rattle.cx_region.specs.Attach.{ArePlaced, Attached, Attaches, Gives, HasNoPlaces, Keyed, OnlyAnswers, Starts, commarea_kept, eib_at_attach, filled, next_number, transaction_named, with_task, with_task_areas}
+use Rattle.cx_region.specs.declared.asking.Places.{Places}
+use Rattle.cx_region.specs.Parts.Asking.{KeyGrows, asked, asked_at, input_asked, level_of, start_asked, start_of, task_of_start}
 use Rattle.cx_region.specs.declared.attach.StartFault.{StartFault}
 use Rattle.cx_region.specs.Parts.Placing.{AreFaultsOf, IsReady}
 use Rattle.cx_region.specs.Sound.{IsSound}
@@ -66,7 +67,7 @@ keyed_answer r name input due is = by_terminal (terminal_of r name) is
 pub keyed_given : (r new : RegionState) (name : List ℕ) (input : Input) (giving : Giving r name) → new ≡ with_terminal r name (record giving.terminal { input = Some input }) → Keyed r name input key.Given new
 unfolding Keyed
 keyed_given r new name input giving is =
-    of_some _ (λ t. TerminalKeyed r name t input key.Given new) (terminal_of r name) giving.terminal giving.there
+    of_some _ (λ t. MatchOption t.task (Starts r name t input (transaction_named t.following input.bytes) key.Given new) (λ task. Gives r name t input key.Given new)) (terminal_of r name) giving.terminal giving.there
     (of_some _ (λ task. Gives r name giving.terminal input key.Given new) giving.terminal.task giving.task giving.live
     (of_none _ (λ held. OnlyAnswers key.AlreadyHeldInput r key.Given new) giving.terminal.input giving.none (refl, is)))
 
@@ -79,7 +80,7 @@ pub keyed_start : (r new : RegionState) (name : List ℕ) (input : Input) (start
     → Attaches r name starting.terminal input start.tran start.program start.loaded reply new → Keyed r name input reply new
 unfolding Keyed
 keyed_start r new name input start starting reply h =
-    of_some _ (λ t. TerminalKeyed r name t input reply new) (terminal_of r name) starting.terminal starting.there
+    of_some _ (λ t. MatchOption t.task (Starts r name t input (transaction_named t.following input.bytes) reply new) (λ task. Gives r name t input reply new)) (terminal_of r name) starting.terminal starting.there
     (of_none _ (λ task. Gives r name starting.terminal input reply new) starting.terminal.task starting.idle
     (subst (λ (tran : List ℕ). Starts r name starting.terminal input tran reply new) starting.tran
     (of_some _ (λ program. MatchOption (program_of r program) (OnlyAnswers key.NoSuchTransaction r reply new) (λ loaded. Attaches r name starting.terminal input start.tran program loaded reply new))
@@ -99,10 +100,10 @@ pub no_places : (r : RegionState) (name bytes : List ℕ) (start : Start) (start
 no_places r name bytes start starting none = rw (← starting.slot, ← starting.calen) none
 
 -- ---- what attach leaves
-pub attached_is : (r v : RegionState) (name bytes : List ℕ) (start : Start) (starting : Starting v name bytes start) (input : Input) (places : TaskAreas) (number : ℕ) (s : Storage) (ts : List (List ℕ × TerminalState))
+pub attached_is : (r v : RegionState) (name bytes : List ℕ) (start : Start) (starting : Starting v name bytes start) (input : Input) (places : Places) (number : ℕ) (s : Storage) (ts : List (List ℕ × TerminalState))
     → r ≡ v → number ≡ next_number r.counter → ArePlaced r.storage (system_owner start.slot) start.calen start.loaded.stg_len places
     → s ≡ filled (with_task_areas r.storage (system_owner start.slot) start.calen start.loaded.stg_len places) places (eib_at_attach r name start.tran start.calen input.aid) (commarea_kept starting.terminal.following) (level_of start places)
-    → ts ≡ set_value (is_name4 name) r.terminals (with_task starting.terminal input (task_of_start start (next_number r.counter) places))
+    → ts ≡ set_value (is_name name) r.terminals (with_task starting.terminal input (task_of_start start (next_number r.counter) places))
     → Attached v name starting.terminal input start.tran start.program start.loaded (record r { storage = s; terminals = ts; counter = number })
 attached_is r v name bytes start starting input places number s ts e n placed is is_ts =
     record {
@@ -116,13 +117,13 @@ pub fields_are : (r : RegionState) (name tran terminal : List ℕ) (number code 
     → fields_at_attach (record { time = r.time; date = r.date; tran = tran; number = number; terminal = terminal; calen = start.calen; aid = code }) ≡ eib_at_attach r name start.tran start.calen aid
 fields_are r name tran terminal number code start aid at on n by = rw (at, on, n, by) refl
 
-pub storage_at : (s t u : Storage) (places : TaskAreas) (fields shown : List Content) (commarea : List ℕ) (level now : NewLevel) → u ≡ filled t places fields commarea level → t ≡ s → fields ≡ shown → level ≡ now
+pub storage_at : (s t u : Storage) (places : Places) (fields shown : List Content) (commarea : List ℕ) (level now : NewLevel) → u ≡ filled t places fields commarea level → t ≡ s → fields ≡ shown → level ≡ now
     → u ≡ filled s places shown commarea now
 storage_at s t u places fields shown commarea level now is e f g = is ∙ rw (e, f, g) refl
 
-pub entries_at : (terminals : List (List ℕ × TerminalState)) (counter : ℕ) (name : List ℕ) (terminal : TerminalState) (start : Start) (held input : Input) (task : TaskState) (number : ℕ) (places : TaskAreas) (ts : List (List ℕ × TerminalState))
-    → ts ≡ set_value (is_name4 name) terminals (with_task terminal held task) → held ≡ input → task ≡ task_of_start start number places → number ≡ next_number counter
-    → ts ≡ set_value (is_name4 name) terminals (with_task terminal input (task_of_start start (next_number counter) places))
+pub entries_at : (terminals : List (List ℕ × TerminalState)) (counter : ℕ) (name : List ℕ) (terminal : TerminalState) (start : Start) (held input : Input) (task : TaskState) (number : ℕ) (places : Places) (ts : List (List ℕ × TerminalState))
+    → ts ≡ set_value (is_name name) terminals (with_task terminal held task) → held ≡ input → task ≡ task_of_start start number places → number ≡ next_number counter
+    → ts ≡ set_value (is_name name) terminals (with_task terminal input (task_of_start start (next_number counter) places))
 entries_at terminals counter name terminal start held input task number places ts is e f n = is ∙ rw (e, f, n) refl
 
 -- ---- the whole of an attach
@@ -150,29 +151,29 @@ rest_same r mid after terminals number counter e f n =
     let resources : after.resources ≡ r.resources = ap (λ (h : SharedState). h.resources) f ∙ ap (λ (h : SharedState). h.resources) e in
     λ i. record r { storage = after.storage; programs = programs i; queues = queues i; resources = resources i; terminals = terminals; counter = n i }
 
-record AttachedParts (r : RegionState) (name bytes : List ℕ) (start : Start) (terminal : TerminalState) (input : Input) (fields : List Content) (places : TaskAreas) (level : NewLevel) (after : Storage) (ts : List (List ℕ × TerminalState)) : Type 0 where
+record AttachedParts (r : RegionState) (name bytes : List ℕ) (start : Start) (terminal : TerminalState) (input : Input) (fields : List Content) (places : Places) (level : NewLevel) (after : Storage) (ts : List (List ℕ × TerminalState)) : Type 0 where
   pub storage : after ≡ filled (with_task_areas r.storage (system_owner start.slot) start.calen start.loaded.stg_len places) places fields (commarea_kept terminal.following) level
-  pub terminals : ts ≡ set_value (is_name4 name) r.terminals (with_task terminal input (task_of_start start (next_number r.counter) places))
+  pub terminals : ts ≡ set_value (is_name name) r.terminals (with_task terminal input (task_of_start start (next_number r.counter) places))
 
-parts_of : (r : RegionState) (name bytes : List ℕ) (start : Start) (starting : Starting r name bytes start) (input held : Input) (fields : List Content) (places : TaskAreas) (level : NewLevel) (task : TaskState) (number : ℕ) (mid after : Storage) (ts : List (List ℕ × TerminalState))
+parts_of : (r : RegionState) (name bytes : List ℕ) (start : Start) (starting : Starting r name bytes start) (input held : Input) (fields : List Content) (places : Places) (level : NewLevel) (task : TaskState) (number : ℕ) (mid after : Storage) (ts : List (List ℕ × TerminalState))
     → IsReady r.storage start number input places level task held mid → number ≡ next_number r.counter
-    → MatchOption (lookup (is_name4 name) r.terminals) ⊤ (λ terminal. after ≡ filled mid places fields (commarea_kept terminal.following) level)
-    → MatchOption (lookup (is_name4 name) r.terminals) ⊤ (λ terminal. ts ≡ set_value (is_name4 name) r.terminals (with_task terminal held task))
+    → MatchOption (lookup (is_name name) r.terminals) ⊤ (λ terminal. after ≡ filled mid places fields (commarea_kept terminal.following) level)
+    → MatchOption (lookup (is_name name) r.terminals) ⊤ (λ terminal. ts ≡ set_value (is_name name) r.terminals (with_task terminal held task))
     → AttachedParts r name bytes start starting.terminal input fields places level after ts
 parts_of r name bytes start starting input held fields places level task number mid after ts ready n is is_ts =
     record {
-      storage = of_found (λ terminal. after ≡ filled mid places fields (commarea_kept terminal.following) level) (lookup (is_name4 name) r.terminals) starting.terminal starting.there is
+      storage = of_found (λ terminal. after ≡ filled mid places fields (commarea_kept terminal.following) level) (lookup (is_name name) r.terminals) starting.terminal starting.there is
           ∙ ap (λ (s : Storage). filled s places fields (commarea_kept starting.terminal.following) level) ready.made;
       terminals = entries_at r.terminals r.counter name starting.terminal start held input task number places ts
-          (of_found (λ terminal. ts ≡ set_value (is_name4 name) r.terminals (with_task terminal held task)) (lookup (is_name4 name) r.terminals) starting.terminal starting.there is_ts)
+          (of_found (λ terminal. ts ≡ set_value (is_name name) r.terminals (with_task terminal held task)) (lookup (is_name name) r.terminals) starting.terminal starting.there is_ts)
           ready.input_is ready.task_is n;
     }
 
-pub sound_attach : (r : RegionState) (name bytes : List ℕ) (start : Start) (starting : Starting r name bytes start) (input held : Input) (fields : List Content) (places : TaskAreas) (level : NewLevel) (task : TaskState) (number : ℕ) (mid after : SharedState) (ts : List (List ℕ × TerminalState))
+pub sound_attach : (r : RegionState) (name bytes : List ℕ) (start : Start) (starting : Starting r name bytes start) (input held : Input) (fields : List Content) (places : Places) (level : NewLevel) (task : TaskState) (number : ℕ) (mid after : SharedState) (ts : List (List ℕ × TerminalState))
     → IsSound r → IsSoundStorage after.storage → IsReady r.storage start number input places level task held mid.storage → number ≡ next_number r.counter
     → mid ≡ record (shared_of r) { storage = mid.storage } → after ≡ record mid { storage = after.storage }
-    → MatchOption (lookup (is_name4 name) r.terminals) ⊤ (λ terminal. after.storage ≡ filled mid.storage places fields (commarea_kept terminal.following) level)
-    → MatchOption (lookup (is_name4 name) r.terminals) ⊤ (λ terminal. ts ≡ set_value (is_name4 name) r.terminals (with_task terminal held task))
+    → MatchOption (lookup (is_name name) r.terminals) ⊤ (λ terminal. after.storage ≡ filled mid.storage places fields (commarea_kept terminal.following) level)
+    → MatchOption (lookup (is_name name) r.terminals) ⊤ (λ terminal. ts ≡ set_value (is_name name) r.terminals (with_task terminal held task))
     → IsSound (with_shared r after ts number)
 sound_attach r name bytes start starting input held fields places level task number mid after ts ok sound ready n e f is is_ts =
     let parts = parts_of r name bytes start starting input held fields places level task number mid.storage after.storage ts ready n is is_ts in
@@ -183,11 +184,11 @@ abbrev pub fields_begun : RegionState → Start → List ℕ → List ℕ → �
 fields_begun r start tran terminal number code =
     fields_at_attach (record { time = r.time; date = r.date; tran = tran; number = number; terminal = terminal; calen = start.calen; aid = code })
 
-pub keyed_attach : (r : RegionState) (name : List ℕ) (start : Start) (input held : Input) (starting : Starting r name input.bytes start) (tran terminal : List ℕ) (code : ℕ) (places : TaskAreas) (level : NewLevel) (task : TaskState) (number : ℕ) (mid after : SharedState) (ts : List (List ℕ × TerminalState))
+pub keyed_attach : (r : RegionState) (name : List ℕ) (start : Start) (input held : Input) (starting : Starting r name input.bytes start) (tran terminal : List ℕ) (code : ℕ) (places : Places) (level : NewLevel) (task : TaskState) (number : ℕ) (mid after : SharedState) (ts : List (List ℕ × TerminalState))
     → IsReady r.storage start number input places level task held mid.storage → number ≡ next_number r.counter → tran ≡ start.tran → terminal ≡ name → code ≡ (key_of input.aid).code
     → mid ≡ record (shared_of r) { storage = mid.storage } → after ≡ record mid { storage = after.storage }
-    → MatchOption (lookup (is_name4 name) r.terminals) ⊤ (λ t. after.storage ≡ filled mid.storage places (fields_begun r start tran terminal number code) (commarea_kept t.following) level)
-    → MatchOption (lookup (is_name4 name) r.terminals) ⊤ (λ t. ts ≡ set_value (is_name4 name) r.terminals (with_task t held task))
+    → MatchOption (lookup (is_name name) r.terminals) ⊤ (λ t. after.storage ≡ filled mid.storage places (fields_begun r start tran terminal number code) (commarea_kept t.following) level)
+    → MatchOption (lookup (is_name name) r.terminals) ⊤ (λ t. ts ≡ set_value (is_name name) r.terminals (with_task t held task))
     → Keyed r name input key.Attached (with_shared r after ts number)
 keyed_attach r name start input held starting tran terminal code places level task number mid after ts ready n at on by e f is is_ts =
     let fields = fields_begun r start tran terminal number code in
@@ -207,18 +208,18 @@ keyed_unplaced r name start input starting mid none e s =
     keyed_start r (with_shared r mid r.terminals r.counter) name input start starting key.NoStorage (no_places r name input.bytes start starting none, same)
 
 pub keyed_give : (r : RegionState) (name : List ℕ) (giving : Giving r name) (held input : Input) (ts : List (List ℕ × TerminalState))
-    → MatchOption (lookup (is_name4 name) r.terminals) ⊤ (λ terminal. ts ≡ set_value (is_name4 name) r.terminals (record terminal { input = Some held })) → held ≡ input
+    → MatchOption (lookup (is_name name) r.terminals) ⊤ (λ terminal. ts ≡ set_value (is_name name) r.terminals (record terminal { input = Some held })) → held ≡ input
     → Keyed r name input key.Given (record r { terminals = ts })
 keyed_give r name giving held input ts is same =
-    let put = of_found (λ terminal. ts ≡ set_value (is_name4 name) r.terminals (record terminal { input = Some held })) (lookup (is_name4 name) r.terminals) giving.terminal giving.there is in
-    let put_is : ts ≡ set_value (is_name4 name) r.terminals (record giving.terminal { input = Some input }) = put ∙ ap (λ (x : Input). set_value (is_name4 name) r.terminals (record giving.terminal { input = Some x })) same in
+    let put = of_found (λ terminal. ts ≡ set_value (is_name name) r.terminals (record terminal { input = Some held })) (lookup (is_name name) r.terminals) giving.terminal giving.there is in
+    let put_is : ts ≡ set_value (is_name name) r.terminals (record giving.terminal { input = Some input }) = put ∙ ap (λ (x : Input). set_value (is_name name) r.terminals (record giving.terminal { input = Some x })) same in
     keyed_given r (record r { terminals = ts }) name input giving (λ i. record r { terminals = put_is i })
 
 pub sound_give : (r : RegionState) (name : List ℕ) (giving : Giving r name) (held : Input) (ts : List (List ℕ × TerminalState)) → IsSound r
-    → MatchOption (lookup (is_name4 name) r.terminals) ⊤ (λ terminal. ts ≡ set_value (is_name4 name) r.terminals (record terminal { input = Some held }))
+    → MatchOption (lookup (is_name name) r.terminals) ⊤ (λ terminal. ts ≡ set_value (is_name name) r.terminals (record terminal { input = Some held }))
     → IsSound (record r { terminals = ts })
 sound_give r name giving held ts ok is =
-    sound_given r name held ts ok giving (of_found (λ terminal. ts ≡ set_value (is_name4 name) r.terminals (record terminal { input = Some held })) (lookup (is_name4 name) r.terminals) giving.terminal giving.there is)
+    sound_given r name held ts ok giving (of_found (λ terminal. ts ≡ set_value (is_name name) r.terminals (record terminal { input = Some held })) (lookup (is_name name) r.terminals) giving.terminal giving.there is)
 
 -- of a region that is seen so
 pub keyed_seen : (r v : RegionState) (name : List ℕ) (input : Input) (reply : KeyReply) (new : RegionState) → r ≡ v → Keyed r name input reply new → Keyed v name input reply new

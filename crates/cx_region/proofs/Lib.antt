@@ -1,7 +1,6 @@
 pub mod FreshLemmas
 pub mod PlacingLemmas
 pub mod TurnLemmas
-pub mod CauseLemmas
 pub mod KeyLemmas
 pub mod AlterLemmas
 pub mod EventLemmas

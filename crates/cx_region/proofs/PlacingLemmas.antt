@@ -12,7 +12,8 @@ use Rattle.cx_region.specs.declared.attach.StartFault.TheVariants.{Memory, NoSto
 use Rattle.cx_region.specs.Parts.Placing.{AreFaultsOf, IsCopyFault, IsPlaceFault, IsSlotFree}
 use Rattle.cx_command.specs.Eib.{eib_len}
 use Rattle.cx_state.specs.Areas.{IsTaskPlace, first_of_tasks, last_of_tasks, system_owner}
-use Rattle.cx_region.specs.Attach.{ArePlaced, HasNoPlaces, IsCopyPlace, TaskAreas, with_eib_area, with_kept_area, with_task_areas}
+use Rattle.cx_region.specs.Attach.{ArePlaced, HasNoPlaces, IsCopyPlace, with_eib_area, with_kept_area, with_task_areas}
+use Rattle.cx_region.specs.declared.asking.Places.{Places}
 use Rattle.cx_state.specs.Facts.Areas.{freed_put, kept_all}
 
 -- no area is put in where there is no place
@@ -96,7 +97,7 @@ pub given_back : (s t u : Storage) (slot : ℕ) → IsSlotFree s slot → with_a
     → u ≡ with_areas_kept (is_of_other_slot slot) t → u ≡ s
 given_back s t u slot free same is = is ∙ same ∙ kept_all (is_of_other_slot slot) s free
 
-pub given_back_areas : (s t u : Storage) (slot len stg_len : ℕ) (places : TaskAreas) → IsSlotFree s slot → t ≡ with_task_areas s (system_owner slot) len stg_len places
+pub given_back_areas : (s t u : Storage) (slot len stg_len : ℕ) (places : Places) → IsSlotFree s slot → t ≡ with_task_areas s (system_owner slot) len stg_len places
     → u ≡ with_areas_kept (is_of_other_slot slot) t → u ≡ s
 given_back_areas s t u slot len stg_len places free is_given is =
     let owner = system_owner slot in
@@ -105,5 +106,5 @@ given_back_areas s t u slot len stg_len places free is_given is =
     ∙ freed_one s slot eib_len (Some places.eib) in
     given_back s t u slot free same is
 
-pub eib_placed : (s : Storage) (owner : Owner) (len stg_len : ℕ) (places : TaskAreas) → ArePlaced s owner len stg_len places → IsTaskPlace s eib_len None → ⊥
+pub eib_placed : (s : Storage) (owner : Owner) (len stg_len : ℕ) (places : Places) → ArePlaced s owner len stg_len places → IsTaskPlace s eib_len None → ⊥
 eib_placed s owner len stg_len places placed none = not_both s eib_len places.eib none placed.eib

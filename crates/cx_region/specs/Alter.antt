@@ -18,17 +18,16 @@ use Rattle.cx_region.specs.Turn.{put_back, reach_of}
 -- ---- refusals: the first that applies
 -- of a task: no command is due that could be dropped, or no area has the byte
 abbrev pub change_refusal : Change → Reach → Option AlterReply
-change_refusal (Register r value) before = None
 change_refusal (Byte place value) before = if is_some (byte_at before.shared.storage place) then None else Some alter.NoByte
 change_refusal Nop before = if before.task.due then None else Some alter.NotDue
-change_refusal Abend before = None
-
-abbrev pub task_refusal : RegionState → Change → TerminalState → Option AlterReply
-task_refusal region change terminal =
-    option_map_or (λ task. change_refusal change (reach_of region terminal task)) terminal.task (Some alter.NoTask)
+change_refusal _ before = None
 
 unfoldable pub alter_refusal : RegionState → List ℕ → Change → Option AlterReply
-alter_refusal region name change = option_map_or (task_refusal region change) (terminal_of region name) (Some alter.NoSuchTerminal)
+alter_refusal region name change =
+    option_map_or
+    (λ terminal. option_map_or (λ task. change_refusal change (reach_of region terminal task)) terminal.task (Some alter.NoTask))
+    (terminal_of region name)
+    (Some alter.NoSuchTerminal)
 
 -- ---- changes
 -- the levels, of which the current one keeps the value in the register too, where a command is due
@@ -50,10 +49,8 @@ altered Abend before = abended before
 
 -- the task that is left: none where the change ends it
 abbrev pub ends_task : Change → Bool
-ends_task (Register r value) = false
-ends_task (Byte place value) = false
-ends_task Nop = false
 ends_task Abend = true
+ends_task _ = false
 
 abbrev pub task_left : Change → TaskState → Option TaskState
 task_left change task = if ends_task change then None else Some task

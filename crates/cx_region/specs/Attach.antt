@@ -1,7 +1,7 @@
 -- A key of a terminal: a task is attached, or the input is held for the task that is there (Application Programmer's
 -- Reference Manual, SC33-0077, "Terminal Control", "EXEC Interface Block"). The rules are this product's own.
-use Rattle.std.specs.Prelude.{◌≡◌, ℕ, ◌+◌, ◌==◌, Bool, true, false, if◌then◌else◌, List, [], ◌∷◌, length, take, min, position, Option, Some, None, unwrap_or, IsSomeAnd, MatchOption, option_and_then}
-use Rattle.std.specs.Option.{option_map}
+use Rattle.std.specs.Prelude.{◌≡◌, ℕ, ◌+◌, ◌==◌, Bool, true, false, if◌then◌else◌, List, [], ◌∷◌, length, take, min, position, Option, Some, None, unwrap_or, MatchOption}
+use Rattle.std.specs.Option.{option_map, option_map_or}
 use Rattle.std.specs.Int.{w16, to_be_bytes}
 use Rattle.cx_ebcdic.specs.declared.aids.Aid.{Aid}
 use Rattle.cx_ebcdic.specs.declared.aids.Aid.TheVariants.{Clear, Pa1, Pa2}
@@ -13,11 +13,11 @@ use Rattle.cx_load.specs.declared.program.Loaded.{Loaded}
 use Rattle.cx_program.specs.Levels.{highest}
 use Rattle.cx_command.specs.declared.eib.EibField.TheVariants as field
 use Rattle.cx_command.specs.Eib.{eib_len}
-use Rattle.cx_call.specs.declared.inputs.Piece.{Piece}
 use Rattle.cx_call.specs.Eib.{Content, content, packed, with_fields}
 use Rattle.cx_state.specs.declared.verdict.NewLevel.{NewLevel}
 use Rattle.cx_state.specs.State.{Input, Following, TaskState}
 use Rattle.cx_state.specs.Areas.{IsTaskPlace, entry_level, registers_of, system_owner, with_cap}
+use Rattle.cx_region.specs.declared.asking.Places.{Places}
 use Rattle.cx_region.specs.declared.replies.KeyReply.{KeyReply}
 use Rattle.cx_region.specs.declared.replies.KeyReply.TheVariants as key
 use Rattle.cx_region.specs.State.{TerminalState, RegionState}
@@ -40,21 +40,13 @@ first_word bytes = padded 4 (take (min 4 (unwrap_or (position (λ byte. byte == 
 
 -- the transaction: the terminal's next one, or the input's first word
 abbrev pub transaction_named : Option Following → List ℕ → List ℕ
-transaction_named None bytes = first_word bytes
-transaction_named (Some following) bytes = following.tran
+transaction_named following bytes = option_map_or (λ next. next.tran) following (first_word bytes)
 
 -- the COMMAREA kept for it; no bytes where there is none
 abbrev pub commarea_kept : Option Following → List ℕ
-commarea_kept None = []
-commarea_kept (Some following) = following.commarea
+commarea_kept following = option_map_or (λ next. next.commarea) following []
 
 -- ---- areas: the EIB, the copy of the COMMAREA where there is one, the DFHEISTG of the program
--- where they stand
-pub record TaskAreas : Type 0 where
-  pub eib : ℕ
-  pub commarea : Option ℕ
-  pub stg : ℕ
-
 -- the copy's place: none for no bytes
 abbrev pub IsCopyPlace : Storage → ℕ → Option ℕ → Type 0
 IsCopyPlace storage len None = len ≡ 0
@@ -67,29 +59,25 @@ with_eib_area storage owner eib = with_area storage (Some eib) eib_len owner
 abbrev pub with_kept_area : Storage → Owner → ℕ → ℕ → Option ℕ → Storage
 with_kept_area storage owner len eib copy = with_area (with_eib_area storage owner eib) copy len owner
 
-abbrev pub with_task_areas : Storage → Owner → ℕ → ℕ → TaskAreas → Storage
+abbrev pub with_task_areas : Storage → Owner → ℕ → ℕ → Places → Storage
 with_task_areas storage owner len stg_len areas =
     with_area (with_kept_area storage owner len areas.eib areas.commarea) (Some areas.stg) stg_len owner
 
 -- each area is placed where the ones before it leave the least place
-pub record ArePlaced (storage : Storage) (owner : Owner) (len stg_len : ℕ) (areas : TaskAreas) : Type 0 where
+pub record ArePlaced (storage : Storage) (owner : Owner) (len stg_len : ℕ) (areas : Places) : Type 0 where
   pub eib : IsTaskPlace storage eib_len (Some areas.eib)
   pub commarea : IsCopyPlace (with_eib_area storage owner areas.eib) len areas.commarea
   pub stg : IsTaskPlace (with_kept_area storage owner len areas.eib areas.commarea) stg_len (Some areas.stg)
 
 -- no three such places are there
 pub record HasNoPlaces (storage : Storage) (owner : Owner) (len stg_len : ℕ) : Type 0 where
-  pub none : (areas : TaskAreas) → ArePlaced storage owner len stg_len areas → ⊥
+  pub none : (areas : Places) → ArePlaced storage owner len stg_len areas → ⊥
 
 -- ---- the task
--- the copy of so many bytes
-abbrev pub copy_at : ℕ → ℕ → Piece
-copy_at len place = record { place = place; len = len }
-
 -- the level with which a task begins: its program, where that stands, the copy of its COMMAREA, and its DFHEISTG
-abbrev pub first_level : List ℕ → Loaded → ℕ → TaskAreas → NewLevel
+abbrev pub first_level : List ℕ → Loaded → ℕ → Places → NewLevel
 first_level program loaded len areas =
-    record { program = program; loaded = loaded; commarea = option_map (copy_at len) areas.commarea; stg = areas.stg }
+    record { program = program; loaded = loaded; commarea = option_map (λ at. record { place = at; len = len }) areas.commarea; stg = areas.stg }
 
 unfoldable pub fresh_task : List ℕ → ℕ → ℕ → NewLevel → TaskState
 fresh_task tran number eib level =
@@ -121,7 +109,7 @@ with_copy storage None bytes = storage
 with_copy storage (Some place) bytes = written storage place bytes
 
 -- storage with the EIB's fields, the copy of the COMMAREA, and DFHEICAP of DFHEISTG filled
-unfoldable pub filled : Storage → TaskAreas → List Content → List ℕ → NewLevel → Storage
+unfoldable pub filled : Storage → Places → List Content → List ℕ → NewLevel → Storage
 filled storage areas fields commarea level = with_cap (with_copy (with_fields storage areas.eib fields) areas.commarea commarea) level
 
 -- the terminal when its task starts: the next transaction is cleared, and the whole input is held
@@ -129,7 +117,7 @@ abbrev pub with_task : TerminalState → Input → TaskState → TerminalState
 with_task terminal input task = record terminal { input = Some input; following = None; task = Some task }
 
 -- the region with a task attached at a terminal: of this transaction, at the entry of its program
-abbrev pub attached : RegionState → List ℕ → TerminalState → Input → List ℕ → List ℕ → Loaded → TaskAreas → RegionState
+abbrev pub attached : RegionState → List ℕ → TerminalState → Input → List ℕ → List ℕ → Loaded → Places → RegionState
 attached region name terminal input tran program loaded areas =
     let kept = commarea_kept terminal.following in
     let level = first_level program loaded (length kept) areas in
@@ -142,7 +130,7 @@ attached region name terminal input tran program loaded areas =
 -- ---- the key
 -- the task is attached, with its areas in their places
 pub record Attached (old : RegionState) (name : List ℕ) (terminal : TerminalState) (input : Input) (tran program : List ℕ) (loaded : Loaded) (new : RegionState) : Type 0 where
-  pub areas : TaskAreas
+  pub areas : Places
   pub placed : ArePlaced old.storage (system_owner terminal.slot) (length (commarea_kept terminal.following)) loaded.stg_len areas
   pub after : new ≡ attached old name terminal input tran program loaded areas
 
@@ -170,23 +158,9 @@ Gives old name terminal input reply new =
     MatchOption terminal.input ((reply ≡ key.Given) × (new ≡ with_terminal old name (record terminal { input = Some input })))
     (λ held. OnlyAnswers key.AlreadyHeldInput old reply new)
 
-abbrev pub TerminalKeyed : RegionState → List ℕ → TerminalState → Input → KeyReply → RegionState → Type 0
-TerminalKeyed old name terminal input reply new =
-    MatchOption terminal.task (Starts old name terminal input (transaction_named terminal.following input.bytes) reply new)
-    (λ task. Gives old name terminal input reply new)
-
 -- a key of a terminal with its input
 unfoldable pub Keyed : RegionState → List ℕ → Input → KeyReply → RegionState → Type 0
 Keyed old name input reply new =
-    MatchOption (terminal_of old name) (OnlyAnswers key.NoSuchTerminal old reply new) (λ terminal. TerminalKeyed old name terminal input reply new)
-
--- ---- memory
--- a key may take memory only where it holds an input that none stands before, or starts a task: its transaction's program
--- is defined, and its EIB has a place
-unfoldable pub KeyGrows : RegionState → List ℕ → List ℕ → Type 0
-KeyGrows region name bytes =
-    IsSomeAnd (terminal_of region name) (λ terminal.
-    MatchOption terminal.task
-    (IsSomeAnd (option_and_then (program_of region) (transaction_of region (transaction_named terminal.following bytes)))
-    (λ loaded. IsTaskPlace region.storage eib_len None → ⊥))
-    (λ task. terminal.input ≡ None))
+    MatchOption (terminal_of old name) (OnlyAnswers key.NoSuchTerminal old reply new) (λ terminal.
+    MatchOption terminal.task (Starts old name terminal input (transaction_named terminal.following input.bytes) reply new)
+    (λ task. Gives old name terminal input reply new))

@@ -1,17 +1,18 @@
 -- Events of a region, and runs of them (this product's own).
-use Rattle.std.specs.Prelude.{◌≡◌, ℕ, ◌<◌, ◌≤◌, ◌⊎◌, None, IsSomeAnd, List, [], ◌∷◌, length, take, slice_get, Result, IfOk, OnErr}
-use Rattle.std.specs.List.{AllByRecursion}
+use Rattle.std.specs.Prelude.{◌≡◌, ℕ, ◌<◌, ◌≤◌, ◌⊎◌, None, IsSomeAnd, MatchOption, option_and_then, List, [], ◌∷◌, length, take, slice_get, Result, IfOk, OnErr}
 use Rattle.std.specs.declared.alloc.AllocError.{AllocError}
 use Rattle.cx_region.specs.declared.replies.Event.{Event}
 use Rattle.cx_region.specs.declared.replies.Event.TheVariants as event
 use Rattle.cx_region.specs.declared.replies.Reply.{Reply}
 use Rattle.cx_region.specs.declared.replies.Reply.TheVariants as reply
+use Rattle.cx_command.specs.Eib.{eib_len}
 use Rattle.cx_load.specs.Program.{IsProgramPlace}
+use Rattle.cx_state.specs.Areas.{IsTaskPlace}
 use Rattle.cx_task.specs.Turn.{Grows}
 use Rattle.cx_region.specs.State.{RegionState}
-use Rattle.cx_region.specs.Tables.{terminal_of}
-use Rattle.cx_region.specs.Defining.{DefinesProgram, DefinesTransaction, DefinesTerminal, program_fault, transaction_fault, terminal_fault, with_clock}
-use Rattle.cx_region.specs.Attach.{KeyGrows, Keyed, input_from}
+use Rattle.cx_region.specs.Tables.{program_of, terminal_of, transaction_of}
+use Rattle.cx_region.specs.Defining.{DefinesProgram, DefinesTransaction, DefinesTerminal, program_fault, transaction_fault, terminal_fault}
+use Rattle.cx_region.specs.Attach.{Keyed, input_from, transaction_named}
 use Rattle.cx_region.specs.Turn.{Turned, reach_of}
 use Rattle.cx_region.specs.Alter.{Alters, IsAllowedChange}
 
@@ -20,7 +21,7 @@ unfoldable pub Happens : RegionState → Event → Reply → RegionState → Typ
 Happens old (event.Program name image) (reply.Program result) new = DefinesProgram old name image result new
 Happens old (event.Transaction tran program) (reply.Transaction result) new = DefinesTransaction old tran program result new
 Happens old (event.Terminal name) (reply.Terminal result) new = DefinesTerminal old name result new
-Happens old (event.Clock time date) reply.Clock new = new ≡ with_clock old time date
+Happens old (event.Clock time date) reply.Clock new = new ≡ record old { time = time; date = date }
 Happens old (event.Key name aid bytes) (reply.Key answer) new = Keyed old name (input_from aid bytes) answer new
 Happens old (event.Turn name) (reply.Turn answer) new = Turned old name answer new
 Happens old (event.Alter name change) (reply.Alter answer) new = Alters old name change answer new
@@ -32,17 +33,22 @@ Run old [] [] new = new ≡ old
 Run old (event ∷ events) (reply ∷ replies) new = (between : RegionState) × Happens old event reply between × Run between events replies new
 Run old _ _ new = ⊥
 
--- An event may take memory: a definition only where no refusal meets it, and a program only where storage has a place for
--- it; a key as said of keys, a turn where the terminal's task may take some; a clock and an alteration never.
+-- An event may take memory: a definition only where no refusal meets it, and a program only where storage has a place for it;
+-- a key where it holds an input and none is held, or starts a task, whose transaction's program is defined and whose EIB has a
+-- place; a turn where the terminal's task may take some; a clock and an alteration never.
 unfoldable pub MayTakeMemory : RegionState → Event → Type 0
 MayTakeMemory region (event.Program name image) = (program_fault region name ≡ None) × (IsProgramPlace region.storage (length image.text) None → ⊥)
 MayTakeMemory region (event.Transaction tran program) = transaction_fault region tran program ≡ None
 MayTakeMemory region (event.Terminal name) = terminal_fault region name ≡ None
-MayTakeMemory region (event.Clock time date) = ⊥
-MayTakeMemory region (event.Key name aid bytes) = KeyGrows region name (input_from aid bytes).bytes
+MayTakeMemory region (event.Key name aid bytes) =
+    IsSomeAnd (terminal_of region name) (λ terminal.
+    let tran = transaction_named terminal.following (input_from aid bytes).bytes in
+    MatchOption terminal.task
+    (IsSomeAnd (option_and_then (program_of region) (transaction_of region tran)) (λ loaded. IsTaskPlace region.storage eib_len None → ⊥))
+    (λ task. terminal.input ≡ None))
 MayTakeMemory region (event.Turn name) =
     IsSomeAnd (terminal_of region name) (λ terminal. IsSomeAnd terminal.task (λ task. Grows (reach_of region terminal task)))
-MayTakeMemory region (event.Alter name change) = ⊥
+MayTakeMemory region _ = ⊥
 
 -- What the one door for events promises: it is answered; or it was refused memory that it may take, and all is as before.
 pub record IsDone (old : RegionState) (event : Event) (result : Result Reply AllocError) (new : RegionState) : Type 0 where
@@ -64,6 +70,3 @@ IsAllowed (event.Clock time date) = (time ≤ 999999) × (date ≤ 99999)
 IsAllowed (event.Key name aid bytes) = length bytes ≤ 1920
 IsAllowed (event.Alter name change) = IsAllowedChange change
 IsAllowed _ = Unit {0}
-
-abbrev pub AreAllowed : List Event → Type 0
-AreAllowed events = AllByRecursion IsAllowed events

@@ -1,6 +1,5 @@
 -- The definitions, in reading order.
 pub mod State
-pub mod Names
 pub mod Tables
 pub mod Defining
 pub mod Attach

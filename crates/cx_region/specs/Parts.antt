@@ -4,4 +4,3 @@ pub mod Asking
 pub mod Loading
 pub mod Placing
 pub mod Turning
-pub mod Causing

@@ -11,12 +11,7 @@ use Rattle.cx_service.specs.Resources.{AreSoundResources}
 use Rattle.cx_state.specs.Areas.{IsSoundProgram}
 use Rattle.cx_task.specs.Sound.{IsSoundTask}
 use Rattle.cx_region.specs.State.{TerminalState, RegionState}
-use Rattle.cx_region.specs.Names.{is_name4, is_name8}
-use Rattle.cx_region.specs.Defining.{most_programs, most_transactions, most_terminals}
-
--- the common work area: 512 bytes of the region's own
-abbrev pub cwa : Area
-cwa = record { start = 0x001000; len = 512; owner = record { slot = 0; kind = Fixed } }
+use Rattle.cx_ebcdic.specs.Names.{is_name}
 
 abbrev pub IsSoundTerminal : Storage → TerminalState → Type 0
 IsSoundTerminal storage terminal = MatchOption terminal.task ⊤ (λ task. IsSoundTask storage terminal.slot task)
@@ -36,13 +31,13 @@ IsOwned terminals area = (area.owner.slot == 0) || is_live terminals area.owner.
 
 pub record IsSound (region : RegionState) : Type 0 where
   pub storage : IsSoundStorage region.storage
-  pub cwa_stands : area_at region.storage 0x001000 ≡ Some cwa
-  pub programs_distinct : IsDistinct is_name8 (keys_of region.programs)
-  pub transactions_distinct : IsDistinct is_name4 (keys_of region.transactions)
-  pub terminals_distinct : IsDistinct is_name4 (keys_of region.terminals)
-  pub programs_few : length region.programs ≤ most_programs
-  pub transactions_few : length region.transactions ≤ most_transactions
-  pub terminals_few : length region.terminals ≤ most_terminals
+  pub cwa_stands : area_at region.storage 0x001000 ≡ Some (record { start = 0x001000; len = 512; owner = record { slot = 0; kind = Fixed } })
+  pub programs_distinct : IsDistinct is_name (keys_of region.programs)
+  pub transactions_distinct : IsDistinct is_name (keys_of region.transactions)
+  pub terminals_distinct : IsDistinct is_name (keys_of region.terminals)
+  pub programs_few : length region.programs ≤ 64
+  pub transactions_few : length region.transactions ≤ 64
+  pub terminals_few : length region.terminals ≤ 16
   pub programs_sound : AllByRecursion (λ entry. IsSoundProgram entry.1) region.programs
   pub numbered : AreNumbered 1 region.terminals
   pub tasks : AllByRecursion (λ entry. IsSoundTerminal region.storage entry.1) region.terminals

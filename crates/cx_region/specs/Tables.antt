@@ -5,7 +5,7 @@ use Rattle.std.specs.Map.{lookup, set_value}
 use Rattle.cx_load.specs.declared.program.Loaded.{Loaded}
 use Rattle.cx_state.specs.State.{TaskState, fresh_station}
 use Rattle.cx_region.specs.State.{RegionState, TerminalState, terminal_with}
-use Rattle.cx_region.specs.Names.{is_name4, is_name8}
+use Rattle.cx_ebcdic.specs.Names.{is_name}
 
 -- a new terminal: a blank screen, and nothing else
 abbrev pub fresh_terminal : ℕ → TerminalState
@@ -13,15 +13,15 @@ fresh_terminal slot = terminal_with (fresh_station slot) None
 
 -- where the program of a name stands
 abbrev pub program_of : RegionState → List ℕ → Option Loaded
-program_of region name = lookup (is_name8 name) region.programs
+program_of region name = lookup (is_name name) region.programs
 
 -- the program's name of a transaction
 abbrev pub transaction_of : RegionState → List ℕ → Option (List ℕ)
-transaction_of region tran = lookup (is_name4 tran) region.transactions
+transaction_of region tran = lookup (is_name tran) region.transactions
 
 -- the terminal of a name
 abbrev pub terminal_of : RegionState → List ℕ → Option TerminalState
-terminal_of region name = lookup (is_name4 name) region.terminals
+terminal_of region name = lookup (is_name name) region.terminals
 
 -- the task of a terminal
 abbrev pub task_of : RegionState → List ℕ → Option TaskState
@@ -29,4 +29,4 @@ task_of region name = option_and_then (λ terminal. terminal.task) (terminal_of 
 
 -- the region with another terminal under the name
 abbrev pub with_terminal : RegionState → List ℕ → TerminalState → RegionState
-with_terminal region name terminal = record region { terminals = set_value (is_name4 name) region.terminals terminal }
+with_terminal region name terminal = record region { terminals = set_value (is_name name) region.terminals terminal }

@@ -27,22 +27,14 @@ put_back old name reached task =
 abbrev pub task_after : TurnReply → TaskState → Option TaskState
 task_after reply task = if is_over reply then None else Some task
 
--- the region after a half-turn
-abbrev pub after_half_turn : RegionState → List ℕ → TurnReply → Reach → RegionState
-after_half_turn old name reply after = put_back old name after (task_after reply after.task)
-
 -- the turn of a terminal with a task
 pub record TaskTurned (old : RegionState) (name : List ℕ) (terminal : TerminalState) (task : TaskState) (reply : TurnReply) (new : RegionState) : Type 0 where
   pub reached : Reach
   pub half_turn : HalfTurn (reach_of old terminal task) reply reached
-  pub after : new ≡ after_half_turn old name reply reached
-
--- by the terminal's task
-abbrev pub TerminalTurned : RegionState → List ℕ → TerminalState → TurnReply → RegionState → Type 0
-TerminalTurned old name terminal reply new =
-    MatchOption terminal.task ((reply ≡ turn.Idle) × (new ≡ old)) (λ task. TaskTurned old name terminal task reply new)
+  pub after : new ≡ put_back old name reached (task_after reply reached.task)
 
 -- a turn of a terminal
 unfoldable pub Turned : RegionState → List ℕ → TurnReply → RegionState → Type 0
 Turned old name reply new =
-    MatchOption (terminal_of old name) ((reply ≡ turn.NoSuchTerminal) × (new ≡ old)) (λ terminal. TerminalTurned old name terminal reply new)
+    MatchOption (terminal_of old name) ((reply ≡ turn.NoSuchTerminal) × (new ≡ old)) (λ terminal.
+    MatchOption terminal.task ((reply ≡ turn.Idle) × (new ≡ old)) (λ task. TaskTurned old name terminal task reply new))

@@ -51,7 +51,9 @@ fn task_refusal<S: Store + Drop>(
     shared: &Shared<S>,
     terminal: &Terminal,
 ) -> Option<AlterReply>
-    ensures { result ≡ option_map_or (λ task. change_refusal change.now (reach shared.now (station_of terminal.now) task)) terminal.now.task (Some AlterReply.NoTask) }
+    ensures { let station = station_of terminal.now in let none = Some AlterReply.NoTask in
+        let held = terminal.now.task in
+        result ≡ option_map_or (λ task. change_refusal change.now (reach shared.now station task)) held none }
 {
     match &terminal.task {
         Some(task) => change_refusal(change, shared, &terminal.station, task),
@@ -145,7 +147,8 @@ fn alter_parts<S: Store + Drop>(
     held: &mut Option<Task>,
 )
     requires { IsAllowedChange change.now }
-    ensures { AlteredAt change.now shared.old (terminal_with station.old held.old) shared.new (terminal_with station.new held.new) }
+    ensures { let before = terminal_with station.old held.old in
+        AlteredAt change.now shared.old before shared.new (terminal_with station.new held.new) }
 {
     alter_held(change, shared, station, held);
     drop_if(ends_task(change), held);

@@ -2,7 +2,6 @@
 use crate::replies::KeyReply;
 use cx_ebcdic::{Name4, Name8};
 use cx_load::Loaded;
-use std::marker::Model;
 
 /// A task to be attached.
 #[derive(Clone, Copy, Debug, PartialEq, Eq)]
@@ -39,12 +38,4 @@ pub struct Places {
     pub commarea: Option<u32>,
     /// The address of DFHEISTG.
     pub stg: u32,
-}
-
-impl Model for Places {
-    ghost use Rattle.cx_region.specs.Attach.{TaskAreas};
-
-    ghost Value = { TaskAreas };
-
-    ghost view = { λ places. record { eib = places.eib; commarea = places.commarea; stg = places.stg } };
 }

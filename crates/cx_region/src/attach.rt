@@ -3,16 +3,17 @@ ghost use Rattle.std.specs.Prelude.{◌≡◌, ◌≢◌, ◌<◌, ◌≤◌, �
 ghost use Rattle.std.specs.List.{AllByRecursion};
 ghost use Rattle.std.specs.Option.{option_copied, option_map};
 ghost use Rattle.std.specs.Map.{lookup, set_value};
-ghost use Rattle.cx_ebcdic.specs.Names.{padded};
+ghost use Rattle.cx_ebcdic.specs.Names.{is_name, padded};
 ghost use Rattle.cx_storage.specs.Storage.{IsSound as IsSoundStorage, is_of_other_slot, with_area, with_areas_kept};
 ghost use Rattle.cx_call.specs.Eib.{fields_at_attach};
 ghost use Rattle.cx_state.specs.Areas.{IsSoundProgram, IsTaskPlace, system_owner};
 ghost use Rattle.cx_state.specs.State.{TaskState};
-ghost use Rattle.cx_region.specs.Names.{is_name4};
 ghost use Rattle.cx_region.specs.Tables.{program_of, terminal_of, transaction_of};
-ghost use Rattle.cx_region.specs.Attach.{ArePlaced, IsCopyPlace, KeyGrows, Keyed, commarea_kept, eib_at_attach, filled, first_word, fresh_task, input_from, next_number, sends_data, transaction_named, with_copy, with_task, with_task_areas};
-ghost use Rattle.cx_region.specs.Parts.Asking.{asked, asked_at, input_asked, level_of, start_asked, start_of, task_of_start};
+ghost use Rattle.cx_region.specs.Attach.{ArePlaced, IsCopyPlace, Keyed, commarea_kept, eib_at_attach, filled, first_word, fresh_task, input_from, next_number, sends_data, transaction_named, with_copy, with_task, with_task_areas};
+ghost use Rattle.cx_region.specs.Parts.Asking.{KeyGrows, asked, asked_at, input_asked, level_of, start_asked, start_of, task_of_start};
 ghost use Rattle.cx_region.specs.Parts.Placing.{AreFaultsOf, ArePlacesBelow, IsCopyFault, IsPlaceFault, IsReady, IsSlotFree, input_of};
+ghost use Rattle.cx_region.specs.Events.{MayTakeMemory};
+ghost use Rattle.cx_region.specs.declared.replies.Event.TheVariants as event;
 ghost use Rattle.cx_region.specs.Sound.{IsSound};
 
 use crate::asking::{Asked, Places, Start};
@@ -125,7 +126,8 @@ const EIB_LEN: u32 = 88;
 fn get_task_area<S: Store>(store: &mut S, len: u32, owner: Owner) -> Result<u32, StartFault>
     requires { 0 < len }
     ensures place { IfOk result (λ start. IsTaskPlace (S.storage store.old) len (Some start)) }
-    ensures after { IfOk result (λ start. S.storage store.new ≡ with_area (S.storage store.old) (Some start) len owner) }
+    ensures after { let before = S.storage store.old in
+        IfOk result (λ start. S.storage store.new ≡ with_area before (Some start) len owner) }
     ensures address { IfOk result (λ start. start < 2 ^ 24) }
     ensures fault { IfErr result (IsPlaceFault (S.storage store.old) len) }
     ensures err { OnErr result (S.storage store.new ≡ S.storage store.old) }
@@ -156,9 +158,11 @@ fn get_copy_area<S: Store>(store: &mut S, len: u32, owner: Owner) -> Result<Opti
 #[tactic(auto, using(crate::proofs::PlacingLemmas::none_for_eib))]
 fn get_task_areas<S: Store>(store: &mut S, start: &Start) -> Result<Places, StartFault>
     requires { 0 < start.now.loaded.stg_len }
-    ensures placed { IfOk result (ArePlaced (S.storage store.old) (system_owner start.now.slot) start.now.calen start.now.loaded.stg_len) }
-    ensures after { IfOk result (λ places. S.storage store.new
-        ≡ with_task_areas (S.storage store.old) (system_owner start.now.slot) start.now.calen start.now.loaded.stg_len places) }
+    ensures placed { let owner = system_owner start.now.slot in
+        IfOk result (ArePlaced (S.storage store.old) owner start.now.calen start.now.loaded.stg_len) }
+    ensures after { let owner = system_owner start.now.slot in
+        let made = with_task_areas (S.storage store.old) owner start.now.calen start.now.loaded.stg_len in
+        IfOk result (λ places. S.storage store.new ≡ made places) }
     ensures addresses { IfOk result ArePlacesBelow }
     ensures fault { IfErr result (AreFaultsOf (S.storage store.old) start.now) }
     ensures others { OnErr result (with_areas_kept (is_of_other_slot start.now.slot) (S.storage store.new)
@@ -184,9 +188,11 @@ fn get_task_areas<S: Store>(store: &mut S, start: &Start) -> Result<Places, Star
 fn place_task<S: Store>(store: &mut S, start: &Start) -> Result<Places, StartFault>
     requires stg { 0 < start.now.loaded.stg_len }
     requires free { IsSlotFree (S.storage store.old) start.now.slot }
-    ensures placed { IfOk result (ArePlaced (S.storage store.old) (system_owner start.now.slot) start.now.calen start.now.loaded.stg_len) }
-    ensures after { IfOk result (λ places. S.storage store.new
-        ≡ with_task_areas (S.storage store.old) (system_owner start.now.slot) start.now.calen start.now.loaded.stg_len places) }
+    ensures placed { let owner = system_owner start.now.slot in
+        IfOk result (ArePlaced (S.storage store.old) owner start.now.calen start.now.loaded.stg_len) }
+    ensures after { let owner = system_owner start.now.slot in
+        let made = with_task_areas (S.storage store.old) owner start.now.calen start.now.loaded.stg_len in
+        IfOk result (λ places. S.storage store.new ≡ made places) }
     ensures addresses { IfOk result ArePlacesBelow }
     ensures fault { IfErr result (AreFaultsOf (S.storage store.old) start.now) }
     ensures err { OnErr result (S.storage store.new ≡ S.storage store.old) }
@@ -300,7 +306,9 @@ fn prepare_in<S: Store>(
     requires program { IsSoundProgram start.now.loaded }
     requires free { IsSlotFree (S.storage store.old) start.now.slot }
     requires few { length bytes.now ≤ 1920 }
-    ensures ready { IfOk result (λ ready. IsReady (S.storage store.old) start.now number (input_of aid bytes.now) ready.places ready.level ready.task ready.input (S.storage store.new)) }
+    ensures ready { let before = S.storage store.old in let after = S.storage store.new in
+        let input = input_of aid bytes.now in
+        IfOk result (λ it. IsReady before start.now number input it.places it.level it.task it.input after) }
     ensures fault { IfErr result (AreFaultsOf (S.storage store.old) start.now) }
     ensures err { OnErr result (S.storage store.new ≡ S.storage store.old) }
 {
@@ -328,7 +336,9 @@ fn prepare<S: Store + Drop>(
     requires program { IsSoundProgram start.now.loaded }
     requires free { IsSlotFree shared.old.storage start.now.slot }
     requires few { length bytes.now ≤ 1920 }
-    ensures ready { IfOk result (λ ready. IsReady shared.old.storage start.now number (input_of aid bytes.now) ready.places ready.level ready.task ready.input shared.new.storage) }
+    ensures ready { let before = shared.old.storage in let after = shared.new.storage in
+        let input = input_of aid bytes.now in
+        IfOk result (λ it. IsReady before start.now number input it.places it.level it.task it.input after) }
     ensures rest { shared.new ≡ record shared.old { storage = shared.new.storage } }
     ensures fault { IfErr result (AreFaultsOf shared.old.storage start.now) }
     ensures err { OnErr result (shared.new.storage ≡ shared.old.storage) }
@@ -360,8 +370,11 @@ fn fill_from<S: Store + Drop>(
     begun: &Begun,
 )
     requires { ArePlacesBelow ready.now.places }
-    ensures filled { MatchOption (lookup (is_name4 name) terminals.now.entries) ⊤ (λ terminal. shared.new.storage
-        ≡ filled shared.old.storage ready.now.places (fields_at_attach begun.now) (commarea_kept terminal.following) ready.now.level) }
+    ensures filled { let fields = fields_at_attach begun.now in
+        let before = shared.old.storage in let places = ready.now.places in let level = ready.now.level in
+        let terminal = lookup (is_name name) terminals.now.entries in
+        let after = shared.new.storage in
+        MatchOption terminal ⊤ (λ it. after ≡ filled before places fields (commarea_kept it.following) level) }
     ensures rest { shared.new ≡ record shared.old { storage = shared.new.storage } }
     ensures sound { IsSoundStorage shared.new.storage }
 {
@@ -381,8 +394,8 @@ fn fill_from<S: Store + Drop>(
 
 /// Gives a terminal its task, and the input that it begins with.
 fn start_at(terminals: &mut IndexMap<Name4, Terminal>, name: Name4, input: Input, task: Task)
-    ensures { MatchOption (lookup (is_name4 name) terminals.old.entries) ⊤ (λ terminal. terminals.new.entries
-        ≡ set_value (is_name4 name) terminals.old.entries (with_task terminal input task)) }
+    ensures { MatchOption (lookup (is_name name) terminals.old.entries) ⊤ (λ terminal. terminals.new.entries
+        ≡ set_value (is_name name) terminals.old.entries (with_task terminal input task)) }
 {
     let Some(terminal) = terminals.get_mut(&name) else {
         return;
@@ -394,8 +407,8 @@ fn start_at(terminals: &mut IndexMap<Name4, Terminal>, name: Name4, input: Input
 
 /// Holds an input for a terminal's task.
 fn give_at(terminals: &mut IndexMap<Name4, Terminal>, name: Name4, input: Input)
-    ensures { MatchOption (lookup (is_name4 name) terminals.old.entries) ⊤ (λ terminal. terminals.new.entries
-        ≡ set_value (is_name4 name) terminals.old.entries (record terminal { input = Some input })) }
+    ensures { MatchOption (lookup (is_name name) terminals.old.entries) ⊤ (λ terminal. terminals.new.entries
+        ≡ set_value (is_name name) terminals.old.entries (record terminal { input = Some input })) }
 {
     let Some(terminal) = terminals.get_mut(&name) else {
         return;
@@ -565,11 +578,11 @@ impl<S: Store + Drop> Region<S> {
     ///
     /// An error comes only where a growth was refused; then no answer that names or held input give is due, the EIB of a
     /// task to be attached has a place, and all is as before.
-    #[tactic(auto, using(crate::proofs::KeyLemmas::keyed_answer), unfolding(crate::specs::Attach::input_from))]
+    #[tactic(auto, using(crate::proofs::KeyLemmas::keyed_answer, crate::proofs::EventLemmas::key_memory), unfolding(crate::specs::Attach::input_from))]
     pub fn key(&mut self, name: Name4, aid: Aid, bytes: &[u8]) -> Result<KeyReply, AllocError>
         requires { length bytes.now ≤ 1920 }
         ensures keyed { IfOk result (λ reply. Keyed self.old name (input_from aid bytes.now) reply self.new) }
-        ensures grows { OnErr result (KeyGrows self.old name (input_from aid bytes.now).bytes) }
+        ensures grows { OnErr result (MayTakeMemory self.old (event.Key name aid bytes.now)) }
         ensures err { OnErr result (self.new ≡ self.old) }
         ensures sound { IsSound self.new }
     {

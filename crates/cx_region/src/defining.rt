@@ -6,11 +6,13 @@ ghost use Rattle.std.specs.Map.{keys_of};
 ghost use Rattle.indexmap.specs.IndexMap.{insert_entry};
 ghost use Rattle.cx_storage.specs.Storage.{IsSound as IsSoundStorage};
 ghost use Rattle.cx_load.specs.Program.{IsLoaded, IsProgramPlace};
-ghost use Rattle.cx_region.specs.Names.{is_name4, is_name8};
-ghost use Rattle.cx_region.specs.Defining.{DefinesProgram, fresh_region, fresh_storage, program_fault, terminal_fault, transaction_fault, with_clock, with_new_terminal, with_transaction};
+ghost use Rattle.cx_ebcdic.specs.Names.{is_name};
+ghost use Rattle.cx_region.specs.Defining.{DefinesProgram, fresh_region, program_fault, terminal_fault, transaction_fault};
 ghost use Rattle.cx_region.specs.Parts.Loading.{MatchLoadRefusal};
 ghost use Rattle.cx_load.specs.Fault.{IsFit};
 ghost use Rattle.cx_state.specs.Areas.{IsSoundProgram};
+ghost use Rattle.cx_region.specs.Events.{MayTakeMemory};
+ghost use Rattle.cx_region.specs.declared.replies.Event.TheVariants as event;
 ghost use Rattle.cx_region.specs.Sound.{IsSound};
 ghost use Rattle.cx_region.specs.Tables.{fresh_terminal};
 
@@ -81,7 +83,7 @@ impl<S: Store + Drop> Region<S> {
     pub fn set_clock(&mut self, time: u32, date: u32)
         requires time { time ≤ 999999 }
         requires date { date ≤ 99999 }
-        ensures set { self.new ≡ with_clock self.old time date }
+        ensures set { self.new ≡ record self.old { time = time; date = date } }
         ensures sound { IsSound self.new }
     {
         self.time = time;
@@ -92,7 +94,7 @@ impl<S: Store + Drop> Region<S> {
     ///
     /// Duplicate comes where the name is defined; then Full where 64 programs are; then NoRoom where storage has no
     /// place for it from X'010000' to X'1FFFFF'; then Memory where a growth was refused. Then all is as before.
-    #[tactic(auto, unfolding(crate::specs::Defining::DefinesProgram))]
+    #[tactic(auto, unfolding(crate::specs::Defining::DefinesProgram, crate::specs::Events::MayTakeMemory))]
     pub fn define_program(
         &mut self,
         name: Name8,
@@ -101,8 +103,7 @@ impl<S: Store + Drop> Region<S> {
         ensures defined { IfOk result (λ loaded. DefinesProgram self.old name image.now (Ok loaded) self.new) }
         ensures refused { IfErr result (λ fault. fault ≢ DefineFault.Memory
             → DefinesProgram self.old name image.now (Err fault) self.new) }
-        ensures memory { IsErrOf result DefineFault.Memory → (program_fault self.old name ≡ None)
-            × (IsProgramPlace self.old.storage (length image.now.text) None → ⊥) }
+        ensures memory { IsErrOf result DefineFault.Memory → MayTakeMemory self.old (event.Program name image.now) }
         ensures err { OnErr result (self.new ≡ self.old) }
         ensures sound { IsSound self.new }
     {
@@ -131,7 +132,8 @@ impl<S: Store + Drop> Region<S> {
     /// Duplicate comes where the name is defined; then Full where 64 transactions are; then NoProgram where the program
     /// isn't defined; then Memory where a growth was refused. Then all is as before.
     pub fn define_transaction(&mut self, name: Name4, program: Name8) -> Result<(), DefineFault>
-        ensures defined { OnOk result (self.new ≡ with_transaction self.old name program) }
+        ensures defined { let transactions = insert_entry is_name self.old.transactions name program in
+            OnOk result (self.new ≡ record self.old { transactions = transactions }) }
         ensures refused { MatchOption (transaction_fault self.old name program)
             (IsOkUnless result DefineFault.Memory) (IsErrOf result) }
         ensures err { OnErr result (self.new ≡ self.old) }
@@ -164,7 +166,9 @@ impl<S: Store + Drop> Region<S> {
     /// Duplicate comes where the name is defined; then Full where 16 terminals are; then Memory where a growth was
     /// refused. Then all is as before.
     pub fn define_terminal(&mut self, name: Name4) -> Result<(), DefineFault>
-        ensures defined { OnOk result (self.new ≡ with_new_terminal self.old name) }
+        ensures defined { OnOk result (self.new ≡ record self.old {
+          terminals = insert_entry is_name self.old.terminals name (fresh_terminal (length self.old.terminals + 1));
+        }) }
         ensures refused { MatchOption (terminal_fault self.old name)
             (IsOkUnless result DefineFault.Memory) (IsErrOf result) }
         ensures err { OnErr result (self.new ≡ self.old) }
@@ -194,7 +198,7 @@ impl<S: Store + Drop> Region<S> {
 #[tactic(auto, using(crate::proofs::FreshLemmas::cwa_place))]
 fn place_cwa<S: Store>(store: &mut S) -> Result<(), AllocError>
     requires { S.storage store.old ≡ [] }
-    ensures { OnOk result (S.storage store.new ≡ fresh_storage) }
+    ensures { OnOk result (S.storage store.new ≡ fresh_region.storage) }
 {
     store.get_area(CWA, CWA_LAST, CWA_LEN, REGION_OWNER)?;
     Ok(())
@@ -204,8 +208,8 @@ fn place_cwa<S: Store>(store: &mut S) -> Result<(), AllocError>
 fn put_terminal(terminals: &mut IndexMap<Name4, Terminal>, name: Name4) -> Result<(), AllocError>
     requires { length terminals.old.entries < 16 }
     ensures put { OnOk result (terminals.new.entries
-        ≡ insert_entry is_name4 terminals.old.entries name (fresh_terminal (length terminals.old.entries + 1))) }
-    ensures distinct { OnOk result (IsDistinct is_name4 (keys_of terminals.new.entries)) }
+        ≡ insert_entry is_name terminals.old.entries name (fresh_terminal (length terminals.old.entries + 1))) }
+    ensures distinct { OnOk result (IsDistinct is_name (keys_of terminals.new.entries)) }
     ensures err { OnErr result (terminals.new.entries ≡ terminals.old.entries) }
 {
     let slot = (terminals.len() + 1) as u8;
@@ -219,8 +223,8 @@ fn put_transaction(
     name: Name4,
     program: Name8,
 ) -> Result<(), AllocError>
-    ensures put { OnOk result (transactions.new.entries ≡ insert_entry is_name4 transactions.old.entries name program) }
-    ensures distinct { OnOk result (IsDistinct is_name4 (keys_of transactions.new.entries)) }
+    ensures put { OnOk result (transactions.new.entries ≡ insert_entry is_name transactions.old.entries name program) }
+    ensures distinct { OnOk result (IsDistinct is_name (keys_of transactions.new.entries)) }
     ensures err { OnErr result (transactions.new.entries ≡ transactions.old.entries) }
 {
     transactions.insert(name, program)?;
@@ -239,8 +243,8 @@ fn load_program<S: Store>(
     ensures fit { IsFit image.now }
     ensures good { IfOk result IsSoundProgram }
     ensures loaded { IfOk result (λ loaded. IsLoaded (S.storage store.old) image.now loaded (S.storage store.new)) }
-    ensures put { IfOk result (λ loaded. programs.new.entries ≡ insert_entry is_name8 programs.old.entries name loaded) }
-    ensures distinct { OnOk result (IsDistinct is_name8 (keys_of programs.new.entries)) }
+    ensures put { IfOk result (λ loaded. programs.new.entries ≡ insert_entry is_name programs.old.entries name loaded) }
+    ensures distinct { OnOk result (IsDistinct is_name (keys_of programs.new.entries)) }
     ensures refused { IfErr result (λ fault. MatchLoadRefusal (S.storage store.old) (length image.now.text) fault) }
     ensures store_stays { OnErr result (S.storage store.new ≡ S.storage store.old) }
     ensures programs_stay { OnErr result (programs.new.entries ≡ programs.old.entries) }
@@ -263,8 +267,8 @@ fn load_into<S: Store + Drop>(
     ensures fit { IsFit image.now }
     ensures good { IfOk result IsSoundProgram }
     ensures loaded { IfOk result (λ loaded. IsLoaded shared.old.storage image.now loaded shared.new.storage) }
-    ensures put { IfOk result (λ loaded. shared.new.programs ≡ insert_entry is_name8 shared.old.programs name loaded) }
-    ensures distinct { OnOk result (IsDistinct is_name8 (keys_of shared.new.programs)) }
+    ensures put { IfOk result (λ loaded. shared.new.programs ≡ insert_entry is_name shared.old.programs name loaded) }
+    ensures distinct { OnOk result (IsDistinct is_name (keys_of shared.new.programs)) }
     ensures queues { shared.new.queues ≡ shared.old.queues }
     ensures resources { shared.new.resources ≡ shared.old.resources }
     ensures refused { IfErr result (λ fault. MatchLoadRefusal shared.old.storage (length image.now.text) fault) }

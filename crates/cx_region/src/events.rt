@@ -1,6 +1,7 @@
 //! Events, and runs of them.
 ghost use Rattle.std.specs.Prelude.{◌≡◌, ◌≤◌, IfOk, IfErr, length};
-ghost use Rattle.cx_region.specs.Events.{AreAllowed, IsAllowed, IsDone, Run, RunStopped};
+ghost use Rattle.std.specs.List.{AllByRecursion};
+ghost use Rattle.cx_region.specs.Events.{IsAllowed, IsDone, Run, RunStopped};
 ghost use Rattle.cx_region.specs.Sound.{IsSound};
 
 use crate::replies::{DefineFault, Event, Reply, RunStop};
@@ -14,7 +15,7 @@ impl<S: Store + Drop> Region<S> {
     ///
     /// An error comes only where a growth was refused, no refusal is due, and the event may take memory. Then all is as
     /// before.
-    #[tactic(auto, using(crate::proofs::EventLemmas::program_memory, crate::proofs::EventLemmas::transaction_memory, crate::proofs::EventLemmas::terminal_memory, crate::proofs::EventLemmas::key_memory), unfolding(crate::specs::Events::Happens, crate::specs::Defining::DefinesTransaction, crate::specs::Defining::DefinesTerminal))]
+    #[tactic(auto, using(crate::proofs::EventLemmas::transaction_memory, crate::proofs::EventLemmas::terminal_memory), unfolding(crate::specs::Events::Happens, crate::specs::Defining::DefinesTransaction, crate::specs::Defining::DefinesTerminal))]
     pub fn happen(&mut self, event: &Event) -> Result<Reply, AllocError>
         requires { IsAllowed event.now }
         ensures done { IsDone self.old event.now result self.new }
@@ -57,7 +58,7 @@ impl<S: Store + Drop> Region<S> {
     /// It stops where a growth was refused: in front of the first event, where there is no memory for the replies, else at
     /// an event that may take memory. The region is as the events done left it.
     pub fn run(&mut self, events: &[Event]) -> Result<Vec<Reply>, RunStop>
-        requires { AreAllowed events.now }
+        requires { AllByRecursion IsAllowed events.now }
         ensures ok { IfOk result (λ replies. Run self.old events.now replies.items self.new) }
         ensures stopped { IfErr result (λ stop. RunStopped self.old events.now stop.done self.new) }
         ensures sound { IsSound self.new }

@@ -15,7 +15,7 @@ use Rattle.cx_region.specs.declared.changes.Change.TheVariants.{Register, Byte, 
 use Rattle.cx_region.specs.declared.changes.AlterReply.{AlterReply}
 use Rattle.cx_region.specs.declared.changes.AlterReply.TheVariants as alter
 use Rattle.cx_region.specs.State.{RegionState, TerminalState}
-use Rattle.cx_region.specs.Names.{is_name4}
+use Rattle.cx_ebcdic.specs.Names.{is_name}
 use Rattle.cx_region.specs.Tables.{terminal_of}
 use Rattle.cx_region.specs.Turn.{reach_of}
 use Rattle.cx_region.specs.Alter.{Alters, alter_refusal, altered, altered_at, altered_region, ends_task, with_register}
@@ -65,7 +65,7 @@ alterations_keep old name change reply new h =
       stays = record { others = λ other differ. refl; names = refl; programs = refl; transactions = refl; time = refl; date = refl; counter = refl; queues = refl };
       changes = λ t task there. record {
         others = λ other differ. other_stays name other old.terminals _ differ;
-        names = keys-set_value (is_name4 name) old.terminals _;
+        names = keys-set_value (is_name name) old.terminals _;
         programs = programs_stay change (reach_of old t task);
         transactions = refl;
         time = refl;

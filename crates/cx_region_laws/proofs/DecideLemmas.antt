@@ -1,9 +1,11 @@
 -- Two outcomes of one event, or of one run of events, are equal.
-use Rattle.std.proofs.Common.{◌≡◌, ℕ, Option, Some, None, List, [], ◌∷◌, length, refl, sym, ◌∙◌, ap, subst, inl, inr}
+use Rattle.std.proofs.Common.{◌≡◌, ℕ, ◌+◌, Option, Some, None, List, [], ◌∷◌, length, refl, sym, ◌∙◌, ap, subst, inl, inr}
 use Rattle.std.specs.Prelude.{◌⊎◌, MatchOption, Result, Ok, Err}
 use Rattle.std.specs.Prelude.{◌==◌}
 use Rattle.std.proofs.lemmas.Bool.{true≢false}
 use Rattle.std.proofs.lemmas.Option.{same_Some, none-some}
+use Rattle.indexmap.specs.IndexMap.{insert_entry}
+use Rattle.cx_ebcdic.specs.Names.{is_name}
 use Rattle.cx_ebcdic.specs.declared.aids.Aid.{Aid}
 use Rattle.cx_code.specs.declared.image.Image.{Image}
 use Rattle.cx_storage.specs.declared.areas.Owner.{Owner}
@@ -22,13 +24,14 @@ use Rattle.cx_state.specs.declared.replies.TurnReply.{TurnReply}
 use Rattle.cx_state.specs.declared.replies.TurnReply.TheVariants as turn
 use Rattle.cx_region.specs.State.{RegionState, TerminalState}
 use Rattle.cx_state.specs.State.{Input, Reach, TaskState}
-use Rattle.cx_region.specs.Tables.{program_of, terminal_of, transaction_of, with_terminal}
-use Rattle.cx_region.specs.Defining.{DefinesProgram, DefinesTerminal, DefinesTransaction, Loads, program_fault, terminal_fault, transaction_fault, with_new_terminal, with_clock, with_program, with_transaction}
+use Rattle.cx_region.specs.Tables.{fresh_terminal, program_of, terminal_of, transaction_of, with_terminal}
+use Rattle.cx_region.specs.Defining.{DefinesProgram, DefinesTerminal, DefinesTransaction, Loads, program_fault, terminal_fault, transaction_fault}
 use Rattle.cx_command.specs.Eib.{eib_len}
-use Rattle.cx_region.specs.Attach.{ArePlaced, Attached, Attaches, HasNoPlaces, IsCopyPlace, Keyed, OnlyAnswers, TaskAreas, TerminalKeyed, attached, commarea_kept, input_from, transaction_named, with_eib_area, with_kept_area}
+use Rattle.cx_region.specs.Attach.{ArePlaced, Attached, Attaches, Gives, HasNoPlaces, IsCopyPlace, Keyed, OnlyAnswers, Starts, attached, commarea_kept, input_from, transaction_named, with_eib_area, with_kept_area}
+use Rattle.cx_region.specs.declared.asking.Places.{Places}
 use Rattle.cx_state.specs.Areas.{IsTaskPlace, first_of_tasks, last_of_tasks, system_owner}
 use Rattle.cx_task.specs.Laws.HalfTurns.{HalfTurnsDecide}
-use Rattle.cx_region.specs.Turn.{TaskTurned, Turned, after_half_turn, reach_of}
+use Rattle.cx_region.specs.Turn.{TaskTurned, Turned, put_back, reach_of, task_after}
 use Rattle.cx_region.specs.Events.{Happens, Run}
 use Rattle.cx_region_laws.specs.Facts.Alterations.{alter_reply, alterations_decide}
 use Rattle.cx_region_laws.specs.Laws.Regions.{EventsDecide, RunsDecide}
@@ -58,8 +61,11 @@ no_place_too storage len at place none =
 loads_decide : LoadingDecides → (old : RegionState) (name : List ℕ) (image : Image) (r s : Result Loaded DefineFault) (a b : RegionState)
     → Loads old name image r a → Loads old name image s b → Alike r s a b
 loads_decide loading old name image (Ok one) (Ok other) a b h k =
-    let same = loading old.storage a.storage b.storage image one other h.0 k.0 in
-    (ap Ok same.0, h.1 ∙ ap (λ (l : Loaded). with_program old name l a.storage) same.0 ∙ ap (λ (s : Storage). with_program old name other s) same.1 ∙ sym k.1)
+    let same = loading old.storage a.storage b.storage image one other h.0 k.0 in (
+      ap Ok same.0,
+      h.1 ∙ ap (λ (l : Loaded). record old { programs = insert_entry is_name old.programs name l; storage = a.storage }) same.0
+          ∙ ap (λ (s : Storage). record old { programs = insert_entry is_name old.programs name other; storage = s }) same.1 ∙ sym k.1,
+    )
 loads_decide loading old name image (Ok one) (Err fault) a b h k =
     absurd (no_place_too old.storage (length image.text) one.at h.0.place (refused_load old name image fault b k).1)
 loads_decide loading old name image (Err fault) (Ok other) a b h k =
@@ -90,12 +96,12 @@ pub transaction_decides : (old : RegionState) (tran program : List ℕ) (r s : R
     → DefinesTransaction old tran program r a → DefinesTransaction old tran program s b → Alike r s a b
 unfolding DefinesTransaction
 transaction_decides old tran program r s a b h k =
-    done_or_refused (transaction_fault old tran program) old (with_transaction old tran program) r s a b h k
+    done_or_refused (transaction_fault old tran program) old (record old { transactions = insert_entry is_name old.transactions tran program }) r s a b h k
 
 pub terminal_decides : (old : RegionState) (name : List ℕ) (r s : Result (Unit {0}) DefineFault) (a b : RegionState)
     → DefinesTerminal old name r a → DefinesTerminal old name s b → Alike r s a b
 unfolding DefinesTerminal
-terminal_decides old name r s a b h k = done_or_refused (terminal_fault old name) old (with_new_terminal old name) r s a b h k
+terminal_decides old name r s a b h k = done_or_refused (terminal_fault old name) old (record old { terminals = insert_entry is_name old.terminals name (fresh_terminal (length old.terminals + 1)) }) r s a b h k
 
 -- ---- keys
 pub task_place_once : (storage : Storage) (len : ℕ) (one other : Option ℕ) → IsTaskPlace storage len one → IsTaskPlace storage len other → one ≡ other
@@ -107,7 +113,7 @@ copy_place_once storage len None (Some place) h k = absurd (true≢false (sym (a
 copy_place_once storage len (Some place) None h k = absurd (true≢false (sym (ap (λ (n : ℕ). n == 0) k) ∙ h.0))
 copy_place_once storage len (Some place) (Some also) h k = task_place_once storage len (Some place) (Some also) h.1 k.1
 
-places_decide : (storage : Storage) (owner : Owner) (len stg_len : ℕ) (p q : TaskAreas)
+places_decide : (storage : Storage) (owner : Owner) (len stg_len : ℕ) (p q : Places)
     → ArePlaced storage owner len stg_len p → ArePlaced storage owner len stg_len q → p ≡ q
 places_decide storage owner len stg_len p q h k =
     let eib : p.eib ≡ q.eib = same_Some _ _ (task_place_once storage eib_len (Some p.eib) (Some q.eib) h.eib k.eib) in
@@ -140,7 +146,7 @@ attach_decides old name terminal input tran program loaded r s a b h k =
       | inl one ↦ elim (attach_answers old name terminal input tran program loaded s b k) [
         | inl two ↦
             let same = places_decide old.storage (system_owner terminal.slot) (length (commarea_kept terminal.following)) loaded.stg_len one.1.areas two.1.areas one.1.placed two.1.placed in
-            (one.0 ∙ sym two.0, one.1.after ∙ ap (λ (p : TaskAreas). attached old name terminal input tran program loaded p) same ∙ sym two.1.after)
+            (one.0 ∙ sym two.0, one.1.after ∙ ap (λ (p : Places). attached old name terminal input tran program loaded p) same ∙ sym two.1.after)
         | inr two ↦ absurd (two.1.none one.1.areas one.1.placed)
       ]
       | inr one ↦ elim (attach_answers old name terminal input tran program loaded s b k) [
@@ -183,8 +189,8 @@ key_decides old name input r s a b h k = at_terminal (terminal_of old name) h k
     at_task t tran (Some task) one two = at_input t t.input one two
 
     at_terminal : (o : Option TerminalState)
-        → MatchOption o (OnlyAnswers key.NoSuchTerminal old r a) (λ t. TerminalKeyed old name t input r a)
-        → MatchOption o (OnlyAnswers key.NoSuchTerminal old s b) (λ t. TerminalKeyed old name t input s b) → Alike r s a b
+        → MatchOption o (OnlyAnswers key.NoSuchTerminal old r a) (λ t. MatchOption t.task (Starts old name t input (transaction_named t.following input.bytes) r a) (λ task. Gives old name t input r a))
+        → MatchOption o (OnlyAnswers key.NoSuchTerminal old s b) (λ t. MatchOption t.task (Starts old name t input (transaction_named t.following input.bytes) s b) (λ task. Gives old name t input s b)) → Alike r s a b
     at_terminal None one two = told r s key.NoSuchTerminal a b old one two
     at_terminal (Some t) one two = at_task t (transaction_named t.following input.bytes) t.task one two
 
@@ -195,7 +201,7 @@ task_turn_decides : HalfTurnsDecide → (old : RegionState) (name : List ℕ) (t
 task_turn_decides law old name terminal task r s a b h k =
     let same = law (reach_of old terminal task) h.reached k.reached r s h.half_turn k.half_turn in (
       same.0,
-      h.after ∙ ap (λ (answer : TurnReply). after_half_turn old name answer h.reached) same.0 ∙ ap (λ (x : Reach). after_half_turn old name s x) same.1 ∙ sym k.after,
+      h.after ∙ ap (λ (answer : TurnReply). put_back old name h.reached (task_after answer h.reached.task)) same.0 ∙ ap (λ (x : Reach). put_back old name x (task_after s x.task)) same.1 ∙ sym k.after,
     )
 
 abbrev MatchTask : RegionState → List ℕ → TurnReply → RegionState → TerminalState → Option TaskState → Type 0
@@ -237,7 +243,7 @@ terminal_reply old name (reply.Terminal result) new h = (result, refl, h)
 terminal_reply old name _ new h = absurd h
 
 pub clock_reply : (old : RegionState) (time date : ℕ) (r : Reply) (new : RegionState) → Happens old (event.Clock time date) r new
-    → (r ≡ reply.Clock) × (new ≡ with_clock old time date)
+    → (r ≡ reply.Clock) × (new ≡ record old { time = time; date = date })
 unfolding Happens
 clock_reply old time date reply.Clock new h = (refl, h)
 clock_reply old time date _ new h = absurd h
@@ -275,7 +281,7 @@ events_decide loading runs old (event.Terminal name) r s a b h k =
     let same = terminal_decides old name one.0 two.0 a b one.2 two.2 in
     (replies_same (λ x. reply.Terminal x) r s one.0 two.0 one.1 two.1 same.0, same.1)
 events_decide loading runs old (event.Clock time date) r s a b h k =
-    told r s reply.Clock a b (with_clock old time date) (clock_reply old time date r a h) (clock_reply old time date s b k)
+    told r s reply.Clock a b (record old { time = time; date = date }) (clock_reply old time date r a h) (clock_reply old time date s b k)
 events_decide loading runs old (event.Key name aid bytes) r s a b h k =
     let one = key_reply old name aid bytes r a h in
     let two = key_reply old name aid bytes s b k in

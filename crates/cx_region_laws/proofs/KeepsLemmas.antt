@@ -1,11 +1,12 @@
 -- What turns, keys and refused definitions leave of a region.
-use Rattle.std.proofs.Common.{◌≡◌, ℕ, Bool, true, false, cond, Option, Some, None, List, [], ◌∷◌, refl, sym, ◌∙◌, ap, subst, inl, inr}
+use Rattle.std.proofs.Common.{◌≡◌, ℕ, ◌+◌, Bool, true, false, cond, Option, Some, None, List, [], ◌∷◌, length, refl, sym, ◌∙◌, ap, subst, inl, inr}
 use Rattle.std.specs.Prelude.{◌↔◌, MatchOption, Result, Ok, Err}
 use Rattle.std.specs.Map.{lookup, set_value}
 use Rattle.std.proofs.Common.{rules}
 use Rattle.std.proofs.lemmas.Bool.{cases_Bool, cond-true, cond-false, true≢false}
 use Rattle.std.proofs.lemmas.Option.{same_Some}
 use Rattle.std.proofs.lemmas.Map.{keys-set_value}
+use Rattle.indexmap.specs.IndexMap.{insert_entry}
 use Rattle.cx_code.specs.declared.image.Image.{Image}
 use Rattle.cx_load.specs.declared.program.Loaded.{Loaded}
 use Rattle.cx_region.specs.declared.replies.DefineFault.{DefineFault}
@@ -23,20 +24,21 @@ use Rattle.cx_region.specs.Sound.{IsSoundTerminal}
 use Rattle.cx_region.specs.Facts.SoundAttach.{of_some}
 use Rattle.cx_region.specs.Facts.SoundTurned.{task_of_terminal}
 use Rattle.cx_region.specs.State.{RegionState, TerminalState}
-use Rattle.cx_region.specs.Names.{is_name4}
-use Rattle.cx_region.specs.Tables.{program_of, terminal_of, transaction_of, with_terminal}
-use Rattle.cx_region.specs.Defining.{DefinesProgram, DefinesTerminal, DefinesTransaction, Loads, program_fault, terminal_fault, transaction_fault, with_new_terminal, with_transaction}
-use Rattle.cx_region.specs.Attach.{Attaches, Gives, Keyed, OnlyAnswers, Starts, TaskAreas, TerminalKeyed, attached, transaction_named}
-use Rattle.cx_region.specs.Turn.{TaskTurned, TerminalTurned, Turned, after_half_turn, reach_of}
+use Rattle.cx_ebcdic.specs.Names.{is_name}
+use Rattle.cx_region.specs.Tables.{fresh_terminal, program_of, terminal_of, transaction_of, with_terminal}
+use Rattle.cx_region.specs.Defining.{DefinesProgram, DefinesTerminal, DefinesTransaction, Loads, program_fault, terminal_fault, transaction_fault}
+use Rattle.cx_region.specs.Attach.{Attaches, Gives, Keyed, OnlyAnswers, Starts, attached, transaction_named}
+use Rattle.cx_region.specs.declared.asking.Places.{Places}
+use Rattle.cx_region.specs.Turn.{TaskTurned, Turned, put_back, reach_of, task_after}
 use Rattle.cx_region_laws.specs.Laws.Regions.{KeyKeeps, KeysKeepToTheirTerminal, RefusedProgramsLeaveTheRegion, RefusedTerminalsLeaveTheRegion, RefusedTransactionsLeaveTheRegion, StillKeysLeaveTheRegion, StillTurnsLeaveTheRegion, TurnKeeps, TurnKeepsOthers, TurnsKeepOthers, TurnsKeepToTheirTask, changes_nothing, counter_after}
 
 -- ---- names
-same_name : (one other : List ℕ) → (is_name4 one other ≡ true) ↔ (one ≡ other)
+same_name : (one other : List ℕ) → (is_name one other ≡ true) ↔ (one ≡ other)
 same_name one other = search rules
 
 -- an entry that has both names makes them the same
-not_both : (name other found : List ℕ) → is_name4 name other ≡ false → is_name4 name found ≡ true → is_name4 other found ≡ false
-not_both name other found differ is = elim (cases_Bool (is_name4 other found)) [
+not_both : (name other found : List ℕ) → is_name name other ≡ false → is_name name found ≡ true → is_name other found ≡ false
+not_both name other found differ is = elim (cases_Bool (is_name other found)) [
   | inl also ↦
       let one : name ≡ found = (same_name name found).0 is in
       let two : other ≡ found = (same_name other found).0 also in
@@ -46,14 +48,14 @@ not_both name other found differ is = elim (cases_Bool (is_name4 other found)) [
 ]
 
 -- another name's entry stays where a value is set
-pub other_stays : {V : Type 0} (name other : List ℕ) (entries : List (List ℕ × V)) (value : V) → is_name4 name other ≡ false
-    → lookup (is_name4 other) (set_value (is_name4 name) entries value) ≡ lookup (is_name4 other) entries
+pub other_stays : {V : Type 0} (name other : List ℕ) (entries : List (List ℕ × V)) (value : V) → is_name name other ≡ false
+    → lookup (is_name other) (set_value (is_name name) entries value) ≡ lookup (is_name other) entries
 other_stays name other [] value differ = refl
-other_stays name other (e ∷ es) value differ = elim (cases_Bool (is_name4 name e.0)) [
+other_stays name other (e ∷ es) value differ = elim (cases_Bool (is_name name e.0)) [
   | inl is ↦
       let apart = not_both name other e.0 differ is in
       rw (is, apart) refl
-  | inr apart ↦ rw apart (ap (λ rest. cond (is_name4 other e.0) (Some e.1) rest) (other_stays name other es value differ))
+  | inr apart ↦ rw apart (ap (λ rest. cond (is_name other e.0) (Some e.1) rest) (other_stays name other es value differ))
 ]
 
 -- ---- turns
@@ -69,10 +71,10 @@ turn_nothing old name new same = subst (λ (r : RegionState). TurnKeeps old name
 })
 
 after_keeps : (old : RegionState) (name : List ℕ) (terminal : TerminalState) (task : TaskState) (reply : TurnReply) (after : Reach)
-    → HalfTurnStays (reach_of old terminal task) reply after → TurnKeeps old name (after_half_turn old name reply after)
+    → HalfTurnStays (reach_of old terminal task) reply after → TurnKeeps old name (put_back old name after (task_after reply after.task))
 after_keeps old name terminal task reply after stays = record {
   others = λ other differ. other_stays name other old.terminals _ differ;
-  names = keys-set_value (is_name4 name) old.terminals _;
+  names = keys-set_value (is_name name) old.terminals _;
   programs = stays.programs;
   transactions = refl;
   time = refl;
@@ -92,7 +94,7 @@ turned_keeps law old name reply new h = at_terminal (terminal_of old name) h
     at_task terminal None idle = turn_nothing old name new idle.1
     at_task terminal (Some task) h = turned terminal task h
 
-    at_terminal : (o : Option TerminalState) → MatchOption o ((reply ≡ turn.NoSuchTerminal) × (new ≡ old)) (λ terminal. TerminalTurned old name terminal reply new) → TurnKeeps old name new
+    at_terminal : (o : Option TerminalState) → MatchOption o ((reply ≡ turn.NoSuchTerminal) × (new ≡ old)) (λ terminal. MatchOption terminal.task ((reply ≡ turn.Idle) × (new ≡ old)) (λ task. TaskTurned old name terminal task reply new)) → TurnKeeps old name new
     at_terminal None none = turn_nothing old name new none.1
     at_terminal (Some terminal) found = at_task terminal terminal.task found
 
@@ -112,7 +114,7 @@ others_nothing old name new same = subst (λ (r : RegionState). TurnKeepsOthers 
     whole = record { areas = areas_same (terminal_of old name); resources = resources_same (terminal_of old name) }
 
 others_kept : (old : RegionState) (name : List ℕ) (terminal : TerminalState) (task : TaskState) (reply : TurnReply) (after : Reach) → terminal_of old name ≡ Some terminal
-    → HalfTurnKeeps (reach_of old terminal task) reply after → TurnKeepsOthers old name (after_half_turn old name reply after)
+    → HalfTurnKeeps (reach_of old terminal task) reply after → TurnKeepsOthers old name (put_back old name after (task_after reply after.task))
 others_kept old name terminal task reply after there keeps = record {
   areas = of_some _ (λ t. others_areas t.slot after.shared.storage ≡ others_areas t.slot old.storage) (terminal_of old name) terminal there keeps.areas;
   resources = of_some _ (λ t. without_owner after.shared.resources t.slot ≡ without_owner old.resources t.slot) (terminal_of old name) terminal there keeps.resources;
@@ -124,7 +126,7 @@ turned_keeps_others law old name reply new ok h = at_terminal (terminal_of old n
   where
     turned : (terminal : TerminalState) (task : TaskState) → terminal_of old name ≡ Some terminal → terminal.task ≡ Some task → TaskTurned old name terminal task reply new → TurnKeepsOthers old name new
     turned terminal task there at h =
-        let own = task_of_terminal old.storage terminal task at (found_meets (IsSoundTerminal old.storage) (is_name4 name) old.terminals terminal ok.tasks there) in
+        let own = task_of_terminal old.storage terminal task at (found_meets (IsSoundTerminal old.storage) (is_name name) old.terminals terminal ok.tasks there) in
         let keeps = law (reach_of old terminal task) h.reached reply ok.storage ok.programs_sound ok.queues_sound own h.half_turn in
         subst (λ (r : RegionState). TurnKeepsOthers old name r) (sym h.after) (others_kept old name terminal task reply h.reached there keeps)
 
@@ -134,7 +136,7 @@ turned_keeps_others law old name reply new ok h = at_terminal (terminal_of old n
     at_task terminal there (Some task) at h = turned terminal task there at h
 
     at_terminal : (o : Option TerminalState) → terminal_of old name ≡ o
-        → MatchOption o ((reply ≡ turn.NoSuchTerminal) × (new ≡ old)) (λ terminal. TerminalTurned old name terminal reply new) → TurnKeepsOthers old name new
+        → MatchOption o ((reply ≡ turn.NoSuchTerminal) × (new ≡ old)) (λ terminal. MatchOption terminal.task ((reply ≡ turn.Idle) × (new ≡ old)) (λ task. TaskTurned old name terminal task reply new)) → TurnKeepsOthers old name new
     at_terminal None there none = others_nothing old name new none.1
     at_terminal (Some terminal) there found = at_task terminal there terminal.task refl found
 
@@ -150,11 +152,11 @@ set_same test (e ∷ es) value found = elim (cases_Bool (test e.0)) [
 
 -- what was reached, put back unchanged
 put_back_same : (old : RegionState) (name : List ℕ) (terminal : TerminalState) (task : TaskState) → terminal_of old name ≡ Some terminal → terminal.task ≡ Some task
-    → after_half_turn old name turn.Waiting (reach_of old terminal task) ≡ old
+    → put_back old name (reach_of old terminal task) (task_after turn.Waiting (reach_of old terminal task).task) ≡ old
 put_back_same old name terminal task found has =
     let whole : record terminal { task = Some task } ≡ terminal = λ i. record terminal { task = sym has i } in
-    let entries : set_value (is_name4 name) old.terminals (record terminal { task = Some task }) ≡ old.terminals =
-    ap (λ (t : TerminalState). set_value (is_name4 name) old.terminals t) whole ∙ set_same (is_name4 name) old.terminals terminal found in
+    let entries : set_value (is_name name) old.terminals (record terminal { task = Some task }) ≡ old.terminals =
+    ap (λ (t : TerminalState). set_value (is_name name) old.terminals t) whole ∙ set_same (is_name name) old.terminals terminal found in
     λ i. record old { terminals = entries i }
 
 pub still_turns_leave : HalfTurnsStay → WaitsLeave → StillTurnsLeaveTheRegion
@@ -164,8 +166,8 @@ still_turns_leave stay law old name reply new h still = at_terminal (terminal_of
     waited : (terminal : TerminalState) (task : TaskState) → terminal_of old name ≡ Some terminal → terminal.task ≡ Some task → TaskTurned old name terminal task reply new → reply ≡ turn.Waiting → new ≡ old
     waited terminal task found has h is =
         let same : h.reached ≡ reach_of old terminal task = law (reach_of old terminal task) h.reached (subst (λ (r : TurnReply). HalfTurn (reach_of old terminal task) r h.reached) is h.half_turn) in
-        h.after ∙ ap (λ (answer : TurnReply). after_half_turn old name answer h.reached) is
-        ∙ ap (λ (x : Reach). after_half_turn old name turn.Waiting x) same ∙ put_back_same old name terminal task found has
+        h.after ∙ ap (λ (answer : TurnReply). put_back old name h.reached (task_after answer h.reached.task)) is
+        ∙ ap (λ (x : Reach). put_back old name x (task_after turn.Waiting x.task)) same ∙ put_back_same old name terminal task found has
 
     by_reply : (terminal : TerminalState) (task : TaskState) → terminal_of old name ≡ Some terminal → terminal.task ≡ Some task → TaskTurned old name terminal task reply new
         → (told : TurnReply) → reply ≡ told → changes_nothing told ≡ true → is_of_task told ≡ true → new ≡ old
@@ -188,7 +190,7 @@ still_turns_leave stay law old name reply new h still = at_terminal (terminal_of
         by_reply terminal task found has h reply refl still (stay (reach_of old terminal task) h.reached reply h.half_turn).answers
 
     at_terminal : (o : Option TerminalState) → terminal_of old name ≡ o
-        → MatchOption o ((reply ≡ turn.NoSuchTerminal) × (new ≡ old)) (λ terminal. TerminalTurned old name terminal reply new) → new ≡ old
+        → MatchOption o ((reply ≡ turn.NoSuchTerminal) × (new ≡ old)) (λ terminal. MatchOption terminal.task ((reply ≡ turn.Idle) × (new ≡ old)) (λ task. TaskTurned old name terminal task reply new)) → new ≡ old
     at_terminal None found none = none.1
     at_terminal (Some terminal) found h = at_task terminal found terminal.task refl h
 
@@ -227,7 +229,7 @@ only_answers_keeps old name due reply new refused h = subst (λ (r : KeyReply). 
 given_keeps : (old : RegionState) (name : List ℕ) (terminal : TerminalState) → KeyKeeps old name key.Given (with_terminal old name terminal)
 given_keeps old name terminal = record {
   others = λ other differ. other_stays name other old.terminals terminal differ;
-  names = keys-set_value (is_name4 name) old.terminals terminal;
+  names = keys-set_value (is_name name) old.terminals terminal;
   programs = refl;
   transactions = refl;
   time = refl;
@@ -238,11 +240,11 @@ given_keeps old name terminal = record {
   counter = refl;
 }
 
-attached_keeps : (old : RegionState) (name : List ℕ) (terminal : TerminalState) (input : Input) (tran program : List ℕ) (loaded : Loaded) (areas : TaskAreas)
+attached_keeps : (old : RegionState) (name : List ℕ) (terminal : TerminalState) (input : Input) (tran program : List ℕ) (loaded : Loaded) (areas : Places)
     → KeyKeeps old name key.Attached (attached old name terminal input tran program loaded areas)
 attached_keeps old name terminal input tran program loaded areas = record {
   others = λ other differ. other_stays name other old.terminals _ differ;
-  names = keys-set_value (is_name4 name) old.terminals _;
+  names = keys-set_value (is_name name) old.terminals _;
   programs = refl;
   transactions = refl;
   time = refl;
@@ -292,7 +294,7 @@ by_way P old name input reply new each h = at_terminal (terminal_of old name) h
     at_task terminal None h = at_tran terminal (transaction_named terminal.following input.bytes) (transaction_of old (transaction_named terminal.following input.bytes)) h
     at_task terminal (Some task) h = at_input terminal terminal.input h
 
-    at_terminal : (o : Option TerminalState) → MatchOption o (OnlyAnswers key.NoSuchTerminal old reply new) (λ terminal. TerminalKeyed old name terminal input reply new) → P reply new
+    at_terminal : (o : Option TerminalState) → MatchOption o (OnlyAnswers key.NoSuchTerminal old reply new) (λ terminal. MatchOption terminal.task (Starts old name terminal input (transaction_named terminal.following input.bytes) reply new) (λ task. Gives old name terminal input reply new)) → P reply new
     at_terminal None h = each.nowhere key.NoSuchTerminal reply new refl h
     at_terminal (Some terminal) h = at_task terminal terminal.task h
 
@@ -342,8 +344,8 @@ not_done (Some first) fault old after new h = h.1
 
 pub refused_transactions_leave : RefusedTransactionsLeaveTheRegion
 unfolding DefinesTransaction
-refused_transactions_leave old tran program fault new h = not_done (transaction_fault old tran program) fault old (with_transaction old tran program) new h
+refused_transactions_leave old tran program fault new h = not_done (transaction_fault old tran program) fault old (record old { transactions = insert_entry is_name old.transactions tran program }) new h
 
 pub refused_terminals_leave : RefusedTerminalsLeaveTheRegion
 unfolding DefinesTerminal
-refused_terminals_leave old name fault new h = not_done (terminal_fault old name) fault old (with_new_terminal old name) new h
+refused_terminals_leave old name fault new h = not_done (terminal_fault old name) fault old (record old { terminals = insert_entry is_name old.terminals name (fresh_terminal (length old.terminals + 1)) }) new h

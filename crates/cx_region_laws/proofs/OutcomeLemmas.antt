@@ -5,6 +5,8 @@ use Rattle.std.specs.List.{AllByRecursion}
 use Rattle.std.proofs.lemmas.Bool.{cases_Bool, true≢false}
 use Rattle.std.proofs.lemmas.Bool.Decides.{leb_tells}
 use Rattle.std.proofs.lemmas.Option.{none-some, same_Some, slice_get_past}
+use Rattle.indexmap.specs.IndexMap.{insert_entry}
+use Rattle.cx_ebcdic.specs.Names.{is_name}
 use Rattle.cx_code.specs.declared.image.Image.{Image}
 use Rattle.cx_command.specs.declared.conditions.Condition.{Condition}
 use Rattle.cx_command.specs.Eib.{eib_len}
@@ -43,10 +45,11 @@ use Rattle.cx_region.specs.declared.replies.KeyReply.{KeyReply}
 use Rattle.cx_region.specs.declared.replies.KeyReply.TheVariants as key
 use Rattle.cx_region.specs.declared.replies.Reply.TheVariants as reply
 use Rattle.cx_region.specs.State.{RegionState, TerminalState}
-use Rattle.cx_region.specs.Tables.{program_of, terminal_of, transaction_of, with_terminal}
-use Rattle.cx_region.specs.Defining.{DefinesProgram, DefinesTerminal, DefinesTransaction, program_fault, with_new_terminal, with_program, with_transaction}
-use Rattle.cx_region.specs.Attach.{ArePlaced, Attaches, HasNoPlaces, IsCopyPlace, KeyGrows, Keyed, Starts, TaskAreas, TerminalKeyed, attached, commarea_kept, input_from, transaction_named, with_eib_area, with_kept_area}
-use Rattle.cx_region.specs.Turn.{Turned, after_half_turn, reach_of}
+use Rattle.cx_region.specs.Tables.{fresh_terminal, program_of, terminal_of, transaction_of, with_terminal}
+use Rattle.cx_region.specs.Defining.{DefinesProgram, DefinesTerminal, DefinesTransaction, program_fault}
+use Rattle.cx_region.specs.Attach.{ArePlaced, Attaches, Gives, HasNoPlaces, IsCopyPlace, Keyed, Starts, attached, commarea_kept, input_from, transaction_named, with_eib_area, with_kept_area}
+use Rattle.cx_region.specs.declared.asking.Places.{Places}
+use Rattle.cx_region.specs.Turn.{Turned, put_back, reach_of, task_after}
 use Rattle.cx_region.specs.Events.{Happens, MayTakeMemory}
 use Rattle.cx_region_laws.specs.Laws.Outcomes.{EventsHaveOutcomes, HalfTurnsHaveEnds, HasOutcome}
 use Rattle.cx_region_laws.specs.Laws.Sound.{IsChecked}
@@ -286,10 +289,10 @@ module _ (storage : Storage) (owner : Owner) (len stg_len : ℕ) where
   no_eib : IsTaskPlace storage eib_len None → HasNoPlaces storage owner len stg_len
   no_eib none = record { none = λ areas placed. none-some areas.eib (task_place_once storage eib_len None (Some areas.eib) none placed.eib) }
 
-  same_eib : (eib : ℕ) (areas : TaskAreas) → IsTaskPlace storage eib_len (Some eib) → ArePlaced storage owner len stg_len areas → areas.eib ≡ eib
+  same_eib : (eib : ℕ) (areas : Places) → IsTaskPlace storage eib_len (Some eib) → ArePlaced storage owner len stg_len areas → areas.eib ≡ eib
   same_eib eib areas first placed = same_Some _ _ (task_place_once storage eib_len (Some areas.eib) (Some eib) placed.eib first)
 
-  copy_of : (eib : ℕ) (areas : TaskAreas) → IsTaskPlace storage eib_len (Some eib) → ArePlaced storage owner len stg_len areas
+  copy_of : (eib : ℕ) (areas : Places) → IsTaskPlace storage eib_len (Some eib) → ArePlaced storage owner len stg_len areas
       → IsCopyPlace (with_eib_area storage owner eib) len areas.commarea
   copy_of eib areas first placed = subst (λ (a : ℕ). IsCopyPlace (with_eib_area storage owner a) len areas.commarea) (same_eib eib areas first placed) placed.commarea
 
@@ -315,30 +318,30 @@ module _ (storage : Storage) (owner : Owner) (len stg_len : ℕ) where
       }
 
   -- three places, or none
-  abbrev Places : Type 0
-  Places = ((areas : TaskAreas) × ArePlaced storage owner len stg_len areas) ⊎ HasNoPlaces storage owner len stg_len
+  abbrev PlacesOrNone : Type 0
+  PlacesOrNone = ((areas : Places) × ArePlaced storage owner len stg_len areas) ⊎ HasNoPlaces storage owner len stg_len
 
-  with_stg : (eib : ℕ) (copy : Option ℕ) → IsTaskPlace storage eib_len (Some eib) → IsCopyPlace (with_eib_area storage owner eib) len copy → Places
+  with_stg : (eib : ℕ) (copy : Option ℕ) → IsTaskPlace storage eib_len (Some eib) → IsCopyPlace (with_eib_area storage owner eib) len copy → PlacesOrNone
   with_stg eib copy first second = go (found_place (with_kept_area storage owner len eib copy) first_of_tasks last_of_tasks stg_len)
     where
-      go : (place : Option ℕ) × IsTaskPlace (with_kept_area storage owner len eib copy) stg_len place → Places
+      go : (place : Option ℕ) × IsTaskPlace (with_kept_area storage owner len eib copy) stg_len place → PlacesOrNone
       go (None, none) = inr (no_stg eib copy first second none)
       go (Some stg, third) = inl (record { eib = eib; commarea = copy; stg = stg }, record { eib = first; commarea = second; stg = third })
 
-  with_copy : (eib : ℕ) → IsTaskPlace storage eib_len (Some eib) → Places
+  with_copy : (eib : ℕ) → IsTaskPlace storage eib_len (Some eib) → PlacesOrNone
   with_copy eib first = elim (zero_or_not len) [
     | inl none ↦ with_stg eib None first none
     | inr some ↦ go (ne_eqb len 0 some) (found_place (with_eib_area storage owner eib) first_of_tasks last_of_tasks len)
   ]
     where
-      go : (len == 0) ≡ false → (place : Option ℕ) × IsTaskPlace (with_eib_area storage owner eib) len place → Places
+      go : (len == 0) ≡ false → (place : Option ℕ) × IsTaskPlace (with_eib_area storage owner eib) len place → PlacesOrNone
       go some (None, none) = inr (no_copy eib first some none)
       go some (Some at, there) = with_stg eib (Some at) first (some, there)
 
-  places : Places
+  places : PlacesOrNone
   places = go (found_place storage first_of_tasks last_of_tasks eib_len)
     where
-      go : (place : Option ℕ) × IsTaskPlace storage eib_len place → Places
+      go : (place : Option ℕ) × IsTaskPlace storage eib_len place → PlacesOrNone
       go (None, none) = inr (no_eib none)
       go (Some eib, first) = with_copy eib first
 
@@ -347,7 +350,7 @@ attaches_somehow : (old : RegionState) (name : List ℕ) (terminal : TerminalSta
 attaches_somehow old name terminal input tran program loaded =
     go (places old.storage (system_owner terminal.slot) (length (commarea_kept terminal.following)) loaded.stg_len)
   where
-    go : Places old.storage (system_owner terminal.slot) (length (commarea_kept terminal.following)) loaded.stg_len
+    go : PlacesOrNone old.storage (system_owner terminal.slot) (length (commarea_kept terminal.following)) loaded.stg_len
         → Answered (Attaches old name terminal input tran program loaded)
     go (inl found) = (key.Attached, attached old name terminal input tran program loaded found.0, record { areas = found.0; placed = found.1; after = refl })
     go (inr none) = (key.NoStorage, old, (none, refl))
@@ -375,20 +378,21 @@ TerminalGrows old terminal bytes task =
     (λ t. terminal.input ≡ None)
 
 terminal_keyed : (old : RegionState) (name : List ℕ) (input : Input) (terminal : TerminalState) → TerminalGrows old terminal input.bytes terminal.task
-    → Answered (TerminalKeyed old name terminal input)
+    → Answered (λ reply new. MatchOption terminal.task (Starts old name terminal input (transaction_named terminal.following input.bytes) reply new) (λ task. Gives old name terminal input reply new))
 terminal_keyed old name input terminal grows = go terminal.task refl grows
   where
     go : (task : Option TaskState) → terminal.task ≡ task
         → TerminalGrows old terminal input.bytes task
-        → Answered (TerminalKeyed old name terminal input)
+        → Answered (λ reply new. MatchOption terminal.task (Starts old name terminal input (transaction_named terminal.following input.bytes) reply new) (λ task. Gives old name terminal input reply new))
     go None is due =
         let end = starts_somehow old name terminal input (transaction_named terminal.following input.bytes) due in
         (end.0, end.1, by_none _ _ terminal.task is end.2)
     go (Some task) is due =
         (key.Given, with_terminal old name (record terminal { input = Some input }), by_some _ _ terminal.task task is (by_none _ _ terminal.input due (refl, refl)))
 
-keyed_somehow : (old : RegionState) (name : List ℕ) (input : Input) → KeyGrows old name input.bytes → Answered (Keyed old name input)
-unfolding Keyed KeyGrows
+keyed_somehow : (old : RegionState) (name : List ℕ) (input : Input)
+    → IsSomeAnd (terminal_of old name) (λ terminal. TerminalGrows old terminal input.bytes terminal.task) → Answered (Keyed old name input)
+unfolding Keyed
 keyed_somehow old name input grows = go (terminal_of old name) refl grows
   where
     go : (found : Option TerminalState) → terminal_of old name ≡ found → IsSomeAnd found (λ terminal. TerminalGrows old terminal input.bytes terminal.task) → Answered (Keyed old name input)
@@ -410,7 +414,7 @@ turned_somehow old name grows = go (terminal_of old name) refl grows
     by_task terminal None is found due = absurd due
     by_task terminal (Some task) is found due =
         let end = half_turns_have_ends (reach_of old terminal task) due in
-        (end.reply, after_half_turn old name end.reply end.after, by_some _ _ (terminal_of old name) terminal found (by_some _ _ terminal.task task is (record { reached = end.after; half_turn = end.half_turn; after = refl })))
+        (end.reply, put_back old name end.after (task_after end.reply end.after.task), by_some _ _ (terminal_of old name) terminal found (by_some _ _ terminal.task task is (record { reached = end.after; half_turn = end.half_turn; after = refl })))
 
     go : (found : Option TerminalState) → terminal_of old name ≡ found
         → IsSomeAnd found (λ terminal. IsSomeAnd terminal.task (λ task. Grows (reach_of old terminal task))) → TurnEnds old name
@@ -426,15 +430,15 @@ program_somehow loading old name image fit sound some = go (found_place old.stor
     go (None, none) = absurd (some none)
     go (Some at, place) =
         let made = loading old.storage image at fit place in
-        record { reply = reply.Program (Ok made.0); new = with_program old name made.0 made.1; happens = rw sound (made.2, refl) }
+        record { reply = reply.Program (Ok made.0); new = record old { programs = insert_entry is_name old.programs name made.0; storage = made.1 }; happens = rw sound (made.2, refl) }
 
 may_take_outcome : ImagesAreLoaded → (old : RegionState) (e : Event) → IsChecked e → MayTakeMemory old e → HasOutcome old e
 unfolding MayTakeMemory Happens DefinesTransaction DefinesTerminal
 may_take_outcome loading old (event.Program name image) fit due = program_somehow loading old name image fit due.0 due.1
 may_take_outcome loading old (event.Transaction tran program) fit due =
-    record { reply = reply.Transaction (Ok tt); new = with_transaction old tran program; happens = rw due (refl, refl) }
+    record { reply = reply.Transaction (Ok tt); new = record old { transactions = insert_entry is_name old.transactions tran program }; happens = rw due (refl, refl) }
 may_take_outcome loading old (event.Terminal name) fit due =
-    record { reply = reply.Terminal (Ok tt); new = with_new_terminal old name; happens = rw due (refl, refl) }
+    record { reply = reply.Terminal (Ok tt); new = record old { terminals = insert_entry is_name old.terminals name (fresh_terminal (length old.terminals + 1)) }; happens = rw due (refl, refl) }
 may_take_outcome loading old (event.Clock time date) fit due = absurd due
 may_take_outcome loading old (event.Key name aid bytes) fit due =
     let end = keyed_somehow old name (input_from aid bytes) due in

@@ -20,10 +20,10 @@ use Rattle.cx_region.specs.declared.replies.KeyReply.{KeyReply}
 use Rattle.cx_region.specs.declared.replies.KeyReply.TheVariants as key
 use Rattle.cx_region.specs.declared.asking.Start.{Start}
 use Rattle.cx_region.specs.State.{RegionState, TerminalState}
-use Rattle.cx_region.specs.Names.{is_name4, is_name8}
+use Rattle.cx_ebcdic.specs.Names.{is_name}
 use Rattle.cx_region.specs.Tables.{fresh_terminal, program_of, terminal_of, transaction_of, with_terminal}
-use Rattle.cx_region.specs.Defining.{DefinesProgram, DefinesTerminal, DefinesTransaction, Loads, program_fault, terminal_fault, transaction_fault, with_clock, with_new_terminal, with_transaction}
-use Rattle.cx_region.specs.Attach.{Attaches, Gives, Keyed, OnlyAnswers, Starts, TerminalKeyed, attached, commarea_kept, eib_at_attach, input_from, next_number, transaction_named, with_task}
+use Rattle.cx_region.specs.Defining.{DefinesProgram, DefinesTerminal, DefinesTransaction, Loads, program_fault, terminal_fault, transaction_fault}
+use Rattle.cx_region.specs.Attach.{Attaches, Gives, Keyed, OnlyAnswers, Starts, attached, commarea_kept, eib_at_attach, input_from, next_number, transaction_named, with_task}
 use Rattle.cx_region.specs.Alter.{Alters, alter_refusal, altered_region}
 use Rattle.cx_region.specs.Sound.{IsSound}
 use Rattle.cx_region.specs.Parts.Asking.{level_of, task_of_start}
@@ -43,8 +43,8 @@ program_kept old new name image result ok fit parts h = by_fault (program_fault 
     loads : (answer : Result Loaded DefineFault) → program_fault old name ≡ None → Loads old name image answer new → IsSound new
     loads (Ok loaded) free h =
         subst IsSound (sym h.1)
-        (sound_program old name image loaded new.storage (insert_entry is_name8 old.programs name loaded) ok parts.storage fit.nonempty
-        (sound_loaded old.storage new.storage image loaded fit h.0) free h.0 refl (distinct-insert_entry is_name8 is_name-laws old.programs name loaded ok.programs_distinct))
+        (sound_program old name image loaded new.storage (insert_entry is_name old.programs name loaded) ok parts.storage fit.nonempty
+        (sound_loaded old.storage new.storage image loaded fit h.0) free h.0 refl (distinct-insert_entry is_name is_name-laws old.programs name loaded ok.programs_distinct))
     loads (Err NoRoom) free h = subst IsSound (sym h.1) ok
     loads (Err _) free h = absurd h
 
@@ -57,10 +57,10 @@ unfolding DefinesTransaction
 transaction_kept old new tran program result ok h = by_fault (transaction_fault old tran program) refl h
   where
     by_fault : (o : Option DefineFault) → transaction_fault old tran program ≡ o
-        → MatchOption o ((result ≡ Ok tt) × (new ≡ with_transaction old tran program)) (λ fault. (result ≡ Err fault) × (new ≡ old)) → IsSound new
+        → MatchOption o ((result ≡ Ok tt) × (new ≡ record old { transactions = insert_entry is_name old.transactions tran program })) (λ fault. (result ≡ Err fault) × (new ≡ old)) → IsSound new
     by_fault None free h =
         subst IsSound (sym h.1)
-        (sound_transaction old tran program (insert_entry is_name4 old.transactions tran program) ok free refl (distinct-insert_entry is_name4 is_name-laws old.transactions tran program ok.transactions_distinct))
+        (sound_transaction old tran program (insert_entry is_name old.transactions tran program) ok free refl (distinct-insert_entry is_name is_name-laws old.transactions tran program ok.transactions_distinct))
     by_fault (Some fault) is h = subst IsSound (sym h.1) ok
 
 terminal_kept : (old new : RegionState) (name : List ℕ) (result : Result (Unit {0}) DefineFault) → IsSound old → DefinesTerminal old name result new → IsSound new
@@ -71,13 +71,13 @@ terminal_kept old new name result ok h = by_fault (terminal_fault old name) refl
     fresh = fresh_terminal (length old.terminals + 1)
 
     by_fault : (o : Option DefineFault) → terminal_fault old name ≡ o
-        → MatchOption o ((result ≡ Ok tt) × (new ≡ with_new_terminal old name)) (λ fault. (result ≡ Err fault) × (new ≡ old)) → IsSound new
+        → MatchOption o ((result ≡ Ok tt) × (new ≡ record old { terminals = insert_entry is_name old.terminals name (fresh_terminal (length old.terminals + 1)) })) (λ fault. (result ≡ Err fault) × (new ≡ old)) → IsSound new
     by_fault None free h =
         subst IsSound (sym h.1)
-        (sound_terminal old name (insert_entry is_name4 old.terminals name fresh) ok free refl (distinct-insert_entry is_name4 is_name-laws old.terminals name fresh ok.terminals_distinct))
+        (sound_terminal old name (insert_entry is_name old.terminals name fresh) ok free refl (distinct-insert_entry is_name is_name-laws old.terminals name fresh ok.terminals_distinct))
     by_fault (Some fault) is h = subst IsSound (sym h.1) ok
 
-clock_kept : (old : RegionState) (time date : ℕ) → IsSound old → time ≤ 999999 → date ≤ 99999 → IsSound (with_clock old time date)
+clock_kept : (old : RegionState) (time date : ℕ) → IsSound old → time ≤ 999999 → date ≤ 99999 → IsSound (record old { time = time; date = date })
 clock_kept old time date ok first second =
     record {
       storage = ok.storage;
@@ -114,7 +114,7 @@ attach_kept old new name t input program loaded key.Attached ok parts there idle
     let starting : Starting old name input.bytes start =
     record { terminal = t; there = there; idle = idle; slot = refl; tran = refl; defined = defined; program = found; calen = refl } in
     let storage_is : new.storage ≡ (attached old name t input tran program loaded h.areas).storage = ap (λ (r : RegionState). r.storage) h.after in
-    let ts = set_value (is_name4 name) old.terminals (with_task t input (task_of_start start (next_number old.counter) h.areas)) in
+    let ts = set_value (is_name name) old.terminals (with_task t input (task_of_start start (next_number old.counter) h.areas)) in
     let sound : IsSound (record old { storage = new.storage; terminals = ts; counter = next_number old.counter }) =
     sound_attached old name input.bytes start input h.areas (eib_at_attach old name tran (length kept) input.aid) kept (level_of start h.areas) new.storage ts
     ok starting parts.storage h.placed storage_is refl in
@@ -145,7 +145,7 @@ key_kept old new name input reply ok parts h = at_terminal (terminal_of old name
         → MatchOption o ((reply ≡ key.Given) × (new ≡ with_terminal old name (record t { input = Some input }))) (λ held. OnlyAnswers key.AlreadyHeldInput old reply new) → IsSound new
     at_input t task None none there live h =
         let giving : Giving old name = record { terminal = t; there = there; task = task; live = live; none = none } in
-        subst IsSound (sym h.1) (sound_given old name input (set_value (is_name4 name) old.terminals (record t { input = Some input })) ok giving refl)
+        subst IsSound (sym h.1) (sound_given old name input (set_value (is_name name) old.terminals (record t { input = Some input })) ok giving refl)
     at_input t task (Some held) is there live h = only key.AlreadyHeldInput h
 
     at_task : (t : TerminalState) (o : Option TaskState) → t.task ≡ o → terminal_of old name ≡ Some t
@@ -153,7 +153,7 @@ key_kept old new name input reply ok parts h = at_terminal (terminal_of old name
     at_task t None idle there h = at_tran t (transaction_of old (transaction_named t.following input.bytes)) refl there idle h
     at_task t (Some task) live there h = at_input t task t.input refl there live h
 
-    at_terminal : (o : Option TerminalState) → terminal_of old name ≡ o → MatchOption o (OnlyAnswers key.NoSuchTerminal old reply new) (λ t. TerminalKeyed old name t input reply new) → IsSound new
+    at_terminal : (o : Option TerminalState) → terminal_of old name ≡ o → MatchOption o (OnlyAnswers key.NoSuchTerminal old reply new) (λ t. MatchOption t.task (Starts old name t input (transaction_named t.following input.bytes) reply new) (λ task. Gives old name t input reply new)) → IsSound new
     at_terminal None there h = only key.NoSuchTerminal h
     at_terminal (Some t) there h = at_task t t.task refl there h
 

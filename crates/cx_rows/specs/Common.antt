@@ -53,21 +53,16 @@ program_of programs name = lookup (is_name name) programs
 abbrev pub AreSoundPrograms : List (List ℕ × Loaded) → Type 0
 AreSoundPrograms programs = AllByRecursion (λ entry. IsSoundProgram entry.1) programs
 
--- a piece that has bytes
-abbrev pub if_any : Piece → Option Piece
-if_any piece = if piece.len == 0 then None else Some piece
-
 -- the COMMAREA that a call passes on, where it has bytes
 unfoldable pub commarea_of : Storage → Call → Option Piece
-commarea_of storage call = option_and_then if_any (piece_of storage call Commarea)
+commarea_of storage call =
+    option_and_then (λ piece. if piece.len == 0 then None else Some piece) (piece_of storage call Commarea)
 
--- the program of that name, where there is one
-abbrev pub called_of : List (List ℕ × Loaded) → List ℕ → Option Called
-called_of programs name = option_map (λ loaded. record { name = name; loaded = loaded }) (program_of programs name)
-
--- the program that PROGRAM names
+-- the program that PROGRAM names, where there is one
 unfoldable pub named_program : Storage → Call → List (List ℕ × Loaded) → Option Called
-named_program storage call programs = option_and_then (called_of programs) (bytes_of storage call Program 8)
+named_program storage call programs =
+    option_and_then (λ name. option_map (λ loaded. record { name = name; loaded = loaded }) (program_of programs name))
+    (bytes_of storage call Program 8)
 
 -- a level of the program that begins, with DFHEISTG at this place
 abbrev pub new_level : Called → Option Piece → ℕ → NewLevel

@@ -2,18 +2,14 @@
 --   HANDLE ABEND {LABEL(address) | CANCEL | RESET}
 -- Effect on the current level's exit: LABEL sets it and turns it on, CANCEL turns it off, RESET turns it on again. Without one
 -- CANCEL and RESET have no effect. Reply: Performed.
-use Rattle.std.specs.Prelude.{ℕ, Bool, Option, Some, None, if◌then◌else◌}
+use Rattle.std.specs.Prelude.{if◌then◌else◌}
+use Rattle.std.specs.Option.{option_map_or}
 use Rattle.cx_command.specs.declared.options.OptionName.TheVariants.{Cancel, Label}
 use Rattle.cx_call.specs.Call.{Call, place_of}
-use Rattle.cx_state.specs.declared.verdict.Request.{Request}
 use Rattle.cx_state.specs.declared.verdict.Request.TheVariants.{SetExit, ExitOff, ExitOn}
 use Rattle.cx_state.specs.declared.verdict.Verdict.{Verdict}
 use Rattle.cx_rows.specs.Common.{has}
 use Rattle.cx_rows.specs.Handling.{asks}
 
-abbrev pub exit_asked : Option ℕ → Bool → Request
-exit_asked (Some label) cancels = SetExit label
-exit_asked None cancels = if cancels then ExitOff else ExitOn
-
 unfoldable pub handle_abend_row : Call → Verdict
-handle_abend_row call = asks (exit_asked (place_of call Label) (has call Cancel))
+handle_abend_row call = asks (option_map_or SetExit (place_of call Label) (if has call Cancel then ExitOff else ExitOn))

@@ -30,5 +30,4 @@ pub use Rattle.cx_service.specs.Queues
 pub use Rattle.cx_service.specs.Resources
 pub use Rattle.cx_state.specs.Areas
 pub use Rattle.cx_state.specs.State
-pub use Rattle.cx_state.specs.Verdicts
 pub use Rattle.cx_storage.specs.Storage

@@ -20,9 +20,6 @@ use Rattle.cx_rows.specs.Common.{commarea_of, does, has, only}
 unfoldable pub next_of : Storage → Call → Option Next
 next_of storage call = option_map (λ tran. record { tran = tran; commarea = commarea_of storage call }) (bytes_of storage call Transid 4)
 
-abbrev pub lower_return : Call → Verdict
-lower_return call = if has call Transid || has call Commarea then only Invreq else does LevelEnds
-
 abbrev pub highest_return : Storage → Call → Verdict
 highest_return storage call =
     if has call Commarea && not (has call Transid) then only Invreq
@@ -32,4 +29,5 @@ highest_return storage call =
 -- by the levels that called the current one
 unfoldable pub return_row : Storage → List Level → Call → Verdict
 return_row storage [] call = highest_return storage call
-return_row storage (caller ∷ callers) call = lower_return call
+return_row storage (caller ∷ callers) call =
+    if has call Transid || has call Commarea then only Invreq else does LevelEnds

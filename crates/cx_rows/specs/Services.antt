@@ -1,5 +1,5 @@
 -- The condition that a service would meet, as a command's (this product's own).
-use Rattle.std.specs.Prelude.{Option, Some, None}
+use Rattle.std.specs.Prelude.{Option, Some}
 use Rattle.cx_command.specs.declared.conditions.Condition.TheVariants as condition
 use Rattle.cx_service.specs.declared.faults.ServiceFault.{ServiceFault}
 use Rattle.cx_service.specs.declared.faults.ServiceFault.TheVariants as fault
@@ -14,5 +14,4 @@ unless (Some fault.Nospace) verdict = only condition.Nospace
 unless (Some fault.Qiderr) verdict = only condition.Qiderr
 unless (Some fault.Enqbusy) verdict = only condition.Enqbusy
 unless (Some fault.Invreq) verdict = only condition.Invreq
-unless (Some fault.Memory) verdict = verdict
-unless None verdict = verdict
+unless _ verdict = verdict

@@ -21,28 +21,19 @@ use Rattle.cx_state.specs.declared.verdict.Verdict.TheVariants.{Meets}
 use Rattle.cx_rows.specs.Common.{does, has, only, output}
 use Rattle.cx_rows.specs.Services.{unless}
 
--- the number of a queue's next item
-abbrev pub number_after : Queues → List ℕ → ℕ
-number_after queues name = unwrap_or (count_of queues name) 0 + 1
-
--- a new item
-abbrev pub writes : Queues → List ℕ → Piece → Verdict
-writes queues name piece =
-    unless (write_fault queues name piece.len)
-    (Meets Normal (output Item (Half (number_after queues name)) ∷ []) (Makes (ItemLast name piece)))
-
--- item n replaced
-abbrev pub rewrites : Queues → List ℕ → ℕ → Piece → Verdict
-rewrites queues name n piece = unless (rewrite_fault queues name n piece.len) (does (Makes (ItemAt name n piece)))
-
 -- the item that REWRITE names; a number that isn't one is no item's
 abbrev pub item_named : Storage → Call → ℕ
 item_named storage call = unwrap_or (halfword_of storage call Item) 0
 
+-- a new item, which gets the number after the last one's, or that one replaced
 abbrev pub written_to : Storage → Queues → Call → List ℕ → Option Piece → Verdict
 written_to storage queues call name None = only Qiderr
 written_to storage queues call name (Some piece) =
-    if has call Rewrite then rewrites queues name (item_named storage call) piece else writes queues name piece
+    if has call Rewrite
+    then (let n = item_named storage call in
+    unless (rewrite_fault queues name n piece.len) (does (Makes (ItemAt name n piece))))
+    else unless (write_fault queues name piece.len)
+    (Meets Normal (output Item (Half (unwrap_or (count_of queues name) 0 + 1)) ∷ []) (Makes (ItemLast name piece)))
 
 -- QUEUE and FROM are always there
 unfoldable pub writeq_row : Storage → Queues → Call → Verdict

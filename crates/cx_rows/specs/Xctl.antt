@@ -4,6 +4,7 @@
 -- then the new DFHEISTG, with the copy and the old DFHEISTG still there: where either has none, abend XSTG. Else the current
 -- level begins anew with that program. Reply: Entered.
 use Rattle.std.specs.Prelude.{◌≡◌, ℕ, List, Option, Some, None, MatchOption, MatchBool}
+use Rattle.std.specs.Option.{option_map}
 use Rattle.cx_command.specs.declared.abends.Abend.TheVariants as abend
 use Rattle.cx_command.specs.declared.conditions.Condition.TheVariants.{Lengerr, Pgmiderr}
 use Rattle.cx_storage.specs.Storage.{Storage}
@@ -19,15 +20,12 @@ use Rattle.cx_state.specs.declared.verdict.Verdict.TheVariants.{Refuses}
 use Rattle.cx_rows.specs.declared.common.Called.{Called}
 use Rattle.cx_rows.specs.Common.{AtPlace, commarea_of, does, named_program, new_level, only}
 
--- where the program finds the copy
-abbrev pub copied_piece : Option Copying → Option Piece
-copied_piece None = None
-copied_piece (Some copying) = Some (record { place = copying.to; len = copying.from.len })
-
--- by the place of DFHEISTG
+-- by the place of DFHEISTG; the program finds the copy where it stands
 abbrev pub replaces : Called → Option Copying → Option ℕ → Verdict
 replaces called copying None = Refuses abend.Xstg
-replaces called copying (Some stg) = does (Replaces copying (new_level called (copied_piece copying) stg))
+replaces called copying (Some stg) =
+    let copy : Option Piece = option_map (λ copying. record { place = copying.to; len = copying.from.len }) copying in
+    does (Replaces copying (new_level called copy stg))
 
 -- the place of the copy is found, or none is needed
 abbrev pub Transfers : Storage → ℕ → Called → Option Copying → Verdict → Type 0

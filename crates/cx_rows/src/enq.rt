@@ -13,17 +13,18 @@ use cx_storage::Store;
 /// The most bytes of a resource's name.
 const MOST_NAME: usize = 255;
 
-/// Whether LENGTH is there and names nothing: outside 1 to 255.
-pub(crate) fn is_wrong_length<S: Store>(store: &S, call: &Call) -> bool
+/// Whether an ENQ or a DEQ has a LENGTH that names nothing: outside 1 to 255.
+pub fn is_wrong_length<S: Store>(store: &S, call: &Call) -> bool
     ensures { result ≡ is_wrong_length (S.storage store.now) call.now }
 {
     let len = usize::from(measured(store, call));
     call.has(OptionName::Length) && (len == 0 || len > MOST_NAME)
 }
 
-/// The resource's name: as many bytes as LENGTH says, or the address.
+/// The resource that an ENQ or a DEQ names: by as many bytes as LENGTH says, 1 to 255, or without LENGTH by the address
+/// itself. None where there is no such argument, or one of those bytes isn't in storage.
 #[tactic(auto, unfolding(crate::specs::Enq::resource_named))]
-pub(crate) fn resource_named<S: Store>(store: &S, call: &Call) -> Option<ResourceName>
+pub fn resource_named<S: Store>(store: &S, call: &Call) -> Option<ResourceName>
     requires { IsFalse (is_wrong_length (S.storage store.now) call.now) }
     ensures { result ≡ resource_named (S.storage store.now) call.now }
 {

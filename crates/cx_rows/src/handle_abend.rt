@@ -1,6 +1,7 @@
 //! HANDLE ABEND.
-ghost use Rattle.std.specs.Prelude.{◌≡◌};
-ghost use Rattle.cx_rows.specs.HandleAbend.{exit_asked, handle_abend_row};
+ghost use Rattle.std.specs.Prelude.{◌≡◌, if◌then◌else◌};
+ghost use Rattle.std.specs.Option.{option_map_or};
+ghost use Rattle.cx_rows.specs.HandleAbend.{handle_abend_row};
 
 use crate::handling::asks;
 use cx_call::Call;
@@ -9,7 +10,7 @@ use cx_state::{Request, Verdict};
 
 /// What is asked of the exit.
 fn exit_asked(label: Option<u32>, cancels: bool) -> Request
-    ensures { result ≡ exit_asked label cancels }
+    ensures { result ≡ option_map_or Request.SetExit label (if cancels then Request.ExitOff else Request.ExitOn) }
 {
     match label {
         Some(label) => Request::SetExit(label),

@@ -1,9 +1,5 @@
 //! How a call is judged, by the row of its command.
-ghost use Rattle.std.specs.Prelude.{◌≡◌, true};
-ghost use Rattle.cx_call.specs.Inputs.{are_inputs_there};
-ghost use Rattle.cx_service.specs.Queues.{AreSoundQueues};
 ghost use Rattle.cx_state.specs.State.{reach};
-ghost use Rattle.cx_state.specs.Verdicts.{Fits};
 ghost use Rattle.cx_rows.specs.Common.{AreSoundPrograms};
 ghost use Rattle.cx_rows.specs.Judged.{Judged};
 
@@ -26,39 +22,12 @@ use crate::writeq_ts::judge_writeq_ts;
 use crate::xctl::judge_xctl;
 use cx_call::{Call, measured};
 use cx_command::Command;
-use cx_ebcdic::Name8;
-use cx_service::Queues;
 use cx_state::{Shared, Station, Task, Verdict};
 use cx_storage::Store;
 
-/// How a call is judged, before anything changes. It takes no memory.
-#[tactic(auto, using(crate::specs::Facts::Fits::judged_fits))]
-pub fn judge<S: Store + Drop>(
-    call: &Call,
-    shared: &Shared<S>,
-    station: &Station,
-    task: &Task,
-) -> Verdict
-    requires { AreSoundPrograms shared.now.programs }
-    ensures judged { Judged call.now (reach shared.now station.now task.now) result }
-    ensures fits { are_inputs_there shared.now.storage call.now ≡ true → Fits result (reach shared.now station.now task.now) }
-{
-    call.addresses_are_below();
-    queues_are_sound(&shared.queues);
-    by_row(call, shared, station, task)
-}
-
-/// The queues are within their limits, as always.
-fn queues_are_sound(queues: &Queues)
-    ensures { AreSoundQueues queues.now }
-{
-    // A look at them is what tells it.
-    queues.items(Name8::from_bytes([0; 8]));
-}
-
-/// By the row of the command.
+/// How a call is judged, before anything changes: by the row of its command. It takes no memory.
 #[tactic(auto, unfolding(crate::specs::Judged::Judged))]
-fn by_row<S: Store + Drop>(
+pub fn judge<S: Store + Drop>(
     call: &Call,
     shared: &Shared<S>,
     station: &Station,

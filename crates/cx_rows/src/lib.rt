@@ -23,4 +23,5 @@ mod suspend;
 mod writeq_ts;
 mod xctl;
 
+pub use enq::{is_wrong_length, resource_named};
 pub use judging::judge;

@@ -2,7 +2,7 @@
 ghost use Rattle.std.specs.Prelude.{◌≡◌, ◌<◌, ◌≤◌, None};
 ghost use Rattle.cx_service.specs.Queues.{read_fault};
 ghost use Rattle.cx_rows.specs.Common.{AtPlace};
-ghost use Rattle.cx_rows.specs.ReadqTs.{Reads, ReadsItem, ReadsQueue, ReadqRow, item_asked, reading_of, reads_into, reads_to};
+ghost use Rattle.cx_rows.specs.ReadqTs.{Reads, ReadsItem, ReadsQueue, ReadqRow, reads_into, reads_to};
 
 use crate::common::{only, task_place};
 use crate::services::unless;
@@ -25,33 +25,6 @@ pub struct Reading {
     pub count: u16,
 }
 
-/// The number of the item that is asked for.
-#[tactic(auto, using(crate::specs::Facts::Queues::few_read), unfolding(crate::specs::ReadqTs::item_asked))]
-fn item_asked<S: Store>(store: &S, queues: &Queues, call: &Call, name: Name8) -> usize
-    ensures { result ≡ item_asked (S.storage store.now) queues.now call.now name }
-{
-    match halfword(store, call, OptionName::Item) {
-        Some(n) => usize::from(n),
-        None => queues.last_read(name).unwrap_or(0) + 1,
-    }
-}
-
-/// What is read of an item.
-#[tactic(auto, using(crate::specs::Facts::Queues::few_items, crate::specs::Facts::Queues::few_bytes, crate::specs::Facts::Queues::some_bytes), unfolding(crate::specs::ReadqTs::reading_of))]
-fn reading_of(queues: &Queues, name: Name8, n: usize) -> Reading
-    ensures value { result ≡ reading_of queues.now name n }
-    ensures some { read_fault queues.now name n ≡ None → 0 < result.len }
-{
-    let count = queues.items(name).unwrap_or(0) as u16;
-    let len = queues.item_len(name, n).unwrap_or(0) as u16;
-    Reading {
-        name,
-        n,
-        len,
-        count,
-    }
-}
-
 /// With INTO.
 fn reads_into(room: u16, reading: Reading) -> Verdict
     ensures { result ≡ reads_into room reading }
@@ -69,11 +42,16 @@ fn reads_into(room: u16, reading: Reading) -> Verdict
     Verdict::Meets(condition, outputs, change)
 }
 
-/// With SET, by the place of the fresh area.
-fn reads_to(reading: Reading, place: Option<u32>) -> Verdict
-    ensures { result ≡ reads_to reading place }
+/// An item that there is.
+#[tactic(auto, unfolding(crate::specs::ReadqTs::Reads))]
+fn reads<S: Store>(store: &S, call: &Call, reading: Reading) -> Verdict
+    requires { 0 < reading.len }
+    ensures { Reads (S.storage store.now) call.now reading result }
 {
-    let Some(place) = place else {
+    if !call.has(OptionName::Set) {
+        return reads_into(measured(store, call), reading);
+    }
+    let Some(place) = task_place(store, u32::from(reading.len)) else {
         return only(Condition::Nostg);
     };
     let outputs = Outputs::none()
@@ -88,27 +66,25 @@ fn reads_to(reading: Reading, place: Option<u32>) -> Verdict
     Verdict::Meets(Condition::Normal, outputs, Change::Gets(got))
 }
 
-/// An item that there is.
-#[tactic(auto, unfolding(crate::specs::ReadqTs::Reads))]
-fn reads<S: Store>(store: &S, call: &Call, reading: Reading) -> Verdict
-    requires { 0 < reading.len }
-    ensures { Reads (S.storage store.now) call.now reading result }
-{
-    if call.has(OptionName::Set) {
-        reads_to(reading, task_place(store, u32::from(reading.len)))
-    } else {
-        reads_into(measured(store, call), reading)
-    }
-}
-
 /// The queue of that name.
-#[tactic(auto, unfolding(crate::specs::ReadqTs::ReadsQueue))]
+#[tactic(auto, using(crate::specs::Facts::Queues::few_read, crate::specs::Facts::Queues::few_items, crate::specs::Facts::Queues::few_bytes, crate::specs::Facts::Queues::some_bytes), unfolding(crate::specs::ReadqTs::ReadsQueue, crate::specs::ReadqTs::item_asked, crate::specs::ReadqTs::reading_of))]
 fn reads_queue<S: Store>(store: &S, queues: &Queues, call: &Call, name: Name8) -> Verdict
     ensures { ReadsQueue (S.storage store.now) queues.now call.now name result }
 {
-    let n = item_asked(store, queues, call, name);
+    let next = queues.last_read(name).unwrap_or(0) + 1;
+    let n = halfword(store, call, OptionName::Item).map_or(next, |n| usize::from(n));
     match queues.can_read(name, n) {
-        Ok(()) => reads(store, call, reading_of(queues, name, n)),
+        Ok(()) => {
+            let count = queues.items(name).unwrap_or(0) as u16;
+            let len = queues.item_len(name, n).unwrap_or(0) as u16;
+            let reading = Reading {
+                name,
+                n,
+                len,
+                count,
+            };
+            reads(store, call, reading)
+        }
         Err(fault) => unless(Err(fault), only(Condition::Qiderr)),
     }
 }

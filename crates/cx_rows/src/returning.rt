@@ -1,6 +1,7 @@
 //! RETURN.
-ghost use Rattle.std.specs.Prelude.{◌≡◌};
-ghost use Rattle.cx_rows.specs.Return.{highest_return, lower_return, next_of, return_row};
+ghost use Rattle.std.specs.Prelude.{◌≡◌, ◌||◌, if◌then◌else◌};
+ghost use Rattle.cx_rows.specs.Return.{highest_return, next_of, return_row};
+ghost use Rattle.cx_rows.specs.Common.{does, has, only};
 
 use crate::common::{commarea_of, does, only};
 use cx_call::{Call, is_length_negative, name4};
@@ -21,7 +22,8 @@ fn next_of<S: Store>(store: &S, call: &Call) -> Option<Next>
 
 /// At a lower level.
 fn lower_return(call: &Call) -> Verdict
-    ensures { result ≡ lower_return call.now }
+    ensures { result ≡ (if has call.now OptionName.Transid || has call.now OptionName.Commarea
+        then only Condition.Invreq else does Change.LevelEnds) }
 {
     if call.has(OptionName::Transid) || call.has(OptionName::Commarea) {
         only(Condition::Invreq)

@@ -1,6 +1,7 @@
 //! SEND TEXT.
 ghost use Rattle.std.specs.Prelude.{◌≡◌};
-ghost use Rattle.cx_rows.specs.SendText.{send_text_row, shown};
+ghost use Rattle.std.specs.Option.{option_map_or};
+ghost use Rattle.cx_rows.specs.SendText.{send_text_row};
 
 use crate::common::{does, only};
 use cx_call::{Call, Piece, is_length_negative, measured_piece};
@@ -10,7 +11,7 @@ use cx_storage::Store;
 
 /// What is shown.
 fn shown(piece: Option<Piece>, erase: bool) -> Change
-    ensures { result ≡ shown piece erase }
+    ensures { result ≡ option_map_or (λ piece. Change.Makes (Made.Shows piece erase)) piece Change.Nothing }
 {
     match piece {
         Some(piece) => Change::Makes(Made::Shows(piece, erase)),

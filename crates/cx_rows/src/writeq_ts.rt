@@ -1,6 +1,9 @@
 //! WRITEQ TS.
-ghost use Rattle.std.specs.Prelude.{◌≡◌};
-ghost use Rattle.cx_rows.specs.WriteqTs.{item_named, number_after, rewrites, writeq_row, writes, written_to};
+ghost use Rattle.std.specs.Prelude.{◌≡◌, ◌+◌, [], ◌∷◌, unwrap_or};
+ghost use Rattle.cx_rows.specs.WriteqTs.{item_named, writeq_row, written_to};
+ghost use Rattle.cx_rows.specs.Services.{unless};
+ghost use Rattle.cx_rows.specs.Common.{does, output};
+ghost use Rattle.cx_service.specs.Queues.{count_of, rewrite_fault, write_fault};
 
 use crate::common::{does, only};
 use crate::services::unless;
@@ -11,19 +14,16 @@ use cx_service::Queues;
 use cx_state::{Change, Made, Verdict};
 use cx_storage::Store;
 
-/// The number of a queue's next item, at most 32,768.
-#[tactic(auto, using(crate::specs::Facts::Queues::few_items))]
-fn number_after(queues: &Queues, name: Name8) -> u16
-    ensures { result ≡ number_after queues.now name }
-{
-    queues.items(name).unwrap_or(0) as u16 + 1
-}
-
 /// A new item.
+#[tactic(auto, using(crate::specs::Facts::Queues::few_items))]
 fn writes(queues: &Queues, name: Name8, piece: Piece) -> Verdict
-    ensures { result ≡ writes queues.now name piece }
+    ensures { let number = unwrap_or (count_of queues.now name) 0 + 1 in
+        result ≡ unless (write_fault queues.now name piece.len)
+        (Verdict.Meets Condition.Normal (output OptionName.Item (Source.Half number) ∷ [])
+        (Change.Makes (Made.ItemLast name piece))) }
 {
-    let outputs = Outputs::none().with(OptionName::Item, Source::Half(number_after(queues, name)));
+    let number = queues.items(name).unwrap_or(0) as u16 + 1;
+    let outputs = Outputs::none().with(OptionName::Item, Source::Half(number));
     let change = Change::Makes(Made::ItemLast(name, piece));
     unless(
         queues.can_write(name, usize::from(piece.len)),
@@ -33,7 +33,8 @@ fn writes(queues: &Queues, name: Name8, piece: Piece) -> Verdict
 
 /// An item replaced.
 fn rewrites(queues: &Queues, name: Name8, n: u16, piece: Piece) -> Verdict
-    ensures { result ≡ rewrites queues.now name n piece }
+    ensures { result
+        ≡ unless (rewrite_fault queues.now name n piece.len) (does (Change.Makes (Made.ItemAt name n piece))) }
 {
     let tested = queues.can_rewrite(name, usize::from(n), usize::from(piece.len));
     unless(

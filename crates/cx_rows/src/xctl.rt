@@ -1,8 +1,8 @@
 //! XCTL.
-ghost use Rattle.std.specs.Prelude.{◌≡◌, ◌<◌, ◌≤◌, ◌+◌, ◌^◌, ℕ, Some};
+ghost use Rattle.std.specs.Prelude.{◌≡◌, ◌<◌, ◌≤◌, ◌+◌, ◌^◌, ℕ, Some, option_map};
 ghost use Rattle.cx_state.specs.Areas.{IsSoundProgram, IsTaskPlace, first_of_tasks, with_copy_area};
 ghost use Rattle.cx_rows.specs.Common.{AreSoundPrograms, AtPlace};
-ghost use Rattle.cx_rows.specs.Xctl.{Copies, Transfers, XctlRow, XctlTo, copied_piece, replaces};
+ghost use Rattle.cx_rows.specs.Xctl.{Copies, Transfers, XctlRow, XctlTo, replaces};
 
 use crate::common::{Called, commarea_of, does, named_program, new_level, only, task_place};
 use cx_call::{Call, Piece, is_length_negative};
@@ -15,7 +15,7 @@ use indexmap::IndexMap;
 
 /// Where the program finds the copy.
 fn copied_piece(copying: Option<Copying>) -> Option<Piece>
-    ensures { result ≡ copied_piece copying }
+    ensures { result ≡ option_map (λ copying. record { place = copying.to; len = copying.from.len }) copying }
 {
     let copying = copying?;
     Some(Piece {

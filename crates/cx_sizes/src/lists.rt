@@ -26,17 +26,19 @@ pub struct Events {
 
 impl Model for Events {
     ghost use Rattle.std.specs.Prelude.{ℕ, length};
-    ghost use Rattle.cx_region.specs.Events.{AreAllowed};
+    ghost use Rattle.std.specs.List.{AllByRecursion};
+    ghost use Rattle.cx_region.specs.Events.{IsAllowed};
 
     ghost Value = { ℕ };
 
     ghost view = { λ list. length list.events.items };
 
-    ghost invariant = { λ list. AreAllowed list.events.items };
+    ghost invariant = { λ list. AllByRecursion IsAllowed list.events.items };
 }
 
 impl Events {
-    ghost use Rattle.cx_region.specs.Events.{AreAllowed};
+    ghost use Rattle.std.specs.List.{AllByRecursion};
+    ghost use Rattle.cx_region.specs.Events.{IsAllowed};
 
     pub fn new(alloc: Global) -> Events {
         Events {
@@ -46,7 +48,7 @@ impl Events {
     }
 
     pub fn events(&self) -> &[Event]
-        ensures { AreAllowed result.now }
+        ensures { AllByRecursion IsAllowed result.now }
     {
         self.events.as_slice()
     }
@@ -75,17 +77,19 @@ pub struct EdfEvents {
 
 impl Model for EdfEvents {
     ghost use Rattle.std.specs.Prelude.{ℕ, length};
-    ghost use Rattle.cx_edf.specs.Runs.{AreAllowedEdf};
+    ghost use Rattle.std.specs.List.{AllByRecursion};
+    ghost use Rattle.cx_edf.specs.Runs.{IsAllowedEdf};
 
     ghost Value = { ℕ };
 
     ghost view = { λ list. length list.events.items };
 
-    ghost invariant = { λ list. AreAllowedEdf list.events.items };
+    ghost invariant = { λ list. AllByRecursion IsAllowedEdf list.events.items };
 }
 
 impl EdfEvents {
-    ghost use Rattle.cx_edf.specs.Runs.{AreAllowedEdf};
+    ghost use Rattle.std.specs.List.{AllByRecursion};
+    ghost use Rattle.cx_edf.specs.Runs.{IsAllowedEdf};
 
     pub fn new(alloc: Global) -> EdfEvents {
         EdfEvents {
@@ -95,7 +99,7 @@ impl EdfEvents {
     }
 
     pub fn events(&self) -> &[EdfEvent]
-        ensures { AreAllowedEdf result.now }
+        ensures { AllByRecursion IsAllowedEdf result.now }
     {
         self.events.as_slice()
     }

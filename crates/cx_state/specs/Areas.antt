@@ -1,6 +1,7 @@
 -- The areas of a task, and a program level that begins (this product's own; Application Programmer's Reference Manual,
 -- SC33-0077, "Storage Control", "Program Control").
 use Rattle.std.specs.Prelude.{◌≡◌, ℕ, ◌≤◌, ◌<◌, ◌^◌, List, [], ◌∷◌, Option, Some, None, unwrap_or}
+use Rattle.std.specs.Option.{option_map_or}
 use Rattle.std.specs.Int.{w32, to_be_bytes}
 use Rattle.cx_command.specs.declared.eistg.EistgField.TheVariants.{Eicap}
 use Rattle.cx_command.specs.Eistg.{eistg_field}
@@ -51,32 +52,24 @@ unfoldable pub with_copy_area : Storage → ℕ → Option Copying → Storage
 with_copy_area storage slot None = storage
 with_copy_area storage slot (Some copying) = with_area storage (Some copying.to) copying.from.len (system_owner slot)
 
--- the bytes that are copied, and storage with them in their area
-abbrev pub copied_bytes : Storage → Option Copying → List ℕ
-copied_bytes storage None = []
-copied_bytes storage (Some copying) = bytes_in storage copying.from
-
+-- storage with the bytes that are copied in their area
 unfoldable pub with_copied : Storage → Option Copying → List ℕ → Storage
-with_copied storage None bytes = storage
-with_copied storage (Some copying) bytes = written storage copying.to bytes
+with_copied storage copying bytes = option_map_or (λ copying. written storage copying.to bytes) copying storage
 
 -- ---- a level that begins
--- the address of the COMMAREA, and its length; zero without one
-abbrev pub address_or_zero : Option Piece → ℕ
-address_or_zero None = 0
-address_or_zero (Some piece) = piece.place
-
+-- the length of the COMMAREA; zero without one
 abbrev pub length_or_zero : Option Piece → ℕ
-length_or_zero None = 0
-length_or_zero (Some piece) = piece.len
+length_or_zero commarea = option_map_or (λ piece. piece.len) commarea 0
 
--- storage with an area of zeros for the level's DFHEISTG; and with its DFHEICAP, which has the COMMAREA's address
+-- storage with an area of zeros for the level's DFHEISTG; and with its DFHEICAP, which has the COMMAREA's address, or
+-- zero
 abbrev pub with_stg_area : Storage → ℕ → NewLevel → Storage
 with_stg_area storage slot level = with_area storage (Some level.stg) level.loaded.stg_len (system_owner slot)
 
 unfoldable pub with_cap : Storage → NewLevel → Storage
 with_cap storage level =
-    written storage (along level.stg (eistg_field Eicap).offset) (to_be_bytes w32 (address_or_zero level.commarea))
+    let address = option_map_or (λ piece. piece.place) level.commarea 0 in
+    written storage (along level.stg (eistg_field Eicap).offset) (to_be_bytes w32 address)
 
 -- entry to a program: R3 and R15 hold its entry address, R13 DFHEISTG, R11 the EIB, and all others zero
 unfoldable pub entry_registers : ℕ → ℕ → ℕ → List ℕ

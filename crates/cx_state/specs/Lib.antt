@@ -4,6 +4,7 @@ pub mod Replies
 pub mod Areas
 pub mod Verdicts
 pub mod Facts
+pub mod Parts
 pub use Rattle.cx_call.specs.Inputs
 pub use Rattle.cx_command.specs.Eistg
 pub use Rattle.cx_storage.specs.Address

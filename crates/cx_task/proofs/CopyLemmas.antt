@@ -6,7 +6,7 @@ use Rattle.cx_storage.specs.Storage.{Storage, IsSound}
 use Rattle.cx_state.specs.declared.verdict.Copying.{Copying}
 use Rattle.cx_state.specs.Areas.{system_owner, with_copy_area}
 use Rattle.cx_state.specs.Facts.Areas.{given_back, place_below}
-use Rattle.cx_state.specs.Verdicts.{FitsCopy}
+use Rattle.cx_state.specs.Parts.Fits.{FitsCopy}
 use Rattle.cx_task.specs.Parts.Making.{without_copy}
 
 pub copy_below : (s : Storage) (copying : Option Copying) → FitsCopy copying s → MatchOption copying ⊤ (λ it. it.to < 2 ^ 24)

@@ -19,7 +19,7 @@ use Rattle.cx_task.specs.declared.way.Way.{Way}
 use Rattle.cx_task.specs.declared.way.Way.TheVariants as way
 use Rattle.cx_task.specs.Abends.{Abends, AbendsAt}
 use Rattle.cx_task.specs.Answers.{Answers, Does, LeavesAll, MeetsWith, has_room, way_at}
-use Rattle.cx_task.specs.Performing.{Called, Commanded, Performs, fault_code, list_of}
+use Rattle.cx_task.specs.Performing.{Called, Commanded, Performs, fault_abend, list_of}
 use Rattle.cx_task.specs.Turn.{HalfTurn, Halted, RunsOn}
 use Rattle.cx_task.specs.Ways.{Goes, is_wait}
 
@@ -70,9 +70,9 @@ waits_leave before after half = by_due before.task.due half
     by_inputs call true it = answers_wait it.verdict call before after it.answers
     by_inputs call false abends = never (abend_code abend.Xarg) false before after before abends
 
-    by_call : (r : Result Call CallFault) → MatchResult r (λ call. Called call before turn.Waiting after) (λ fault. Abends (fault_code fault) false before turn.Waiting after) → after ≡ before
+    by_call : (r : Result Call CallFault) → MatchResult r (λ call. Called call before turn.Waiting after) (λ fault. Abends (abend_code (fault_abend fault)) false before turn.Waiting after) → after ≡ before
     by_call (Ok call) called = by_inputs call (are_inputs_there before.shared.storage call) called
-    by_call (Err fault) abends = never (fault_code fault) false before after before abends
+    by_call (Err fault) abends = never (abend_code (fault_abend fault)) false before after before abends
 
     none : (mid : Reach) (how : Halt) → Halted how mid turn.Waiting after → after ≡ before
     none mid halt.AtEntry it = absurd (let no : turn.Waiting ≡ turn.AtCommand = it.0 in cc)

@@ -1,5 +1,8 @@
 -- What is made, written and ended by a command keeps.
 use Rattle.std.proofs.Common.{◌≡◌, ℕ, suc, ◌<◌, ◌≤◌, Option, Some, None, List, [], ◌∷◌, length, refl, ◌∙◌, arith, unwrap_or}
+use Rattle.cx_command.specs.declared.eib.EibField.TheVariants.{Fn, Rcode, Resp}
+use Rattle.std.specs.Option.{option_map}
+use Rattle.std.specs.Int.{to_be_bytes, w16, w32}
 use Rattle.std.specs.Prelude.{⊤}
 use Rattle.cx_command.specs.Eib.{eib_field}
 use Rattle.cx_command.specs.declared.eib.EibField.{EibField}
@@ -12,9 +15,9 @@ use Rattle.cx_program.specs.Handles.{Handles, after_pop}
 use Rattle.cx_call.specs.declared.answer.Answer.{Answer}
 use Rattle.cx_call.specs.declared.listed.Listed.{Listed}
 use Rattle.cx_call.specs.declared.outputs.Output.{Output}
-use Rattle.cx_call.specs.Answer.{answered, fields_of_answer, one_byte, with_eib, with_resp, with_set}
+use Rattle.cx_call.specs.Answer.{answered, with_eib, with_set}
 use Rattle.cx_call.specs.Call.{Call, place_of, resp_place}
-use Rattle.cx_call.specs.Eib.{Content, with_calen, with_field, with_fields}
+use Rattle.cx_call.specs.Eib.{Content, with_calen, with_field, with_fields, content}
 use Rattle.cx_call.specs.Outputs.{bytes_from, put_out, with_output}
 use Rattle.cx_state.specs.declared.verdict.Change.{Change}
 use Rattle.cx_state.specs.declared.verdict.Change.TheVariants.{Nothing, Makes, Ends, Gets, Enters, Replaces, LevelEnds, TaskEnds, AbendsWith}
@@ -27,7 +30,7 @@ use Rattle.cx_state.specs.declared.verdict.Request.TheVariants as request
 use Rattle.cx_state.specs.Areas.{IsAreaOf, entry_level, first_of_tasks, got_owner, last_of_tasks, system_owner, with_cap, with_copied, with_copy_area, with_filled, with_stg_area}
 use Rattle.cx_state.specs.Facts.Areas.{area_put, none_there}
 use Rattle.cx_state.specs.State.{Reach, TaskState}
-use Rattle.cx_state.specs.Verdicts.{FitsChange, FitsCopy, FitsLevel, FitsMade, FitsRequest}
+use Rattle.cx_state.specs.Parts.Fits.{FitsChange, FitsCopy, FitsLevel, FitsMade, FitsRequest}
 use Rattle.cx_task.specs.Changes.{Grown, handled, with_got, with_ignored, with_labels, with_replacement, with_stg}
 use Rattle.cx_task.specs.Laws.HalfTurns.{others_areas}
 use Rattle.cx_task.specs.Sound.{IsSoundLevel, IsSoundTask}
@@ -63,19 +66,14 @@ unfolding with_calen with_field
 calen_areas s eib None = refl
 calen_areas s eib (Some calen) = areas_after_write s (along eib 24) _
 
-resp_areas : (s : Storage) (place : Option ℕ) (condition : ℕ) → areas_of (with_resp s place condition) ≡ areas_of s
-unfolding with_resp
-resp_areas s None condition = refl
-resp_areas s (Some place) condition = areas_after_write s place _
-
 pub answered_areas : (s : Storage) (eib : ℕ) (call : Call) (answer : Answer) → areas_of (answered s eib call answer) ≡ areas_of s
 unfolding answered with_eib
 answered_areas s eib call answer =
-    resp_areas _ (resp_place call) answer.condition
+    output_areas (with_eib s eib answer) (resp_place call) (to_be_bytes w32 answer.condition)
     ∙ calen_areas _ eib answer.calen
-    ∙ set_areas _ eib _ (one_byte answer.aid)
+    ∙ set_areas _ eib _ (option_map (λ byte. byte ∷ []) answer.aid)
     ∙ set_areas _ eib _ answer.resource
-    ∙ fields_areas s eib (fields_of_answer answer)
+    ∙ fields_areas s eib (content Fn (to_be_bytes w16 answer.function) ∷ content Rcode (answer.condition ∷ 0 ∷ 0 ∷ 0 ∷ 0 ∷ 0 ∷ []) ∷ content Resp (to_be_bytes w32 answer.condition) ∷ [])
 
 -- ---- handles
 labels_kept : (listed : List Listed) (handles : Handles) → (with_labels listed handles).kept ≡ handles.kept

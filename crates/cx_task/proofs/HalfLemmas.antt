@@ -24,7 +24,7 @@ use Rattle.cx_state.specs.declared.replies.TurnReply.TheVariants as turn
 use Rattle.cx_state.specs.State.{Reach}
 use Rattle.cx_task.specs.Abends.{Abends}
 use Rattle.cx_task.specs.Laws.HalfTurns.{HalfTurnKeeps}
-use Rattle.cx_task.specs.Performing.{Called, Commanded, Performs, fault_code, list_of}
+use Rattle.cx_task.specs.Performing.{Called, Commanded, Performs, fault_abend, list_of}
 use Rattle.cx_task.specs.Sound.{IsSoundTask}
 use Rattle.cx_task.specs.Turn.{HalfTurn, Halted, RunsOn, after_machine, at_command, machine_of, most_steps}
 use Rattle.cx_task.proofs.MidLemmas.{Mid, abend_keeps, begins, goes_on}
@@ -99,10 +99,10 @@ commanded_keeps before after reply ok programs queues own commanded = by_call (c
     by_inputs call low false e abends = abend_keeps (abend_code abend.Xarg) false before before after reply (begins before ok own) abends
 
     by_call : (r : Result Call CallFault) → call_of before.shared.storage (list_of before.task) ≡ r
-        → MatchResult r (λ call. Called call before reply after) (λ fault. Abends (fault_code fault) false before reply after) → HalfTurnKeeps before reply after
+        → MatchResult r (λ call. Called call before reply after) (λ fault. Abends (abend_code (fault_abend fault)) false before reply after) → HalfTurnKeeps before reply after
     by_call (Ok call) e called =
         by_inputs call (call_low before.shared.storage (list_of before.task) call e) (are_inputs_there before.shared.storage call) refl called
-    by_call (Err fault) e abends = abend_keeps (fault_code fault) false before before after reply (begins before ok own) abends
+    by_call (Err fault) e abends = abend_keeps (abend_code (fault_abend fault)) false before before after reply (begins before ok own) abends
 
 -- ---- instructions
 runs_keep : (before after : Reach) (reply : TurnReply) → IsSoundStorage before.shared.storage
@@ -129,7 +129,7 @@ runs_keep before after reply ok own runs = by_halt runs.how (rw (runs.rest) at r
           task = record { eib = own.eib; current = own.current; callers = own.callers; few = own.few; apart = own.apart };
         }
 
-    stopped : Owns 15 before.station.slot before.shared.storage mid.task.eib (at_command mid).task.levels.callers (at_command mid).task.levels.current
+    stopped : Owns 15 before.station.slot before.shared.storage mid.task.eib (record mid { task = at_command mid.task }).task.levels.callers (record mid { task = at_command mid.task }).task.levels.current
     stopped =
         record {
           eib_there = own.eib;
@@ -140,7 +140,7 @@ runs_keep before after reply ok own runs = by_halt runs.how (rw (runs.rest) at r
         }
 
     by_halt : (how : Halt) → Halted how mid reply after → HalfTurnKeeps before reply after
-    by_halt halt.AtEntry it = rw (it.0, it.1) (goes_on before mid (at_command mid) turn.AtCommand held refl refl refl refl before.shared.storage areas refl stopped)
+    by_halt halt.AtEntry it = rw (it.0, it.1) (goes_on before mid (record mid { task = at_command mid.task }) turn.AtCommand held refl refl refl refl before.shared.storage areas refl stopped)
     by_halt (halt.Interrupt cause place) abends = abend_keeps (abend_code abend.Asra) false before mid after reply held abends
     by_halt halt.Limit abends = abend_keeps (abend_code abend.Aica) false before mid after reply held abends
 

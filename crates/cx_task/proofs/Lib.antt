@@ -16,3 +16,4 @@ mod DecideLemmas
 mod TurnDecide
 mod TroubleLemmas
 pub mod StayLemmas
+pub mod DueLemmas

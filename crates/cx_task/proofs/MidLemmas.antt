@@ -1,5 +1,5 @@
 -- What the steps of a half-turn keep, one after another.
-use Rattle.std.proofs.Common.{◌≡◌, ℕ, Bool, true, false, Option, Some, None, List, refl, sym, ◌∙◌, ap, subst}
+use Rattle.std.proofs.Common.{◌≡◌, ℕ, Bool, true, false, Option, Some, None, List, refl, sym, ◌∙◌, ap, subst, ◌-◌, length}
 use Rattle.cx_storage.specs.Storage.{Storage, areas_of, is_of_other_slot, with_areas_kept, IsSound as IsSoundStorage}
 use Rattle.cx_storage.specs.Address.{along}
 use Rattle.cx_storage.specs.Facts.Writes.{areas_after_write}
@@ -10,7 +10,7 @@ use Rattle.cx_state.specs.declared.replies.TurnReply.{TurnReply}
 use Rattle.cx_state.specs.declared.replies.TurnReply.TheVariants as turn
 use Rattle.cx_state.specs.Replies.{is_over}
 use Rattle.cx_state.specs.State.{Reach, SharedState, TaskState}
-use Rattle.cx_task.specs.Abends.{Abends, AbendsAt, abended, below, exit_storage, exit_task, exit_taken, task_ended, unwound}
+use Rattle.cx_task.specs.Abends.{Abends, AbendsAt, abended, exit_storage, exit_task, exit_taken, task_ended, unwound}
 use Rattle.cx_task.specs.Laws.HalfTurns.{HalfTurnKeeps, others_areas}
 use Rattle.cx_task.specs.Sound.{IsSoundTask}
 use Rattle.cx_task.proofs.OwnAreas.{areas_filtered, freed_twice}
@@ -94,7 +94,7 @@ abend_keeps code cancel start mid after reply held abends = by_exit abends.exit 
     by_exit : (o : Option ℕ) → AbendsAt o code mid reply after → HalfTurnKeeps start reply after
     by_exit None over = rw (over.0, over.1) (ends start mid (abended mid) (turn.Abended code) held refl refl refl)
     by_exit (Some index) over =
-        let n = below task.levels index in
+        let n = length task.levels.callers - index in
         let left = unwound_left 15 mine n held.storage task.eib task.levels.callers task.levels.current held.sound (owns_of mine held.storage task held.task) in
         let same = unwound_same n task.levels.callers task.levels.current held.storage mid.shared.storage held.same in
         let now = unwound n task.levels.callers task.levels.current mid.shared.storage in

@@ -12,7 +12,7 @@ use Rattle.cx_state.specs.declared.verdict.Ended.TheVariants.{TakesInput, ReadOf
 use Rattle.cx_state.specs.declared.verdict.Fill.{Fill}
 use Rattle.cx_state.specs.declared.verdict.Fill.TheVariants.{Byte, Item}
 use Rattle.cx_state.specs.State.{Reach}
-use Rattle.cx_state.specs.Verdicts.{FitsChange, FitsEnded, FitsFill}
+use Rattle.cx_state.specs.Parts.Fits.{FitsChange, FitsEnded, FitsFill}
 use Rattle.cx_task.specs.Changes.{Grown, given, reported}
 use Rattle.cx_task.specs.Parts.Making.{MatchEnded, MatchFill, MatchFinished}
 

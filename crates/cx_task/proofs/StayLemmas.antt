@@ -30,7 +30,7 @@ use Rattle.cx_task.specs.Abends.{Abends, AbendsAt}
 use Rattle.cx_task.specs.Answers.{Answers, Does, LeavesAll, MeetsWith, has_room, way_at}
 use Rattle.cx_task.specs.Changes.{Grown, Settles, finished, given, read_for, reported}
 use Rattle.cx_task.specs.Laws.HalfTurns.{HalfTurnStays, is_of_task}
-use Rattle.cx_task.specs.Performing.{Called, Commanded, Performs, fault_code, list_of}
+use Rattle.cx_task.specs.Performing.{Called, Commanded, Performs, fault_abend, list_of}
 use Rattle.cx_task.specs.Turn.{HalfTurn, Halted, RunsOn}
 use Rattle.cx_task.specs.Ways.{Goes, entered, is_wait, replaced, returned, returned_to}
 
@@ -169,9 +169,9 @@ half_turn_stays before after reply half = by_due before.task.due half
     by_inputs call true it = answers_stay it.verdict call before after reply it.answers
     by_inputs call false it = abends (abend_code abend.Xarg) it
 
-    by_call : (r : Result Call CallFault) → MatchResult r (λ call. Called call before reply after) (λ fault. Abends (fault_code fault) false before reply after) → HalfTurnStays before reply after
+    by_call : (r : Result Call CallFault) → MatchResult r (λ call. Called call before reply after) (λ fault. Abends (abend_code (fault_abend fault)) false before reply after) → HalfTurnStays before reply after
     by_call (Ok call) called = by_inputs call (are_inputs_there before.shared.storage call) called
-    by_call (Err fault) it = abends (fault_code fault) it
+    by_call (Err fault) it = abends (abend_code (fault_abend fault)) it
 
     by_halt : (mid : Reach) (how : Halt) → Same before mid → Halted how mid reply after → HalfTurnStays before reply after
     by_halt mid halt.AtEntry same it = stays_at before after reply turn.AtCommand (same_at before _ after it.1 (record { slot = same.slot; programs = same.programs })) it.0 refl

@@ -1,5 +1,8 @@
 -- Why a half-turn leads to an abend is told in one way, and explains its reply.
 use Rattle.std.proofs.Common.{◌≡◌, ℕ, Bool, true, false, Option, Some, None, List, refl, sym, ◌∙◌, subst}
+use Rattle.cx_command.specs.declared.conditions.Condition.TheVariants.{Error}
+use Rattle.std.specs.Result.{result_ok}
+use Rattle.cx_program.specs.Entries.{entry_for}
 use Rattle.std.specs.Prelude.{Result, Ok, Err, MatchBool, MatchResult, if◌then◌else◌, ⊤, ◌||◌, is_some}
 use Rattle.std.specs.Option.{option_map}
 use Rattle.cx_command.specs.Abends.{abend_code}
@@ -16,9 +19,8 @@ use Rattle.cx_program.specs.declared.choice.Choice.TheVariants as choice
 use Rattle.cx_program.specs.declared.entries.Entries.{Entries}
 use Rattle.cx_program.specs.declared.entries.Entry.{Entry}
 use Rattle.cx_program.specs.declared.entries.Entry.TheVariants as entry
-use Rattle.cx_program.specs.Handles.{abend_code as condition_code, choice as choice_by, choice_by_error, choice_by_own, waits}
+use Rattle.cx_program.specs.Handles.{abend_code as condition_code, choice as choice_by, choice_by_entry, waits}
 use Rattle.cx_call.specs.declared.call.CallFault.{CallFault}
-use Rattle.cx_call.specs.declared.call.CallFault.TheVariants as fault
 use Rattle.cx_call.specs.declared.outputs.Output.{Output}
 use Rattle.cx_command.specs.Arguments.{has_option}
 use Rattle.cx_command.specs.declared.options.OptionName.TheVariants.{Nosuspend}
@@ -37,9 +39,9 @@ use Rattle.cx_task.specs.declared.way.Way.{Way}
 use Rattle.cx_task.specs.declared.way.Way.TheVariants as way
 use Rattle.cx_task.specs.Abends.{Abends, AbendsAt}
 use Rattle.cx_task.specs.Answers.{Answers, Does, LeavesAll, MeetsWith, has_room, way_at}
-use Rattle.cx_task.specs.Causes.{CauseJudged, CauseOfCall, CauseOfRead, CommandTroubled, RunTroubled, Troubled, command_in, fault_abend, halt_cause, read_of, trouble_with, verdict_cause, way_cause}
+use Rattle.cx_task.specs.Causes.{CauseJudged, CauseOfCall, CommandTroubled, RunTroubled, Troubled, halt_cause, read_of, trouble_with, verdict_cause, way_cause}
 use Rattle.cx_task.specs.Laws.Troubles.{Explains, IsCodeOf, TroublesDecide, TroublesExplain}
-use Rattle.cx_task.specs.Performing.{Called, Commanded, Performs, fault_code}
+use Rattle.cx_task.specs.Performing.{Called, Commanded, Performs, fault_abend}
 use Rattle.cx_task.specs.Turn.{HalfTurn, Halted, RunsOn, machine_of, most_steps}
 use Rattle.cx_task.specs.Ways.{Goes, choice_for, choice_unhandled, is_normal, is_wait, way_by, way_chosen, way_of, without_wait}
 
@@ -55,7 +57,9 @@ judged_once once call before one other h k = by_inputs (are_inputs_there before.
         it.is ∙ (rw same refl) ∙ sym that.is
     by_inputs false it that = it ∙ sym that
 
-read_once : JudgedOnce → (read : Result Call CallFault) (before : Reach) (one other : Option Cause) → CauseOfRead read before one → CauseOfRead read before other → one ≡ other
+read_once : JudgedOnce → (read : Result Call CallFault) (before : Reach) (one other : Option Cause)
+    → MatchResult read (λ call. CauseOfCall call before one) (λ fault. one ≡ Some (cause.Refused (fault_abend fault)))
+    → MatchResult read (λ call. CauseOfCall call before other) (λ fault. other ≡ Some (cause.Refused (fault_abend fault))) → one ≡ other
 read_once once (Ok call) before one other h k = judged_once once call before one other h k
 read_once once (Err fault) before one other h k = h ∙ sym k
 
@@ -82,23 +86,20 @@ abbrev Codes : Choice → Condition → Type 0
 Codes (choice.Abend code) condition = code ≡ condition_code condition
 Codes _ condition = ⊤
 
-error_codes : (e : Entry) (condition : Condition) → Codes (choice_by_error e condition) condition
-error_codes (entry.Label label) condition = tt
-error_codes entry.Ignored condition = tt
-error_codes entry.NoEntry condition = refl
-
-own_codes : (own error : Entry) (condition : Condition) → Codes (choice_by_own own error condition) condition
-own_codes (entry.Label label) error condition = tt
-own_codes entry.Ignored error condition = tt
-own_codes entry.NoEntry error condition = go (waits condition)
-  where
-    go : (b : Bool) → Codes (if b then choice.Wait else choice_by_error error condition) condition
-    go true = tt
-    go false = error_codes error condition
+entry_codes : (e : Entry) (otherwise : Choice) (condition : Condition) → Codes otherwise condition → Codes (choice_by_entry e otherwise) condition
+entry_codes (entry.Label label) otherwise condition codes = tt
+entry_codes entry.Ignored otherwise condition codes = tt
+entry_codes entry.NoEntry otherwise condition codes = codes
 
 by_codes : (entries : Entries) (condition : Condition) → Codes (choice_by entries condition) condition
 unfolding choice_by
-by_codes entries condition = own_codes _ _ condition
+by_codes entries condition =
+    entry_codes (entry_for entries condition)
+    (if waits condition then choice.Wait else choice_by_entry (entry_for entries Error) (choice.Abend (condition_code condition))) condition (go (waits condition))
+  where
+    go : (b : Bool) → Codes (if b then choice.Wait else choice_by_entry (entry_for entries Error) (choice.Abend (condition_code condition))) condition
+    go true = tt
+    go false = entry_codes (entry_for entries Error) (choice.Abend (condition_code condition)) condition refl
 
 unhandled_codes : (condition : Condition) → Codes (choice_unhandled condition) condition
 unhandled_codes condition = go (waits condition)
@@ -227,16 +228,12 @@ explains_call once command m call before after reply why called causes = by_inpu
         rw is (explains_verdict command m it.verdict call before after reply it.answers)
     by_inputs false it that = rw that (explains_abend command m (cause.Refused abend.Xarg) (abend_code abend.Xarg) false before after reply refl it)
 
-fault_codes : (f : CallFault) → IsCodeOf (cause.Refused (fault_abend f)) (fault_code f)
-fault_codes fault.Xarg = refl
-fault_codes fault.Xfun = refl
-
 explains_read : JudgedOnce → (command : Option Command) (m : Machine) (read : Result Call CallFault) (before after : Reach) (reply : TurnReply) (why : Option Cause)
-    → MatchResult read (λ call. Called call before reply after) (λ f. Abends (fault_code f) false before reply after)
-    → CauseOfRead read before why → Explains (option_map (trouble_with command m) why) reply
+    → MatchResult read (λ call. Called call before reply after) (λ f. Abends (abend_code (fault_abend f)) false before reply after)
+    → MatchResult read (λ call. CauseOfCall call before why) (λ fault. why ≡ Some (cause.Refused (fault_abend fault))) → Explains (option_map (trouble_with command m) why) reply
 explains_read once command m (Ok call) before after reply why it that = explains_call once command m call before after reply why it that
 explains_read once command m (Err f) before after reply why it that =
-    rw that (explains_abend command m (cause.Refused (fault_abend f)) (fault_code f) false before after reply (fault_codes f) it)
+    rw that (explains_abend command m (cause.Refused (fault_abend f)) (abend_code (fault_abend f)) false before after reply refl it)
 
 explains_halt : (m : Machine) (how : Halt) (between after : Reach) (reply : TurnReply) → Halted how between reply after → Explains (option_map (trouble_with None m) (halt_cause how)) reply
 unfolding Halted
@@ -257,5 +254,5 @@ troubles_explain runs once before after reply trouble h k = by_due before.task.d
   where
     by_due : (b : Bool) → MatchBool b (Commanded before reply after) (RunsOn before reply after) → MatchBool b (CommandTroubled before trouble) (RunTroubled before trouble) → Explains trouble reply
     by_due true it that =
-        rw that.is (explains_read once (command_in (read_of before)) (machine_of before) (read_of before) before after reply that.why it that.causes)
+        rw that.is (explains_read once (option_map (λ call. call.command) (result_ok (read_of before))) (machine_of before) (read_of before) before after reply that.why it that.causes)
     by_due false it that = explains_run runs before after reply trouble it that

@@ -29,9 +29,9 @@ use Rattle.cx_task.specs.declared.way.Way.{Way}
 use Rattle.cx_task.specs.declared.way.Way.TheVariants as way
 use Rattle.cx_task.specs.Abends.{Abends, AbendsAt, IsExit}
 use Rattle.cx_task.specs.Answers.{Answers, Does, LeavesAll, MeetsWith, has_room, way_at}
-use Rattle.cx_task.specs.Changes.{Grown, finished, given, report_of, reported, with_screen}
+use Rattle.cx_task.specs.Changes.{Grown, finished, given, report_of, reported}
 use Rattle.cx_task.specs.Laws.HalfTurns.{HalfTurnsDecide}
-use Rattle.cx_task.specs.Performing.{Called, Commanded, Performs, fault_code, list_of}
+use Rattle.cx_task.specs.Performing.{Called, Commanded, Performs, fault_abend, list_of}
 use Rattle.cx_task.specs.Turn.{HalfTurn, Halted, RunsOn, after_machine, machine_of, most_steps}
 use Rattle.cx_task.specs.Ways.{Goes, is_wait}
 
@@ -64,7 +64,7 @@ made_decides shown (made.ItemAt name n piece) before a b h k = h ∙ sym k
 made_decides shown (made.Enqueues resource) before a b h k = h ∙ sym k
 made_decides shown (made.Handles request) before a b h k = h ∙ sym k
 made_decides shown (made.Shows piece erase) before a b h k =
-    h.others ∙ ap (with_screen before) (shown before.station.screen (bytes_in before.shared.storage piece) erase a.station.screen b.station.screen h.text k.text) ∙ sym k.others
+    h.others ∙ ap (λ (screen : List (List ℕ)). record before { station = record before.station { screen = screen } }) (shown before.station.screen (bytes_in before.shared.storage piece) erase a.station.screen b.station.screen h.text k.text) ∙ sym k.others
 
 grown_decides : ShownOnce → (change : Change) (before a b : Reach) → Grown change before a → Grown change before b → a ≡ b
 unfolding Grown
@@ -147,10 +147,10 @@ half_turns_decide runs shown judged before a b p q h k = by_due before.task.due 
     by_inputs call true one two = performs_decide shown judged call before p q a b one two
     by_inputs call false one two = abends_decide (abend_code abend.Xarg) false before p q a b one two
 
-    by_call : (r : Result Call CallFault) → MatchResult r (λ call. Called call before p a) (λ fault. Abends (fault_code fault) false before p a)
-        → MatchResult r (λ call. Called call before q b) (λ fault. Abends (fault_code fault) false before q b) → Same p q a b
+    by_call : (r : Result Call CallFault) → MatchResult r (λ call. Called call before p a) (λ fault. Abends (abend_code (fault_abend fault)) false before p a)
+        → MatchResult r (λ call. Called call before q b) (λ fault. Abends (abend_code (fault_abend fault)) false before q b) → Same p q a b
     by_call (Ok call) one two = by_inputs call (are_inputs_there before.shared.storage call) one two
-    by_call (Err fault) one two = abends_decide (fault_code fault) false before p q a b one two
+    by_call (Err fault) one two = abends_decide (abend_code (fault_abend fault)) false before p q a b one two
 
     by_due : (due : Bool) → MatchBool due (Commanded before p a) (RunsOn before p a) → MatchBool due (Commanded before q b) (RunsOn before q b) → Same p q a b
     by_due true one two = by_call (call_of before.shared.storage (list_of before.task)) one two

@@ -29,7 +29,8 @@ use Rattle.cx_state.specs.declared.verdict.Verdict.{Verdict}
 use Rattle.cx_state.specs.declared.verdict.Verdict.TheVariants.{Refuses, Waits, Meets}
 use Rattle.cx_state.specs.Areas.{IsAreaOf, got_owner, system_owner}
 use Rattle.cx_state.specs.State.{Reach, TaskState}
-use Rattle.cx_state.specs.Verdicts.{Fits, FitsChange, FitsEnded, handed_over}
+use Rattle.cx_state.specs.Parts.Fits.{Fits, FitsChange, FitsEnded}
+use Rattle.cx_state.specs.Verdicts.{handed_over}
 use Rattle.cx_task.specs.Abends.{Abends}
 use Rattle.cx_task.specs.Answers.{Answers, Does, LeavesAll, MeetsWith, has_room, way_at}
 use Rattle.cx_task.specs.Changes.{Grown, Settles, finished, given, read_for, report_of, reported}

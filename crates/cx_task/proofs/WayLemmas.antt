@@ -17,7 +17,7 @@ use Rattle.cx_state.specs.declared.verdict.Fill.TheVariants.{Byte, Item}
 use Rattle.cx_state.specs.declared.verdict.Made.{Made}
 use Rattle.cx_state.specs.declared.verdict.Made.TheVariants as made
 use Rattle.cx_state.specs.State.{Reach}
-use Rattle.cx_state.specs.Verdicts.{FitsChange}
+use Rattle.cx_state.specs.Parts.Fits.{FitsChange}
 use Rattle.cx_task.specs.declared.way.Way.{Way}
 use Rattle.cx_task.specs.declared.way.Way.TheVariants as way
 use Rattle.cx_task.specs.Changes.{Grown, Settles, finished, given, read_for, reported}

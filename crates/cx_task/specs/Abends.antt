@@ -1,6 +1,6 @@
 -- An abend (Application Programmer's Reference Manual, SC33-0077, "HANDLE ABEND", "ABEND"): the nearest exit that is on
 -- takes it, from the current level upward; without one the task ends.
-use Rattle.std.specs.Prelude.{◌≡◌, ℕ, zero, suc, ◌-◌, Bool, true, false, List, [], ◌∷◌, length, slice_set, Option, Some, None, unwrap_or}
+use Rattle.std.specs.Prelude.{◌≡◌, ℕ, suc, ◌-◌, Bool, true, false, List, ◌∷◌, length, slice_set, Option, Some, None, unwrap_or}
 use Rattle.cx_storage.specs.Address.{address_in}
 use Rattle.cx_storage.specs.Storage.{Storage, is_of_other_slot, starts_elsewhere, with_areas_kept}
 use Rattle.cx_program.specs.declared.level.Level.{Level}
@@ -41,45 +41,34 @@ pub record Unwound : Type 0 where
 -- as many levels end as the number says, the current one first; each one's DFHEISTG is freed, and its caller is the
 -- current level then
 unfoldable pub unwound : ℕ → List Level → Level → Storage → Unwound
-unwound zero callers current storage = record { levels = record { callers = callers; current = current }; storage = storage }
-unwound (suc n) [] current storage = record { levels = record { callers = []; current = current }; storage = storage }
 unwound (suc n) (caller ∷ callers) current storage = unwound n callers caller (without_stg current storage)
-
--- the levels below the one at an index, counted from 0, the highest
-abbrev pub below : Levels → ℕ → ℕ
-below levels index = length levels.callers - index
-
--- the label of the level's exit
-abbrev pub exit_label : Level → ℕ
-exit_label level = unwrap_or (label_on level.handles.active.exit) 0
+unwound _ callers current storage = record { levels = record { callers = callers; current = current }; storage = storage }
 
 -- the level with its exit turned off
 abbrev pub with_exit_off : Level → Level
 with_exit_off level = record level { handles = put_exit level.handles (turned_off level.handles.active.exit) }
 
--- the task with its current level's exit taken: the registers and code that the level kept, R15 the label, and next the
--- label; the exit is off, and no command is due
-abbrev pub at_exit : TaskState → Levels → TaskState
-at_exit task levels =
-    record task {
-      levels = with_current levels (with_exit_off levels.current);
-      regs = slice_set levels.current.regs 15 (exit_label levels.current);
-      cc = levels.current.cc;
-      next = address_in (exit_label levels.current);
-      due = false;
-    }
-
--- the levels and storage that are left where the levels below the one at an index have ended
+-- what is left where the levels below the one at an index, counted from 0, the highest, have ended
 abbrev pub left_at : ℕ → TaskState → Storage → Unwound
-left_at index task storage = unwound (below task.levels index) task.levels.callers task.levels.current storage
+left_at index task storage = unwound (length task.levels.callers - index) task.levels.callers task.levels.current storage
 
--- the exit of the level at an index takes the abend: the levels below it end, and EIBCALEN is the level's length
+-- The exit of the level at an index takes the abend: the levels below it end. EIBCALEN is the level's length; the task has
+-- the registers and code that the level kept, R15 the label, and next the label; the exit is off, and no command is due.
 unfoldable pub exit_storage : ℕ → TaskState → Storage → Storage
 exit_storage index task storage =
     let left = left_at index task storage in with_calen left.storage task.eib (Some left.levels.current.calen)
 
 unfoldable pub exit_task : ℕ → TaskState → Storage → TaskState
-exit_task index task storage = at_exit task (left_at index task storage).levels
+exit_task index task storage =
+    let levels = (left_at index task storage).levels in
+    let label = unwrap_or (label_on levels.current.handles.active.exit) 0 in
+    record task {
+      levels = with_current levels (with_exit_off levels.current);
+      regs = slice_set levels.current.regs 15 label;
+      cc = levels.current.cc;
+      next = address_in label;
+      due = false;
+    }
 
 abbrev pub exit_taken : ℕ → Reach → Reach
 exit_taken index r =

@@ -1,18 +1,17 @@
 -- Why a half-turn of a task leads to an abend (own): the cause by which it is dealt with, and what the task had before that.
-use Rattle.std.specs.Prelude.{◌≡◌, ℕ, if◌then◌else◌, List, [], ◌∷◌, map, Option, Some, None, Result, Ok, Err, MatchBool}
+use Rattle.std.specs.Prelude.{◌≡◌, if◌then◌else◌, [], ◌∷◌, map, Option, Some, None, Result, MatchBool, MatchResult}
 use Rattle.std.specs.Option.{option_map}
-use Rattle.cx_command.specs.declared.abends.Abend.{Abend}
+use Rattle.std.specs.Result.{result_ok}
 use Rattle.cx_command.specs.declared.abends.Abend.TheVariants as abend
 use Rattle.cx_command.specs.declared.commands.Command.{Command}
 use Rattle.cx_command.specs.declared.conditions.Condition.{Condition}
 use Rattle.cx_storage.specs.Address.{along}
-use Rattle.cx_storage.specs.Storage.{Storage, byte_at}
+use Rattle.cx_storage.specs.Storage.{byte_at}
 use Rattle.cx_exec.specs.declared.machine.Halt.{Halt}
 use Rattle.cx_exec.specs.declared.machine.Halt.TheVariants as halt
 use Rattle.cx_exec.specs.Machine.{Machine}
 use Rattle.cx_exec.specs.Advance.{Advances}
 use Rattle.cx_call.specs.declared.call.CallFault.{CallFault}
-use Rattle.cx_call.specs.declared.call.CallFault.TheVariants.{Xarg, Xfun}
 use Rattle.cx_call.specs.Call.{Call, call_of}
 use Rattle.cx_call.specs.Inputs.{are_inputs_there}
 use Rattle.cx_state.specs.declared.verdict.Verdict.{Verdict}
@@ -25,19 +24,15 @@ use Rattle.cx_task.specs.declared.cause.Trouble.{Trouble}
 use Rattle.cx_task.specs.declared.way.Way.{Way}
 use Rattle.cx_task.specs.declared.way.Way.TheVariants as way
 use Rattle.cx_task.specs.Answers.{has_room, way_at}
-use Rattle.cx_task.specs.Performing.{list_of}
+use Rattle.cx_task.specs.Performing.{fault_abend, list_of}
 use Rattle.cx_task.specs.Turn.{machine_of, most_steps}
 use Rattle.cx_task.specs.Ways.{is_normal}
 
--- ---- what a task has
--- the six bytes from an address on, each where it is in storage
-abbrev pub bytes_from : Storage → ℕ → List (Option ℕ)
-bytes_from s a = map (λ k. byte_at s (along a k)) (0 ∷ 1 ∷ 2 ∷ 3 ∷ 4 ∷ 5 ∷ [])
-
--- a cause, with what the machine has; none where there is no cause
+-- a cause, with what the machine has, and the six bytes from its next address on, each where it is in storage
 abbrev pub trouble_with : Option Command → Machine → Cause → Trouble
 trouble_with command m why =
-    record { cause = why; command = command; regs = m.regs; cc = m.cc; next = m.next; bytes = bytes_from m.storage m.next }
+    let bytes = map (λ k. byte_at m.storage (along m.next k)) (0 ∷ 1 ∷ 2 ∷ 3 ∷ 4 ∷ 5 ∷ []) in
+    record { cause = why; command = command; regs = m.regs; cc = m.cc; next = m.next; bytes = bytes }
 
 -- ---- causes
 -- by how the instructions ended
@@ -68,30 +63,19 @@ unfoldable pub CauseOfCall : Call → Reach → Option Cause → Type 0
 CauseOfCall call before why =
     MatchBool (are_inputs_there before.shared.storage call) (CauseJudged call before why) (why ≡ Some (cause.Refused abend.Xarg))
 
-abbrev pub fault_abend : CallFault → Abend
-fault_abend Xarg = abend.Xarg
-fault_abend Xfun = abend.Xfun
-
--- by what the argument list reads as: a fault of it refuses the command
-abbrev pub CauseOfRead : Result Call CallFault → Reach → Option Cause → Type 0
-CauseOfRead (Ok call) before why = CauseOfCall call before why
-CauseOfRead (Err fault) before why = why ≡ Some (cause.Refused (fault_abend fault))
-
 -- ---- troubles
--- the command, where the argument list can be read
-abbrev pub command_in : Result Call CallFault → Option Command
-command_in (Ok call) = Some call.command
-command_in (Err fault) = None
-
 -- the command that is due as its argument list is read
 abbrev pub read_of : Reach → Result Call CallFault
 read_of r = call_of r.shared.storage (list_of r.task)
 
--- of a command that is due
+-- of a command that is due: an argument list that can't be read refuses it, and then it has no name
 pub record CommandTroubled (before : Reach) (trouble : Option Trouble) : Type 0 where
   pub why : Option Cause
-  pub causes : CauseOfRead (read_of before) before why
-  pub is : trouble ≡ option_map (trouble_with (command_in (read_of before)) (machine_of before)) why
+  pub causes :
+      MatchResult (read_of before) (λ call. CauseOfCall call before why)
+      (λ fault. why ≡ Some (cause.Refused (fault_abend fault)))
+  pub is :
+      trouble ≡ option_map (trouble_with (option_map (λ call. call.command) (result_ok (read_of before))) (machine_of before)) why
 
 -- of instructions that run
 pub record RunTroubled (before : Reach) (trouble : Option Trouble) : Type 0 where

@@ -1,14 +1,13 @@
 -- What each change of a command does (Application Programmer's Reference Manual, SC33-0077, the section of each command).
 -- What is made is made before the outputs are written, and what is ended or freed after RESP's word.
 use Rattle.std.specs.Prelude.{◌≡◌, ℕ, Bool, true, false, List, [], ◌∷◌, replicate, slice_get, Option, Some, None, is_some, unwrap_or}
-use Rattle.std.specs.Option.{option_map}
+use Rattle.std.specs.Option.{option_map, option_map_or}
 use Rattle.cx_ebcdic.specs.Aids.{key_of}
 use Rattle.cx_command.specs.declared.commands.Command.TheVariants.{Link}
 use Rattle.cx_command.specs.declared.conditions.Condition.{Condition}
 use Rattle.cx_command.specs.Commands.{row_of}
 use Rattle.cx_command.specs.Conditions.{entry_of}
 use Rattle.cx_storage.specs.Storage.{Storage, starts_elsewhere, with_areas_kept}
-use Rattle.cx_program.specs.declared.entries.Entry.{Entry}
 use Rattle.cx_program.specs.declared.entries.Entry.TheVariants as entry
 use Rattle.cx_program.specs.declared.entries.Exit.TheVariants.{On}
 use Rattle.cx_program.specs.Entries.{turned_off, turned_on}
@@ -36,8 +35,8 @@ use Rattle.cx_state.specs.declared.verdict.NewLevel.{NewLevel}
 use Rattle.cx_state.specs.declared.verdict.Next.{Next}
 use Rattle.cx_state.specs.declared.verdict.Request.{Request}
 use Rattle.cx_state.specs.declared.verdict.Request.TheVariants as request
-use Rattle.cx_state.specs.State.{Following, Input, Reach, TaskState, with_storage}
-use Rattle.cx_state.specs.Areas.{bytes_in, copied_bytes, got_owner, length_or_zero, with_cap, with_copied, with_copy_area, with_filled, with_stg_area}
+use Rattle.cx_state.specs.State.{Following, Reach, TaskState, with_storage}
+use Rattle.cx_state.specs.Areas.{bytes_in, got_owner, length_or_zero, with_cap, with_copied, with_copy_area, with_filled, with_stg_area}
 use Rattle.cx_state.specs.Verdicts.{handed_over}
 
 -- ---- the parts that a change replaces
@@ -47,27 +46,15 @@ with_queues r queues = record r { shared = record r.shared { queues = queues } }
 abbrev pub with_resources : Reach → Resources → Reach
 with_resources r resources = record r { shared = record r.shared { resources = resources } }
 
-abbrev pub with_screen : Reach → List (List ℕ) → Reach
-with_screen r screen = record r { station = record r.station { screen = screen } }
-
-abbrev pub with_input : Reach → Option Input → Reach
-with_input r input = record r { station = record r.station { input = input } }
-
-abbrev pub with_following : Reach → Option Following → Reach
-with_following r following = record r { station = record r.station { following = following } }
-
 abbrev pub with_handles : TaskState → Handles → TaskState
 with_handles task handles = record task { levels = with_current task.levels (record task.levels.current { handles = handles }) }
 
 -- ---- handles
 -- HANDLE CONDITION: a label takes control; without one the condition has no entry any more
-abbrev pub entry_asked : Option ℕ → Entry
-entry_asked None = entry.NoEntry
-entry_asked (Some label) = entry.Label label
-
 unfoldable pub with_labels : List Listed → Handles → Handles
 with_labels [] handles = handles
-with_labels (listed ∷ rest) handles = with_labels rest (put_entry handles listed.condition (entry_asked listed.label))
+with_labels (listed ∷ rest) handles =
+    with_labels rest (put_entry handles listed.condition (option_map_or entry.Label listed.label entry.NoEntry))
 
 -- IGNORE CONDITION
 unfoldable pub with_ignored : List Listed → Handles → Handles
@@ -88,7 +75,7 @@ handled request.ExitOn handles = put_exit handles (turned_on handles.active.exit
 -- the text is shown, and nothing else changes
 pub record Shown (piece : Piece) (erase : Bool) (before after : Reach) : Type 0 where
   pub text : ShowsText before.station.screen (bytes_in before.shared.storage piece) erase after.station.screen
-  pub others : after ≡ with_screen before after.station.screen
+  pub others : after ≡ record before { station = record before.station { screen = after.station.screen } }
 
 -- what an area is filled with
 abbrev pub fill_bytes : Fill → ℕ → Queues → List ℕ
@@ -98,15 +85,10 @@ fill_bytes (Item name n) len queues = unwrap_or (item_of queues name n) []
 unfoldable pub with_got : Storage → Queues → ℕ → Got → Storage
 with_got storage queues slot got = with_filled storage got.place got.len (got_owner slot) (fill_bytes got.fill got.len queues)
 
--- the COMMAREA's bytes; none without one
-abbrev pub bytes_or_none : Storage → Option Piece → List ℕ
-bytes_or_none storage None = []
-bytes_or_none storage (Some piece) = bytes_in storage piece
-
--- the next transaction, with the COMMAREA's bytes
+-- the next transaction, with the COMMAREA's bytes; none without one
 unfoldable pub kept_next : Storage → Option Next → Option Following
-kept_next storage None = None
-kept_next storage (Some next) = Some (record { tran = next.tran; commarea = bytes_or_none storage next.commarea })
+kept_next storage next =
+    option_map (λ next. record { tran = next.tran; commarea = option_map_or (bytes_in storage) next.commarea [] }) next
 
 -- storage with the DFHEISTG of a level that begins
 unfoldable pub with_stg : Storage → ℕ → NewLevel → Storage
@@ -115,7 +97,8 @@ with_stg storage slot level = with_cap (with_stg_area storage slot level) level
 -- storage with the areas of a level that begins in place of another: the copy of its COMMAREA, and its DFHEISTG
 unfoldable pub with_replacement : Storage → ℕ → Option Copying → NewLevel → Storage
 with_replacement storage slot copying level =
-    with_cap (with_copied (with_stg_area (with_copy_area storage slot copying) slot level) copying (copied_bytes storage copying)) level
+    let bytes = option_map_or (λ copying. bytes_in storage copying.from) copying [] in
+    with_cap (with_copied (with_stg_area (with_copy_area storage slot copying) slot level) copying bytes) level
 
 -- what is made
 unfoldable pub Grown : Change → Reach → Reach → Type 0
@@ -133,7 +116,8 @@ Grown (Gets got) before after =
 Grown (Enters level) before after = after ≡ with_storage before (with_stg before.shared.storage before.station.slot level)
 Grown (Replaces copying level) before after =
     after ≡ with_storage before (with_replacement before.shared.storage before.station.slot copying level)
-Grown (TaskEnds next) before after = after ≡ with_following before (kept_next before.shared.storage next)
+Grown (TaskEnds next) before after =
+    after ≡ record before { station = record before.station { following = kept_next before.shared.storage next } }
 Grown _ before after = after ≡ before
 
 -- ---- the outputs, of the text that the command hands over
@@ -171,7 +155,7 @@ read_for (Byte b) r = r
 read_for (Item name n) r = with_queues r (with_last_read r.shared.queues name n)
 
 unfoldable pub finished : Change → Reach → Reach
-finished (Ends TakesInput) r = with_input r None
+finished (Ends TakesInput) r = record r { station = record r.station { input = None } }
 finished (Ends (ReadOf name n)) r = with_queues r (with_last_read r.shared.queues name n)
 finished (Ends (QueueGone name)) r = with_queues r (without_queue r.shared.queues name)
 finished (Ends (Dequeues resource)) r = with_resources r (dequeued r.shared.resources r.station.slot resource)

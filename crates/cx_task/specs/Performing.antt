@@ -1,6 +1,7 @@
 -- The command that is due is performed (Application Programmer's Reference Manual, SC33-0077, "Argument Values"; the
 -- order of the tests is this product's own): its list is read as a call, its inputs are tested, its row judges it.
-use Rattle.std.specs.Prelude.{◌≡◌, ℕ, false, List, MatchBool, MatchResult, slice_index}
+use Rattle.std.specs.Prelude.{ℕ, false, MatchBool, MatchResult, slice_index}
+use Rattle.cx_command.specs.declared.abends.Abend.{Abend}
 use Rattle.cx_command.specs.declared.abends.Abend.TheVariants as abend
 use Rattle.cx_command.specs.Abends.{abend_code}
 use Rattle.cx_storage.specs.Address.{address_in}
@@ -19,9 +20,9 @@ use Rattle.cx_task.specs.Answers.{Answers}
 abbrev pub list_of : TaskState → ℕ
 list_of task = address_in (slice_index task.regs 1)
 
-abbrev pub fault_code : CallFault → List ℕ
-fault_code Xarg = abend_code abend.Xarg
-fault_code Xfun = abend_code abend.Xfun
+abbrev pub fault_abend : CallFault → Abend
+fault_abend Xarg = abend.Xarg
+fault_abend Xfun = abend.Xfun
 
 -- the row judges the call, and the verdict is answered
 pub record Performs (call : Call) (before : Reach) (reply : TurnReply) (after : Reach) : Type 0 where
@@ -39,4 +40,4 @@ unfoldable pub Commanded : Reach → TurnReply → Reach → Type 0
 Commanded before reply after =
     MatchResult (call_of before.shared.storage (list_of before.task))
     (λ call. Called call before reply after)
-    (λ fault. Abends (fault_code fault) false before reply after)
+    (λ fault. Abends (abend_code (fault_abend fault)) false before reply after)

@@ -1,5 +1,5 @@
 -- What holds of a task in every state that half-turns reach (this product's own): its areas are there, each its own.
-use Rattle.std.specs.Prelude.{ℕ, ◌≤◌, List, ◌∷◌, length, map, nat_eq}
+use Rattle.std.specs.Prelude.{ℕ, ◌≤◌, ◌∷◌, length, map, nat_eq}
 use Rattle.std.specs.List.{AllByRecursion, IsDistinct}
 use Rattle.cx_command.specs.Eib.{eib_len}
 use Rattle.cx_storage.specs.Storage.{Storage}
@@ -12,14 +12,10 @@ pub record IsSoundLevel (storage : Storage) (slot : ℕ) (level : Level) : Type 
   pub stg : IsAreaOf storage slot level.stg level.stg_len
   pub pushes : length level.handles.kept ≤ 16
 
--- the areas of a task: its EIB, and each level's DFHEISTG
-abbrev pub starts_of : TaskState → List ℕ
-starts_of task = task.eib ∷ task.levels.current.stg ∷ map (λ level. level.stg) task.levels.callers
-
 -- a task's EIB is an area of its slot, and it has 1 to 16 levels, each sound; no two of these areas are the same
 pub record IsSoundTask (storage : Storage) (slot : ℕ) (task : TaskState) : Type 0 where
   pub eib : IsAreaOf storage slot task.eib eib_len
   pub current : IsSoundLevel storage slot task.levels.current
   pub callers : AllByRecursion (IsSoundLevel storage slot) task.levels.callers
   pub few : length task.levels.callers ≤ 15
-  pub apart : IsDistinct nat_eq (starts_of task)
+  pub apart : IsDistinct nat_eq (task.eib ∷ task.levels.current.stg ∷ map (λ level. level.stg) task.levels.callers)

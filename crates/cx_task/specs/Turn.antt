@@ -35,19 +35,17 @@ after_machine r machine =
     }
 
 -- a command is due, and the level keeps registers and code
-abbrev pub at_command_task : TaskState → TaskState
-at_command_task task =
+abbrev pub at_command : TaskState → TaskState
+at_command task =
     record task {
       levels = with_current task.levels (record task.levels.current { regs = task.regs; cc = task.cc });
       due = true;
     }
 
-abbrev pub at_command : Reach → Reach
-at_command r = record r { task = at_command_task r.task }
-
 -- by how the instructions ended
 unfoldable pub Halted : Halt → Reach → TurnReply → Reach → Type 0
-Halted halt.AtEntry before reply after = (reply ≡ turn.AtCommand) × (after ≡ at_command before)
+Halted halt.AtEntry before reply after =
+    (reply ≡ turn.AtCommand) × (after ≡ record before { task = at_command before.task })
 Halted (halt.Interrupt cause place) before reply after = Abends (abend_code abend.Asra) false before reply after
 Halted halt.Limit before reply after = Abends (abend_code abend.Aica) false before reply after
 

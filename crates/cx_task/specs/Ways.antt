@@ -98,21 +98,16 @@ replaced level r =
       task = at_entry r.task level (with_current r.task.levels (entry_level level r.task.eib));
     }
 
--- the task with the registers and code that a level kept
-abbrev pub with_kept : TaskState → Level → TaskState
-with_kept task level = record task { regs = level.regs; cc = level.cc }
-
--- the task after the end of its current level: the linking level goes on behind its LINK
-abbrev pub with_caller : TaskState → Level → List Level → TaskState
-with_caller task caller callers = gone_on (with_kept (record task { levels = record { callers = callers; current = caller } }) caller)
-
--- RETURN: the current level ends, and its DFHEISTG is freed
+-- RETURN: the current level ends, and its DFHEISTG is freed; the linking level goes on after its LINK, with the registers
+-- and code that it kept
 abbrev pub returned_to : List Level → Reach → Reach
 returned_to [] r = r
 returned_to (caller ∷ callers) r =
     record r {
       shared = record r.shared { storage = without_stg r.task.levels.current r.shared.storage };
-      task = with_caller r.task caller callers;
+      task =
+          gone_on
+          (record r.task { levels = record { callers = callers; current = caller }; regs = caller.regs; cc = caller.cc });
     }
 
 unfoldable pub returned : Reach → Reach

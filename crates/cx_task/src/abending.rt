@@ -5,7 +5,7 @@ ghost use Rattle.cx_storage.specs.Address.{address_in};
 ghost use Rattle.cx_program.specs.Entries.{label_on};
 ghost use Rattle.cx_program.specs.Levels.{IsNearestExit, all_levels};
 ghost use Rattle.cx_state.specs.State.{reach};
-ghost use Rattle.cx_task.specs.Abends.{Abends, AbendsAt, IsExit, abended, at_exit, below, exit_label, exit_storage, exit_taken, exit_task, task_ended, unwound, without_stg};
+ghost use Rattle.cx_task.specs.Abends.{Abends, AbendsAt, IsExit, abended, exit_storage, exit_taken, exit_task, task_ended, unwound, without_stg};
 
 use cx_call::eib::put_calen;
 use cx_ebcdic::Name4;
@@ -76,17 +76,6 @@ pub fn end_by_abend<S: Store + Drop>(shared: &mut Shared<S>, station: &mut Stati
     station.following = None;
 }
 
-/// The exit that takes an abend of the task: none where none is to be looked at.
-fn exit_of(task: &Task, cancel: bool) -> Option<usize>
-    ensures { IsExit cancel task.now.levels result }
-{
-    if cancel {
-        None
-    } else {
-        task.levels.find_exit()
-    }
-}
-
 /// A task abends: the nearest exit takes it, or the task ends; no exit is looked at where the flag says so.
 #[tactic(auto, unfolding(crate::specs::Abends::AbendsAt))]
 pub(crate) fn abend<S: Store + Drop>(
@@ -96,9 +85,15 @@ pub(crate) fn abend<S: Store + Drop>(
     code: Name4,
     cancel: bool,
 ) -> TurnReply
-    ensures { Abends code cancel (reach shared.old station.old task.old) result (reach shared.new station.new task.new) }
+    ensures { let before = reach shared.old station.old task.old in
+        let after = reach shared.new station.new task.new in
+        Abends code cancel before result after }
 {
-    match exit_of(task, cancel) {
+    if cancel {
+        end_by_abend(shared, station, task);
+        return TurnReply::Abended(code);
+    }
+    match task.levels.find_exit() {
         Some(index) => {
             take_exit(&mut shared.store, task, index);
             TurnReply::TookExit(code)

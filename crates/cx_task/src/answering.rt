@@ -1,7 +1,7 @@
 //! What a verdict leads to: the one wrapper around each command.
 ghost use Rattle.std.specs.Prelude.{◌≡◌, ◌≢◌, true, IfOk, OnOk, OnErr};
 ghost use Rattle.cx_state.specs.State.{reach};
-ghost use Rattle.cx_state.specs.Verdicts.{Fits, FitsChange};
+ghost use Rattle.cx_state.specs.Parts.Fits.{Fits, FitsChange};
 ghost use Rattle.cx_task.specs.Answers.{Answers, LeavesAll, MeetsWith, has_room, may_grow, way_at};
 ghost use Rattle.cx_task.specs.Changes.{Settles, change_grows};
 ghost use Rattle.cx_task.specs.Ways.{Goes, is_wait, way_of};
@@ -30,7 +30,9 @@ fn settle<S: Store + Drop>(
     task: &mut Task,
 ) -> Result<(), AllocError>
     requires { FitsChange change.now (reach shared.old station.old task.old) }
-    ensures ok { OnOk result (Settles call.now condition outputs.now change.now (reach shared.old station.old task.old) (reach shared.new station.new task.new)) }
+    ensures ok { let before = reach shared.old station.old task.old in
+        let after = reach shared.new station.new task.new in
+        OnOk result (Settles call.now condition outputs.now change.now before after) }
     ensures err { OnErr result (reach shared.new station.new task.new ≡ reach shared.old station.old task.old) }
     ensures grows { OnErr result (change_grows change.now ≡ true) }
 {
@@ -55,9 +57,12 @@ fn meet<S: Store + Drop>(
 ) -> Result<TurnReply, AllocError>
     requires not_error { condition ≢ Condition.Error }
     requires fits { FitsChange change.now (reach shared.old station.old task.old) }
-    ensures meets { IfOk result (λ reply. MeetsWith call.now condition outputs.now change.now (reach shared.old station.old task.old) reply (reach shared.new station.new task.new)) }
+    ensures meets { let before = reach shared.old station.old task.old in
+        let after = reach shared.new station.new task.new in
+        IfOk result (λ reply. MeetsWith call.now condition outputs.now change.now before reply after) }
     ensures err { OnErr result (reach shared.new station.new task.new ≡ reach shared.old station.old task.old) }
-    ensures grows { OnErr result (may_grow (Verdict.Meets condition outputs.now change.now) call.now (reach shared.old station.old task.old) ≡ true) }
+    ensures grows { let before = reach shared.old station.old task.old in
+        OnErr result (may_grow (Verdict.Meets condition outputs.now change.now) call.now before ≡ true) }
 {
     if !has_room(call, outputs, change, shared, station, task) {
         return Ok(abend(shared, station, task, Abend::Xarg.code(), false));
@@ -70,8 +75,9 @@ fn meet<S: Store + Drop>(
     Ok(go(&way, condition, shared, station, task))
 }
 
-/// The way of a task after a command.
-pub(crate) fn way_at(call: &Call, condition: Condition, change: &Change, task: &Task) -> Way
+/// How a task goes on after a command that meets a condition and has an effect: as its current level asked, or, with no
+/// condition met, as the effect says. The condition mustn't be ERROR, which no command meets.
+pub fn way_at(call: &Call, condition: Condition, change: &Change, task: &Task) -> Way
     requires { condition ≢ Condition.Error }
     ensures { result ≡ way_of call.now task.now.levels.current.handles.active.entries condition change.now }
 {
@@ -79,8 +85,8 @@ pub(crate) fn way_at(call: &Call, condition: Condition, change: &Change, task: &
     way_of(call, &level.handles, condition, change)
 }
 
-/// Whether a way is a wait.
-fn is_wait(way: &Way) -> bool
+/// Whether the command waits: its task stays at it.
+pub fn is_wait(way: &Way) -> bool
     ensures { result ≡ is_wait way.now }
 {
     matches!(way, Way::Waits)
@@ -91,7 +97,7 @@ fn is_wait(way: &Way) -> bool
 /// An error comes only where a growth was refused, only where the verdict's change takes memory, and only where no
 /// output is missing from storage and the command doesn't wait; then all is as before.
 #[tactic(auto, unfolding(crate::specs::Answers::Answers))]
-pub fn answer<S: Store + Drop>(
+pub(crate) fn answer<S: Store + Drop>(
     verdict: &Verdict,
     call: &Call,
     shared: &mut Shared<S>,
@@ -99,7 +105,9 @@ pub fn answer<S: Store + Drop>(
     task: &mut Task,
 ) -> Result<TurnReply, AllocError>
     requires { Fits verdict.now (reach shared.old station.old task.old) }
-    ensures answers { IfOk result (λ reply. Answers verdict.now call.now (reach shared.old station.old task.old) reply (reach shared.new station.new task.new)) }
+    ensures answers { let before = reach shared.old station.old task.old in
+        let after = reach shared.new station.new task.new in
+        IfOk result (λ reply. Answers verdict.now call.now before reply after) }
     ensures err { OnErr result (reach shared.new station.new task.new ≡ reach shared.old station.old task.old) }
     ensures grows { OnErr result (may_grow verdict.now call.now (reach shared.old station.old task.old) ≡ true) }
 {

@@ -1,9 +1,10 @@
 //! Areas of a task, and the level that begins in one.
 ghost use Rattle.std.specs.Prelude.{◌≡◌, ◌<◌, ◌≤◌, ◌^◌, length, IfOk, OnOk, OnErr, MatchOption, None, Some, ⊤};
+ghost use Rattle.std.specs.Option.{option_map_or};
 ghost use Rattle.cx_task.specs.Parts.Making.{without_copy};
 ghost use Rattle.cx_storage.specs.Storage.{with_area};
-ghost use Rattle.cx_state.specs.Areas.{IsSoundProgram, IsTaskPlace, address_or_zero, entry_level, entry_registers, got_owner, length_or_zero, registers_of, system_owner, with_cap, with_copy_area, with_filled, with_stg_area};
-ghost use Rattle.cx_state.specs.Verdicts.{FitsCopy, FitsLevel};
+ghost use Rattle.cx_state.specs.Areas.{IsSoundProgram, IsTaskPlace, entry_level, entry_registers, length_or_zero, registers_of, system_owner, with_cap, with_copy_area, with_filled, with_stg_area};
+ghost use Rattle.cx_state.specs.Parts.Fits.{FitsCopy, FitsLevel};
 
 use cx_call::Piece;
 use cx_command::EistgField;
@@ -20,16 +21,6 @@ pub fn system_owner(slot: u8) -> Owner
     Owner {
         slot,
         kind: Kind::System,
-    }
-}
-
-/// The owner of the areas that a terminal's task gets by its own request.
-pub(crate) fn got_owner(slot: u8) -> Owner
-    ensures { result ≡ got_owner slot }
-{
-    Owner {
-        slot,
-        kind: Kind::Got,
     }
 }
 
@@ -71,7 +62,7 @@ pub fn get_filled<S: Store>(
 
 /// The address of a COMMAREA, or zero without one.
 fn address_or_zero(commarea: Option<Piece>) -> u32
-    ensures { result ≡ address_or_zero commarea }
+    ensures { result ≡ option_map_or (λ piece. piece.place) commarea 0 }
 {
     match commarea {
         Some(piece) => piece.place,
@@ -105,7 +96,8 @@ pub fn put_cap<S: Store>(store: &mut S, level: &NewLevel)
 ///
 /// An error comes only where a growth was refused; then all is as before.
 pub fn get_stg<S: Store>(store: &mut S, slot: u8, level: &NewLevel) -> Result<(), AllocError>
-    requires { FitsLevel (S.storage store.old) level.now }
+    requires program { IsSoundProgram level.now.loaded }
+    requires place { IsTaskPlace (S.storage store.old) level.now.loaded.stg_len (Some level.now.stg) }
     ensures ok { OnOk result (S.storage store.new ≡ with_stg_area (S.storage store.old) slot level.now) }
     ensures err { OnErr result (S.storage store.new ≡ S.storage store.old) }
 {
@@ -162,7 +154,8 @@ pub(crate) fn get_both<S: Store>(
 ) -> Result<(), AllocError>
     requires copy { FitsCopy copying (S.storage store.old) }
     requires level { FitsLevel (with_copy_area (S.storage store.old) slot copying) level.now }
-    ensures ok { OnOk result (S.storage store.new ≡ with_stg_area (with_copy_area (S.storage store.old) slot copying) slot level.now) }
+    ensures ok { let copied = with_copy_area (S.storage store.old) slot copying in
+        OnOk result (S.storage store.new ≡ with_stg_area copied slot level.now) }
     ensures err { OnErr result (S.storage store.new ≡ S.storage store.old) }
 {
     store_is_sound(store);

@@ -1,23 +1,27 @@
 //! Half-turns that tell why their task abends.
-ghost use Rattle.std.specs.Prelude.{◌≡◌, ◌<◌, ◌^◌, IfOk, OnErr};
+ghost use Rattle.std.specs.Prelude.{◌≡◌, ◌<◌, ◌^◌, IfOk, OnErr, [], ◌∷◌, map, Some, MatchResult};
 ghost use Rattle.std.specs.Option.{option_map};
 ghost use Rattle.cx_rows.specs.Common.{AreSoundPrograms};
 ghost use Rattle.cx_state.specs.State.{reach};
-ghost use Rattle.cx_state.specs.Verdicts.{Fits};
-ghost use Rattle.cx_task.specs.Causes.{CauseOfCall, CauseOfRead, CommandTroubled, RunTroubled, Troubled, bytes_from, command_in, fault_abend, halt_cause, trouble_with, verdict_cause, way_cause};
+ghost use Rattle.cx_state.specs.Parts.Fits.{Fits};
+ghost use Rattle.cx_task.specs.Causes.{CauseOfCall, CommandTroubled, RunTroubled, Troubled, halt_cause, read_of, trouble_with, verdict_cause, way_cause};
+ghost use Rattle.cx_task.specs.Parts.Due.{IsDue};
 ghost use Rattle.cx_task.specs.Turn.{Grows, HalfTurn, Halted, RunsOn, machine_of};
+ghost use Rattle.cx_task.specs.Performing.{fault_abend};
+ghost use Rattle.cx_storage.specs.Address.{along};
+ghost use Rattle.cx_storage.specs.Storage.{byte_at};
 
 use crate::answering::way_at;
 use crate::cause::{Cause, Trouble};
+use crate::due::{Due, fault_abend, perform};
 use crate::finishing::has_room;
-use crate::turning::{MOST_STEPS, halt, perform};
+use crate::turning::{MOST_STEPS, halt};
 use crate::way::Way;
-use cx_call::{Call, CallFault, are_inputs_there, read_call};
+use cx_call::Call;
 use cx_command::{Abend, Command, Condition};
 use cx_exec::{Halt, advance};
-use cx_rows::judge;
 use cx_state::{Shared, Station, Task, TurnReply, Verdict};
-use cx_storage::{Store, address_in, along};
+use cx_storage::{Store, along};
 use std::alloc::AllocError;
 
 /// The cause by the way of a task after a command.
@@ -55,38 +59,30 @@ fn verdict_cause<S: Store + Drop>(
     }
 }
 
-/// The cause by a call.
-#[tactic(auto, unfolding(crate::specs::Causes::CauseOfCall))]
-fn cause_of_call<S: Store + Drop>(
-    call: &Call,
+/// The cause by what is found of the command that is due.
+#[tactic(auto, unfolding(crate::specs::Parts::Due::IsDue, crate::specs::Causes::CauseOfCall))]
+fn cause_of<S: Store + Drop>(
+    due: &Due,
     shared: &Shared<S>,
     station: &Station,
     task: &Task,
 ) -> Option<Cause>
-    requires { AreSoundPrograms shared.now.programs }
-    ensures { CauseOfCall call.now (reach shared.now station.now task.now) result }
+    requires { IsDue due.now (reach shared.now station.now task.now) }
+    ensures { let reached = reach shared.now station.now task.now in
+        MatchResult (read_of reached) (λ call. CauseOfCall call reached result)
+        (λ fault. result ≡ Some (Cause.Refused (fault_abend fault))) }
 {
-    if !are_inputs_there(&shared.store, call) {
-        return Some(Cause::Refused(Abend::Xarg));
-    }
-    let verdict = judge(call, shared, station, task);
-    verdict_cause(&verdict, call, shared, station, task)
-}
-
-/// The abend that a call's fault leads to.
-fn fault_abend(fault: CallFault) -> Abend
-    ensures { result ≡ fault_abend fault }
-{
-    match fault {
-        CallFault::Xarg => Abend::Xarg,
-        CallFault::Xfun => Abend::Xfun,
+    match due {
+        Due::Unread(fault) => Some(Cause::Refused(fault_abend(*fault))),
+        Due::InputMissing(_call) => Some(Cause::Refused(Abend::Xarg)),
+        Due::Judged(call, verdict) => verdict_cause(verdict, call, shared, station, task),
     }
 }
 
 /// The bytes from an address on.
 fn bytes_from<S: Store>(store: &S, next: u32) -> [Option<u8>; 6]
     requires { next < 2 ^ 24 }
-    ensures { result ≡ bytes_from (S.storage store.now) next }
+    ensures { result ≡ map (λ k. byte_at (S.storage store.now) (along next k)) (0 ∷ 1 ∷ 2 ∷ 3 ∷ 4 ∷ 5 ∷ []) }
 {
     [
         store.byte(along(next, 0)),
@@ -119,44 +115,19 @@ fn trouble_with<S: Store + Drop>(
     })
 }
 
-/// The cause by what an argument list reads as.
-fn cause_of_read<S: Store + Drop>(
-    read: &Result<Call, CallFault>,
-    shared: &Shared<S>,
-    station: &Station,
-    task: &Task,
-) -> Option<Cause>
-    requires { AreSoundPrograms shared.now.programs }
-    ensures { CauseOfRead read.now (reach shared.now station.now task.now) result }
-{
-    match read {
-        Ok(call) => cause_of_call(call, shared, station, task),
-        Err(fault) => Some(Cause::Refused(fault_abend(*fault))),
-    }
-}
-
-/// The command of what an argument list reads as.
-fn command_in(read: &Result<Call, CallFault>) -> Option<Command>
-    ensures { result ≡ command_in read.now }
-{
-    match read {
-        Ok(call) => Some(call.command()),
-        Err(_fault) => None,
-    }
-}
-
-/// Why the command that is due leads to an abend: it is judged, and nothing is done.
+/// Why the command that is due leads to an abend, before anything is done.
+#[tactic(auto, using(crate::proofs::DueLemmas::command_read))]
 fn command_trouble<S: Store + Drop>(
+    due: &Due,
     shared: &Shared<S>,
     station: &Station,
     task: &Task,
 ) -> Option<Trouble>
-    requires { AreSoundPrograms shared.now.programs }
+    requires { IsDue due.now (reach shared.now station.now task.now) }
     ensures { CommandTroubled (reach shared.now station.now task.now) result }
 {
-    let read = read_call(&shared.store, address_in(task.cpu.regs[1]));
-    let cause = cause_of_read(&read, shared, station, task);
-    trouble_with(cause, command_in(&read), shared, station, task)
+    let cause = cause_of(due, shared, station, task);
+    trouble_with(cause, due.command(), shared, station, task)
 }
 
 /// The cause where instructions ended so.
@@ -196,16 +167,18 @@ pub fn half_turn_with_cause<S: Store + Drop>(
     task: &mut Task,
 ) -> Result<(TurnReply, Option<Trouble>), AllocError>
     requires { AreSoundPrograms shared.old.programs }
-    ensures turned { IfOk result (λ told. HalfTurn (reach shared.old station.old task.old) told.0 (reach shared.new station.new task.new)) }
+    ensures turned { let before = reach shared.old station.old task.old in
+        let after = reach shared.new station.new task.new in
+        IfOk result (λ told. HalfTurn before told.0 after) }
     ensures troubled { IfOk result (λ told. Troubled (reach shared.old station.old task.old) told.1) }
     ensures err { OnErr result (reach shared.new station.new task.new ≡ reach shared.old station.old task.old) }
     ensures grows { OnErr result (Grows (reach shared.old station.old task.old)) }
 {
-    if task.due {
-        let trouble = command_trouble(shared, station, task);
-        let reply = perform(shared, station, task)?;
-        Ok((reply, trouble))
-    } else {
-        Ok(run_with_cause(shared, station, task))
+    if !task.due {
+        return Ok(run_with_cause(shared, station, task));
     }
+    let due = Due::find(shared, station, task);
+    let trouble = command_trouble(&due, shared, station, task);
+    let reply = perform(&due, shared, station, task)?;
+    Ok((reply, trouble))
 }

@@ -7,8 +7,9 @@ ghost use Rattle.cx_storage.specs.Storage.{starts_elsewhere, with_areas_kept};
 ghost use Rattle.cx_service.specs.Queues.{delete_fault, item_of, read_fault, with_last_read, without_queue};
 ghost use Rattle.cx_service.specs.Resources.{dequeued};
 ghost use Rattle.cx_state.specs.State.{reach, with_storage};
-ghost use Rattle.cx_state.specs.Verdicts.{FitsChange, FitsEnded, handed_over};
-ghost use Rattle.cx_task.specs.Changes.{finished, given, read_for, report_of, reported, with_change, with_input, with_queues, with_resources};
+ghost use Rattle.cx_state.specs.Verdicts.{handed_over};
+ghost use Rattle.cx_state.specs.Parts.Fits.{FitsChange, FitsEnded};
+ghost use Rattle.cx_task.specs.Changes.{finished, given, read_for, report_of, reported, with_change, with_queues, with_resources};
 ghost use Rattle.cx_task.specs.Parts.Making.{MatchEnded, MatchFinished, text_of};
 ghost use Rattle.cx_task.specs.Answers.{has_room};
 ghost use Rattle.cx_call.specs.Outputs.{put_out};
@@ -44,9 +45,10 @@ fn text_of<'a>(change: &Change, queues: &'a Queues, input: &'a Option<Input>) ->
     }
 }
 
-/// Whether the outputs' bytes are in storage as the command found it.
+/// Whether each byte of a command's outputs is in storage, with the text that it hands over. An output whose option isn't
+/// there has none.
 #[tactic(auto, unfolding(crate::specs::Answers::has_room, cx_state::specs::Verdicts::handed_over))]
-pub(crate) fn has_room<S: Store + Drop>(
+pub fn has_room<S: Store + Drop>(
     call: &Call,
     outputs: &Outputs,
     change: &Change,
@@ -61,21 +63,6 @@ pub(crate) fn has_room<S: Store + Drop>(
 }
 
 /// Writes the outputs, of the text that the command hands over.
-fn put<S: Store>(
-    store: &mut S,
-    queues: &Queues,
-    input: &Option<Input>,
-    call: &Call,
-    outputs: &Outputs,
-    change: &Change,
-)
-    ensures { S.storage store.new ≡ put_out (S.storage store.old) call.now (text_of change.now input.now queues.now) outputs.now }
-{
-    let text = text_of(change, queues, input);
-    put_outputs(store, call, text, outputs);
-}
-
-/// Writes the outputs, of the text that the command hands over.
 #[tactic(auto, unfolding(crate::specs::Changes::given, cx_state::specs::Verdicts::handed_over))]
 pub(crate) fn give<S: Store + Drop>(
     call: &Call,
@@ -85,16 +72,11 @@ pub(crate) fn give<S: Store + Drop>(
     station: &Station,
     task: &Task,
 )
-    ensures { reach shared.new station.now task.now ≡ given call.now outputs.now change.now (reach shared.old station.now task.now) }
+    ensures { let before = reach shared.old station.now task.now in
+        reach shared.new station.now task.now ≡ given call.now outputs.now change.now before }
 {
-    put(
-        &mut shared.store,
-        &shared.queues,
-        &station.input,
-        call,
-        outputs,
-        change,
-    );
+    let text = text_of(change, &shared.queues, &station.input);
+    put_outputs(&mut shared.store, call, text, outputs);
 }
 
 /// The EIBCALEN of the nearest caller, where there is one.
@@ -175,23 +157,6 @@ fn delete(queues: &mut Queues, name: Name8)
     }
 }
 
-/// What a command ends.
-#[tactic(auto, unfolding(crate::specs::Changes::finished))]
-fn end<S: Store + Drop>(it: &Ended, shared: &mut Shared<S>, station: &mut Station, task: &Task)
-    requires { MatchEnded it.now shared.old.queues }
-    ensures { reach shared.new station.new task.now ≡ finished (Change.Ends it.now) (reach shared.old station.old task.now) }
-{
-    match it {
-        Ended::TakesInput => station.input = None,
-        Ended::ReadOf(name, n) => mark_read(&mut shared.queues, *name, *n),
-        Ended::QueueGone(name) => delete(&mut shared.queues, *name),
-        Ended::Dequeues(resource) => shared.enqueues.deq(station.slot, resource),
-        Ended::Frees(place) => {
-            shared.store.free_area(*place);
-        }
-    }
-}
-
 /// What a change ends, after all else is written.
 #[tactic(auto, unfolding(crate::specs::Changes::finished))]
 pub(crate) fn finish<S: Store + Drop>(
@@ -204,7 +169,15 @@ pub(crate) fn finish<S: Store + Drop>(
     ensures { reach shared.new station.new task.now ≡ finished change.now (reach shared.old station.old task.now) }
 {
     match change {
-        Change::Ends(it) => end(it, shared, station, task),
+        Change::Ends(it) => match it {
+            Ended::TakesInput => station.input = None,
+            Ended::ReadOf(name, n) => mark_read(&mut shared.queues, *name, *n),
+            Ended::QueueGone(name) => delete(&mut shared.queues, *name),
+            Ended::Dequeues(resource) => shared.enqueues.deq(station.slot, resource),
+            Ended::Frees(place) => {
+                shared.store.free_area(*place);
+            }
+        },
         Change::Gets(got) => match &got.fill {
             Fill::Item(name, n) => mark_read(&mut shared.queues, *name, *n),
             Fill::Byte(_) => (),
@@ -222,7 +195,8 @@ pub(crate) fn report<S: Store + Drop>(
     station: &Station,
     task: &Task,
 )
-    ensures { reach shared.new station.now task.now ≡ reported call.now answer.now (reach shared.old station.now task.now) }
+    ensures { let before = reach shared.old station.now task.now in
+        reach shared.new station.now task.now ≡ reported call.now answer.now before }
 {
     put_answer(&mut shared.store, task.eib, call, answer);
 }

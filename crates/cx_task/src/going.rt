@@ -4,12 +4,12 @@ ghost use Rattle.cx_command.specs.declared.conditions.Condition.TheVariants.{Err
 ghost use Rattle.cx_command.specs.Arguments.{has_option};
 ghost use Rattle.cx_storage.specs.Address.{address_in};
 ghost use Rattle.cx_program.specs.Handles.{choice as choice_by, waits};
-ghost use Rattle.cx_program.specs.Levels.{after_leave, under};
+ghost use Rattle.cx_program.specs.Levels.{under};
 ghost use Rattle.cx_state.specs.Areas.{IsSoundProgram};
 ghost use Rattle.cx_state.specs.State.{reach};
 ghost use Rattle.cx_task.specs.Abends.{task_ended, without_stg};
-ghost use Rattle.cx_task.specs.Ways.{Goes, at_entry, at_label, at_next, choice_for, choice_unhandled, entered, gone_on, is_normal, is_wait, on_its_way, replaced, returned, returned_to, way_by, way_chosen, way_of, with_kept, without_wait};
-ghost use Rattle.cx_task.specs.Parts.Making.{MatchWay};
+ghost use Rattle.cx_task.specs.Ways.{Goes, at_entry, at_label, at_next, choice_for, choice_unhandled, entered, gone_on, is_normal, is_wait, on_its_way, replaced, returned, returned_to, way_by, way_chosen, way_of, without_wait};
+ghost use Rattle.cx_task.specs.Parts.Making.{MatchWay, with_kept};
 
 use crate::abending::{abend, end_task, free_stg};
 use crate::areas::{entry_level, entry_registers};
@@ -21,24 +21,13 @@ use cx_program::{Choice, HandleTable, Level};
 use cx_state::{Change, NewLevel, Shared, Station, Task, TurnReply};
 use cx_storage::{Store, address_in};
 
-/// Whether a condition waits where it isn't handled.
-fn waits(condition: Condition) -> bool
-    ensures { result ≡ waits condition }
-{
-    matches!(
-        condition,
-        Condition::Nospace | Condition::Nostg | Condition::Enqbusy
-    )
-}
-
 /// The choice where the entries aren't looked at.
 fn choice_unhandled(condition: Condition) -> Choice
     ensures { result ≡ choice_unhandled condition }
 {
-    if waits(condition) {
-        Choice::Wait
-    } else {
-        Choice::GoOn
+    match condition {
+        Condition::Nospace | Condition::Nostg | Condition::Enqbusy => Choice::Wait,
+        _ => Choice::GoOn,
     }
 }
 
@@ -55,28 +44,9 @@ fn choice_for(call: &Call, handles: &HandleTable, condition: Condition) -> Choic
     } else {
         handles.choose(condition)
     };
-    without_wait(call.has(OptionName::Nosuspend), chosen)
-}
-
-/// The choice where NOSUSPEND may be there.
-fn without_wait(nosuspend: bool, chosen: Choice) -> Choice
-    ensures { result ≡ without_wait nosuspend chosen }
-{
-    match (nosuspend, chosen) {
+    match (call.has(OptionName::Nosuspend), chosen) {
         (true, Choice::Wait) => Choice::GoOn,
         _ => chosen,
-    }
-}
-
-/// The way that is chosen.
-fn way_chosen(chosen: Choice) -> Way
-    ensures { result ≡ way_chosen chosen }
-{
-    match chosen {
-        Choice::Label(label) => Way::TakesLabel(label),
-        Choice::GoOn => Way::GoesOn,
-        Choice::Wait => Way::Waits,
-        Choice::Abend(code) => Way::Abends(code, false),
     }
 }
 
@@ -108,7 +78,12 @@ pub(crate) fn way_of(
     if condition == Condition::Normal {
         return way_by(change);
     }
-    way_chosen(choice_for(call, handles, condition))
+    match choice_for(call, handles, condition) {
+        Choice::Label(label) => Way::TakesLabel(label),
+        Choice::GoOn => Way::GoesOn,
+        Choice::Wait => Way::Waits,
+        Choice::Abend(code) => Way::Abends(code, false),
+    }
 }
 
 /// The task is at an address, and no command is due.
@@ -118,14 +93,6 @@ fn go_to(task: &mut Task, next: u32)
 {
     task.cpu.next = next;
     task.due = false;
-}
-
-/// The program goes on behind its command.
-fn go_on(task: &mut Task)
-    ensures { task.new ≡ gone_on task.old }
-{
-    let next = address_in(task.cpu.regs[14]);
-    go_to(task, next);
 }
 
 /// The registers, the code and the next address at the entry to a level's program.
@@ -214,11 +181,13 @@ pub(crate) fn go<S: Store + Drop>(
     task: &mut Task,
 ) -> TurnReply
     requires { MatchWay way.now task.old.levels }
-    ensures { Goes way.now condition (reach shared.old station.old task.old) result (reach shared.new station.new task.new) }
+    ensures { let before = reach shared.old station.old task.old in
+        let after = reach shared.new station.new task.new in
+        Goes way.now condition before result after }
 {
     match way {
         Way::GoesOn => {
-            go_on(task);
+            go_to(task, address_in(task.cpu.regs[14]));
             TurnReply::Performed(condition)
         }
         Way::TakesLabel(label) => {

@@ -6,6 +6,7 @@ mod answering;
 mod areas;
 mod cause;
 mod causing;
+mod due;
 mod finishing;
 mod going;
 pub mod laws;
@@ -14,10 +15,11 @@ mod turning;
 mod way;
 
 pub use abending::end_by_abend;
-pub use answering::answer;
+pub use answering::{is_wait, way_at};
 pub use areas::{entry_level, entry_registers, get_at, get_filled, get_stg, put_cap, system_owner};
 pub use cause::{Cause, Trouble};
 pub use causing::half_turn_with_cause;
+pub use finishing::has_room;
 pub use turning::half_turn;
 #[doc(hidden)]
 pub use way::Way;

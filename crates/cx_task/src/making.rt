@@ -1,18 +1,20 @@
 //! What a command makes before its outputs are written.
 ghost use Rattle.std.specs.Prelude.{◌≡◌, ◌<◌, ◌≤◌, ◌^◌, length, replicate, take, unwrap_or, is_some, [], false, true, IfOk, IsOk, OnOk, OnErr, None, Some, MatchOption, ⊤};
-ghost use Rattle.cx_program.specs.declared.entries.Entry.TheVariants as Entry;
+ghost use Rattle.std.specs.Fn.{CalledAt};
+ghost use Rattle.std.specs.Option.{option_map_or};
 ghost use Rattle.cx_program.specs.Entries.{turned_off, turned_on};
 ghost use Rattle.cx_program.specs.Handles.{after_pop, after_push, put_entry, put_exit};
 ghost use Rattle.cx_service.specs.Queues.{item_of, rewrite_fault, with_item, with_item_at, write_fault};
 ghost use Rattle.cx_service.specs.Resources.{enq_fault, enqueued};
 ghost use Rattle.cx_service.specs.Screen.{ShowsText};
-ghost use Rattle.cx_state.specs.Areas.{IsTaskPlace, bytes_in, copied_bytes, with_cap, with_copied, with_copy_area, with_filled, with_stg_area};
+ghost use Rattle.cx_state.specs.Areas.{IsTaskPlace, bytes_in, with_cap, with_copied, with_copy_area, with_filled, with_stg_area};
 ghost use Rattle.cx_state.specs.State.{reach, with_storage};
-ghost use Rattle.cx_state.specs.Verdicts.{FitsChange, FitsCopy, FitsGot, FitsLevel, FitsMade, FitsNext, FitsPiece, IsThere};
-ghost use Rattle.cx_task.specs.Changes.{Grown, change_grows, bytes_or_none, entry_asked, handled, kept_next, with_got, with_stg, with_handles, with_ignored, with_labels, with_replacement};
+ghost use Rattle.cx_state.specs.Parts.Fits.{FitsChange, FitsCopy, FitsLevel, FitsMade, FitsPiece, IsThere, FitsGot, FitsNext};
+ghost use Rattle.cx_task.specs.Changes.{Grown, change_grows, handled, kept_next, with_got, with_stg, with_handles, with_ignored, with_labels, with_replacement};
 ghost use Rattle.cx_task.specs.Parts.Making.{MatchItem, MatchPush, copied_len};
+ghost use Rattle.cx_program.specs.declared.entries.Entry.TheVariants as Entry;
 
-use crate::areas::{MOST_BYTES, get_both, get_filled, get_stg, got_owner, put_cap};
+use crate::areas::{MOST_BYTES, get_both, get_filled, get_stg, put_cap};
 use cx_call::{Listed, Piece};
 use cx_ebcdic::Name8;
 use cx_program::HandleTable;
@@ -20,9 +22,34 @@ use cx_service::{Enqueues, Queues, ResourceName, Screen};
 use cx_state::{
     Change, Copying, Fill, Following, Got, Made, NewLevel, Next, Request, Shared, Station, Task,
 };
-use cx_storage::{Owner, Store};
+use cx_storage::{Kind, Owner, Store};
 use cx_tables::List;
 use std::alloc::{AllocError, Global};
+
+/// What is made of a piece's bytes: they are lent where storage has them in one block, and else copied.
+fn with_bytes<S: Store, R, F: FnMut(&[u8]) -> R>(store: &S, piece: Piece, take: &mut F) -> R
+    requires there { IsThere (S.storage store.now) piece }
+    requires callable { F.IsAlwaysCallable take.old }
+    ensures { CalledAt F.FnMut take.old (bytes_in (S.storage store.now) piece) result take.new }
+{
+    match store.slice(piece.place, piece.len as usize) {
+        Some(bytes) => take(bytes),
+        None => with_copy(store, piece, take),
+    }
+}
+
+/// What is made of a copy of a piece's bytes. The buffer costs at entry, so it has a function of its own.
+#[inline(never)]
+fn with_copy<S: Store, R, F: FnMut(&[u8]) -> R>(store: &S, piece: Piece, take: &mut F) -> R
+    requires there { IsThere (S.storage store.now) piece }
+    requires callable { F.IsAlwaysCallable take.old }
+    ensures { CalledAt F.FnMut take.old (bytes_in (S.storage store.now) piece) result take.new }
+{
+    let mut buffer = [0; MOST_BYTES];
+    let bytes = &mut buffer[..piece.len as usize];
+    store.read(piece.place, bytes);
+    take(bytes)
+}
 
 /// A piece's bytes are a new item, the last of a queue.
 fn put_item<S: Store>(
@@ -36,10 +63,8 @@ fn put_item<S: Store>(
     ensures ok { OnOk result (queues.new ≡ with_item queues.old name (bytes_in (S.storage store.now) piece)) }
     ensures err { OnErr result (queues.new ≡ queues.old) }
 {
-    let mut buffer = [0; MOST_BYTES];
-    let bytes = &mut buffer[..piece.len as usize];
-    store.read(piece.place, bytes);
-    match queues.write(name, bytes) {
+    let mut write = |bytes: &[u8]| queues.write(name, bytes);
+    match with_bytes(store, piece, &mut write) {
         Ok(_number) => Ok(()),
         Err(_refused) => Err(AllocError),
     }
@@ -58,10 +83,8 @@ fn put_item_at<S: Store>(
     ensures ok { OnOk result (queues.new ≡ with_item_at queues.old name n (bytes_in (S.storage store.now) piece)) }
     ensures err { OnErr result (queues.new ≡ queues.old) }
 {
-    let mut buffer = [0; MOST_BYTES];
-    let bytes = &mut buffer[..piece.len as usize];
-    store.read(piece.place, bytes);
-    match queues.rewrite(name, n, bytes) {
+    let mut rewrite = |bytes: &[u8]| queues.rewrite(name, n, bytes);
+    match with_bytes(store, piece, &mut rewrite) {
         Ok(_done) => Ok(()),
         Err(_refused) => Err(AllocError),
     }
@@ -84,15 +107,13 @@ fn show<S: Store>(store: &S, screen: &mut Screen, piece: Piece, erase: bool)
     requires { IsThere (S.storage store.now) piece }
     ensures { ShowsText screen.old (bytes_in (S.storage store.now) piece) erase screen.new }
 {
-    let mut buffer = [0; MOST_BYTES];
-    let bytes = &mut buffer[..piece.len as usize];
-    store.read(piece.place, bytes);
-    screen.send_text(bytes, erase);
+    let mut send = |bytes: &[u8]| screen.send_text(bytes, erase);
+    with_bytes(store, piece, &mut send)
 }
 
 /// HANDLE CONDITION of one condition.
 fn handle_one(table: &mut HandleTable, listed: Listed)
-    ensures { table.new ≡ put_entry table.old listed.condition (entry_asked listed.label) }
+    ensures { table.new ≡ put_entry table.old listed.condition (option_map_or Entry.Label listed.label Entry.NoEntry) }
 {
     match listed.label {
         Some(label) => table.set(listed.condition, label),
@@ -178,7 +199,9 @@ fn make<S: Store + Drop>(
     task: &mut Task,
 ) -> Result<(), AllocError>
     requires { FitsMade made.now (reach shared.old station.old task.old) }
-    ensures ok { OnOk result (Grown (Change.Makes made.now) (reach shared.old station.old task.old) (reach shared.new station.new task.new)) }
+    ensures ok { let before = reach shared.old station.old task.old in
+        let after = reach shared.new station.new task.new in
+        OnOk result (Grown (Change.Makes made.now) before after) }
     ensures err { OnErr result (reach shared.new station.new task.new ≡ reach shared.old station.old task.old) }
     ensures grows { OnErr result (change_grows (Change.Makes made.now) ≡ true) }
 {
@@ -226,7 +249,8 @@ fn get_of_byte<S: Store>(
     requires some { 0 < len }
     requires few { len ≤ 65520 }
     requires place { IsTaskPlace (S.storage store.old) len (Some place) }
-    ensures ok { OnOk result (S.storage store.new ≡ with_filled (S.storage store.old) place len owner (replicate len byte)) }
+    ensures ok { let bytes = replicate len byte in
+        OnOk result (S.storage store.new ≡ with_filled (S.storage store.old) place len owner bytes) }
     ensures err { OnErr result (S.storage store.new ≡ S.storage store.old) }
 {
     let buffer = [byte; MOST_GOT];
@@ -244,7 +268,10 @@ fn get_got<S: Store>(store: &mut S, queues: &Queues, slot: u8, got: &Got) -> Res
     ensures ok { OnOk result (S.storage store.new ≡ with_got (S.storage store.old) queues.now slot got.now) }
     ensures err { OnErr result (S.storage store.new ≡ S.storage store.old) }
 {
-    let owner = got_owner(slot);
+    let owner = Owner {
+        slot,
+        kind: Kind::Got,
+    };
     let len = got.len;
     match &got.fill {
         Fill::Byte(byte) => get_of_byte(store, got.place, len, owner, *byte)?,
@@ -270,7 +297,7 @@ fn copied_len(copying: Option<Copying>) -> usize
 fn read_copied<S: Store>(store: &S, copying: Option<Copying>, bytes: &mut [u8])
     requires copy { FitsCopy copying (S.storage store.now) }
     requires len { length bytes.old ≡ copied_len copying }
-    ensures { bytes.new ≡ copied_bytes (S.storage store.now) copying }
+    ensures { bytes.new ≡ option_map_or (λ copying. bytes_in (S.storage store.now) copying.from) copying [] }
 {
     let Some(copying) = copying else {
         return;
@@ -322,7 +349,7 @@ fn kept_bytes<S: Store>(
     commarea: Option<Piece>,
 ) -> Result<List<u8>, AllocError>
     requires { FitsPiece commarea (S.storage store.now) }
-    ensures bytes { IfOk result (λ bytes. bytes ≡ bytes_or_none (S.storage store.now) commarea) }
+    ensures bytes { IfOk result (λ bytes. bytes ≡ option_map_or (bytes_in (S.storage store.now)) commarea []) }
     ensures few { IfOk result (λ bytes. length bytes ≤ 32767) }
     ensures grows { OnErr result (is_some commarea ≡ true) }
 {
@@ -384,7 +411,9 @@ pub(crate) fn grow<S: Store + Drop>(
     task: &mut Task,
 ) -> Result<(), AllocError>
     requires { FitsChange change.now (reach shared.old station.old task.old) }
-    ensures ok { OnOk result (Grown change.now (reach shared.old station.old task.old) (reach shared.new station.new task.new)) }
+    ensures ok { let before = reach shared.old station.old task.old in
+        let after = reach shared.new station.new task.new in
+        OnOk result (Grown change.now before after) }
     ensures err { OnErr result (reach shared.new station.new task.new ≡ reach shared.old station.old task.old) }
     ensures grows { OnErr result (change_grows change.now ≡ true) }
 {

@@ -1,23 +1,16 @@
 //! One half-turn of a live task.
-ghost use Rattle.std.specs.Prelude.{◌≡◌, true, Ok, IfOk, OnErr};
-ghost use Rattle.cx_call.specs.Call.{call_of};
-ghost use Rattle.cx_call.specs.Inputs.{are_inputs_there};
+ghost use Rattle.std.specs.Prelude.{◌≡◌, IfOk, OnErr};
 ghost use Rattle.cx_rows.specs.Common.{AreSoundPrograms};
-ghost use Rattle.cx_rows.specs.Judged.{Judged};
 ghost use Rattle.cx_state.specs.State.{reach};
-ghost use Rattle.cx_task.specs.Performing.{Called, Commanded, Performs, fault_code, list_of};
-ghost use Rattle.cx_task.specs.Turn.{Grows, HalfTurn, Halted, RunsOn, at_command_task};
+ghost use Rattle.cx_task.specs.Turn.{Grows, HalfTurn, Halted, RunsOn, at_command};
 
 use crate::abending::abend;
-use crate::answering::answer;
-use cx_call::{Call, CallFault, are_inputs_there, read_call};
+use crate::due::{Due, perform};
 use cx_command::Abend;
-use cx_ebcdic::Name4;
 use cx_exec::{Halt, advance};
 use cx_program::ConditionCode;
-use cx_rows::judge;
 use cx_state::{Shared, Station, Task, TurnReply};
-use cx_storage::{Store, address_in};
+use cx_storage::Store;
 use std::alloc::AllocError;
 
 /// The most instructions of a half-turn.
@@ -25,7 +18,7 @@ pub(crate) const MOST_STEPS: u32 = 65_536;
 
 /// A command is due, and the current level keeps registers and code.
 fn stop_at_command(task: &mut Task)
-    ensures { task.new ≡ at_command_task task.old }
+    ensures { task.new ≡ at_command task.old }
 {
     let regs = task.cpu.regs;
     let code = ConditionCode::new(task.cpu.cc);
@@ -69,59 +62,6 @@ fn run_on<S: Store + Drop>(
     halt(how, shared, station, task)
 }
 
-/// The code of the abend that a call's fault leads to.
-fn fault_code(fault: CallFault) -> Name4
-    ensures { result ≡ fault_code fault }
-{
-    match fault {
-        CallFault::Xarg => Abend::Xarg.code(),
-        CallFault::Xfun => Abend::Xfun.code(),
-    }
-}
-
-/// Performs a call.
-#[tactic(auto, unfolding(crate::specs::Performing::Called))]
-fn perform_call<S: Store + Drop>(
-    call: &Call,
-    shared: &mut Shared<S>,
-    station: &mut Station,
-    task: &mut Task,
-) -> Result<TurnReply, AllocError>
-    requires { AreSoundPrograms shared.old.programs }
-    ensures called { IfOk result (λ reply. Called call.now (reach shared.old station.old task.old) reply (reach shared.new station.new task.new)) }
-    ensures err { OnErr result (reach shared.new station.new task.new ≡ reach shared.old station.old task.old) }
-    ensures grows { OnErr result (task.old.due ≡ true → call_of shared.old.storage (list_of task.old) ≡ Ok call.now → Grows (reach shared.old station.old task.old)) }
-{
-    if !are_inputs_there(&shared.store, call) {
-        return Ok(abend(shared, station, task, Abend::Xarg.code(), false));
-    }
-    let verdict = judge(call, shared, station, task);
-    let reply = answer(&verdict, call, shared, station, task)?;
-    Ok(reply)
-}
-
-/// Performs the command that is due.
-#[tactic(auto, unfolding(crate::specs::Performing::Commanded))]
-pub(crate) fn perform<S: Store + Drop>(
-    shared: &mut Shared<S>,
-    station: &mut Station,
-    task: &mut Task,
-) -> Result<TurnReply, AllocError>
-    requires { AreSoundPrograms shared.old.programs }
-    ensures commanded { IfOk result (λ reply. Commanded (reach shared.old station.old task.old) reply (reach shared.new station.new task.new)) }
-    ensures err { OnErr result (reach shared.new station.new task.new ≡ reach shared.old station.old task.old) }
-    ensures grows { OnErr result (task.old.due ≡ true → Grows (reach shared.old station.old task.old)) }
-{
-    let list = address_in(task.cpu.regs[1]);
-    match read_call(&shared.store, list) {
-        Ok(call) => {
-            let reply = perform_call(&call, shared, station, task)?;
-            Ok(reply)
-        }
-        Err(fault) => Ok(abend(shared, station, task, fault_code(fault), false)),
-    }
-}
-
 /// One half-turn of a live task: its instructions run up to the next command, an interruption or the limit of 65,536;
 /// or the command that is due is performed. After a reply that is over the task has ended: its areas are freed, its
 /// resources released, its held input dropped, and the station has the next transaction that it left.
@@ -135,14 +75,15 @@ pub fn half_turn<S: Store + Drop>(
     task: &mut Task,
 ) -> Result<TurnReply, AllocError>
     requires { AreSoundPrograms shared.old.programs }
-    ensures turned { IfOk result (λ reply. HalfTurn (reach shared.old station.old task.old) reply (reach shared.new station.new task.new)) }
+    ensures turned { let before = reach shared.old station.old task.old in
+        let after = reach shared.new station.new task.new in
+        IfOk result (λ reply. HalfTurn before reply after) }
     ensures err { OnErr result (reach shared.new station.new task.new ≡ reach shared.old station.old task.old) }
     ensures grows { OnErr result (Grows (reach shared.old station.old task.old)) }
 {
-    if task.due {
-        let reply = perform(shared, station, task)?;
-        Ok(reply)
-    } else {
-        Ok(run_on(shared, station, task))
+    if !task.due {
+        return Ok(run_on(shared, station, task));
     }
+    let due = Due::find(shared, station, task);
+    perform(&due, shared, station, task)
 }

@@ -1,5 +1,5 @@
 -- What half-turns leave of the levels above the current one.
-use Rattle.std.proofs.Common.{◌≡◌, ℕ, zero, suc, Bool, true, false, Option, Some, None, List, [], ◌∷◌, drop, length, ◌≤◌, refl, sym, ◌∙◌, ap, subst, arith, inl, inr}
+use Rattle.std.proofs.Common.{◌≡◌, ℕ, zero, suc, Bool, true, false, Option, Some, None, List, [], ◌∷◌, drop, length, ◌≤◌, refl, sym, ◌∙◌, ap, subst, arith, inl, inr, ◌-◌}
 use Rattle.std.specs.Prelude.{Result, Ok, Err, MatchBool, MatchResult, if◌then◌else◌}
 use Rattle.cx_command.specs.Abends.{abend_code}
 use Rattle.cx_command.specs.declared.abends.Abend.TheVariants as abend
@@ -25,10 +25,10 @@ use Rattle.cx_state.specs.State.{Reach}
 use Rattle.cx_state.specs.Areas.{entry_level}
 use Rattle.cx_task.specs.declared.way.Way.{Way}
 use Rattle.cx_task.specs.declared.way.Way.TheVariants as way
-use Rattle.cx_task.specs.Abends.{Abends, AbendsAt, below, exit_task, unwound, without_stg}
+use Rattle.cx_task.specs.Abends.{Abends, AbendsAt, exit_task, unwound, without_stg}
 use Rattle.cx_task.specs.Answers.{Answers, Does, LeavesAll, MeetsWith, has_room, way_at}
 use Rattle.cx_task.specs.Changes.{Grown, Settles, finished, given, reported}
-use Rattle.cx_task.specs.Performing.{Called, Commanded, Performs, fault_code, list_of}
+use Rattle.cx_task.specs.Performing.{Called, Commanded, Performs, fault_abend, list_of}
 use Rattle.cx_task.specs.Turn.{HalfTurn, Halted, RunsOn}
 use Rattle.cx_task.specs.Ways.{Goes, choice_for, entered, is_normal, is_wait, replaced, returned, returned_to, way_by, way_chosen, way_of}
 use Rattle.cx_task_laws.specs.Laws.Levels.{HalfTurnsLeaveCallers, IsBack, LeavesCallers}
@@ -53,7 +53,7 @@ abends_leave code cancel before mid after reply same it = go it.exit it.ends
     go : (o : Option ℕ) → AbendsAt o code mid reply after → LeavesCallers reply before.task after.task
     go None over = rw (over.0, over.1) (ap (λ (l : Levels). l.callers) same)
     go (Some index) over =
-        let n = below mid.task.levels index in
+        let n = length mid.task.levels.callers - index in
         let left = unwound n mid.task.levels.callers mid.task.levels.current mid.shared.storage in
         let whole = unwound_levels n mid.task.levels.callers mid.task.levels.current mid.shared.storage (omega arith) in
         rw (over.0, over.1) (record {
@@ -170,9 +170,9 @@ commanded_leaves before after reply commanded = by_call (call_of before.shared.s
     by_inputs call true it = answers_leave it.verdict call before after reply (judged_well call before it.verdict it.judged) it.answers
     by_inputs call false abends = abends_leave (abend_code abend.Xarg) false before before after reply refl abends
 
-    by_call : (r : Result Call CallFault) → MatchResult r (λ call. Called call before reply after) (λ fault. Abends (fault_code fault) false before reply after) → LeavesCallers reply before.task after.task
+    by_call : (r : Result Call CallFault) → MatchResult r (λ call. Called call before reply after) (λ fault. Abends (abend_code (fault_abend fault)) false before reply after) → LeavesCallers reply before.task after.task
     by_call (Ok call) called = by_inputs call (are_inputs_there before.shared.storage call) called
-    by_call (Err fault) abends = abends_leave (fault_code fault) false before before after reply refl abends
+    by_call (Err fault) abends = abends_leave (abend_code (fault_abend fault)) false before before after reply refl abends
 
 -- ---- instructions
 runs_leave : (before after : Reach) (reply : TurnReply) → RunsOn before reply after → LeavesCallers reply before.task after.task

@@ -30,11 +30,12 @@ use Rattle.cx_state.specs.declared.verdict.Verdict.{Verdict}
 use Rattle.cx_state.specs.declared.verdict.Verdict.TheVariants.{Refuses, Waits, Meets}
 use Rattle.cx_state.specs.Areas.{got_owner}
 use Rattle.cx_state.specs.State.{Reach}
-use Rattle.cx_state.specs.Verdicts.{Fits, FitsChange, FitsEnded, handed_over}
+use Rattle.cx_state.specs.Parts.Fits.{Fits, FitsChange, FitsEnded}
+use Rattle.cx_state.specs.Verdicts.{handed_over}
 use Rattle.cx_task.specs.Abends.{Abends}
 use Rattle.cx_task.specs.Answers.{Answers, Does, LeavesAll, MeetsWith, has_room, way_at}
 use Rattle.cx_task.specs.Changes.{Grown, Settles, finished, given, read_for, report_of, reported}
-use Rattle.cx_task.specs.Performing.{Called, Commanded, Performs, fault_code, list_of}
+use Rattle.cx_task.specs.Performing.{Called, Commanded, Performs, fault_abend, list_of}
 use Rattle.cx_task.specs.Sound.{IsSoundTask}
 use Rattle.cx_task.specs.Turn.{HalfTurn, RunsOn}
 use Rattle.cx_task.specs.Ways.{is_wait}
@@ -258,9 +259,9 @@ commanded_told law x before after reply ok programs queues own commanded = by_ca
     by_inputs call reads false e abends = abends_told x (abend_code abend.Xarg) before after reply clear abends
 
     by_call : (r : Result Call CallFault) → call_of before.shared.storage (list_of before.task) ≡ r
-        → MatchResult r (λ call. Called call before reply after) (λ fault. Abends (fault_code fault) false before reply after) → Told x before after
+        → MatchResult r (λ call. Called call before reply after) (λ fault. Abends (abend_code (fault_abend fault)) false before reply after) → Told x before after
     by_call (Ok call) e called = by_inputs call e (are_inputs_there before.shared.storage call) refl called
-    by_call (Err fault) e abends = abends_told x (fault_code fault) before after reply clear abends
+    by_call (Err fault) e abends = abends_told x (abend_code (fault_abend fault)) before after reply clear abends
 
 told_bytes : (x : ℕ) (before after : Reach) → (told : Told x before after)
     → (byte_at (others_storage before.station.slot after.shared.storage) x ≡ byte_at (others_storage before.station.slot before.shared.storage) x) ⊎ DueWrites x before

@@ -19,7 +19,7 @@ use Rattle.cx_task.specs.declared.way.Way.{Way}
 use Rattle.cx_task.specs.declared.way.Way.TheVariants as way
 use Rattle.cx_task.specs.Abends.{Abends, AbendsAt, exit_task}
 use Rattle.cx_task.specs.Answers.{Answers, Does, LeavesAll, MeetsWith, has_room, way_at}
-use Rattle.cx_task.specs.Performing.{Called as IsCalled, Commanded, Performs, fault_code, list_of}
+use Rattle.cx_task.specs.Performing.{Called as IsCalled, Commanded, Performs, fault_abend, list_of}
 use Rattle.cx_task.specs.Turn.{HalfTurn, Halted, RunsOn}
 use Rattle.cx_task.specs.Ways.{Goes, entered, is_wait, replaced, returned, returned_to}
 use Rattle.cx_task_laws.specs.Laws.Levels.{DueIsKept, Keeps}
@@ -93,9 +93,9 @@ commanded_due before after reply half commanded = by_call (call_of before.shared
     by_inputs call true it = answers_due it.verdict call before after reply half it.answers
     by_inputs call false abends = abends_due (abend_code abend.Xarg) false before before after reply abends
 
-    by_call : (r : Result Call CallFault) → MatchResult r (λ call. IsCalled call before reply after) (λ fault. Abends (fault_code fault) false before reply after) → Asked before reply after
+    by_call : (r : Result Call CallFault) → MatchResult r (λ call. IsCalled call before reply after) (λ fault. Abends (abend_code (fault_abend fault)) false before reply after) → Asked before reply after
     by_call (Ok call) called = by_inputs call (are_inputs_there before.shared.storage call) called
-    by_call (Err fault) abends = abends_due (fault_code fault) false before before after reply abends
+    by_call (Err fault) abends = abends_due (abend_code (fault_abend fault)) false before before after reply abends
 
 runs_due : (before after : Reach) (reply : TurnReply) → RunsOn before reply after → Asked before reply after
 unfolding Halted

@@ -1,5 +1,5 @@
 -- What a command's ends leave of the areas of others: an area freed, levels ended, the way of the task.
-use Rattle.std.proofs.Common.{◌≡◌, ℕ, zero, suc, Bool, Option, Some, None, List, [], ◌∷◌, refl, sym, ◌∙◌, ap, subst}
+use Rattle.std.proofs.Common.{◌≡◌, ℕ, zero, suc, Bool, Option, Some, None, List, [], ◌∷◌, refl, sym, ◌∙◌, ap, subst, ◌-◌, length}
 use Rattle.std.specs.List.{AllByRecursion}
 use Rattle.cx_command.specs.declared.conditions.Condition.{Condition}
 use Rattle.cx_command.specs.Eib.{eib_len}
@@ -10,7 +10,7 @@ use Rattle.cx_state.specs.declared.replies.TurnReply.{TurnReply}
 use Rattle.cx_state.specs.State.{Reach}
 use Rattle.cx_task.specs.declared.way.Way.{Way}
 use Rattle.cx_task.specs.declared.way.Way.TheVariants as way
-use Rattle.cx_task.specs.Abends.{Abends, AbendsAt, below, exit_storage, unwound, without_stg}
+use Rattle.cx_task.specs.Abends.{Abends, AbendsAt, exit_storage, unwound, without_stg}
 use Rattle.cx_task.specs.Ways.{Goes, entered, replaced, returned, returned_to}
 use Rattle.cx_task_laws.specs.Laws.Bytes.{others_storage}
 use Rattle.cx_task_laws.proofs.OthersLemmas.{Elsewhere, own_all_free, own_free}
@@ -55,10 +55,10 @@ abends_others slot code cancel before after reply mine clear it = go it.exit it.
     go : (o : Option ℕ) → AbendsAt o code before reply after → LeavesOthersOf slot before after
     go None over = ap (λ (r : Reach). others_storage slot r.shared.storage) over.1 ∙ freed
     go (Some index) over =
-        let left = unwound (below before.task.levels index) before.task.levels.callers before.task.levels.current before.shared.storage in
+        let left = unwound (length before.task.levels.callers - index) before.task.levels.callers before.task.levels.current before.shared.storage in
         ap (λ (r : Reach). others_storage slot r.shared.storage) over.1
         ∙ calen_others slot before.shared.storage left.storage before.task.eib (Some left.levels.current.calen) own
-        (unwound_others slot (below before.task.levels index) before.task.levels.callers before.task.levels.current before.shared.storage clear.stg_clear clear.callers_clear)
+        (unwound_others slot (length before.task.levels.callers - index) before.task.levels.callers before.task.levels.current before.shared.storage clear.stg_clear clear.callers_clear)
 
 -- ---- the way
 returned_others : (slot : ℕ) (callers : List Level) (r : Reach) → Elsewhere (others_storage slot r.shared.storage) (address_in r.task.levels.current.stg) → LeavesOthersOf slot r (returned_to callers r)

@@ -1,5 +1,5 @@
 -- Which exit takes an abend, and what it leaves.
-use Rattle.std.proofs.Common.{◌≡◌, ℕ, zero, suc, ◌+◌, ◌<◌, ◌≤◌, Bool, true, false, is_some, Option, Some, None, List, [], ◌∷◌, ◌++◌, length, reverse, refl, sym, ◌∙◌, ap, subst, arith, inl, inr, slice_get}
+use Rattle.std.proofs.Common.{◌≡◌, ℕ, zero, suc, ◌+◌, ◌<◌, ◌≤◌, Bool, true, false, is_some, Option, Some, None, List, [], ◌∷◌, ◌++◌, length, reverse, refl, sym, ◌∙◌, ap, subst, arith, inl, inr, slice_get, ◌-◌}
 use Rattle.std.specs.Prelude.{◌&&◌, unwrap_or}
 use Rattle.std.specs.Option.{option_map_or}
 use Rattle.std.proofs.lemmas.Bool.{cases_Bool, cases_eq, cases_lt, eq-eqb, ne_eqb}
@@ -16,7 +16,7 @@ use Rattle.cx_program.specs.Levels.{IsNearestExit, all_levels, has_exit, has_exi
 use Rattle.cx_call.specs.Eib.{with_calen, with_field}
 use Rattle.cx_state.specs.declared.replies.TurnReply.TheVariants as turn
 use Rattle.cx_state.specs.Facts.Areas.{area_written}
-use Rattle.cx_task.specs.Abends.{AbendsAt, IsExit, Unwound, below, exit_label, exit_storage, exit_taken, exit_task, unwound, with_exit_off, without_stg}
+use Rattle.cx_task.specs.Abends.{AbendsAt, IsExit, Unwound, exit_storage, exit_taken, exit_task, unwound, with_exit_off, without_stg}
 use Rattle.cx_task_laws.specs.Laws.Exits.{AreFreed, CancelTakesNoExit, ExitsAreNearest, ExitsTakeAbends, TakesExit, is_no_stg_of}
 
 -- ---- areas freed
@@ -139,7 +139,7 @@ exit_off (Off label) = refl
 exit_off (On label) = refl
 
 -- a level whose exit is on has the exit's label
-exit_labelled : (level : Level) → has_exit level ≡ true → label_on level.handles.active.exit ≡ Some (exit_label level)
+exit_labelled : (level : Level) → has_exit level ≡ true → label_on level.handles.active.exit ≡ Some (unwrap_or (label_on level.handles.active.exit) 0)
 exit_labelled level on = go (label_on level.handles.active.exit) on
   where
     go : (o : Option ℕ) → is_some o ≡ true → o ≡ Some (unwrap_or o 0)
@@ -188,7 +188,7 @@ exits_are_nearest code cancel before after it = go cancel it.exit it.takes it.en
 
     taken : (index : ℕ) → IsNearestExit (all_levels before.task.levels) (Some index) → after ≡ exit_taken index before → TakesExit before after
     taken index nearest is =
-        let n = below before.task.levels index in
+        let n = length before.task.levels.callers - index in
         let left = unwound n callers current before.shared.storage in
         let inside = has_exit_in (reverse callers ++ current ∷ []) index nearest.0 in
         let long = all_length callers current in
@@ -208,7 +208,7 @@ exits_are_nearest code cancel before after it = go cancel it.exit it.takes it.en
           levels = refl;
           off = off;
           freed = freed_calen left.storage before.task.eib (Some left.levels.current.calen) split.ended split.freed;
-          label = exit_label left.levels.current;
+          label = unwrap_or (label_on left.levels.current.handles.active.exit) 0;
           labelled = exit_labelled left.levels.current on;
           next = refl;
           regs = refl;

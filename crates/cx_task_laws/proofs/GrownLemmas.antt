@@ -1,7 +1,7 @@
 -- What a command makes leaves the areas of others as they were.
 use Rattle.std.proofs.Common.{◌≡◌, ℕ, ◌+◌, ◌^◌, ◌<◌, ◌≤◌, Option, Some, None, List, [], length, refl, sym, ◌∙◌, ap, subst, arith}
 use Rattle.std.specs.Prelude.{unwrap_or}
-use Rattle.std.specs.Option.{option_map}
+use Rattle.std.specs.Option.{option_map, option_map_or}
 use Rattle.std.specs.Int.{w32, to_be_bytes}
 use Rattle.std.proofs.lemmas.List.{length-replicate}
 use Rattle.cx_storage.specs.declared.areas.Owner.{Owner}
@@ -17,9 +17,9 @@ use Rattle.cx_state.specs.declared.verdict.Fill.TheVariants.{Byte, Item}
 use Rattle.cx_state.specs.declared.verdict.Made.{Made}
 use Rattle.cx_state.specs.declared.verdict.Made.TheVariants as made
 use Rattle.cx_state.specs.declared.verdict.NewLevel.{NewLevel}
-use Rattle.cx_state.specs.Areas.{IsTaskPlace, address_or_zero, bytes_in, copied_bytes, got_owner, system_owner, with_cap, with_copied, with_copy_area, with_filled, with_stg_area}
+use Rattle.cx_state.specs.Areas.{IsTaskPlace, bytes_in, got_owner, system_owner, with_cap, with_copied, with_copy_area, with_filled, with_stg_area}
 use Rattle.cx_state.specs.State.{Reach}
-use Rattle.cx_state.specs.Verdicts.{FitsChange, FitsCopy, FitsFill, FitsLevel}
+use Rattle.cx_state.specs.Parts.Fits.{FitsChange, FitsCopy, FitsFill, FitsLevel}
 use Rattle.cx_task.specs.Changes.{Grown, fill_bytes, with_got, with_replacement, with_stg}
 use Rattle.cx_task_laws.specs.Laws.Bytes.{others_storage}
 use Rattle.cx_task_laws.proofs.OthersLemmas.{Uncovered, own_put, own_write}
@@ -77,8 +77,8 @@ cap_others : (slot : ℕ) (s : Storage) (level : NewLevel) → Own slot s level.
     → others_storage slot (with_cap s level) ≡ others_storage slot s
 unfolding with_cap
 cap_others slot s level own long =
-    let four = four_bytes (address_or_zero level.commarea) in
-    write_in slot s level.stg level.loaded.stg_len 76 (to_be_bytes w32 (address_or_zero level.commarea)) own (omega (arith, four, long))
+    let four = four_bytes (option_map_or (λ piece. piece.place) level.commarea 0) in
+    write_in slot s level.stg level.loaded.stg_len 76 (to_be_bytes w32 (option_map_or (λ piece. piece.place) level.commarea 0)) own (omega (arith, four, long))
 
 level_others : (slot : ℕ) (s : Storage) (level : NewLevel) → FitsLevel s level → others_storage slot (with_stg s slot level) ≡ others_storage slot s
 unfolding with_stg
@@ -101,7 +101,7 @@ bytes_fit s piece = go (span s piece.place piece.len) (λ bytes e. span_length s
     go (Some bytes) long = let is = long bytes refl in omega (arith, is)
 
 copied_others : (slot : ℕ) (s t : Storage) (copying : Option Copying) → FitsCopy copying s → others_storage slot t ≡ others_storage slot s
-    → others_storage slot (with_copied t copying (copied_bytes s copying)) ≡ others_storage slot t
+    → others_storage slot (with_copied t copying (option_map_or (λ copying. bytes_in s copying.from) copying [])) ≡ others_storage slot t
 unfolding with_copied
 copied_others slot s t None fits e = refl
 copied_others slot s t (Some copying) fits e =
@@ -113,7 +113,7 @@ unfolding with_replacement
 replaced_others slot s copying level copy fits =
     let one = with_copy_area s slot copying in
     let two = with_stg_area one slot level in
-    let three = with_copied two copying (copied_bytes s copying) in
+    let three = with_copied two copying (option_map_or (λ copying. bytes_in s copying.from) copying []) in
     let first = copy_area_others slot s copying in
     let second : others_storage slot two ≡ others_storage slot one = own_put slot one level.stg level.loaded.stg_len (system_owner slot) refl in
     let third = copied_others slot s two copying copy (second ∙ first) in

@@ -39,7 +39,7 @@ use Rattle.cx_task.specs.declared.way.Way.TheVariants as way
 use Rattle.cx_task.specs.Abends.{Abends, AbendsAt}
 use Rattle.cx_task.specs.Answers.{Answers, Does, LeavesAll, MeetsWith, has_room, way_at}
 use Rattle.cx_task.specs.Changes.{Grown, Settles, fill_bytes, finished, given, read_for, report_of, reported, with_got}
-use Rattle.cx_task.specs.Performing.{Called, Commanded, Performs, fault_code, list_of}
+use Rattle.cx_task.specs.Performing.{Called, Commanded, Performs, fault_abend, list_of}
 use Rattle.cx_task.specs.Turn.{HalfTurn, Halted, RunsOn}
 use Rattle.cx_task.specs.Ways.{Goes, is_wait, on_its_way}
 use Rattle.cx_task_laws.specs.Laws.Bytes.{is_among, is_in_output}
@@ -240,10 +240,10 @@ commanded_done condition before after commanded = by_call (call_of before.shared
     by_inputs call reads false abends = not_abends (abend_code abend.Xarg) false condition before after abends
 
     by_call : (r : Result Call CallFault) → call_of before.shared.storage (list_of before.task) ≡ r
-        → MatchResult r (λ call. Called call before (turn.Performed condition) after) (λ fault. Abends (fault_code fault) false before (turn.Performed condition) after)
+        → MatchResult r (λ call. Called call before (turn.Performed condition) after) (λ fault. Abends (abend_code (fault_abend fault)) false before (turn.Performed condition) after)
         → IsDone condition before after
     by_call (Ok call) reads called = by_inputs call reads (are_inputs_there before.shared.storage call) called
-    by_call (Err fault) reads abends = not_abends (fault_code fault) false condition before after abends
+    by_call (Err fault) reads abends = not_abends (abend_code (fault_abend fault)) false condition before after abends
 
 not_runs : {P : Type 0} (condition : Condition) (before after : Reach) → RunsOn before (turn.Performed condition) after → P
 unfolding Halted

@@ -40,7 +40,7 @@ use Rattle.cx_task.specs.declared.way.Way.{Way}
 use Rattle.cx_task.specs.declared.way.Way.TheVariants as way
 use Rattle.cx_task.specs.Abends.{Abends, AbendsAt}
 use Rattle.cx_task.specs.Answers.{Answers, Does, LeavesAll, MeetsWith, has_room, way_at}
-use Rattle.cx_task.specs.Performing.{Called as IsCalled, Commanded, Performs, fault_code, list_of}
+use Rattle.cx_task.specs.Performing.{Called as IsCalled, Commanded, Performs, fault_abend, list_of}
 use Rattle.cx_task.specs.Turn.{HalfTurn, Halted, RunsOn}
 use Rattle.cx_task.specs.Ways.{Goes, choice_for, is_normal, is_wait, way_by, way_chosen, way_of}
 use Rattle.cx_task_laws.specs.Laws.Levels.{ReturnsHaveCallers}
@@ -193,9 +193,9 @@ commanded_has before after commanded = by_call (call_of before.shared.storage (l
     by_inputs call true it = answers_has it.verdict call before after it.judged it.answers
     by_inputs call false abends = abends_not (abend_code abend.Xarg) false before after abends
 
-    by_call : (r : Result Call CallFault) → MatchResult r (λ call. IsCalled call before turn.Returned after) (λ fault. Abends (fault_code fault) false before turn.Returned after) → 0 < length before.task.levels.callers
+    by_call : (r : Result Call CallFault) → MatchResult r (λ call. IsCalled call before turn.Returned after) (λ fault. Abends (abend_code (fault_abend fault)) false before turn.Returned after) → 0 < length before.task.levels.callers
     by_call (Ok call) called = by_inputs call (are_inputs_there before.shared.storage call) called
-    by_call (Err fault) abends = abends_not (fault_code fault) false before after abends
+    by_call (Err fault) abends = abends_not (abend_code (fault_abend fault)) false before after abends
 
 runs_not : (before after : Reach) → RunsOn before turn.Returned after → {P : Type 0} → P
 unfolding Halted

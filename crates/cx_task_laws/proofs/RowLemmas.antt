@@ -44,7 +44,7 @@ use Rattle.cx_rows.specs.Facts.FitsParts.{by_option, by_test}
 use Rattle.cx_rows.specs.Freemain.{freemain_row, frees, is_got_by}
 use Rattle.cx_rows.specs.Handling.{pop_row, push_row}
 use Rattle.cx_rows.specs.Receive.{receive_row}
-use Rattle.cx_rows.specs.SendText.{send_text_row, shown}
+use Rattle.cx_rows.specs.SendText.{send_text_row}
 
 -- whether a verdict's change passes a test
 unfoldable pub passes : (Change → Bool) → Verdict → Bool
@@ -140,7 +140,7 @@ send_text_none p apart s call = elim (cases_Bool (is_length_negative s call)) [
   | inr f ↦ rw f (go (piece_of s call option.From))
 ]
   where
-    go : (o : Option Piece) → passes p (does (shown o (has call option.Erase))) ≡ false
+    go : (o : Option Piece) → passes p (does (option_map_or (λ piece. Makes (Shows piece (has call option.Erase))) o Nothing)) ≡ false
     go None = apart.none
     go (Some piece) = apart.shows piece (has call option.Erase)
 

@@ -1,5 +1,7 @@
 -- A LINK and the RETURN from it; PUSH and POP; registers at a command.
 use Rattle.std.proofs.Common.{◌≡◌, ℕ, zero, suc, ◌-◌, ◌≤◌, Bool, true, false, Option, Some, None, List, [], ◌∷◌, ◌++◌, length, drop, refl, sym, ◌∙◌, ap, subst, arith, inl, inr}
+use Rattle.cx_program.specs.declared.entries.Entry.TheVariants.{Label, NoEntry}
+use Rattle.std.specs.Option.{option_map_or}
 use Rattle.std.specs.Prelude.{MatchBool, unwrap_or}
 use Rattle.std.proofs.lemmas.List.{length-drop}
 use Rattle.cx_command.specs.Abends.{abend_code}
@@ -18,7 +20,7 @@ use Rattle.cx_state.specs.declared.verdict.Request.{Request}
 use Rattle.cx_state.specs.declared.verdict.Request.TheVariants as request
 use Rattle.cx_state.specs.State.{Reach, TaskState}
 use Rattle.cx_task.specs.Abends.{Abends, AbendsAt}
-use Rattle.cx_task.specs.Changes.{entry_asked, handled, with_ignored, with_labels}
+use Rattle.cx_task.specs.Changes.{handled, with_ignored, with_labels}
 use Rattle.cx_task.specs.Performing.{Commanded}
 use Rattle.cx_task.specs.Turn.{HalfTurn, Halted, RunsOn}
 use Rattle.cx_task_laws.specs.Laws.Levels.{CommandsAreKept, HasBegun, IsBack, IsBalanced, Keeps, LeavesCallers, Links, LinksAreReturned, PopsRestore, RunsBelow, Turned, handled_all}
@@ -145,7 +147,7 @@ commands_are_kept before after none half = runs (by_due before.task.due none hal
 labels_kept : (listed : List Listed) (handles : Handles) → (with_labels listed handles).kept ≡ handles.kept
 unfolding with_labels
 labels_kept [] handles = refl
-labels_kept (one ∷ rest) handles = labels_kept rest (put_entry handles one.condition (entry_asked one.label))
+labels_kept (one ∷ rest) handles = labels_kept rest (put_entry handles one.condition (option_map_or Label one.label NoEntry))
 
 ignored_kept : (listed : List Listed) (handles : Handles) → (with_ignored listed handles).kept ≡ handles.kept
 unfolding with_ignored

@@ -21,7 +21,7 @@ use Rattle.cx_call.specs.declared.answer.Answer.{Answer}
 use Rattle.cx_call.specs.declared.outputs.Output.{Output}
 use Rattle.cx_call.specs.declared.outputs.Source.{Source}
 use Rattle.cx_call.specs.declared.outputs.Source.TheVariants.{Half, Text, Word}
-use Rattle.cx_call.specs.Answer.{answered, one_byte, with_eib, with_resp, with_set}
+use Rattle.cx_call.specs.Answer.{answered, with_eib, with_set}
 use Rattle.cx_call.specs.Call.{Call, place_of, resp_place}
 use Rattle.cx_call.specs.Eib.{Content, content, with_calen, with_field}
 use Rattle.cx_call.specs.Outputs.{bytes_from, can_put, is_room, put_out, with_output}
@@ -156,16 +156,15 @@ eib_elsewhere s eib answer x low far eight =
     let two = with_field one eib code in
     let three = with_field two eib response in
     let named = with_set three eib Rsrce answer.resource in
-    let keyed = with_set named eib Aid (one_byte answer.aid) in
+    let keyed = with_set named eib Aid (option_map (λ byte. byte ∷ []) answer.aid) in
     calen_elsewhere keyed eib answer.calen x low far
-    ∙ set_elsewhere named eib Aid (one_byte answer.aid) x low far (λ bytes e. aid_fits answer.aid bytes e)
+    ∙ set_elsewhere named eib Aid (option_map (λ byte. byte ∷ []) answer.aid) x low far (λ bytes e. aid_fits answer.aid bytes e)
     ∙ set_elsewhere three eib Rsrce answer.resource x low far (λ bytes e. let long = eight bytes e in omega (arith, long))
     ∙ field_elsewhere two eib response x low far (omega arith)
     ∙ field_elsewhere one eib code x low far (omega arith)
     ∙ field_elsewhere s eib function x low far (omega arith)
 
-resp_elsewhere : (s : Storage) (place : Option ℕ) (n x : ℕ) → ((p : ℕ) → place ≡ Some p → p < 2 ^ 24) → is_among x place 4 ≡ false → byte_at (with_resp s place n) x ≡ byte_at s x
-unfolding with_resp
+resp_elsewhere : (s : Storage) (place : Option ℕ) (n x : ℕ) → ((p : ℕ) → place ≡ Some p → p < 2 ^ 24) → is_among x place 4 ≡ false → byte_at (with_output s place (to_be_bytes w32 n)) x ≡ byte_at s x
 resp_elsewhere s None n x low apart = refl
 resp_elsewhere s (Some p) n x low apart = write_elsewhere s p (to_be_bytes w32 n) x (low p refl) (ltb-false _ _ apart)
 

@@ -24,7 +24,7 @@ use Rattle.cx_task.specs.declared.way.Way.{Way}
 use Rattle.cx_task.specs.declared.way.Way.TheVariants as way
 use Rattle.cx_task.specs.Abends.{Abends, AbendsAt}
 use Rattle.cx_task.specs.Answers.{Answers, Does, LeavesAll, MeetsWith, has_room, way_at}
-use Rattle.cx_task.specs.Performing.{Called as IsCalled, Commanded, Performs, fault_code, list_of}
+use Rattle.cx_task.specs.Performing.{Called as IsCalled, Commanded, Performs, fault_abend, list_of}
 use Rattle.cx_task.specs.Turn.{HalfTurn, Halted, RunsOn, machine_of, most_steps}
 use Rattle.cx_task.specs.Ways.{Goes, choice_for, is_normal, is_wait, way_by, way_chosen, way_of}
 use Rattle.cx_task_laws.specs.Laws.Exits.{ComesTo, ComesToExit, HalfTurnsTakeExits, HasDone, HaveRun, TakesExit}
@@ -139,9 +139,9 @@ commanded_comes code before after commanded = by_call (call_of before.shared.sto
     by_inputs call reads false abends = at_once (abend_code kind.Xarg) code before after abends
 
     by_call : (r : Result Call CallFault) → call_of before.shared.storage (list_of before.task) ≡ r
-        → MatchResult r (λ call. IsCalled call before (turn.TookExit code) after) (λ fault. Abends (fault_code fault) false before (turn.TookExit code) after) → IsCome before after
+        → MatchResult r (λ call. IsCalled call before (turn.TookExit code) after) (λ fault. Abends (abend_code (fault_abend fault)) false before (turn.TookExit code) after) → IsCome before after
     by_call (Ok call) reads called = by_inputs call reads (are_inputs_there before.shared.storage call) called
-    by_call (Err fault) reads abends = at_once (fault_code fault) code before after abends
+    by_call (Err fault) reads abends = at_once (abend_code (fault_abend fault)) code before after abends
 
 -- ---- instructions
 record HasRunTo (before after : Reach) : Type 0 where

@@ -1,7 +1,7 @@
 -- What outputs and the report leave of the areas of others.
 use Rattle.std.proofs.Common.{◌≡◌, ℕ, zero, suc, ◌+◌, ◌-◌, ◌^◌, ◌<◌, ◌≤◌, Bool, true, false, Option, Some, None, List, [], ◌∷◌, length, slice_get, refl, ◌∙◌, subst, arith}
 use Rattle.std.specs.Prelude.{◌||◌, if◌then◌else◌}
-use Rattle.std.specs.Option.{option_and_then, option_or}
+use Rattle.std.specs.Option.{option_and_then, option_map, option_or}
 use Rattle.std.specs.List.{AllByRecursion, list_any}
 use Rattle.std.specs.Int.{w16, w32, to_be_bytes}
 use Rattle.cx_command.specs.Eib.{eib_field, eib_len}
@@ -13,7 +13,7 @@ use Rattle.cx_storage.specs.Storage.{Storage, span}
 use Rattle.cx_storage.specs.Facts.Spans.{span_length}
 use Rattle.cx_call.specs.declared.answer.Answer.{Answer}
 use Rattle.cx_call.specs.declared.outputs.Output.{Output}
-use Rattle.cx_call.specs.Answer.{answered, one_byte, resource_of, with_eib, with_resp, with_set}
+use Rattle.cx_call.specs.Answer.{answered, resource_of, with_eib, with_set}
 use Rattle.cx_call.specs.Call.{Call, has_resp, place_of, resp_place}
 use Rattle.cx_call.specs.Eib.{Content, content, with_calen, with_field}
 use Rattle.cx_call.specs.Inputs.{bytes_of}
@@ -67,8 +67,7 @@ four : (n : ℕ) → length (to_be_bytes w32 n) ≡ 4
 four n = refl
 
 resp_left : (slot x : ℕ) (writes : Bool) (s : Storage) (place : Option ℕ) (n : ℕ) → ((p : ℕ) → place ≡ Some p → p < 2 ^ 24)
-    → (writes ≡ false → is_among x place 4 ≡ false) → Left slot x writes s (with_resp s place n)
-unfolding with_resp
+    → (writes ≡ false → is_among x place 4 ≡ false) → Left slot x writes s (with_output s place (to_be_bytes w32 n))
 resp_left slot x writes s None n low apart = left_same slot x writes s s refl
 resp_left slot x writes s (Some p) n low apart = left_write slot x writes s p (to_be_bytes w32 n) (low p refl) apart
 
@@ -92,7 +91,7 @@ unfolding with_set
 set_others slot start s eib field None own fits e = e
 set_others slot start s eib field (Some bytes) own fits e = field_others slot start s eib (content field bytes) own (fits bytes refl) e
 
-pub aid_fits : (o : Option ℕ) (bytes : List ℕ) → one_byte o ≡ Some bytes → 26 + length bytes ≤ eib_len
+pub aid_fits : (o : Option ℕ) (bytes : List ℕ) → option_map (λ byte. byte ∷ []) o ≡ Some bytes → 26 + length bytes ≤ eib_len
 aid_fits None bytes e = cc
 aid_fits (Some b) bytes e = let is : b ∷ [] ≡ bytes = cc in subst (λ (l : List ℕ). 26 + length l ≤ eib_len) is (omega arith)
 
@@ -124,12 +123,12 @@ eib_others slot s eib answer own eight =
     let two = with_field one eib code in
     let three = with_field two eib response in
     let named_ = with_set three eib Rsrce answer.resource in
-    let keyed = with_set named_ eib Aid (one_byte answer.aid) in
+    let keyed = with_set named_ eib Aid (option_map (λ byte. byte ∷ []) answer.aid) in
     let first = field_others slot s s eib function own (omega arith) refl in
     let second = field_others slot s one eib code own (omega arith) first in
     let third = field_others slot s two eib response own (omega arith) second in
     let fourth = set_others slot s three eib Rsrce answer.resource own (λ bytes e. let long = eight bytes e in omega (arith, long)) third in
-    let fifth = set_others slot s named_ eib Aid (one_byte answer.aid) own (λ bytes e. aid_fits answer.aid bytes e) fourth in
+    let fifth = set_others slot s named_ eib Aid (option_map (λ byte. byte ∷ []) answer.aid) own (λ bytes e. aid_fits answer.aid bytes e) fourth in
     calen_others slot s keyed eib answer.calen own fifth
 
 -- ---- the report

@@ -2,7 +2,7 @@
 use Rattle.std.specs.Prelude.{◌≡◌, ℕ, Bool, true, false, not, ◌&&◌, ◌||◌, ◌==◌, List, [], ◌∷◌, ◌++◌, length, map, Option, None, Some, if◌then◌else◌}
 use Rattle.std.specs.List.{AllByRecursion}
 use Rattle.cx_region.specs.State.{RegionState}
-use Rattle.cx_region.specs.Names.{is_name4}
+use Rattle.cx_ebcdic.specs.Names.{is_name}
 use Rattle.cx_region.specs.Events.{Run}
 use Rattle.cx_region.specs.declared.replies.Event.{Event}
 use Rattle.cx_region.specs.declared.replies.Event.TheVariants as event
@@ -60,10 +60,7 @@ ends_task old e = false
 -- whether an answer is EDF's own
 abbrev pub is_edfs : Answer → Bool
 is_edfs (answer.Region r) = false
-is_edfs answer.ToEdf = true
-is_edfs answer.Held = true
-is_edfs answer.NotStopped = true
-is_edfs (answer.Edf r) = true
+is_edfs _ = true
 
 -- an alteration that the region refused
 abbrev pub is_refusal : EdfEvent → Answer → Bool
@@ -128,5 +125,5 @@ abbrev pub SessionsAreSet : Type 0
 SessionsAreSet = (sessions : Sessions) (name : List ℕ) (to : Option SessionState) → session_in (with_session sessions name to) name ≡ to
 
 abbrev pub OtherSessionsStay : Type 0
-OtherSessionsStay = (sessions : Sessions) (name other : List ℕ) (to : Option SessionState) → is_name4 name other ≡ false
+OtherSessionsStay = (sessions : Sessions) (name other : List ℕ) (to : Option SessionState) → is_name name other ≡ false
     → session_in (with_session sessions name to) other ≡ session_in sessions other

@@ -14,8 +14,7 @@ use Rattle.cx_edf.specs.Runs.{EdfRun, EdfRunStopped, IsAllowedEdf, IsDoneEdf}
 -- the image of a program that is to be defined was checked
 abbrev pub IsCheckedEdf : EdfEvent → Type 0
 IsCheckedEdf (edf_event.Plain e) = IsChecked e
-IsCheckedEdf (edf_event.On name) = ⊤
-IsCheckedEdf (edf_event.Off name) = ⊤
+IsCheckedEdf _ = ⊤
 
 -- an event under EDF leads from a sound region to a sound one
 abbrev pub EdfSoundIsKept : Type 0

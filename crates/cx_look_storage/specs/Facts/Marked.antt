@@ -2,8 +2,9 @@
 use Rattle.std.specs.Prelude.{ℕ, zero, suc, ◌+◌, ◌-◌, ◌*◌, ◌/◌, ◌==◌, nat_lt, Option, Some, None, List, [], ◌∷◌, map, codes}
 use Rattle.std.specs.Fmt.{decimal}
 use Rattle.std.specs.List.{filter, flat_map}
-use Rattle.std.specs.Option.{option_and_then}
+use Rattle.std.specs.Option.{option_and_then, option_map_or}
 use Rattle.std.proofs.Common.{refl}
+use Rattle.cx_ebcdic.specs.Characters.{shown_as}
 use Rattle.cx_storage.specs.Address.{along}
 use Rattle.cx_storage.specs.Storage.{Storage, areas_of, byte_at}
 use Rattle.cx_storage.specs.declared.areas.Area.{Area}
@@ -14,7 +15,7 @@ use Rattle.cx_state.specs.State.{TaskState}
 use Rattle.cx_text.specs.Digits.{digits}
 use Rattle.cx_text.specs.Texts.{in_columns, joined, shown_name}
 use Rattle.cx_display.specs.Displays.{quarters}
-use Rattle.cx_display.specs.Texts.{character_at, character_group, character_of, four, hex_at, hex_group, hex_of}
+use Rattle.cx_display.specs.Texts.{character_at, character_group, four, hex_at, hex_group}
 use Rattle.cx_region.specs.State.{RegionState, TerminalState}
 use Rattle.cx_region.specs.Tables.{terminal_of}
 use Rattle.cx_look_words.specs.Facts.Marked.{a_line, lines_of_each, more_lines, no_lines}
@@ -26,25 +27,23 @@ use Rattle.cx_look_storage.specs.Facts.Words.{each_is_word, either_is_word}
 use Rattle.cx_look_storage.specs.Uses.{area_line, area_owner, area_use, fixed_use, is_met, met_line, offset_of, owner_name, owner_of, program_at, stg_at, stg_use, task_use, use_of}
 
 -- ---- bytes
-hex_word : (b : Option ℕ) → IsWord (hex_of b)
-unfolding hex_of
+hex_word : (b : Option ℕ) → IsWord (option_map_or (digits 16 2) b (codes "--"))
 hex_word None = refl
 hex_word (Some byte) = digits_are_word 16 2 byte
 
-character_word : (b : Option ℕ) → IsWord (character_of b)
-unfolding character_of
+character_word : (b : Option ℕ) → IsWord (option_map_or (λ byte. shown_as byte ∷ []) b (codes "-"))
 character_word None = refl
 character_word (Some byte) = shown_is_word (byte ∷ [])
 
 hex_at_word : (s : Storage) (at count k : ℕ) → IsWord (hex_at s at count k)
 unfolding hex_at
 hex_at_word s at count k =
-    either_is_word (nat_lt k count) (hex_of (byte_at s (along at k))) (codes "  ") (hex_word (byte_at s (along at k))) refl
+    either_is_word (nat_lt k count) (option_map_or (digits 16 2) (byte_at s (along at k)) (codes "--")) (codes "  ") (hex_word (byte_at s (along at k))) refl
 
 character_at_word : (s : Storage) (at count k : ℕ) → IsWord (character_at s at count k)
 unfolding character_at
 character_at_word s at count k =
-    either_is_word (nat_lt k count) (character_of (byte_at s (along at k))) (codes " ") (character_word (byte_at s (along at k))) refl
+    either_is_word (nat_lt k count) (option_map_or (λ byte. shown_as byte ∷ []) (byte_at s (along at k)) (codes "-")) (codes " ") (character_word (byte_at s (along at k))) refl
 
 hex_group_word : (s : Storage) (at count k : ℕ) → IsWord (hex_group s at count k)
 unfolding hex_group

@@ -1,14 +1,16 @@
 -- The lines of a task and of its levels are lines of looks.
-use Rattle.std.specs.Prelude.{ℕ, ◌+◌, ◌-◌, Option, Some, None, List, [], ◌∷◌, ◌++◌, length, slice_index, codes, Result, Ok, Err}
+use Rattle.std.specs.Prelude.{ℕ, ◌+◌, ◌-◌, ◌==◌, not, Option, Some, None, List, [], ◌∷◌, ◌++◌, length, slice_index, codes, Result, Ok, Err}
+use Rattle.std.specs.List.{list_all}
 use Rattle.std.specs.Option.{option_map_or}
+use Rattle.std.specs.Str.{byte}
 use Rattle.std.proofs.Common.{refl}
 use Rattle.cx_command.specs.Commands.{row_of}
 use Rattle.cx_command.specs.Conditions.{entry_of, handled}
 use Rattle.cx_command.specs.Eistg.{eistg_field}
+use Rattle.cx_command.specs.Facts.Commands.{each_command}
+use Rattle.cx_command.specs.Facts.Conditions.{each_condition}
 use Rattle.cx_command.specs.declared.commands.Command.{Command}
-use Rattle.cx_command.specs.declared.commands.Command.TheVariants as command
 use Rattle.cx_command.specs.declared.conditions.Condition.{Condition}
-use Rattle.cx_command.specs.declared.conditions.Condition.TheVariants as condition
 use Rattle.cx_command.specs.declared.eistg.EistgField.TheVariants.{Eicap}
 use Rattle.cx_storage.specs.Address.{along}
 use Rattle.cx_storage.specs.Storage.{Storage}
@@ -42,38 +44,10 @@ use Rattle.cx_look_task.specs.Tasks.{called_name, due_word, none_line, register_
 
 -- ---- names
 condition_word : (c : Condition) → IsWord (entry_of c).name
-condition_word condition.Normal = refl
-condition_word condition.Error = refl
-condition_word condition.Invreq = refl
-condition_word condition.Nospace = refl
-condition_word condition.Lengerr = refl
-condition_word condition.Itemerr = refl
-condition_word condition.Pgmiderr = refl
-condition_word condition.Nostg = refl
-condition_word condition.Qiderr = refl
-condition_word condition.Enqbusy = refl
+condition_word = each_condition (λ c. list_all (λ b. not (b == byte "\n")) (entry_of c).name) refl
 
 command_word : (c : Command) → IsWord (row_of c).name
-command_word command.Address = refl
-command_word command.HandleCondition = refl
-command_word command.IgnoreCondition = refl
-command_word command.PushHandle = refl
-command_word command.PopHandle = refl
-command_word command.Receive = refl
-command_word command.WriteqTs = refl
-command_word command.ReadqTs = refl
-command_word command.DeleteqTs = refl
-command_word command.Getmain = refl
-command_word command.Freemain = refl
-command_word command.Link = refl
-command_word command.Xctl = refl
-command_word command.Return = refl
-command_word command.Abend = refl
-command_word command.HandleAbend = refl
-command_word command.Enq = refl
-command_word command.Deq = refl
-command_word command.Suspend = refl
-command_word command.SendText = refl
+command_word = each_command (λ c. list_all (λ b. not (b == byte "\n")) (row_of c).name) refl
 
 -- ---- places
 lined_is_word : (sources : SourcePlaces) (programs : List (List ℕ × Loaded)) (address : ℕ) → IsWord (place_with_line sources programs address)

@@ -23,8 +23,8 @@ use Rattle.cx_task.specs.Sound.{IsSoundLevel, IsSoundTask}
 use Rattle.cx_region.specs.declared.changes.Change.{Change}
 use Rattle.cx_region.specs.declared.changes.Change.TheVariants.{Register, Byte, Nop, Abend}
 use Rattle.cx_region.specs.State.{RegionState, TerminalState}
-use Rattle.cx_region.specs.Names.{is_name4}
-use Rattle.cx_region.specs.Turn.{after_half_turn, put_back, reach_of}
+use Rattle.cx_ebcdic.specs.Names.{is_name}
+use Rattle.cx_region.specs.Turn.{put_back, reach_of, task_after}
 use Rattle.cx_region.specs.Alter.{altered, altered_at, altered_region, task_left, with_register}
 use Rattle.cx_region.specs.Sound.{IsSound}
 use Rattle.cx_region.specs.Facts.SoundDefining.{all_weaker}
@@ -131,7 +131,7 @@ change_keeps Abend before own =
     }
 
 -- ---- soundness
-put_as : (r : RegionState) (name : List ℕ) (change : Change) (after : Reach) → put_back r name after (task_left change after.task) ≡ after_half_turn r name (told_as change) after
+put_as : (r : RegionState) (name : List ℕ) (change : Change) (after : Reach) → put_back r name after (task_left change after.task) ≡ put_back r name after (task_after (told_as change) after.task)
 unfolding told_as
 put_as r name (Register n v) after = refl
 put_as r name (Byte a v) after = refl
@@ -141,15 +141,15 @@ put_as r name Abend after = refl
 pub sound_altered : (r new : RegionState) (name : List ℕ) (change : Change) → IsSound r → new ≡ altered_region r name change
     → IsSoundStorage new.storage → AreSoundQueues new.queues → AreSoundResources new.resources → IsSound new
 unfolding altered_region
-sound_altered r new name change ok is sound queues resources = by_terminal (lookup (is_name4 name) r.terminals) refl is
+sound_altered r new name change ok is sound queues resources = by_terminal (lookup (is_name name) r.terminals) refl is
   where
-    by_task : (t : TerminalState) → lookup (is_name4 name) r.terminals ≡ Some t → (o : Option TaskState) → t.task ≡ o → new ≡ option_map_or (altered_at r name change t) o r → IsSound new
+    by_task : (t : TerminalState) → lookup (is_name name) r.terminals ≡ Some t → (o : Option TaskState) → t.task ≡ o → new ≡ option_map_or (altered_at r name change t) o r → IsSound new
     by_task t there None at e = subst IsSound (sym e) ok
     by_task t there (Some task) at e =
         let before = reach_of r t task in
         sound_kept r new name t task (told_as change) (altered change before) ok there (change_keeps change before (own_task r name t task ok there at))
         (e ∙ put_as r name change (altered change before)) sound queues resources
 
-    by_terminal : (o : Option TerminalState) → lookup (is_name4 name) r.terminals ≡ o → new ≡ option_map_or (λ t. option_map_or (altered_at r name change t) t.task r) o r → IsSound new
+    by_terminal : (o : Option TerminalState) → lookup (is_name name) r.terminals ≡ o → new ≡ option_map_or (λ t. option_map_or (altered_at r name change t) t.task r) o r → IsSound new
     by_terminal None there e = subst IsSound (sym e) ok
     by_terminal (Some t) there e = by_task t there t.task refl e

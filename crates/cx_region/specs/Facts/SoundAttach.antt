@@ -27,9 +27,10 @@ use Rattle.cx_region.specs.declared.asking.Asked.TheVariants.{Answer, Attach, Gi
 use Rattle.cx_region.specs.declared.asking.Start.{Start}
 use Rattle.cx_region.specs.declared.replies.KeyReply.TheVariants as key
 use Rattle.cx_region.specs.State.{RegionState, TerminalState}
-use Rattle.cx_region.specs.Names.{is_name4, is_name8}
+use Rattle.cx_ebcdic.specs.Names.{is_name}
 use Rattle.cx_region.specs.Tables.{program_of, terminal_of, transaction_of}
-use Rattle.cx_region.specs.Attach.{ArePlaced, IsCopyPlace, TaskAreas, commarea_kept, filled, fresh_task, next_number, transaction_named, with_copy, with_eib_area, with_kept_area, with_task, with_task_areas}
+use Rattle.cx_region.specs.Attach.{ArePlaced, IsCopyPlace, commarea_kept, filled, fresh_task, next_number, transaction_named, with_copy, with_eib_area, with_kept_area, with_task, with_task_areas}
+use Rattle.cx_region.specs.declared.asking.Places.{Places}
 use Rattle.cx_region.specs.Parts.Asking.{asked, asked_at, input_asked, start_asked, start_of, task_of_start}
 use Rattle.cx_region.specs.Parts.Placing.{IsSlotFree}
 use Rattle.cx_region.specs.Sound.{IsOwned, IsSound, IsSoundTerminal, is_live}
@@ -79,21 +80,21 @@ asked_start r name bytes start is = by_terminal (terminal_of r name) refl is
 
 pub start_free : (r : RegionState) (name bytes : List ℕ) (start : Start) → IsSound r → Starting r name bytes start → IsSlotFree r.storage start.slot
 start_free r name bytes start ok starting =
-    let low = slot_from 1 r.terminals (is_name4 name) starting.terminal ok.numbered starting.there in
-    let nobody : is_live r.terminals starting.terminal.slot ≡ false = live_at 1 r.terminals (is_name4 name) starting.terminal ok.numbered starting.there ∙ ap is_some starting.idle in
+    let low = slot_from 1 r.terminals (is_name name) starting.terminal ok.numbered starting.there in
+    let nobody : is_live r.terminals starting.terminal.slot ≡ false = live_at 1 r.terminals (is_name name) starting.terminal ok.numbered starting.there ∙ ap is_some starting.idle in
     rw starting.slot (slot_free r.terminals r.storage starting.terminal.slot low nobody ok.areas)
 
 pub start_program : (r : RegionState) (name bytes : List ℕ) (start : Start) → IsSound r → Starting r name bytes start → IsSoundProgram start.loaded
-start_program r name bytes start ok starting = found_meets IsSoundProgram (is_name8 start.program) r.programs start.loaded ok.programs_sound starting.program
+start_program r name bytes start ok starting = found_meets IsSoundProgram (is_name start.program) r.programs start.loaded ok.programs_sound starting.program
 
 -- ---- another terminal under a name
 -- with a terminal of the same slot put under its name, and storage in which what stood stands
 pub sound_put : (r : RegionState) (name : List ℕ) (t u : TerminalState) (s : Storage) (counter : ℕ) → IsSound r → terminal_of r name ≡ Some t → u.slot ≡ t.slot → is_some u.task ≡ true
     → IsSoundStorage s → AreasStay r.storage s → IsSoundTerminal s u
-    → AllByRecursion (λ held. IsOwned (set_value (is_name4 name) r.terminals u) held.area) s → counter ≤ 9999999
-    → IsSound (record r { storage = s; terminals = set_value (is_name4 name) r.terminals u; counter = counter })
+    → AllByRecursion (λ held. IsOwned (set_value (is_name name) r.terminals u) held.area) s → counter ≤ 9999999
+    → IsSound (record r { storage = s; terminals = set_value (is_name name) r.terminals u; counter = counter })
 sound_put r name t u s counter ok there same live sound stay own owned few =
-    let size : length (set_value (is_name4 name) r.terminals u) ≡ length r.terminals = length-set_value (is_name4 name) r.terminals u in
+    let size : length (set_value (is_name name) r.terminals u) ≡ length r.terminals = length-set_value (is_name name) r.terminals u in
     let all : AllByRecursion (λ e. IsSoundTerminal s e.1) r.terminals = all_weaker (λ e. IsSoundTerminal r.storage e.1) (λ e. IsSoundTerminal s e.1) r.terminals (λ e. terminal_stays r.storage s e.1 stay) ok.tasks in
     let most = ok.terminals_few in
     record {
@@ -101,15 +102,15 @@ sound_put r name t u s counter ok there same live sound stay own owned few =
       cwa_stands = stay 0x001000 _ ok.cwa_stands;
       programs_distinct = ok.programs_distinct;
       transactions_distinct = ok.transactions_distinct;
-      terminals_distinct = distinct-set_value is_name4 (is_name4 name) r.terminals u ok.terminals_distinct;
+      terminals_distinct = distinct-set_value is_name (is_name name) r.terminals u ok.terminals_distinct;
       programs_few = ok.programs_few;
       transactions_few = ok.transactions_few;
       terminals_few = omega arith;
       programs_sound = ok.programs_sound;
-      numbered = numbered-set_value 1 r.terminals (is_name4 name) t u ok.numbered there same;
-      tasks = each-set_value (IsSoundTerminal s) (is_name4 name) r.terminals u own all;
+      numbered = numbered-set_value 1 r.terminals (is_name name) t u ok.numbered there same;
+      tasks = each-set_value (IsSoundTerminal s) (is_name name) r.terminals u own all;
       areas = owned;
-      resources = all_weaker (λ e. is_live r.terminals e.1.owner ≡ true) (λ e. is_live (set_value (is_name4 name) r.terminals u) e.1.owner ≡ true) r.resources (λ e was. still_live r name t u e.1.owner ok there same live was) ok.resources;
+      resources = all_weaker (λ e. is_live r.terminals e.1.owner ≡ true) (λ e. is_live (set_value (is_name name) r.terminals u) e.1.owner ≡ true) r.resources (λ e was. still_live r name t u e.1.owner ok there same live was) ok.resources;
       queues_sound = ok.queues_sound;
       resources_sound = ok.resources_sound;
       time = ok.time;
@@ -121,15 +122,15 @@ sound_put r name t u s counter ok there same live sound stay own owned few =
     by_slot true x y e f = e
     by_slot false x y e f = f
 
-    still_live : (r : RegionState) (name : List ℕ) (t u : TerminalState) (slot : ℕ) → IsSound r → terminal_of r name ≡ Some t → u.slot ≡ t.slot → is_some u.task ≡ true → is_live r.terminals slot ≡ true → is_live (set_value (is_name4 name) r.terminals u) slot ≡ true
+    still_live : (r : RegionState) (name : List ℕ) (t u : TerminalState) (slot : ℕ) → IsSound r → terminal_of r name ≡ Some t → u.slot ≡ t.slot → is_some u.task ≡ true → is_live r.terminals slot ≡ true → is_live (set_value (is_name name) r.terminals u) slot ≡ true
     still_live r name t u slot ok there same live was =
-        live-set_value 1 r.terminals (is_name4 name) t u slot ok.numbered there same ∙ by_slot (t.slot == slot) (is_some u.task) (is_live r.terminals slot) live was
+        live-set_value 1 r.terminals (is_name name) t u slot ok.numbered there same ∙ by_slot (t.slot == slot) (is_some u.task) (is_live r.terminals slot) live was
 
 pub owned_put : (r : RegionState) (name : List ℕ) (t u : TerminalState) (area : Area) → IsSound r → terminal_of r name ≡ Some t → u.slot ≡ t.slot → is_some u.task ≡ true
-    → IsOwned r.terminals area → IsOwned (set_value (is_name4 name) r.terminals u) area
+    → IsOwned r.terminals area → IsOwned (set_value (is_name name) r.terminals u) area
 owned_put r name t u area ok there same live was =
-    let step = live-set_value 1 r.terminals (is_name4 name) t u area.owner.slot ok.numbered there same in
-    go (area.owner.slot == 0) (t.slot == area.owner.slot) (is_some u.task) (is_live r.terminals area.owner.slot) (is_live (set_value (is_name4 name) r.terminals u) area.owner.slot) step live was
+    let step = live-set_value 1 r.terminals (is_name name) t u area.owner.slot ok.numbered there same in
+    go (area.owner.slot == 0) (t.slot == area.owner.slot) (is_some u.task) (is_live r.terminals area.owner.slot) (is_live (set_value (is_name name) r.terminals u) area.owner.slot) step live was
   where
     go : (zero here task before after : Bool) → after ≡ (if here then task else before) → task ≡ true → zero || before ≡ true → zero || after ≡ true
     go true here task before after e live was = refl
@@ -137,11 +138,11 @@ owned_put r name t u area ok there same live was =
     go false false task before after e live was = e ∙ was
 
 pub owned_own : (r : RegionState) (name : List ℕ) (t u : TerminalState) (a len : ℕ) → IsSound r → terminal_of r name ≡ Some t → u.slot ≡ t.slot → is_some u.task ≡ true
-    → IsOwned (set_value (is_name4 name) r.terminals u) (area_from a len (system_owner t.slot))
+    → IsOwned (set_value (is_name name) r.terminals u) (area_from a len (system_owner t.slot))
 owned_own r name t u a len ok there same live =
-    let step = live-set_value 1 r.terminals (is_name4 name) t u t.slot ok.numbered there same in
-    let now : is_live (set_value (is_name4 name) r.terminals u) t.slot ≡ true = step ∙ rw (eq-eqb t.slot t.slot refl) live in
-    or_second (t.slot == 0) (is_live (set_value (is_name4 name) r.terminals u) t.slot) now
+    let step = live-set_value 1 r.terminals (is_name name) t u t.slot ok.numbered there same in
+    let now : is_live (set_value (is_name name) r.terminals u) t.slot ≡ true = step ∙ rw (eq-eqb t.slot t.slot refl) live in
+    or_second (t.slot == 0) (is_live (set_value (is_name name) r.terminals u) t.slot) now
   where
     or_second : (a b : Bool) → b ≡ true → a || b ≡ true
     or_second true b e = refl
@@ -158,7 +159,7 @@ unfolding with_copy
 area_copy s None bytes x = refl
 area_copy s (Some a) bytes x = area_written s a bytes x
 
-area_filled : (s : Storage) (areas : TaskAreas) (fields : List Content) (commarea : List ℕ) (level : NewLevel) (x : ℕ) → area_at (filled s areas fields commarea level) x ≡ area_at s x
+area_filled : (s : Storage) (areas : Places) (fields : List Content) (commarea : List ℕ) (level : NewLevel) (x : ℕ) → area_at (filled s areas fields commarea level) x ≡ area_at s x
 unfolding filled with_cap
 area_filled s areas fields commarea level x =
     area_written (with_copy (with_fields s areas.eib fields) areas.commarea commarea) (along level.stg (eistg_field Eicap).offset) _ x
@@ -175,7 +176,7 @@ unfolding with_copy
 owned_copy P s None bytes all = all
 owned_copy P s (Some a) bytes all = all_areas_written P s a bytes all
 
-owned_filled : (P : Area → Type 0) (s : Storage) (areas : TaskAreas) (fields : List Content) (commarea : List ℕ) (level : NewLevel) → AllByRecursion (λ h. P h.area) s → AllByRecursion (λ h. P h.area) (filled s areas fields commarea level)
+owned_filled : (P : Area → Type 0) (s : Storage) (areas : Places) (fields : List Content) (commarea : List ℕ) (level : NewLevel) → AllByRecursion (λ h. P h.area) s → AllByRecursion (λ h. P h.area) (filled s areas fields commarea level)
 unfolding filled with_cap
 owned_filled P s areas fields commarea level all =
     all_areas_written P (with_copy (with_fields s areas.eib fields) areas.commarea commarea) (along level.stg (eistg_field Eicap).offset) _
@@ -222,7 +223,7 @@ two_apart : (a b : ℕ) → (a ≡ b → ⊥) → IsDistinct nat_eq (a ∷ b ∷
 unfolding IsDistinct
 two_apart a b ne = ((ne_eqb a b ne, tt), (tt, tt))
 
-owned_areas : (P : Area → Type 0) (s : Storage) (slot len stg_len : ℕ) (places : TaskAreas) → ((a n : ℕ) → P (area_from a n (system_owner slot))) → AllByRecursion (λ h. P h.area) s
+owned_areas : (P : Area → Type 0) (s : Storage) (slot len stg_len : ℕ) (places : Places) → ((a n : ℕ) → P (area_from a n (system_owner slot))) → AllByRecursion (λ h. P h.area) s
     → AllByRecursion (λ h. P h.area) (with_task_areas s (system_owner slot) len stg_len places)
 unfolding with_area
 owned_areas P s slot len stg_len places new all =
@@ -237,11 +238,11 @@ owned_areas P s slot len stg_len places new all =
     copied (Some a) = all_areas_put P (with_eib_area s (system_owner slot) places.eib) a len (system_owner slot) (new a len) first
 
 -- ---- attach
-pub sound_attached : (r : RegionState) (name bytes : List ℕ) (start : Start) (input : Input) (places : TaskAreas) (fields : List Content) (commarea : List ℕ) (level : NewLevel) (s : Storage) (ts : List (List ℕ × TerminalState))
+pub sound_attached : (r : RegionState) (name bytes : List ℕ) (start : Start) (input : Input) (places : Places) (fields : List Content) (commarea : List ℕ) (level : NewLevel) (s : Storage) (ts : List (List ℕ × TerminalState))
     → IsSound r → (starting : Starting r name bytes start) → IsSoundStorage s
     → ArePlaced r.storage (system_owner start.slot) start.calen start.loaded.stg_len places
     → s ≡ filled (with_task_areas r.storage (system_owner start.slot) start.calen start.loaded.stg_len places) places fields commarea level
-    → ts ≡ set_value (is_name4 name) r.terminals (with_task starting.terminal input (task_of_start start (next_number r.counter) places))
+    → ts ≡ set_value (is_name name) r.terminals (with_task starting.terminal input (task_of_start start (next_number r.counter) places))
     → IsSound (record r { storage = s; terminals = ts; counter = next_number r.counter })
 unfolding fresh_task entry_level
 sound_attached r name bytes start input places fields commarea level s ts ok starting sound placed is is_ts =
@@ -262,11 +263,11 @@ sound_attached r name bytes start input places fields commarea level s ts ok sta
     let eib_apart : places.eib ≡ places.stg → ⊥ = λ e. stg_new (with_kept_area r.storage (system_owner slot) start.calen places.eib places.commarea) start.loaded.stg_len places.eib places.stg two.sound (omega arith) placed.stg e _ (two.stay places.eib _ one.new) in
     let own : IsSoundTask s slot task =
     record { eib = eib_there; current = record { stg = stg_there; pushes = omega arith }; callers = tt; few = omega arith; apart = two_apart places.eib places.stg eib_apart } in
-    let owned : AllByRecursion (λ held. IsOwned (set_value (is_name4 name) r.terminals u) held.area) s =
-    rw is (owned_filled (IsOwned (set_value (is_name4 name) r.terminals u)) (with_task_areas r.storage (system_owner slot) start.calen start.loaded.stg_len places) places fields commarea level
-    (owned_areas (IsOwned (set_value (is_name4 name) r.terminals u)) r.storage slot start.calen start.loaded.stg_len places
-    (λ a n. subst (λ (k : ℕ). IsOwned (set_value (is_name4 name) r.terminals u) (area_from a n (system_owner k))) (sym starting.slot) (owned_own r name t u a n ok starting.there refl refl))
-    (all_weaker (λ held. IsOwned r.terminals held.area) (λ held. IsOwned (set_value (is_name4 name) r.terminals u) held.area) r.storage (λ held. owned_put r name t u held.area ok starting.there refl refl) ok.areas))) in
+    let owned : AllByRecursion (λ held. IsOwned (set_value (is_name name) r.terminals u) held.area) s =
+    rw is (owned_filled (IsOwned (set_value (is_name name) r.terminals u)) (with_task_areas r.storage (system_owner slot) start.calen start.loaded.stg_len places) places fields commarea level
+    (owned_areas (IsOwned (set_value (is_name name) r.terminals u)) r.storage slot start.calen start.loaded.stg_len places
+    (λ a n. subst (λ (k : ℕ). IsOwned (set_value (is_name name) r.terminals u) (area_from a n (system_owner k))) (sym starting.slot) (owned_own r name t u a n ok starting.there refl refl))
+    (all_weaker (λ held. IsOwned r.terminals held.area) (λ held. IsOwned (set_value (is_name name) r.terminals u) held.area) r.storage (λ held. owned_put r name t u held.area ok starting.there refl refl) ok.areas))) in
     let number : next_number r.counter ≤ 9999999 = number_few r.counter ok.counter in
     rw is_ts (sound_put r name t u s (next_number r.counter) ok starting.there refl refl sound stay (subst (λ (k : ℕ). IsSoundTask s k task) starting.slot own) owned number)
   where
@@ -311,14 +312,14 @@ asked_give r name bytes is = by_terminal (terminal_of r name) refl is
     by_terminal (Some t) e h = by_task t t.task refl e h
 
 pub sound_given : (r : RegionState) (name : List ℕ) (input : Input) (ts : List (List ℕ × TerminalState)) → IsSound r → (giving : Giving r name)
-    → ts ≡ set_value (is_name4 name) r.terminals (record giving.terminal { input = Some input }) → IsSound (record r { terminals = ts })
+    → ts ≡ set_value (is_name name) r.terminals (record giving.terminal { input = Some input }) → IsSound (record r { terminals = ts })
 sound_given r name input ts ok giving is =
     let t = giving.terminal in
     let u : TerminalState = record t { input = Some input } in
     let live : is_some u.task ≡ true = ap is_some giving.live in
-    let own : IsSoundTerminal r.storage t = found_meets (IsSoundTerminal r.storage) (is_name4 name) r.terminals t ok.tasks giving.there in
-    let owned : AllByRecursion (λ h. IsOwned (set_value (is_name4 name) r.terminals u) h.area) r.storage =
-    all_weaker (λ h. IsOwned r.terminals h.area) (λ h. IsOwned (set_value (is_name4 name) r.terminals u) h.area) r.storage (λ h. owned_put r name t u h.area ok giving.there refl live) ok.areas in
+    let own : IsSoundTerminal r.storage t = found_meets (IsSoundTerminal r.storage) (is_name name) r.terminals t ok.tasks giving.there in
+    let owned : AllByRecursion (λ h. IsOwned (set_value (is_name name) r.terminals u) h.area) r.storage =
+    all_weaker (λ h. IsOwned r.terminals h.area) (λ h. IsOwned (set_value (is_name name) r.terminals u) h.area) r.storage (λ h. owned_put r name t u h.area ok giving.there refl live) ok.areas in
     rw is (sound_put r name t u r.storage r.counter ok giving.there refl live ok.storage (λ x area stands. stands) own owned ok.counter)
 
 -- ---- what is told of the terminal that is found

@@ -21,9 +21,9 @@ use Rattle.cx_load.specs.Program.{IsLoaded, program_owner, text_at}
 use Rattle.cx_program.specs.declared.level.Level.{Level}
 use Rattle.cx_region.specs.State.{TerminalState, RegionState}
 use Rattle.cx_state.specs.State.{TaskState}
-use Rattle.cx_region.specs.Names.{is_name4, is_name8}
+use Rattle.cx_ebcdic.specs.Names.{is_name}
 use Rattle.cx_region.specs.Tables.{fresh_terminal}
-use Rattle.cx_region.specs.Defining.{fresh_region, fresh_storage, program_fault, terminal_fault, transaction_fault}
+use Rattle.cx_region.specs.Defining.{fresh_region, program_fault, terminal_fault, transaction_fault}
 use Rattle.cx_state.specs.Areas.{IsSoundProgram}
 use Rattle.cx_task.specs.Sound.{IsSoundLevel, IsSoundTask}
 use Rattle.cx_region.specs.Sound.{AreNumbered, IsOwned, IsSound, IsSoundTerminal, is_live}
@@ -65,13 +65,13 @@ unfolding terminal_fault
 terminal_room r name ok free = leb-false _ _ (no_fault _ _ _ (no_fault _ _ _ free).1).0
 
 pub sound_terminal : (r : RegionState) (name : List ℕ) (ts : List (List ℕ × TerminalState)) → IsSound r → terminal_fault r name ≡ None
-    → ts ≡ insert_entry is_name4 r.terminals name (fresh_terminal (length r.terminals + 1)) → IsDistinct is_name4 (keys_of ts) → IsSound (record r { terminals = ts })
+    → ts ≡ insert_entry is_name r.terminals name (fresh_terminal (length r.terminals + 1)) → IsDistinct is_name (keys_of ts) → IsSound (record r { terminals = ts })
 unfolding terminal_fault
 sound_terminal r name ts ok free is distinct =
     let first = no_fault _ _ _ free in
     let room : length r.terminals < 16 = terminal_room r name ok free in
     let fresh : TerminalState = fresh_terminal (length r.terminals + 1) in
-    let put : ts ≡ r.terminals ++ (name, fresh) ∷ [] = is ∙ insert_entry_absent is_name4 r.terminals name fresh (not_some _ first.0) in
+    let put : ts ≡ r.terminals ++ (name, fresh) ∷ [] = is ∙ insert_entry_absent is_name r.terminals name fresh (not_some _ first.0) in
     let grown : length ts ≡ length r.terminals + 1 = ap length put ∙ length_push r.terminals (name, fresh) in
     record {
       storage = ok.storage;
@@ -84,7 +84,7 @@ sound_terminal r name ts ok free is distinct =
       terminals_few = omega arith;
       programs_sound = ok.programs_sound;
       numbered = rw put (numbered_push 1 r.terminals name fresh ok.numbered (omega arith));
-      tasks = rw is (each-insert_entry (IsSoundTerminal r.storage) is_name4 r.terminals name fresh tt ok.tasks);
+      tasks = rw is (each-insert_entry (IsSoundTerminal r.storage) is_name r.terminals name fresh tt ok.tasks);
       areas = rw put (all_weaker (λ held. IsOwned r.terminals held.area) (λ held. IsOwned (r.terminals ++ (name, fresh) ∷ []) held.area) r.storage
           (λ held owned. or_left (held.area.owner.slot == 0) (is_live r.terminals held.area.owner.slot) (is_live (r.terminals ++ (name, fresh) ∷ []) held.area.owner.slot) owned (live_push r.terminals (name, fresh) held.area.owner.slot)) ok.areas);
       resources = rw put (all_weaker (λ e. is_live r.terminals e.1.owner ≡ true) (λ e. is_live (r.terminals ++ (name, fresh) ∷ []) e.1.owner ≡ true) r.resources
@@ -97,7 +97,7 @@ sound_terminal r name ts ok free is distinct =
     }
 
 -- ---- a region as it begins
-sound_begun : IsSoundStorage fresh_storage → AreSoundQueues [] → AreSoundResources [] → IsSound fresh_region
+sound_begun : IsSoundStorage fresh_region.storage → AreSoundQueues [] → AreSoundResources [] → IsSound fresh_region
 unfolding IsDistinct area_at
 sound_begun storage queues resources =
     record {
@@ -123,23 +123,23 @@ sound_begun storage queues resources =
 
 pub sound_fresh : (storage : Storage) (programs : List (List ℕ × Loaded)) (transactions : List (List ℕ × List ℕ)) (terminals : List (List ℕ × TerminalState)) (queues : Queues) (resources : Resources)
     → IsSoundStorage storage → AreSoundQueues queues → AreSoundResources resources
-    → storage ≡ fresh_storage → programs ≡ [] → transactions ≡ [] → terminals ≡ [] → queues ≡ [] → resources ≡ []
+    → storage ≡ fresh_region.storage → programs ≡ [] → transactions ≡ [] → terminals ≡ [] → queues ≡ [] → resources ≡ []
     → IsSound (record { storage = storage; time = 0; date = 0; programs = programs; transactions = transactions; terminals = terminals; queues = queues; resources = resources; counter = 0 })
 sound_fresh storage programs transactions terminals queues resources sound queues_ok resources_ok s p t m q e =
-    let storage_ok : IsSoundStorage fresh_storage = subst IsSoundStorage s sound in
+    let storage_ok : IsSoundStorage fresh_region.storage = subst IsSoundStorage s sound in
     let no_queues : AreSoundQueues [] = subst AreSoundQueues q queues_ok in
     let no_resources : AreSoundResources [] = subst AreSoundResources e resources_ok in
     rw (s, p, t, m, q, e) (sound_begun storage_ok no_queues no_resources)
 
 -- ---- one more transaction
 pub sound_transaction : (r : RegionState) (tran program : List ℕ) (ts : List (List ℕ × List ℕ)) → IsSound r → transaction_fault r tran program ≡ None
-    → ts ≡ insert_entry is_name4 r.transactions tran program → IsDistinct is_name4 (keys_of ts) → IsSound (record r { transactions = ts })
+    → ts ≡ insert_entry is_name r.transactions tran program → IsDistinct is_name (keys_of ts) → IsSound (record r { transactions = ts })
 unfolding transaction_fault
 sound_transaction r tran program ts ok free is distinct =
     let first = no_fault _ _ _ free in
     let room : length r.transactions < 64 = leb-false _ _ (no_fault _ _ _ first.1).0 in
     let grown : length ts ≡ length r.transactions + 1 =
-    ap length (is ∙ insert_entry_absent is_name4 r.transactions tran program (not_some _ first.0)) ∙ length_push r.transactions (tran, program) in
+    ap length (is ∙ insert_entry_absent is_name r.transactions tran program (not_some _ first.0)) ∙ length_push r.transactions (tran, program) in
     record {
       storage = ok.storage;
       cwa_stands = ok.cwa_stands;
@@ -210,13 +210,13 @@ sound_loaded s t image loaded fit is =
 
 pub sound_program : (r : RegionState) (name : List ℕ) (image : Image) (loaded : Loaded) (t : Storage) (ps : List (List ℕ × Loaded)) → IsSound r → IsSoundStorage t
     → 0 < length image.text → IsSoundProgram loaded → program_fault r name ≡ None → IsLoaded r.storage image loaded t
-    → ps ≡ insert_entry is_name8 r.programs name loaded → IsDistinct is_name8 (keys_of ps) → IsSound (record r { programs = ps; storage = t })
+    → ps ≡ insert_entry is_name r.programs name loaded → IsDistinct is_name (keys_of ps) → IsSound (record r { programs = ps; storage = t })
 unfolding program_fault
 sound_program r name image loaded t ps ok sound some good free is_loaded is distinct =
     let first = no_fault _ _ _ free in
     let room : length r.programs < 64 = program_room r name free in
     let grown : length ps ≡ length r.programs + 1 =
-    ap length (is ∙ insert_entry_absent is_name8 r.programs name loaded (not_some _ first.0)) ∙ length_push r.programs (name, loaded) in
+    ap length (is ∙ insert_entry_absent is_name r.programs name loaded (not_some _ first.0)) ∙ length_push r.programs (name, loaded) in
     let stay : AreasStay r.storage t = loaded_stay r.storage t image loaded ok.storage some is_loaded in
     record {
       storage = sound;
@@ -227,7 +227,7 @@ sound_program r name image loaded t ps ok sound some good free is_loaded is dist
       programs_few = omega arith;
       transactions_few = ok.transactions_few;
       terminals_few = ok.terminals_few;
-      programs_sound = rw is (each-insert_entry IsSoundProgram is_name8 r.programs name loaded good ok.programs_sound);
+      programs_sound = rw is (each-insert_entry IsSoundProgram is_name r.programs name loaded good ok.programs_sound);
       numbered = ok.numbered;
       tasks = all_weaker (λ e. IsSoundTerminal r.storage e.1) (λ e. IsSoundTerminal t e.1) r.terminals (λ e. terminal_stays r.storage t e.1 stay) ok.tasks;
       areas = rw is_loaded.storage_after

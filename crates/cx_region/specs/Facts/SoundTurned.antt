@@ -23,8 +23,8 @@ use Rattle.cx_task.specs.Laws.HalfTurns.{HalfTurnKeeps, HalfTurnsKeep, others_ar
 use Rattle.cx_task.specs.Sound.{IsSoundLevel, IsSoundTask}
 use Rattle.cx_tables.specs.Facts.Tables.{distinct-set_value, found_meets}
 use Rattle.cx_region.specs.State.{RegionState, TerminalState, terminal_with}
-use Rattle.cx_region.specs.Names.{is_name4}
-use Rattle.cx_region.specs.Turn.{TaskTurned, Turned, after_half_turn, reach_of, task_after}
+use Rattle.cx_ebcdic.specs.Names.{is_name}
+use Rattle.cx_region.specs.Turn.{TaskTurned, Turned, put_back, reach_of, task_after}
 use Rattle.cx_region.specs.Sound.{AreNumbered, IsOwned, IsSound, IsSoundTerminal, is_live}
 use Rattle.cx_region.specs.Facts.SoundDefining.{all_weaker}
 use Rattle.cx_region.specs.Facts.Live.{live-set_value, numbered-set_value, slot_from}
@@ -102,28 +102,28 @@ tasks_put from (x ∷ ts) test t u s s' numbered there stay all own = elim (case
 ]
 
 -- ---- a terminal put back, whose task goes on or has ended
-sound_back : (r new : RegionState) (name : List ℕ) (t u : TerminalState) → IsSound r → lookup (is_name4 name) r.terminals ≡ Some t → u.slot ≡ t.slot
-    → new ≡ record r { storage = new.storage; queues = new.queues; resources = new.resources; terminals = set_value (is_name4 name) r.terminals u }
+sound_back : (r new : RegionState) (name : List ℕ) (t u : TerminalState) → IsSound r → lookup (is_name name) r.terminals ≡ Some t → u.slot ≡ t.slot
+    → new ≡ record r { storage = new.storage; queues = new.queues; resources = new.resources; terminals = set_value (is_name name) r.terminals u }
     → IsSoundStorage new.storage → AreSoundQueues new.queues → AreSoundResources new.resources → OthersStay t.slot r.storage new.storage → IsSoundTerminal new.storage u
-    → AllByRecursion (λ held. IsOwned (set_value (is_name4 name) r.terminals u) held.area) new.storage
-    → AllByRecursion (λ e. is_live (set_value (is_name4 name) r.terminals u) e.1.owner ≡ true) new.resources → IsSound new
+    → AllByRecursion (λ held. IsOwned (set_value (is_name name) r.terminals u) held.area) new.storage
+    → AllByRecursion (λ e. is_live (set_value (is_name name) r.terminals u) e.1.owner ≡ true) new.resources → IsSound new
 sound_back r new name t u ok there same is sound queues_ok resources_ok stay own owned held =
-    let low = slot_from 1 r.terminals (is_name4 name) t ok.numbered there in
+    let low = slot_from 1 r.terminals (is_name name) t ok.numbered there in
     let most = ok.terminals_few in
-    let size : length (set_value (is_name4 name) r.terminals u) ≡ length r.terminals = length-set_value (is_name4 name) r.terminals u in
-    let whole : IsSound (record r { storage = new.storage; queues = new.queues; resources = new.resources; terminals = set_value (is_name4 name) r.terminals u }) =
+    let size : length (set_value (is_name name) r.terminals u) ≡ length r.terminals = length-set_value (is_name name) r.terminals u in
+    let whole : IsSound (record r { storage = new.storage; queues = new.queues; resources = new.resources; terminals = set_value (is_name name) r.terminals u }) =
     record {
       storage = sound;
       cwa_stands = stay 0x001000 _ ok.cwa_stands (λ e. absurd (omega (arith, e)));
       programs_distinct = ok.programs_distinct;
       transactions_distinct = ok.transactions_distinct;
-      terminals_distinct = distinct-set_value is_name4 (is_name4 name) r.terminals u ok.terminals_distinct;
+      terminals_distinct = distinct-set_value is_name (is_name name) r.terminals u ok.terminals_distinct;
       programs_few = ok.programs_few;
       transactions_few = ok.transactions_few;
       terminals_few = omega arith;
       programs_sound = ok.programs_sound;
-      numbered = numbered-set_value 1 r.terminals (is_name4 name) t u ok.numbered there same;
-      tasks = tasks_put 1 r.terminals (is_name4 name) t u r.storage new.storage ok.numbered there stay ok.tasks own;
+      numbered = numbered-set_value 1 r.terminals (is_name name) t u ok.numbered there same;
+      tasks = tasks_put 1 r.terminals (is_name name) t u r.storage new.storage ok.numbered there stay ok.tasks own;
       areas = owned;
       resources = held;
       queues_sound = queues_ok;
@@ -143,16 +143,16 @@ or_keeps : (zero before after : Bool) → (before ≡ true → after ≡ true) �
 or_keeps true before after step e = refl
 or_keeps false before after step e = step e
 
-live_on : (r : RegionState) (name : List ℕ) (t u : TerminalState) (slot : ℕ) → IsSound r → lookup (is_name4 name) r.terminals ≡ Some t → u.slot ≡ t.slot → is_some u.task ≡ true
-    → is_live r.terminals slot ≡ true → is_live (set_value (is_name4 name) r.terminals u) slot ≡ true
+live_on : (r : RegionState) (name : List ℕ) (t u : TerminalState) (slot : ℕ) → IsSound r → lookup (is_name name) r.terminals ≡ Some t → u.slot ≡ t.slot → is_some u.task ≡ true
+    → is_live r.terminals slot ≡ true → is_live (set_value (is_name name) r.terminals u) slot ≡ true
 live_on r name t u slot ok there same live was =
-    by_slot (t.slot == slot) (is_some u.task) (is_live r.terminals slot) (is_live (set_value (is_name4 name) r.terminals u) slot)
-    (live-set_value 1 r.terminals (is_name4 name) t u slot ok.numbered there same) live was
+    by_slot (t.slot == slot) (is_some u.task) (is_live r.terminals slot) (is_live (set_value (is_name name) r.terminals u) slot)
+    (live-set_value 1 r.terminals (is_name name) t u slot ok.numbered there same) live was
 
-live_off : (r : RegionState) (name : List ℕ) (t u : TerminalState) (slot : ℕ) → IsSound r → lookup (is_name4 name) r.terminals ≡ Some t → u.slot ≡ t.slot → slot == t.slot ≡ false
-    → is_live r.terminals slot ≡ true → is_live (set_value (is_name4 name) r.terminals u) slot ≡ true
+live_off : (r : RegionState) (name : List ℕ) (t u : TerminalState) (slot : ℕ) → IsSound r → lookup (is_name name) r.terminals ≡ Some t → u.slot ≡ t.slot → slot == t.slot ≡ false
+    → is_live r.terminals slot ≡ true → is_live (set_value (is_name name) r.terminals u) slot ≡ true
 live_off r name t u slot ok there same apart was =
-    live-set_value 1 r.terminals (is_name4 name) t u slot ok.numbered there same ∙ elim (cases_eq t.slot slot) [
+    live-set_value 1 r.terminals (is_name name) t u slot ok.numbered there same ∙ elim (cases_eq t.slot slot) [
       | inl e ↦ absurd (let yes' : slot == t.slot ≡ true = eq-eqb slot t.slot (sym e) in cc)
       | inr ne ↦ rw (ne_eqb t.slot slot ne) was
     ]
@@ -162,8 +162,8 @@ not_true true e = cc
 not_true false e = refl
 
 -- resources that others own
-released : (r : RegionState) (name : List ℕ) (t u : TerminalState) → IsSound r → lookup (is_name4 name) r.terminals ≡ Some t → u.slot ≡ t.slot → (rs : Resources)
-    → AllByRecursion (λ e. is_live r.terminals e.1.owner ≡ true) rs → AllByRecursion (λ e. is_live (set_value (is_name4 name) r.terminals u) e.1.owner ≡ true) (without_owner rs t.slot)
+released : (r : RegionState) (name : List ℕ) (t u : TerminalState) → IsSound r → lookup (is_name name) r.terminals ≡ Some t → u.slot ≡ t.slot → (rs : Resources)
+    → AllByRecursion (λ e. is_live r.terminals e.1.owner ≡ true) rs → AllByRecursion (λ e. is_live (set_value (is_name name) r.terminals u) e.1.owner ≡ true) (without_owner rs t.slot)
 unfolding without_owner
 released r name t u ok there same [] all = tt
 released r name t u ok there same (e ∷ rs) all = elim (cases_Bool (not (e.1.owner == t.slot))) [
@@ -197,8 +197,8 @@ assembled : (r : RegionState) (s s' : Storage) (programs : List (List ℕ × Loa
 assembled r s s' programs queues queues' rs rs' ts a b c d = rw (a, b, c, d) refl
 
 -- what keeps to its slot, put back
-pub sound_kept : (r new : RegionState) (name : List ℕ) (t : TerminalState) (task : TaskState) (reply : TurnReply) (after : Reach) → IsSound r → lookup (is_name4 name) r.terminals ≡ Some t
-    → HalfTurnKeeps (reach_of r t task) reply after → new ≡ after_half_turn r name reply after
+pub sound_kept : (r new : RegionState) (name : List ℕ) (t : TerminalState) (task : TaskState) (reply : TurnReply) (after : Reach) → IsSound r → lookup (is_name name) r.terminals ≡ Some t
+    → HalfTurnKeeps (reach_of r t task) reply after → new ≡ put_back r name after (task_after reply after.task)
     → IsSoundStorage new.storage → AreSoundQueues new.queues → AreSoundResources new.resources → IsSound new
 sound_kept r new name t task reply after ok there keeps put sound queues_ok resources_ok = by_over (is_over reply) refl
   where
@@ -206,7 +206,7 @@ sound_kept r new name t task reply after ok there keeps put sound queues_ok reso
     u = terminal_with after.station (task_after reply after.task)
 
     ts : List (List ℕ × TerminalState)
-    ts = set_value (is_name4 name) r.terminals u
+    ts = set_value (is_name name) r.terminals u
 
     same : u.slot ≡ t.slot
     same = keeps.slot
@@ -242,7 +242,7 @@ sound_kept r new name t task reply after ok there keeps put sound queues_ok reso
     stays : is_over reply ≡ false → IsSound new
     stays on =
         let live : is_some u.task ≡ true = live_task (is_over reply) after.task on in
-        let is_now : is_live ts t.slot ≡ true = live-set_value 1 r.terminals (is_name4 name) t u t.slot ok.numbered there same ∙ rw (eq-eqb t.slot t.slot refl) live in
+        let is_now : is_live ts t.slot ≡ true = live-set_value 1 r.terminals (is_name name) t u t.slot ok.numbered there same ∙ rw (eq-eqb t.slot t.slot refl) live in
         let its : IsSoundTask new.storage u.slot after.task =
         subst (λ (s : Storage). IsSoundTask s u.slot after.task) (sym storage_is) (subst (λ (k : ℕ). IsSoundTask after.shared.storage k after.task) (sym same) (keeps.task on)) in
         let own_after : IsSoundTerminal new.storage u = own_live (is_over reply) new.storage u.slot after.task on its in
@@ -269,10 +269,10 @@ sound_kept r new name t task reply after ok there keeps put sound queues_ok reso
     by_over true off = ends off
     by_over false on = stays on
 
-pub own_task : (r : RegionState) (name : List ℕ) (t : TerminalState) (task : TaskState) → IsSound r → lookup (is_name4 name) r.terminals ≡ Some t → t.task ≡ Some task → IsSoundTask r.storage t.slot task
-own_task r name t task ok there at = task_of_terminal r.storage t task at (found_meets (IsSoundTerminal r.storage) (is_name4 name) r.terminals t ok.tasks there)
+pub own_task : (r : RegionState) (name : List ℕ) (t : TerminalState) (task : TaskState) → IsSound r → lookup (is_name name) r.terminals ≡ Some t → t.task ≡ Some task → IsSoundTask r.storage t.slot task
+own_task r name t task ok there at = task_of_terminal r.storage t task at (found_meets (IsSoundTerminal r.storage) (is_name name) r.terminals t ok.tasks there)
 
-sound_task_turned : HalfTurnsKeep → (r new : RegionState) (name : List ℕ) (t : TerminalState) (task : TaskState) (reply : TurnReply) → IsSound r → lookup (is_name4 name) r.terminals ≡ Some t → t.task ≡ Some task
+sound_task_turned : HalfTurnsKeep → (r new : RegionState) (name : List ℕ) (t : TerminalState) (task : TaskState) (reply : TurnReply) → IsSound r → lookup (is_name name) r.terminals ≡ Some t → t.task ≡ Some task
     → TaskTurned r name t task reply new → IsSoundStorage new.storage → AreSoundQueues new.queues → AreSoundResources new.resources → IsSound new
 sound_task_turned law r new name t task reply ok there at turned sound queues_ok resources_ok =
     sound_kept r new name t task reply turned.reached ok there
@@ -282,13 +282,13 @@ sound_task_turned law r new name t task reply ok there at turned sound queues_ok
 pub sound_turned : HalfTurnsKeep → (r new : RegionState) (name : List ℕ) (reply : TurnReply) → IsSound r → Turned r name reply new
     → IsSoundStorage new.storage → AreSoundQueues new.queues → AreSoundResources new.resources → IsSound new
 unfolding Turned
-sound_turned law r new name reply ok turned sound queues_ok resources_ok = by_terminal (lookup (is_name4 name) r.terminals) refl turned
+sound_turned law r new name reply ok turned sound queues_ok resources_ok = by_terminal (lookup (is_name name) r.terminals) refl turned
   where
-    by_task : (t : TerminalState) (o : Option TaskState) → lookup (is_name4 name) r.terminals ≡ Some t → t.task ≡ o → MatchOption o ((reply ≡ turn.Idle) × (new ≡ r)) (λ task. TaskTurned r name t task reply new) → IsSound new
+    by_task : (t : TerminalState) (o : Option TaskState) → lookup (is_name name) r.terminals ≡ Some t → t.task ≡ o → MatchOption o ((reply ≡ turn.Idle) × (new ≡ r)) (λ task. TaskTurned r name t task reply new) → IsSound new
     by_task t None there at idle = subst IsSound (sym idle.1) ok
     by_task t (Some task) there at turned = sound_task_turned law r new name t task reply ok there at turned sound queues_ok resources_ok
 
-    by_terminal : (o : Option TerminalState) → lookup (is_name4 name) r.terminals ≡ o
+    by_terminal : (o : Option TerminalState) → lookup (is_name name) r.terminals ≡ o
         → MatchOption o ((reply ≡ turn.NoSuchTerminal) × (new ≡ r)) (λ t. MatchOption t.task ((reply ≡ turn.Idle) × (new ≡ r)) (λ task. TaskTurned r name t task reply new)) → IsSound new
     by_terminal None there nowhere = subst IsSound (sym nowhere.1) ok
     by_terminal (Some t) there turned = by_task t t.task there refl turned

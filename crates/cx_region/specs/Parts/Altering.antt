@@ -3,7 +3,7 @@ use Rattle.std.specs.Prelude.{◌≡◌, ℕ, List, Option, Some, None, MatchOpt
 use Rattle.std.specs.Map.{lookup, set_value}
 use Rattle.cx_state.specs.State.{Reach, SharedState, StationState, TaskState, reach}
 use Rattle.cx_region.specs.declared.changes.Change.{Change}
-use Rattle.cx_region.specs.Names.{is_name4}
+use Rattle.cx_ebcdic.specs.Names.{is_name}
 use Rattle.cx_region.specs.State.{TerminalState, station_of, terminal_with}
 use Rattle.cx_region.specs.Alter.{altered, task_left}
 use Rattle.cx_region.specs.Parts.Turning.{Terminals}
@@ -40,7 +40,7 @@ AlteredAt change shared terminal after left =
 pub record AlteredThere (change : Change) (shared : SharedState) (terminals : Terminals) (name : List ℕ) (terminal : TerminalState) (after : SharedState) (later : Terminals) : Type 0 where
   pub left : TerminalState
   pub altered : AlteredAt change shared terminal after left
-  pub put_back : later ≡ set_value (is_name4 name) terminals left
+  pub put_back : later ≡ set_value (is_name name) terminals left
 
 pub record AlteredNowhere (shared : SharedState) (terminals : Terminals) (after : SharedState) (later : Terminals) : Type 0 where
   pub shared_stays : after ≡ shared
@@ -48,5 +48,5 @@ pub record AlteredNowhere (shared : SharedState) (terminals : Terminals) (after 
 
 unfoldable pub AlteredIn : Change → SharedState → Terminals → List ℕ → SharedState → Terminals → Type 0
 AlteredIn change shared terminals name after later =
-    MatchOption (lookup (is_name4 name) terminals) (AlteredNowhere shared terminals after later)
+    MatchOption (lookup (is_name name) terminals) (AlteredNowhere shared terminals after later)
     (λ terminal. AlteredThere change shared terminals name terminal after later)

@@ -1,8 +1,10 @@
 -- What a key asks for, as a plan that is made before anything changes; no public contract cites it.
-use Rattle.std.specs.Prelude.{ℕ, List, length, Option, Some, None}
+use Rattle.std.specs.Prelude.{◌≡◌, ℕ, List, length, Option, Some, None, IsSomeAnd, MatchOption, option_and_then}
 use Rattle.std.specs.Option.{option_map_or}
+use Rattle.cx_command.specs.Eib.{eib_len}
 use Rattle.cx_load.specs.declared.program.Loaded.{Loaded}
 use Rattle.cx_state.specs.declared.verdict.NewLevel.{NewLevel}
+use Rattle.cx_state.specs.Areas.{IsTaskPlace}
 use Rattle.cx_state.specs.State.{Input, TaskState}
 use Rattle.cx_region.specs.declared.replies.KeyReply.TheVariants as key
 use Rattle.cx_region.specs.declared.asking.Asked.{Asked}
@@ -10,7 +12,8 @@ use Rattle.cx_region.specs.declared.asking.Asked.TheVariants.{Answer, Give, Atta
 use Rattle.cx_region.specs.declared.asking.Start.{Start}
 use Rattle.cx_region.specs.State.{RegionState, TerminalState}
 use Rattle.cx_region.specs.Tables.{program_of, terminal_of, transaction_of}
-use Rattle.cx_region.specs.Attach.{TaskAreas, commarea_kept, first_level, fresh_task, transaction_named}
+use Rattle.cx_region.specs.Attach.{commarea_kept, first_level, fresh_task, transaction_named}
+use Rattle.cx_region.specs.declared.asking.Places.{Places}
 
 -- a task to be attached
 abbrev pub start_of : TerminalState → List ℕ → List ℕ → Loaded → Asked
@@ -34,9 +37,18 @@ asked_at region bytes terminal =
 unfoldable pub asked : RegionState → List ℕ → List ℕ → Asked
 asked region name bytes = option_map_or (asked_at region bytes) (terminal_of region name) (Answer key.NoSuchTerminal)
 
+-- what is asked may take memory
+unfoldable pub KeyGrows : RegionState → List ℕ → List ℕ → Type 0
+KeyGrows region name bytes =
+    IsSomeAnd (terminal_of region name) (λ terminal.
+    MatchOption terminal.task
+    (IsSomeAnd (option_and_then (program_of region) (transaction_of region (transaction_named terminal.following bytes)))
+    (λ loaded. IsTaskPlace region.storage eib_len None → ⊥))
+    (λ task. terminal.input ≡ None))
+
 -- the level and the task that begin
-abbrev pub level_of : Start → TaskAreas → NewLevel
+abbrev pub level_of : Start → Places → NewLevel
 level_of start areas = first_level start.program start.loaded start.calen areas
 
-abbrev pub task_of_start : Start → ℕ → TaskAreas → TaskState
+abbrev pub task_of_start : Start → ℕ → Places → TaskState
 task_of_start start number areas = fresh_task start.tran number areas.eib (level_of start areas)

@@ -9,7 +9,8 @@ use Rattle.cx_region.specs.declared.attach.StartFault.TheVariants.{Memory, NoSto
 use Rattle.cx_region.specs.declared.asking.Start.{Start}
 use Rattle.cx_state.specs.Areas.{IsTaskPlace, system_owner}
 use Rattle.cx_state.specs.declared.verdict.NewLevel.{NewLevel}
-use Rattle.cx_region.specs.Attach.{ArePlaced, HasNoPlaces, TaskAreas, with_task_areas}
+use Rattle.cx_region.specs.Attach.{ArePlaced, HasNoPlaces, with_task_areas}
+use Rattle.cx_region.specs.declared.asking.Places.{Places}
 use Rattle.cx_region.specs.Parts.Asking.{level_of, task_of_start}
 use Rattle.cx_command.specs.Eib.{eib_len}
 
@@ -28,7 +29,7 @@ AreFaultsOf storage start NoStorage = HasNoPlaces storage (system_owner start.sl
 AreFaultsOf storage start (Memory refused) = IsTaskPlace storage eib_len None → ⊥
 
 -- addresses of 24 bits
-pub record ArePlacesBelow (places : TaskAreas) : Type 0 where
+pub record ArePlacesBelow (places : Places) : Type 0 where
   pub eib : places.eib < 2 ^ 24
   pub commarea : IfSome places.commarea (λ a. a < 2 ^ 24)
   pub stg : places.stg < 2 ^ 24
@@ -42,7 +43,7 @@ abbrev pub input_of : Aid → List ℕ → Input
 input_of aid bytes = record { aid = aid; bytes = bytes }
 
 -- a task that is ready to be attached: its areas are made, and it, its level and its input are there
-pub record IsReady (storage : Storage) (start : Start) (number : ℕ) (input : Input) (places : TaskAreas) (level : NewLevel) (task : TaskState) (held : Input) (after : Storage) : Type 0 where
+pub record IsReady (storage : Storage) (start : Start) (number : ℕ) (input : Input) (places : Places) (level : NewLevel) (task : TaskState) (held : Input) (after : Storage) : Type 0 where
   pub placed : ArePlaced storage (system_owner start.slot) start.calen start.loaded.stg_len places
   pub made : after ≡ with_task_areas storage (system_owner start.slot) start.calen start.loaded.stg_len places
   pub addresses : ArePlacesBelow places

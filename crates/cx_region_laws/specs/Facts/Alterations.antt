@@ -14,7 +14,7 @@ use Rattle.cx_region.specs.declared.replies.Reply.TheVariants as reply
 use Rattle.cx_region.specs.State.{RegionState, TerminalState}
 use Rattle.cx_region.specs.Tables.{terminal_of}
 use Rattle.cx_region.specs.Turn.{reach_of}
-use Rattle.cx_region.specs.Alter.{Alters, alter_refusal, altered_region, change_refusal, task_refusal}
+use Rattle.cx_region.specs.Alter.{Alters, alter_refusal, altered_region, change_refusal}
 use Rattle.cx_region.specs.Events.{Happens}
 use Rattle.cx_region_laws.specs.Laws.Alterations.{AbendsOfTasksAreDone, AlterationsDecide, RefusedAlterationsLeaveTheRegion}
 
@@ -55,6 +55,6 @@ abends_are_done old name reply new h live = by_terminal (terminal_of old name) h
     by_task t None h live = absurd (true≢false (sym live))
     by_task t (Some task) h live = h.0
 
-    by_terminal : (o : Option TerminalState) → Due (option_map_or (task_refusal old Abend) o (Some alter.NoSuchTerminal)) → is_some (option_and_then (λ t. t.task) o) ≡ true → reply ≡ alter.Altered
+    by_terminal : (o : Option TerminalState) → Due (option_map_or (λ t. option_map_or (λ task. change_refusal Abend (reach_of old t task)) t.task (Some alter.NoTask)) o (Some alter.NoSuchTerminal)) → is_some (option_and_then (λ t. t.task) o) ≡ true → reply ≡ alter.Altered
     by_terminal None h live = absurd (true≢false (sym live))
     by_terminal (Some t) h live = by_task t t.task h live

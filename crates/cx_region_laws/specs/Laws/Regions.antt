@@ -12,7 +12,7 @@ use Rattle.cx_state.specs.declared.replies.TurnReply.{TurnReply}
 use Rattle.cx_state.specs.declared.replies.TurnReply.TheVariants as turn
 use Rattle.cx_region.specs.State.{RegionState}
 use Rattle.cx_state.specs.State.{Input}
-use Rattle.cx_region.specs.Names.{is_name4}
+use Rattle.cx_ebcdic.specs.Names.{is_name}
 use Rattle.cx_region.specs.Tables.{terminal_of}
 use Rattle.cx_region.specs.Sound.{IsSound}
 use Rattle.cx_service.specs.Resources.{without_owner}
@@ -57,7 +57,7 @@ RunsDecide = (old : RegionState) (events : List Event) (replies others : List Re
 -- ---- what stays
 -- Every other terminal is as before in all its parts: so are its task's registers, levels and due command.
 abbrev pub OthersAsBefore : RegionState → List ℕ → RegionState → Type 0
-OthersAsBefore old name new = (other : List ℕ) → is_name4 name other ≡ false → terminal_of new other ≡ terminal_of old other
+OthersAsBefore old name new = (other : List ℕ) → is_name name other ≡ false → terminal_of new other ≡ terminal_of old other
 
 -- what a turn of a terminal leaves, whatever its task does
 pub record TurnKeeps (old : RegionState) (name : List ℕ) (new : RegionState) : Type 0 where

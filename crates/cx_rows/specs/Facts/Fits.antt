@@ -1,7 +1,10 @@
 -- What a command is judged to do can be done.
 use Rattle.std.proofs.Common.{◌≡◌, ℕ, zero, suc, ◌<◌, ◌==◌, nat_le, true, false, List, [], ◌∷◌, length, nat_lt, Option, Some, None, refl, arith, inl, inr, ◌^◌}
-use Rattle.std.specs.Prelude.{◌&&◌, ◌||◌, not, MatchOption}
-use Rattle.std.specs.Option.{option_map, option_and_then}
+use Rattle.cx_state.specs.declared.verdict.Made.TheVariants.{Shows}
+use Rattle.cx_state.specs.declared.verdict.Change.TheVariants.{Makes, Nothing}
+use Rattle.cx_state.specs.declared.verdict.Request.TheVariants.{SetExit, ExitOff, ExitOn}
+use Rattle.std.specs.Prelude.{◌&&◌, ◌||◌, not, MatchOption, if◌then◌else◌}
+use Rattle.std.specs.Option.{option_map, option_and_then, option_map_or}
 use Rattle.std.specs.List.{AllByRecursion}
 use Rattle.std.proofs.lemmas.Bool.{cases_Bool, ltb-true}
 use Rattle.cx_command.specs.declared.commands.Command.{Command}
@@ -18,22 +21,22 @@ use Rattle.cx_call.specs.Facts.Inputs.{IsMeasuredInput, commarea_of_return, comm
 use Rattle.cx_call.specs.declared.inputs.Piece.{Piece}
 use Rattle.cx_state.specs.Areas.{IsSoundProgram, IsTaskPlace, with_copy_area}
 use Rattle.cx_state.specs.State.{Input, Reach}
-use Rattle.cx_state.specs.Verdicts.{Fits, FitsCopy, FitsNext, FitsPiece}
+use Rattle.cx_state.specs.Parts.Fits.{Fits, FitsCopy, FitsNext, FitsPiece}
 use Rattle.cx_state.specs.declared.verdict.Copying.{Copying}
 use Rattle.cx_state.specs.declared.verdict.Verdict.{Verdict}
 use Rattle.cx_state.specs.declared.verdict.Verdict.TheVariants.{Refuses}
 use Rattle.cx_command.specs.declared.abends.Abend.TheVariants as abend
 use Rattle.cx_rows.specs.declared.common.Called.{Called}
 use Rattle.cx_rows.specs.Facts.Programs.{program_sound}
-use Rattle.cx_rows.specs.Common.{AreSoundPrograms, called_of, commarea_of, does, has, if_any, named_program, program_of}
+use Rattle.cx_rows.specs.Common.{AreSoundPrograms, commarea_of, does, has, named_program, program_of}
 use Rattle.cx_rows.specs.Abend.{abend_row}
-use Rattle.cx_rows.specs.HandleAbend.{exit_asked, handle_abend_row}
+use Rattle.cx_rows.specs.HandleAbend.{handle_abend_row}
 use Rattle.cx_rows.specs.Handling.{asks, handle_row, ignore_row, pop_row, push_row}
 use Rattle.cx_rows.specs.Judged.{Judged, JudgedBy}
 use Rattle.cx_rows.specs.Link.{LinkRow, Links, enters}
 use Rattle.cx_rows.specs.Receive.{receive_row}
 use Rattle.cx_rows.specs.Return.{highest_return, next_of, return_row}
-use Rattle.cx_rows.specs.SendText.{send_text_row, shown}
+use Rattle.cx_rows.specs.SendText.{send_text_row}
 use Rattle.cx_rows.specs.Suspend.{suspend_row}
 use Rattle.cx_rows.specs.Xctl.{Copies, Transfers, XctlRow, XctlTo, copying_to, replaces}
 use Rattle.cx_rows.specs.Facts.FitsParts.{by_option, by_test, invreq_fits, lengerr_fits, normal_fits, pgmiderr_fits, piece_there}
@@ -44,7 +47,8 @@ commarea_is : (s : Storage) (call : Call) (piece : Piece) → commarea_of s call
 unfolding commarea_of
 commarea_is s call piece e = go (piece_of s call Commarea) e
   where
-    go : (o : Option Piece) → option_and_then if_any o ≡ Some piece → (o ≡ Some piece) × (0 < piece.len)
+    go : (o : Option Piece) → option_and_then (λ piece. if piece.len == 0 then None else Some piece) o ≡ Some piece
+        → (o ≡ Some piece) × (0 < piece.len)
     go None e = cc
     go (Some found) e = elim (cases_Bool (found.len == 0)) [
       | inl t ↦ let never = rw t at e in cc
@@ -72,7 +76,9 @@ named_sound s call programs called sound e = go (bytes_of s call Program 8) e
         let good = program_sound programs name loaded sound is in
         rw (← same) good
 
-    go : (o : Option (List ℕ)) → option_and_then (called_of programs) o ≡ Some called → IsSoundProgram called.loaded
+    go : (o : Option (List ℕ))
+        → option_and_then (λ name. option_map (λ loaded. record { name = name; loaded = loaded }) (program_of programs name)) o ≡ Some called
+        → IsSoundProgram called.loaded
     go None e = cc
     go (Some name) e = found name (program_of programs name) refl e
 
@@ -124,7 +130,7 @@ handle_abend_fits : (call : Call) (r : Reach) (v : Verdict) → v ≡ handle_abe
 unfolding handle_abend_row
 handle_abend_fits call r v e = rw e (go (place_of call Label))
   where
-    go : (label : Option ℕ) → Fits (asks (exit_asked label (has call Cancel))) r
+    go : (label : Option ℕ) → Fits (asks (option_map_or SetExit label (if has call Cancel then ExitOff else ExitOn))) r
     go None = elim (cases_Bool (has call Cancel)) [
       | inl t ↦ rw t (normal_fits, tt)
       | inr f ↦ rw f (normal_fits, tt)
@@ -142,7 +148,8 @@ send_text_fits call r v low is there e = elim (cases_Bool (is_length_negative r.
     row : IsMeasuredInput call.command From
     row = rw is from_of_send_text
 
-    go : (o : Option Piece) → piece_of r.shared.storage call From ≡ o → Fits (does (shown o (has call Erase))) r
+    go : (o : Option Piece) → piece_of r.shared.storage call From ≡ o
+        → Fits (does (option_map_or (λ piece. Makes (Shows piece (has call Erase))) o Nothing)) r
     go None at = (normal_fits, tt)
     go (Some piece) at = (normal_fits, piece_there r.shared.storage call From piece low there row at)
 

@@ -9,7 +9,7 @@ use Rattle.cx_call.specs.Call.{Call}
 use Rattle.cx_call.specs.Inputs.{are_inputs_there, piece_of}
 use Rattle.cx_call.specs.Facts.Inputs.{IsMeasuredInput, measured_there, piece_below, piece_few}
 use Rattle.cx_call.specs.declared.inputs.Piece.{Piece}
-use Rattle.cx_state.specs.Verdicts.{IsThere}
+use Rattle.cx_state.specs.Parts.Fits.{IsThere}
 
 -- ---- the parts of a row
 

@@ -1,5 +1,5 @@
 -- What the commands of storage, queues and resources are judged to do can be done.
-use Rattle.std.proofs.Common.{◌≡◌, ℕ, ◌<◌, ◌≤◌, ◌^◌, ◌==◌, Bool, true, false, List, [], ◌∷◌, Option, Some, None, refl, sym, ap, ◌∙◌, arith, inl, inr, nat_le, unwrap_or, is_none}
+use Rattle.std.proofs.Common.{◌≡◌, ℕ, ◌+◌, ◌<◌, ◌≤◌, ◌^◌, ◌==◌, Bool, true, false, List, [], ◌∷◌, Option, Some, None, refl, sym, ap, ◌∙◌, arith, inl, inr, nat_le, unwrap_or, is_none}
 use Rattle.std.specs.Prelude.{◌&&◌, if◌then◌else◌}
 use Rattle.std.specs.Option.{option_map_or}
 use Rattle.std.specs.List.{AllByRecursion}
@@ -28,7 +28,7 @@ use Rattle.cx_call.specs.Facts.Inputs.{IsMeasuredInput, from_of_writeq_ts, place
 use Rattle.cx_call.specs.declared.inputs.Piece.{Piece}
 use Rattle.cx_state.specs.Areas.{IsTaskPlace, got_owner}
 use Rattle.cx_state.specs.State.{Reach}
-use Rattle.cx_state.specs.Verdicts.{Fits}
+use Rattle.cx_state.specs.Parts.Fits.{Fits}
 use Rattle.cx_state.specs.declared.verdict.Verdict.{Verdict}
 use Rattle.cx_rows.specs.Address.{address_row}
 use Rattle.cx_rows.specs.Common.{does, has, only, output}
@@ -39,7 +39,7 @@ use Rattle.cx_rows.specs.Freemain.{freemain_row, frees, is_got, is_got_by}
 use Rattle.cx_rows.specs.Getmain.{GetmainRow, asked_len, filling, gets, is_area_length}
 use Rattle.cx_rows.specs.ReadqTs.{Reads, ReadsItem, ReadsQueue, ReadqRow, item_asked, reading_of, reads_into, reads_to}
 use Rattle.cx_rows.specs.Services.{unless}
-use Rattle.cx_rows.specs.WriteqTs.{item_named, number_after, writeq_row, written_to}
+use Rattle.cx_rows.specs.WriteqTs.{item_named, writeq_row, written_to}
 use Rattle.cx_rows.specs.Facts.Queues.{few_bytes, some_bytes}
 use Rattle.cx_rows.specs.Facts.FitsParts.{by_option, by_test, enqbusy_fits, invreq_fits, itemerr_fits, lengerr_fits, normal_fits, nospace_fits, nostg_fits, piece_there, qiderr_fits}
 
@@ -219,7 +219,7 @@ writeq_fits call r v low is there e = rw e (go (bytes_of r.shared.storage call o
           (rewrite_never r.shared.queues name (item_named r.shared.storage call) piece.len)
           (λ none. (normal_fits, record { rewrites = none; there = piece_there r.shared.storage call option.From piece low there row at })))
       | inr f ↦ rw f (unless_fits (write_fault r.shared.queues name piece.len) r
-          (Meets Normal (output option.Item (Half (number_after r.shared.queues name)) ∷ []) (Makes (ItemLast name piece)))
+          (Meets Normal (output option.Item (Half (unwrap_or (count_of r.shared.queues name) 0 + 1)) ∷ []) (Makes (ItemLast name piece)))
           (write_never r.shared.queues name piece.len)
           (λ none. (normal_fits, record { writes = none; there = piece_there r.shared.storage call option.From piece low there row at })))
     ]

@@ -10,8 +10,9 @@ use Rattle.cx_state.specs.declared.verdict.Ended.{Ended}
 use Rattle.cx_state.specs.declared.verdict.Ended.TheVariants.{Frees, QueueGone, ReadOf, TakesInput}
 use Rattle.cx_state.specs.declared.verdict.Fill.{Fill}
 use Rattle.cx_state.specs.declared.verdict.Fill.TheVariants.{Item}
+use Rattle.cx_program.specs.declared.level.Level.{Level}
 use Rattle.cx_program.specs.Levels.{Levels}
-use Rattle.cx_state.specs.State.{Input}
+use Rattle.cx_state.specs.State.{Input, TaskState}
 use Rattle.cx_task.specs.declared.way.Way.{Way}
 use Rattle.cx_task.specs.declared.way.Way.TheVariants.{Enters, Replaces}
 use Rattle.cx_state.specs.declared.verdict.Request.{Request}
@@ -64,3 +65,7 @@ abbrev pub MatchWay : Way → Levels → Type 0
 MatchWay (Enters level) levels = (level.loaded.entry < 2 ^ 24) × (length levels.callers < 15)
 MatchWay (Replaces level) levels = level.loaded.entry < 2 ^ 24
 MatchWay _ levels = ⊤
+
+-- the task with the registers and code that a level kept
+abbrev pub with_kept : TaskState → Level → TaskState
+with_kept task level = record task { regs = level.regs; cc = level.cc }

@@ -1,12 +1,12 @@
-use Rattle.std.proofs.Common.{◌≡◌, Err, Result, OnErr, ap, sym, subst, ◌∙◌}
+use Rattle.std.proofs.Common.{Err, ap, sym, subst, ◌∙◌}
 use Rattle.cx_region.specs.Events.{MayTakeMemory}
-use Rattle.cx_region.proofs.EventLemmas.{not_done, program_memory, terminal_memory, transaction_memory}
+use Rattle.cx_region.proofs.EventLemmas.{not_done, terminal_memory, transaction_memory}
 use Rattle.cx_region.proofs.state.Region.happen.Goals as goal
 
 pub returns-in-Err-Memory-clause-done : goal.returns-in-Err-Memory-clause-done
 returns-in-Err-Memory-clause-done g c =
     let is = c.in-Err-Memory.is ∙ ap Err c.in-Err-Memory.field-0-is in
-    not_done _ _ _ _ _ is (subst (MayTakeMemory c.args.self.now) (sym c.in-Program.is) (program_memory _ _ _ _ c.define_program.ensures.memory is)) c.define_program.ensures.err
+    not_done _ _ _ _ _ is (subst (MayTakeMemory c.args.self.now) (sym c.in-Program.is) (c.define_program.ensures.memory is)) c.define_program.ensures.err
 
 pub returns-in-Err-Memory-define_transaction-clause-done : goal.returns-in-Err-Memory-define_transaction-clause-done
 returns-in-Err-Memory-define_transaction-clause-done g c =

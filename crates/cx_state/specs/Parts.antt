@@ -1,0 +1,2 @@
+-- The vocabulary of private functions: no public contract reaches it.
+pub mod Fits
