@@ -8,6 +8,23 @@ use Rattle.cx_pages.specs.Parts.Runs.{AllFree}
 use Rattle.cx_pages.proofs.FrameLemmas.{has_all, has_short, has_last, granule_taken, index_past}
 use Rattle.cx_pages.specs.Parts.Reach.{Reaches}
 
+-- where the granule before one isn't full, no row goes on past it
+pub cut_short : (counts : List ℕ) (g : ℕ) → Reaches counts → 0 < g → slice_index counts (g - 1) < 16 → (h : ℕ)
+    → slice_index counts h ≡ (if nat_lt h g then min (slice_index counts h) (16 * (g - h)) else slice_index counts h)
+cut_short counts g told some short h = elim (cases_lt h g) [
+  | inl before ↦
+      let fits : slice_index counts h ≤ 16 * (g - h) = elim (cases_lt (16 * (g - h)) (slice_index counts h)) [
+        | inl past ↦
+            let place : h + (g - 1 - h) ≡ g - 1 = omega (arith, before) in
+            let full = rw place at (told.0 h (g - 1 - h) (omega (arith, past, before))) in
+            absurd (omega (arith, full, short))
+        | inr within ↦ within
+      ] in
+      let least : min (slice_index counts h) (16 * (g - h)) ≡ slice_index counts h = omega (arith, fits) in
+      rw (lt-ltb h g before, least) refl
+  | inr past ↦ rw (le-ltb h g past) refl
+]
+
 -- the granules that a count goes past are full
 pub more_full : (counts : List ℕ) (from g : ℕ) → Reaches counts → 16 ≤ slice_index counts g → from ≤ g
     → ((j : ℕ) → from ≤ j → j < g → 16 ≤ slice_index counts j)

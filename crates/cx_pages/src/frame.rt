@@ -49,6 +49,13 @@ fn cut(counts: &mut [u8; 256], g: usize)
     requires reached { Reaches counts.old }
     ensures { (h : ℕ) → slice_index counts.new h ≡ (if nat_lt h g then min (slice_index counts.old h) (16 * (g - h)) else slice_index counts.old h) }
 {
+    if g == 0 {
+        return;
+    }
+    // A row that goes on past that granule has all of the one before it.
+    if counts[g - 1] < 16 {
+        return;
+    }
     // A row has at most 255 bytes.
     for h in g.saturating_sub(15)..g {
         counts[h] = counts[h].min((16 * (g - h)) as u8);
@@ -78,7 +85,7 @@ fn count(counts: &mut [u8; 256], first: usize, end: usize, to: usize)
     let none = ((to + 15) / 16).max(long).min(end);
     fill(counts, first, long, 255);
     for g in long..none {
-        counts[g] = to.saturating_sub(16 * g).min(255) as u8;
+        counts[g] = (to - 16 * g) as u8;
     }
     fill(counts, none, end, 0);
 }
