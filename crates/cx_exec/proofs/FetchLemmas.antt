@@ -93,13 +93,12 @@ unfolding IsWellFormed
 length_with i formed = ap length_of_format (sym formed.0)
 
 -- an EX is performed by the effect of its target
-pub executed : (m : Machine) (i : Instruction) (r1 x2 b2 d2 : ℕ) (outcome : Outcome) (after : Machine)
-    → performed m ≡ performed_of m i (updated_by m.next (length_of i.op)) → IsWellFormed i → i.op ≡ op.Ex → i.fields ≡ Rx r1 x2 b2 d2
+pub executed_at : (m : Machine) (i : Instruction) (r1 x2 b2 d2 : ℕ) (outcome : Outcome) (after : Machine)
+    → performed m ≡ performed_of m i (updated_by m.next (length_of i.op)) → length_of i.op ≡ 4 → i.op ≡ op.Ex → i.fields ≡ Rx r1 x2 b2 d2
     → MatchResult (target_at m r1 (effective m.regs x2 b2 d2)) (λ target. Effect target (record { length_code = 2; address = along m.next 4 }) m outcome after) (λ cause. Suppressed cause m outcome after)
     → Runs m outcome after
 unfolding Runs
-executed m i r1 x2 b2 d2 outcome after is formed ex fields effect =
-    let long : length_of i.op ≡ 4 = length_with i formed ∙ rw fields refl in
+executed_at m i r1 x2 b2 d2 outcome after is long ex fields effect =
     let step : performed m ≡ then_result (target_at m r1 (effective m.regs x2 b2 d2)) (λ target. Ok (due target (record { length_code = 2; address = along m.next 4 })))
     = is ∙ ap (λ n. performed_of m i (updated_by m.next n)) long ∙ rw (ex, fields) refl in
     rw step (run (target_at m r1 (effective m.regs x2 b2 d2)) effect)

@@ -7,6 +7,7 @@ pub mod NumberLemmas
 pub mod TranslationLemmas
 pub mod MaskLemmas
 pub mod FetchLemmas
+pub mod FrontLemmas
 pub mod BlockLemmas
 pub mod RepeatLemmas
 pub mod ZonedLemmas

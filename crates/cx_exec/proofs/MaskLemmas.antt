@@ -1,8 +1,9 @@
 -- The places that a mask chooses, one by one.
-use Rattle.std.proofs.Common.{◌≡◌, ℕ, zero, suc, ◌+◌, ◌<◌, inl, inr, Bool, true, false, cond, List, [], ◌∷◌, ◌++◌, length, map, take, slice_set, refl, sym, ◌∙◌, ap, add-one, arith, if◌then◌else◌}
+use Rattle.std.proofs.Common.{◌≡◌, ℕ, zero, suc, ◌+◌, ◌/◌, ◌^◌, ◌<◌, ◌≤◌, inl, inr, Bool, true, false, cond, List, [], ◌∷◌, ◌++◌, length, map, take, slice_set, refl, sym, ◌∙◌, ap, add-one, arith, if◌then◌else◌}
 use Rattle.std.specs.List.{filter, range_with_len}
 use Rattle.std.proofs.lemmas.Bool.{cases_lt}
 use Rattle.std.proofs.lemmas.List.{length-append, map_push, take_more_set}
+use Rattle.cx_exec.specs.Branches.{mask_bit}
 use Rattle.cx_exec.specs.Masks.{takes, byte_of, chosen}
 
 filter_more : (test : ℕ → Bool) (a n : ℕ) → filter test (range_with_len a (suc n)) ≡ filter test (range_with_len a n) ++ cond (test (a + n)) ((a + n) ∷ []) []
@@ -70,3 +71,11 @@ byte_taken mask word k count byte buffer e h so_far made =
 pub byte_left : (mask word k count : ℕ) (buffer : List ℕ) → takes mask k ≡ false → take count buffer ≡ map (byte_of word) (chosen mask k)
     → take count buffer ≡ map (byte_of word) (chosen mask (k + 1))
 byte_left mask word k count buffer e so_far = let more = rw e at (bytes_more mask word k) in so_far ∙ sym more
+
+-- a condition code's bit, found by a shift
+pub shifted_bit : (cc : ℕ) → cc ≤ 3 → 8 / 2 ^ cc ≡ mask_bit cc
+shifted_bit zero h = refl
+shifted_bit (suc zero) h = refl
+shifted_bit (suc (suc zero)) h = refl
+shifted_bit (suc (suc (suc zero))) h = refl
+shifted_bit (suc (suc (suc (suc n)))) h = absurd (omega (arith, h))

@@ -1,10 +1,17 @@
 -- Runs of steps, one more at their end.
-use Rattle.std.proofs.Common.{◌-◌, ◌≢◌, Some, ◌≡◌, ℕ, zero, suc, ◌+◌, ◌≤◌, refl, sym, ◌∙◌, ap, add-one, subst, arith}
-use Rattle.cx_exec.specs.declared.machine.Step.TheVariants.{Done, AtEntry}
+use Rattle.std.proofs.Common.{◌-◌, false, List, Ok, Err, ◌≢◌, Some, ◌≡◌, ℕ, zero, suc, ◌+◌, ◌≤◌, ◌<◌, refl, sym, ◌∙◌, ap, add-one, subst, arith}
+use Rattle.cx_exec.specs.declared.machine.Step.TheVariants.{Done, AtEntry, Interrupt}
+use Rattle.cx_exec.specs.declared.machine.Interruption.{Interruption}
 use Rattle.cx_exec.specs.declared.machine.Halt.{Halt}
 use Rattle.cx_exec.specs.declared.machine.Halt.TheVariants as halt
 use Rattle.cx_exec.specs.Machine.{Machine}
-use Rattle.cx_exec.specs.Step.{Steps}
+use Rattle.cx_exec.specs.Outcome.{Outcome}
+use Rattle.cx_exec.specs.Rows.{Effect}
+use Rattle.cx_exec.specs.Step.{entry, updated_by, is_execute, performed_of, performed, Runs, Steps}
+use Rattle.cx_code.specs.declared.table.Op.{Op}
+use Rattle.cx_code.specs.Table.{length_of}
+use Rattle.cx_code.specs.Spelling.{instruction}
+use Rattle.cx_code.specs.Reading.{fields_at}
 use Rattle.cx_exec.specs.Advance.{Passes, Advances}
 
 pub passes_none : (m : Machine) → Passes 0 m m
@@ -64,3 +71,51 @@ round_passes limit left n m mid after within fits first run =
 pub passes_start : (limit : ℕ) (m : Machine) → Passes (limit - limit) m m
 unfolding Passes
 passes_start limit m = let none : limit - limit ≡ 0 = omega arith in rw none refl
+
+-- one more step, and one fewer left
+pub one_more : (steps left : ℕ) (m mid after : Machine) → left ≤ steps → 0 < left → Passes (steps - left) m mid → Steps mid Done after → Passes (steps - (left - 1)) m after
+one_more steps left m mid after within some so_far step =
+    let next : steps - (left - 1) ≡ (steps - left) + 1 = omega (arith, within, some) in
+    rw next (passes_more (steps - left) m mid after so_far step)
+
+-- the entry, or an interruption, with some steps left
+pub stands_at_entry : (steps left : ℕ) (m now : Machine) → Passes (steps - left) m now → now.next ≡ entry → Advances steps m halt.AtEntry now
+unfolding Steps
+stands_at_entry steps left m now so_far here = at_entry steps (steps - left) m now now (omega arith) so_far (here, refl)
+
+pub interrupt_left : (steps left place : ℕ) (cause : Interruption) (m now after : Machine) → left ≤ steps → 0 < left → Passes (steps - left) m now → Steps now (Interrupt cause) after → place ≡ after.next
+    → Advances steps m (halt.Interrupt cause place) after
+unfolding Advances
+interrupt_left steps left place cause m now after within some so_far step is = (steps - left, omega (arith, within, some), now, so_far, step, is)
+
+-- an instruction performed apart from the entry
+pub run_more : (steps left : ℕ) (m now after : Machine) → left ≤ steps → 0 < left → Passes (steps - left) m now → now.next ≢ entry → Runs now (Ok tt) after
+    → Passes (steps - (left - 1)) m after
+unfolding Steps
+run_more steps left m now after within some so_far apart run = one_more steps left m now after within some so_far (apart, run)
+
+pub run_interrupt : (steps left place : ℕ) (cause : Interruption) (m now after : Machine) → left ≤ steps → 0 < left → Passes (steps - left) m now → now.next ≢ entry
+    → Runs now (Err cause) after → place ≡ after.next → Advances steps m (halt.Interrupt cause place) after
+unfolding Steps
+run_interrupt steps left place cause m now after within some so_far apart run is = interrupt_left steps left place cause m now after within some so_far (apart, run) is
+
+-- an instruction but EX runs by the effect of its row
+row_runs : (now : Machine) (op : Op) (front : List ℕ) (outcome : Outcome) (after : Machine)
+    → performed now ≡ performed_of now (instruction op (fields_at op front)) (updated_by now.next (length_of op)) → is_execute op ≡ false
+    → Effect (instruction op (fields_at op front)) (updated_by now.next (length_of op)) now outcome after → Runs now outcome after
+unfolding Runs
+row_runs now op front outcome after is plain effect = rw (is, plain) effect
+
+pub row_more : (steps left : ℕ) (m now after : Machine) (op : Op) (front : List ℕ) → left ≤ steps → 0 < left → Passes (steps - left) m now
+    → Effect (instruction op (fields_at op front)) (updated_by now.next (length_of op)) now (Ok tt) after
+    → performed now ≡ performed_of now (instruction op (fields_at op front)) (updated_by now.next (length_of op)) → is_execute op ≡ false
+    → now.next ≢ entry → Passes (steps - (left - 1)) m after
+row_more steps left m now after op front within some so_far effect is plain apart =
+    run_more steps left m now after within some so_far apart (row_runs now op front (Ok tt) after is plain effect)
+
+pub row_interrupt : (steps left : ℕ) (cause : Interruption) (m now after : Machine) (op : Op) (front : List ℕ) → left ≤ steps → 0 < left → Passes (steps - left) m now
+    → Effect (instruction op (fields_at op front)) (updated_by now.next (length_of op)) now (Err cause) after
+    → performed now ≡ performed_of now (instruction op (fields_at op front)) (updated_by now.next (length_of op)) → is_execute op ≡ false
+    → now.next ≢ entry → Advances steps m (halt.Interrupt cause after.next) after
+row_interrupt steps left cause m now after op front within some so_far effect is plain apart =
+    run_interrupt steps left after.next cause m now after within some so_far apart (row_runs now op front (Err cause) after is plain effect) refl

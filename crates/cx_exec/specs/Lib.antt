@@ -23,3 +23,4 @@ pub mod Fetch
 pub mod Step
 pub mod Advance
 pub mod Laws
+pub mod Parts

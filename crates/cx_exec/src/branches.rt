@@ -10,21 +10,19 @@ use cx_storage::address_in;
 /// Whether a mask has the bit of a condition code.
 #[tactic(auto, unfolding(crate::specs::Branches::selects))]
 fn selects(mask: u8, cc: u8) -> bool
+    requires { cc ≤ 3 }
     ensures { result ≡ selects mask cc }
 {
     mask & mask_bit(cc) != 0
 }
 
 /// The bit of a condition code in a mask.
+#[tactic(auto, using(crate::proofs::MaskLemmas::shifted_bit))]
 fn mask_bit(cc: u8) -> u8
+    requires { cc ≤ 3 }
     ensures { result ≡ mask_bit cc }
 {
-    match cc {
-        0 => 8,
-        1 => 4,
-        2 => 2,
-        _ => 1,
-    }
+    8 >> cc
 }
 
 /// The link word of a branch.

@@ -145,6 +145,5 @@ pub(crate) fn cvd<S: Store>(
     ensures { CvdEffect r1 a updated (machine cpu.old (S.storage store.old)) result (machine cpu.new (S.storage store.new)) }
 {
     let bytes = decimal_bytes(cpu.regs[r1 as usize]);
-    let cc = cpu.cc;
-    put_bytes(cpu, store, a, &bytes, cc, updated)
+    put_bytes(cpu, store, a, &bytes, updated)
 }

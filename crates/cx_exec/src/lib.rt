@@ -8,6 +8,7 @@ mod decimal;
 mod digits;
 mod division;
 mod fetch;
+mod front;
 pub mod laws;
 mod loads;
 mod logic;

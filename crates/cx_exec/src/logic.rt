@@ -6,7 +6,7 @@ ghost use Rattle.cx_exec.specs.Machine.{machine};
 ghost use Rattle.cx_exec.specs.Logic.{logical_code, test_code, StoresLogical};
 
 use crate::machine::{Cpu, Interruption, Updated};
-use crate::operands::put_byte;
+use crate::operands::put_coded;
 use cx_storage::Store;
 
 /// The condition code of a logical result.
@@ -46,7 +46,7 @@ pub(crate) fn put_logical<S: Store>(
     ensures { StoresLogical a byte updated (machine cpu.old (S.storage store.old)) result (machine cpu.new (S.storage store.new)) }
 {
     let cc = logical_code(u32::from(byte));
-    put_byte(cpu, store, a, byte, cc, updated)
+    put_coded(cpu, store, a, &[byte], cc, updated)
 }
 
 /// Whether the bytes, as a number, are zero.

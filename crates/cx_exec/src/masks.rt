@@ -76,8 +76,7 @@ pub(crate) fn stcm<S: Store>(
 {
     let mut buffer = [0; 4];
     let count = take_bytes(mask, cpu.regs[r1 as usize], &mut buffer);
-    let cc = cpu.cc;
-    put_bytes(cpu, store, a, &buffer[..count], cc, updated)
+    put_bytes(cpu, store, a, &buffer[..count], updated)
 }
 
 /// The `k`-th byte (`k` is below 4) that ICM leaves in a register; there are as many bytes as places chosen.

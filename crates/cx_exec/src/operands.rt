@@ -1,14 +1,12 @@
 //! Operands in storage and in pairs of registers.
 
-ghost use Rattle.std.specs.Prelude.{◌≡◌, ◌<◌, ◌≤◌, ◌^◌, ◌%◌, ◌==◌, [], ◌∷◌, length, true, false, Some, None, is_some, IfSome, MatchResult};
-ghost use Rattle.byteorder.specs.Endian.{big_bytes};
-ghost use Rattle.cx_storage.specs.Storage.{byte_at, span, written};
+ghost use Rattle.std.specs.Prelude.{◌≡◌, ◌<◌, ◌≤◌, ◌^◌, ◌%◌, ◌==◌, length, true, false, Some, None, IfSome, MatchResult};
+ghost use Rattle.cx_storage.specs.Storage.{byte_at};
 ghost use Rattle.cx_storage.specs.Word.{halfword_at, word_at};
 ghost use Rattle.cx_exec.specs.declared.machine.Interruption.TheVariants as interruption;
 ghost use Rattle.cx_exec.specs.Machine.{machine};
 ghost use Rattle.cx_exec.specs.Operands.{extended_at, Stores};
 
-use crate::loads::word_bytes;
 use crate::machine::{Cpu, Interruption, Updated};
 use crate::numbers::extended;
 use byteorder::{BigEndian, ByteOrder};
@@ -34,36 +32,29 @@ fn lent_halfword<S: Store>(store: &S, a: u32) -> Option<u16>
     Some(BigEndian::read_u16(part))
 }
 
-/// The halfword at an address, wherever its bytes stand.
+/// The halfword at an address, extended to a word by its sign, or interruption 5, wherever its bytes stand.
+#[tactic(auto, unfolding(crate::specs::Operands::extended_at))]
 #[inline(never)]
-fn halfword_apart<S: Store>(store: &S, a: u32) -> Option<u16>
+fn halfword_apart<S: Store>(store: &S, a: u32) -> Result<u32, Interruption>
     requires { a < 2 ^ 24 }
-    ensures { result ≡ halfword_at (S.storage store.now) a }
+    ensures { MatchResult result (λ x. extended_at (S.storage store.now) a ≡ Some x) (λ cause. (extended_at (S.storage store.now) a ≡ None) × (cause ≡ interruption.Addressing)) }
 {
-    cx_storage::halfword_at(store, a)
-}
-
-/// The halfword at an address.
-#[inline(never)]
-fn halfword_in<S: Store>(store: &S, a: u32) -> Option<u16>
-    requires { a < 2 ^ 24 }
-    ensures { result ≡ halfword_at (S.storage store.now) a }
-{
-    match lent_halfword(store, a) {
-        Some(halfword) => Some(halfword),
-        None => halfword_apart(store, a),
+    match cx_storage::halfword_at(store, a) {
+        Some(halfword) => Ok(extended(halfword)),
+        None => Err(Interruption::Addressing),
     }
 }
 
 /// The halfword at an address, extended to a word by its sign, or interruption 5.
 #[tactic(auto, unfolding(crate::specs::Operands::extended_at))]
+#[inline(always)]
 pub(crate) fn halfword_at<S: Store>(store: &S, a: u32) -> Result<u32, Interruption>
     requires { a < 2 ^ 24 }
     ensures { MatchResult result (λ x. extended_at (S.storage store.now) a ≡ Some x) (λ cause. (extended_at (S.storage store.now) a ≡ None) × (cause ≡ interruption.Addressing)) }
 {
-    match halfword_in(store, a) {
+    match lent_halfword(store, a) {
         Some(halfword) => Ok(extended(halfword)),
-        None => Err(Interruption::Addressing),
+        None => halfword_apart(store, a),
     }
 }
 
@@ -78,33 +69,25 @@ fn lent_word<S: Store>(store: &S, a: u32) -> Option<u32>
     Some(BigEndian::read_u32(part))
 }
 
-/// The word at an address, wherever its bytes stand.
+/// The word at an address, or interruption 5, wherever its bytes stand.
 #[inline(never)]
-fn word_apart<S: Store>(store: &S, a: u32) -> Option<u32>
+fn word_apart<S: Store>(store: &S, a: u32) -> Result<u32, Interruption>
     requires { a < 2 ^ 24 }
-    ensures { result ≡ word_at (S.storage store.now) a }
+    ensures { MatchResult result (λ x. word_at (S.storage store.now) a ≡ Some x) (λ cause. (word_at (S.storage store.now) a ≡ None) × (cause ≡ interruption.Addressing)) }
 {
-    cx_storage::word_at(store, a)
-}
-
-/// The word at an address.
-#[inline(never)]
-fn word_in<S: Store>(store: &S, a: u32) -> Option<u32>
-    requires { a < 2 ^ 24 }
-    ensures { result ≡ word_at (S.storage store.now) a }
-{
-    match lent_word(store, a) {
-        Some(word) => Some(word),
-        None => word_apart(store, a),
-    }
+    cx_storage::word_at(store, a).ok_or(Interruption::Addressing)
 }
 
 /// The word at an address, or interruption 5.
+#[inline(always)]
 pub(crate) fn word_at<S: Store>(store: &S, a: u32) -> Result<u32, Interruption>
     requires { a < 2 ^ 24 }
     ensures { MatchResult result (λ x. word_at (S.storage store.now) a ≡ Some x) (λ cause. (word_at (S.storage store.now) a ≡ None) × (cause ≡ interruption.Addressing)) }
 {
-    word_in(store, a).ok_or(Interruption::Addressing)
+    match lent_word(store, a) {
+        Some(word) => Ok(word),
+        None => word_apart(store, a),
+    }
 }
 
 /// The first register of a pair, which is even, or interruption 6.
@@ -118,74 +101,32 @@ pub(crate) fn even(r: u8) -> Result<u8, Interruption>
     }
 }
 
-/// Writes a word at an address. False, and no change, where one of its bytes is absent.
-#[inline(never)]
-fn write_word<S: Store>(store: &mut S, a: u32, word: u32) -> bool
-    requires { a < 2 ^ 24 }
-    ensures present { result ≡ is_some (span (S.storage store.old) a 4) }
-    ensures after { S.storage store.new ≡ written (S.storage store.old) a (big_bytes 4 word) }
-{
-    store.write(a, &word_bytes(word))
-}
-
-/// Writes a byte at an address. False, and no change, where it is absent.
-#[inline(never)]
-fn write_byte<S: Store>(store: &mut S, a: u32, byte: u8) -> bool
-    requires { a < 2 ^ 24 }
-    ensures present { result ≡ is_some (span (S.storage store.old) a 1) }
-    ensures after { S.storage store.new ≡ written (S.storage store.old) a (byte ∷ []) }
-{
-    store.write(a, &[byte])
-}
-
-/// Stores a word, or nothing and interruption 5.
-#[tactic(auto, using(crate::proofs::Storing::not_written), unfolding(crate::specs::Operands::Stores))]
-pub(crate) fn put_word<S: Store>(
-    cpu: &mut Cpu,
-    store: &mut S,
-    a: u32,
-    word: u32,
-    updated: Updated,
-) -> Result<(), Interruption>
-    requires operand { a < 2 ^ 24 }
-    requires address { updated.address < 2 ^ 24 }
-    ensures { Stores a (big_bytes 4 word) cpu.old.cc updated (machine cpu.old (S.storage store.old)) result (machine cpu.new (S.storage store.new)) }
-{
-    if !write_word(store, a, word) {
-        return Err(Interruption::Addressing);
-    }
-    cpu.next = updated.address;
-    Ok(())
-}
-
-/// Stores a byte, and sets the condition code, or nothing and interruption 5.
-#[tactic(auto, using(crate::proofs::Storing::not_written), unfolding(crate::specs::Operands::Stores))]
-pub(crate) fn put_byte<S: Store>(
-    cpu: &mut Cpu,
-    store: &mut S,
-    a: u32,
-    byte: u8,
-    cc: u8,
-    updated: Updated,
-) -> Result<(), Interruption>
-    requires operand { a < 2 ^ 24 }
-    requires code { cc ≤ 3 }
-    requires address { updated.address < 2 ^ 24 }
-    ensures { Stores a (byte ∷ []) cc updated (machine cpu.old (S.storage store.old)) result (machine cpu.new (S.storage store.new)) }
-{
-    if !write_byte(store, a, byte) {
-        return Err(Interruption::Addressing);
-    }
-    cpu.cc = cc;
-    cpu.next = updated.address;
-    Ok(())
-}
-
-/// Stores bytes, at most 65,536, from an address on, and sets the condition code: all of them, or nothing and
-/// interruption 5.
+/// Stores bytes, at most 65,536, from an address on: all of them, or nothing and interruption 5.
 #[tactic(auto, using(crate::proofs::Storing::not_written), unfolding(crate::specs::Operands::Stores))]
 #[inline(always)]
 pub(crate) fn put_bytes<S: Store>(
+    cpu: &mut Cpu,
+    store: &mut S,
+    a: u32,
+    bytes: &[u8],
+    updated: Updated,
+) -> Result<(), Interruption>
+    requires operand { a < 2 ^ 24 }
+    requires size { length bytes.now ≤ 65536 }
+    requires address { updated.address < 2 ^ 24 }
+    ensures { Stores a bytes.now cpu.old.cc updated (machine cpu.old (S.storage store.old)) result (machine cpu.new (S.storage store.new)) }
+{
+    if !store.write(a, bytes) {
+        return Err(Interruption::Addressing);
+    }
+    cpu.next = updated.address;
+    Ok(())
+}
+
+/// Stores bytes likewise, and sets the condition code where they are stored.
+#[tactic(auto, using(crate::proofs::Storing::not_written), unfolding(crate::specs::Operands::Stores))]
+#[inline(always)]
+pub(crate) fn put_coded<S: Store>(
     cpu: &mut Cpu,
     store: &mut S,
     a: u32,
@@ -199,10 +140,7 @@ pub(crate) fn put_bytes<S: Store>(
     requires address { updated.address < 2 ^ 24 }
     ensures { Stores a bytes.now cc updated (machine cpu.old (S.storage store.old)) result (machine cpu.new (S.storage store.new)) }
 {
-    if !store.write(a, bytes) {
-        return Err(Interruption::Addressing);
-    }
+    put_bytes(cpu, store, a, bytes, updated)?;
     cpu.cc = cc;
-    cpu.next = updated.address;
     Ok(())
 }

@@ -103,8 +103,7 @@ pub(crate) fn store_multiple<S: Store>(
     let count = place_after(first, last) as usize + 1;
     let mut bytes = [0; 64];
     write_registers(&cpu.regs, first, count, &mut bytes);
-    let cc = cpu.cc;
-    put_bytes(cpu, store, a, &bytes[..4 * count], cc, updated)
+    put_bytes(cpu, store, a, &bytes[..4 * count], updated)
 }
 
 /// Loads the registers from the first through the last one, wherever their words stand: all of them, or none and

@@ -1,32 +1,36 @@
 //! The effect of each instruction.
 
-ghost use Rattle.std.specs.Prelude.{◌≡◌, ◌<◌, ◌≤◌, ◌^◌, unwrap_or, IfSome};
-ghost use Rattle.cx_storage.specs.Storage.{Storage};
+ghost use Rattle.std.specs.Prelude.{◌≡◌, ◌<◌, ◌≤◌, ◌^◌, ◌/◌, ◌%◌, true, slice_index, unwrap_or, IfSome};
+ghost use Rattle.byteorder.specs.Endian.{big_from};
 ghost use Rattle.cx_code.specs.Table.{length_of};
+ghost use Rattle.cx_code.specs.Spelling.{instruction};
+ghost use Rattle.cx_code.specs.Reading.{left_half, right_half, base_at, displacement_at, fields_at};
 ghost use Rattle.cx_exec.specs.Machine.{machine};
 ghost use Rattle.cx_exec.specs.Machine.{given, effective};
-ghost use Rattle.cx_exec.specs.Step.{updated_by};
-ghost use Rattle.cx_exec.specs.Rows.{RrEffect, RxEffect, RsEffect, SiEffect, SsEffect, Ss2Effect, Effect};
+ghost use Rattle.cx_exec.specs.Step.{is_execute, updated_by};
+ghost use Rattle.cx_exec.specs.Rows.{Effect};
+ghost use Rattle.cx_exec.specs.Parts.{has_registers, has_word, has_word_result, has_half, has_address, has_immediate};
 
 use crate::arithmetic::{complement, difference, put_sum, sum};
 use crate::branches::{branch, branch_address, count, link};
 use crate::comparison::{byte_order, clc, logical_order, signed_order};
 use crate::decimal::{cvb, cvd};
 use crate::division::divide;
-use crate::loads::{half_bytes, inserted};
+use crate::front::Front;
+use crate::loads::{half_bytes, inserted, word_bytes};
 use crate::logic::{logical_code, put_logical, test_code};
 use crate::machine::{Cpu, Interruption, Updated};
 use crate::masks::{icm, stcm};
 use crate::multiplication::multiply;
 use crate::numbers::sign_code;
-use crate::operands::{byte_at, even, halfword_at, put_byte, put_bytes, put_word, word_at};
+use crate::operands::{byte_at, even, halfword_at, put_bytes, word_at};
 use crate::registers::{load_multiple, store_multiple};
 use crate::results::{load, load_coded, set_code};
 use crate::shifts::{shift_left, shift_pair, shift_right, shifted_left, shifted_right};
 use crate::strings::{mvc, xc};
 use crate::translation::{tr, trt};
 use crate::zoned::{pack, unpk};
-use cx_code::{Fields, Inst, Op};
+use cx_code::Op;
 use cx_storage::{Store, along};
 
 /// What a register gives to an address: register 0 gives zero.
@@ -34,7 +38,8 @@ fn given(regs: &[u32; 16], r: u8) -> u32
     requires { r < 16 }
     ensures { result ≡ given regs.now r }
 {
-    if r == 0 { 0 } else { regs[r as usize] }
+    let held = regs[r as usize];
+    if r == 0 { 0 } else { held }
 }
 
 /// The effective address of base, index and displacement.
@@ -53,228 +58,8 @@ pub(crate) fn effective(regs: &[u32; 16], index: u8, base: u8, displacement: u16
     (sum % 0x100_0000) as u32
 }
 
-/// Rows of format RR. `r1`, a register or a mask, and `r2` are below 16.
-#[tactic(auto, unfolding(crate::specs::Rows::RrEffect))]
-#[inline(always)]
-fn rr_effect(cpu: &mut Cpu, op: Op, r1: u8, r2: u8, updated: Updated) -> Result<(), Interruption>
-    requires first { r1 < 16 }
-    requires second { r2 < 16 }
-    requires length { updated.length_code ≤ 3 }
-    requires address { updated.address < 2 ^ 24 }
-    ensures { (storage : Storage) → RrEffect op r1 r2 updated (machine cpu.old storage) result (machine cpu.new storage) }
-{
-    let first = cpu.regs[r1 as usize];
-    let second = cpu.regs[r2 as usize];
-    match op {
-        Op::Balr => {
-            let to = branch_address(&cpu.regs, r2, updated);
-            link(cpu, r1, to, updated)
-        }
-        Op::Bctr => {
-            let to = branch_address(&cpu.regs, r2, updated);
-            count(cpu, r1, to, updated)
-        }
-        Op::Bcr => {
-            let to = branch_address(&cpu.regs, r2, updated);
-            branch(cpu, r1, to, updated)
-        }
-        Op::Ltr => load_coded(cpu, r1, second, sign_code(second), updated),
-        Op::Lcr => put_sum(cpu, r1, complement(second), updated),
-        Op::Clr => set_code(cpu, logical_order(first, second), updated),
-        Op::Xr => load_coded(
-            cpu,
-            r1,
-            first ^ second,
-            logical_code(first ^ second),
-            updated,
-        ),
-        Op::Lr => load(cpu, r1, second, updated),
-        Op::Cr => set_code(cpu, signed_order(first, second), updated),
-        Op::Ar => put_sum(cpu, r1, sum(first, second), updated),
-        Op::Sr => put_sum(cpu, r1, difference(first, second), updated),
-        Op::Mr => multiply(cpu, even(r1)?, second, updated),
-        Op::Dr => divide(cpu, even(r1)?, second, updated),
-        // Not reached: no other row has this format.
-        _ => Err(Interruption::Operation),
-    }
-}
-
-/// Rows of format RX but EX, with the second operand's address. `r1`, a register or a mask, is below 16.
-#[tactic(auto, unfolding(crate::specs::Rows::RxEffect))]
-#[inline(always)]
-fn rx_effect<S: Store>(
-    cpu: &mut Cpu,
-    store: &mut S,
-    op: Op,
-    r1: u8,
-    a: u32,
-    updated: Updated,
-) -> Result<(), Interruption>
-    requires first { r1 < 16 }
-    requires operand { a < 2 ^ 24 }
-    requires length { updated.length_code ≤ 3 }
-    requires address { updated.address < 2 ^ 24 }
-    ensures { RxEffect op r1 a updated (machine cpu.old (S.storage store.old)) result (machine cpu.new (S.storage store.new)) }
-{
-    let first = cpu.regs[r1 as usize];
-    match op {
-        Op::Sth => {
-            let cc = cpu.cc;
-            put_bytes(cpu, store, a, &half_bytes(first), cc, updated)
-        }
-        Op::La => load(cpu, r1, a, updated),
-        Op::Stc => {
-            let cc = cpu.cc;
-            put_byte(cpu, store, a, (first % 0x100) as u8, cc, updated)
-        }
-        Op::Ic => load(cpu, r1, inserted(first, byte_at(store, a)?), updated),
-        Op::Bal => link(cpu, r1, a, updated),
-        Op::Bct => count(cpu, r1, a, updated),
-        Op::Bc => branch(cpu, r1, a, updated),
-        Op::Lh => load(cpu, r1, halfword_at(store, a)?, updated),
-        Op::Ch => set_code(cpu, signed_order(first, halfword_at(store, a)?), updated),
-        Op::Ah => put_sum(cpu, r1, sum(first, halfword_at(store, a)?), updated),
-        Op::Sh => put_sum(cpu, r1, difference(first, halfword_at(store, a)?), updated),
-        Op::St => put_word(cpu, store, a, first, updated),
-        Op::Cl => set_code(cpu, logical_order(first, word_at(store, a)?), updated),
-        Op::L => load(cpu, r1, word_at(store, a)?, updated),
-        Op::C => set_code(cpu, signed_order(first, word_at(store, a)?), updated),
-        Op::A => put_sum(cpu, r1, sum(first, word_at(store, a)?), updated),
-        Op::S => put_sum(cpu, r1, difference(first, word_at(store, a)?), updated),
-        Op::M => multiply(cpu, even(r1)?, word_at(store, a)?, updated),
-        Op::D => divide(cpu, even(r1)?, word_at(store, a)?, updated),
-        Op::Cvd => cvd(cpu, store, r1, a, updated),
-        Op::Cvb => cvb(cpu, store, r1, a, updated),
-        // Not reached: no other row but EX has this format, and EX is performed by its target.
-        _ => Err(Interruption::Operation),
-    }
-}
-
-/// Rows of format RS with the second operand's address, which is a shift's amount. `r1` and `r3`, a register
-/// or a mask, are below 16.
-#[tactic(auto, unfolding(crate::specs::Rows::RsEffect))]
-#[inline(always)]
-fn rs_effect<S: Store>(
-    cpu: &mut Cpu,
-    store: &mut S,
-    op: Op,
-    r1: u8,
-    r3: u8,
-    a: u32,
-    updated: Updated,
-) -> Result<(), Interruption>
-    requires first { r1 < 16 }
-    requires last { r3 < 16 }
-    requires operand { a < 2 ^ 24 }
-    requires address { updated.address < 2 ^ 24 }
-    ensures { RsEffect op r1 r3 a updated (machine cpu.old (S.storage store.old)) result (machine cpu.new (S.storage store.new)) }
-{
-    let first = cpu.regs[r1 as usize];
-    let n = (a % 64) as u8;
-    match op {
-        Op::Srl => load(cpu, r1, shifted_right(first, n), updated),
-        Op::Sll => load(cpu, r1, shifted_left(first, n), updated),
-        Op::Sra => shift_right(cpu, r1, n, updated),
-        Op::Sla => shift_left(cpu, r1, n, updated),
-        Op::Srda => shift_pair(cpu, even(r1)?, n, updated),
-        Op::Stm => store_multiple(cpu, store, r1, r3, a, updated),
-        Op::Lm => load_multiple(cpu, store, r1, r3, a, updated),
-        Op::Stcm => stcm(cpu, store, r1, r3, a, updated),
-        Op::Icm => icm(cpu, store, r1, r3, a, updated),
-        // Not reached: no other row has this format.
-        _ => Err(Interruption::Operation),
-    }
-}
-
-/// Rows of format SI with the first operand's address.
-#[tactic(auto, unfolding(crate::specs::Rows::SiEffect))]
-#[inline(always)]
-fn si_effect<S: Store>(
-    cpu: &mut Cpu,
-    store: &mut S,
-    op: Op,
-    i2: u8,
-    a: u32,
-    updated: Updated,
-) -> Result<(), Interruption>
-    requires operand { a < 2 ^ 24 }
-    requires address { updated.address < 2 ^ 24 }
-    ensures { SiEffect op i2 a updated (machine cpu.old (S.storage store.old)) result (machine cpu.new (S.storage store.new)) }
-{
-    match op {
-        Op::Tm => set_code(cpu, test_code(i2, byte_at(store, a)?), updated),
-        Op::Mvi => {
-            let cc = cpu.cc;
-            put_byte(cpu, store, a, i2, cc, updated)
-        }
-        Op::Ni => put_logical(cpu, store, a, byte_at(store, a)? & i2, updated),
-        Op::Cli => set_code(cpu, byte_order(byte_at(store, a)?, i2), updated),
-        Op::Oi => put_logical(cpu, store, a, byte_at(store, a)? | i2, updated),
-        // Not reached: no other row has this format.
-        _ => Err(Interruption::Operation),
-    }
-}
-
-/// Rows of format SS with one length: both operands have `n` bytes (at most 256).
-#[tactic(auto, unfolding(crate::specs::Rows::SsEffect))]
-#[inline(always)]
-fn ss_effect<S: Store>(
-    cpu: &mut Cpu,
-    store: &mut S,
-    op: Op,
-    n: u32,
-    a1: u32,
-    a2: u32,
-    updated: Updated,
-) -> Result<(), Interruption>
-    requires count { n ≤ 256 }
-    requires first { a1 < 2 ^ 24 }
-    requires second { a2 < 2 ^ 24 }
-    requires address { updated.address < 2 ^ 24 }
-    ensures { SsEffect op n a1 a2 updated (machine cpu.old (S.storage store.old)) result (machine cpu.new (S.storage store.new)) }
-{
-    match op {
-        Op::Mvc => mvc(cpu, store, n, a1, a2, updated),
-        Op::Clc => clc(cpu, store, n, a1, a2, updated),
-        Op::Xc => xc(cpu, store, n, a1, a2, updated),
-        Op::Tr => tr(cpu, store, n, a1, a2, updated),
-        Op::Trt => trt(cpu, store, n, a1, a2, updated),
-        // Not reached: no other row has this format.
-        _ => Err(Interruption::Operation),
-    }
-}
-
-/// Rows of format SS with two lengths: the operands have `n1` and `n2` bytes (1 to 16).
-#[tactic(auto, unfolding(crate::specs::Rows::Ss2Effect))]
-#[inline(never)]
-fn ss2_effect<S: Store>(
-    cpu: &mut Cpu,
-    store: &mut S,
-    op: Op,
-    n1: u32,
-    n2: u32,
-    a1: u32,
-    a2: u32,
-    updated: Updated,
-) -> Result<(), Interruption>
-    requires count1 { n1 ≤ 16 }
-    requires count2 { n2 ≤ 16 }
-    requires some1 { 0 < n1 }
-    requires some2 { 0 < n2 }
-    requires first { a1 < 2 ^ 24 }
-    requires second { a2 < 2 ^ 24 }
-    requires address { updated.address < 2 ^ 24 }
-    ensures { Ss2Effect op n1 n2 a1 a2 updated (machine cpu.old (S.storage store.old)) result (machine cpu.new (S.storage store.new)) }
-{
-    match op {
-        Op::Pack => pack(cpu, store, n1, n2, a1, a2, updated),
-        Op::Unpk => unpk(cpu, store, n1, n2, a1, a2, updated),
-        // Not reached: no other row has this format.
-        _ => Err(Interruption::Operation),
-    }
-}
-
-/// What the program-status word is updated to behind an instruction of `length` bytes at the next address, unless it is told.
+/// What the program-status word is updated to after an instruction of `length` bytes at the next address, unless it is
+/// told.
 #[inline(always)]
 fn updated_at(cpu: &Cpu, told: Option<Updated>, length: u32) -> Updated
     requires { length ≤ 6 }
@@ -289,68 +74,618 @@ fn updated_at(cpu: &Cpu, told: Option<Updated>, length: u32) -> Updated
     }
 }
 
-/// The effect of every row but EX. It goes on where that is told, else behind an instruction of its format at the next
-/// address: so that needn't wait for what was fetched.
-#[tactic(auto, using(crate::proofs::FetchLemmas::length_with), unfolding(crate::specs::Rows::Effect))]
+/// The effective address of an index, and of the base and the displacement that a halfword has.
 #[inline(always)]
+fn address_in(cpu: &Cpu, index: u8, halfword: u16) -> u32
+    requires { index < 16 }
+    ensures value { result ≡ effective cpu.now.regs index (halfword / 4096) (halfword % 4096) }
+    ensures short { result < 2 ^ 24 }
+{
+    effective(&cpu.regs, index, (halfword >> 12) as u8, halfword & 0x0fff)
+}
+
+/// The operands of format RR: two registers, with what they hold.
+#[derive(Clone, Copy)]
+pub struct Registers {
+    pub r1: u8,
+    pub r2: u8,
+    pub first: u32,
+    pub second: u32,
+    pub updated: Updated,
+}
+
+/// The operands of format RR.
+#[inline(always)]
+fn registers_of(cpu: &Cpu, front: &Front, told: Option<Updated>) -> Registers
+    requires length { IfSome told (λ updated. updated.length_code ≤ 3) }
+    requires address { IfSome told (λ updated. updated.address < 2 ^ 24) }
+    ensures r1 { result.r1 ≡ left_half front.now }
+    ensures r2 { result.r2 ≡ right_half front.now }
+    ensures low1 { result.r1 < 16 }
+    ensures low2 { result.r2 < 16 }
+    ensures first { result.first ≡ slice_index cpu.now.regs result.r1 }
+    ensures second { result.second ≡ slice_index cpu.now.regs result.r2 }
+    ensures updated { result.updated ≡ unwrap_or told (updated_by cpu.now.next 2) }
+    ensures length { result.updated.length_code ≤ 3 }
+    ensures address { result.updated.address < 2 ^ 24 }
+{
+    let second = front.second();
+    let (r1, r2) = (second >> 4, second & 15);
+    Registers {
+        r1,
+        r2,
+        first: cpu.regs[r1 as usize],
+        second: cpu.regs[r2 as usize],
+        updated: updated_at(cpu, told, 2),
+    }
+}
+
+/// The operands of formats RX, RS and SI: an immediate byte, in whose place stand a register, with what it holds, and another,
+/// each of which may be a mask; and an operand's address.
+#[derive(Clone, Copy)]
+pub struct Operands {
+    pub i2: u8,
+    pub r1: u8,
+    pub r3: u8,
+    pub first: u32,
+    pub a: u32,
+    pub updated: Updated,
+}
+
+/// The operands of formats RX, RS and SI, the address with an index.
+#[inline(always)]
+fn operands_of(cpu: &Cpu, front: &Front, index: u8, told: Option<Updated>) -> Operands
+    requires index { index < 16 }
+    requires length { IfSome told (λ updated. updated.length_code ≤ 3) }
+    requires address { IfSome told (λ updated. updated.address < 2 ^ 24) }
+    ensures byte { result.i2 ≡ slice_index front.now 1 }
+    ensures r1 { result.r1 ≡ left_half front.now }
+    ensures r3 { result.r3 ≡ right_half front.now }
+    ensures low1 { result.r1 < 16 }
+    ensures low3 { result.r3 < 16 }
+    ensures first { result.first ≡ slice_index cpu.now.regs result.r1 }
+    ensures operand { result.a ≡ effective cpu.now.regs index (base_at 2 front.now) (displacement_at 2 front.now) }
+    ensures short { result.a < 2 ^ 24 }
+    ensures updated { result.updated ≡ unwrap_or told (updated_by cpu.now.next 4) }
+    ensures length { result.updated.length_code ≤ 3 }
+    ensures address { result.updated.address < 2 ^ 24 }
+{
+    let i2 = front.second();
+    let (r1, r3) = (i2 >> 4, i2 & 15);
+    Operands {
+        i2,
+        r1,
+        r3,
+        first: cpu.regs[r1 as usize],
+        a: address_in(cpu, index, front.first_address()),
+        updated: updated_at(cpu, told, 4),
+    }
+}
+
+/// The operands of format RX.
+#[inline(always)]
+pub(crate) fn indexed_of(cpu: &Cpu, front: &Front, told: Option<Updated>) -> Operands
+    requires length { IfSome told (λ updated. updated.length_code ≤ 3) }
+    requires address { IfSome told (λ updated. updated.address < 2 ^ 24) }
+    ensures r1 { result.r1 ≡ left_half front.now }
+    ensures low1 { result.r1 < 16 }
+    ensures first { result.first ≡ slice_index cpu.now.regs result.r1 }
+    ensures operand { result.a ≡ effective cpu.now.regs (right_half front.now) (base_at 2 front.now) (displacement_at 2 front.now) }
+    ensures short { result.a < 2 ^ 24 }
+    ensures updated { result.updated ≡ unwrap_or told (updated_by cpu.now.next 4) }
+    ensures length { result.updated.length_code ≤ 3 }
+    ensures address { result.updated.address < 2 ^ 24 }
+{
+    operands_of(cpu, front, front.second() & 15, told)
+}
+
+/// The operands of formats SS: the byte that has one length or two, each less one, and two addresses.
+#[derive(Clone, Copy)]
+pub struct Strings {
+    pub l: u8,
+    pub a1: u32,
+    pub a2: u32,
+    pub updated: Updated,
+}
+
+/// The operands of formats SS.
+#[inline(always)]
+fn strings_of(cpu: &Cpu, front: &Front, told: Option<Updated>) -> Strings
+    requires length { IfSome told (λ updated. updated.length_code ≤ 3) }
+    requires address { IfSome told (λ updated. updated.address < 2 ^ 24) }
+    ensures lengths { result.l ≡ slice_index front.now 1 }
+    ensures first { result.a1 ≡ effective cpu.now.regs 0 (base_at 2 front.now) (displacement_at 2 front.now) }
+    ensures second { result.a2 ≡ effective cpu.now.regs 0 (base_at 4 front.now) (displacement_at 4 front.now) }
+    ensures short1 { result.a1 < 2 ^ 24 }
+    ensures short2 { result.a2 < 2 ^ 24 }
+    ensures updated { result.updated ≡ unwrap_or told (updated_by cpu.now.next 6) }
+    ensures length { result.updated.length_code ≤ 3 }
+    ensures address { result.updated.address < 2 ^ 24 }
+{
+    Strings {
+        l: front.second(),
+        a1: address_in(cpu, 0, front.first_address()),
+        a2: address_in(cpu, 0, front.second_address()),
+        updated: updated_at(cpu, told, 6),
+    }
+}
+
+/// The effect of the rows of formats SS, whose operands have one length or two.
+#[tactic(auto, unfolding(crate::specs::Rows::Effect, crate::specs::Rows::SsEffect, crate::specs::Rows::Ss2Effect, cx_code::specs::Reading::fields_at, cx_code::specs::Reading::fields_in, cx_code::specs::Table::row_of, cx_code::specs::Table::is_shift))]
+#[inline(always)]
+pub(crate) fn strings_effect<S: Store>(
+    cpu: &mut Cpu,
+    store: &mut S,
+    op: Op,
+    front: &Front,
+    told: Option<Updated>,
+) -> Result<(), Interruption>
+    requires strings { length_of op ≡ 6 }
+    requires length { IfSome told (λ updated. updated.length_code ≤ 3) }
+    requires address { IfSome told (λ updated. updated.address < 2 ^ 24) }
+    ensures { Effect (instruction op (fields_at op front.now)) (unwrap_or told (updated_by cpu.old.next (length_of op)))
+        (machine cpu.old (S.storage store.old)) result (machine cpu.new (S.storage store.new)) }
+{
+    match op {
+        Op::Mvc => {
+            let it = strings_of(cpu, front, told);
+            mvc(cpu, store, u32::from(it.l) + 1, it.a1, it.a2, it.updated)
+        }
+        Op::Clc => {
+            let it = strings_of(cpu, front, told);
+            clc(cpu, store, u32::from(it.l) + 1, it.a1, it.a2, it.updated)
+        }
+        Op::Xc => {
+            let it = strings_of(cpu, front, told);
+            xc(cpu, store, u32::from(it.l) + 1, it.a1, it.a2, it.updated)
+        }
+        Op::Tr => {
+            let it = strings_of(cpu, front, told);
+            tr(cpu, store, u32::from(it.l) + 1, it.a1, it.a2, it.updated)
+        }
+        Op::Trt => {
+            let it = strings_of(cpu, front, told);
+            trt(cpu, store, u32::from(it.l) + 1, it.a1, it.a2, it.updated)
+        }
+        Op::Pack => {
+            let it = strings_of(cpu, front, told);
+            pack(
+                cpu,
+                store,
+                u32::from(it.l >> 4) + 1,
+                u32::from(it.l & 15) + 1,
+                it.a1,
+                it.a2,
+                it.updated,
+            )
+        }
+        Op::Unpk => {
+            let it = strings_of(cpu, front, told);
+            unpk(
+                cpu,
+                store,
+                u32::from(it.l >> 4) + 1,
+                u32::from(it.l & 15) + 1,
+                it.a1,
+                it.a2,
+                it.updated,
+            )
+        }
+        // Not reached: no other row has six bytes.
+        _ => Err(Interruption::Operation),
+    }
+}
+
+/// The effect of the rows of formats RR and RS.
+#[tactic(auto, unfolding(crate::specs::Rows::Effect, crate::specs::Rows::RrEffect, crate::specs::Rows::RsEffect, cx_code::specs::Reading::fields_at, cx_code::specs::Reading::fields_in, cx_code::specs::Table::row_of, cx_code::specs::Table::is_shift))]
+#[inline(always)]
+pub(crate) fn register_rows<S: Store>(
+    cpu: &mut Cpu,
+    store: &mut S,
+    op: Op,
+    front: &Front,
+    told: Option<Updated>,
+) -> Result<(), Interruption>
+    requires rows { has_registers op ≡ true }
+    requires length { IfSome told (λ updated. updated.length_code ≤ 3) }
+    requires address { IfSome told (λ updated. updated.address < 2 ^ 24) }
+    ensures { Effect (instruction op (fields_at op front.now)) (unwrap_or told (updated_by cpu.old.next (length_of op)))
+        (machine cpu.old (S.storage store.old)) result (machine cpu.new (S.storage store.new)) }
+{
+    match op {
+        Op::Balr => {
+            let it = registers_of(cpu, front, told);
+            let to = branch_address(&cpu.regs, it.r2, it.updated);
+            link(cpu, it.r1, to, it.updated)
+        }
+        Op::Bctr => {
+            let it = registers_of(cpu, front, told);
+            let to = branch_address(&cpu.regs, it.r2, it.updated);
+            count(cpu, it.r1, to, it.updated)
+        }
+        Op::Bcr => {
+            let it = registers_of(cpu, front, told);
+            let to = branch_address(&cpu.regs, it.r2, it.updated);
+            branch(cpu, it.r1, to, it.updated)
+        }
+        Op::Ltr => {
+            let it = registers_of(cpu, front, told);
+            load_coded(cpu, it.r1, it.second, sign_code(it.second), it.updated)
+        }
+        Op::Lcr => {
+            let it = registers_of(cpu, front, told);
+            put_sum(cpu, it.r1, complement(it.second), it.updated)
+        }
+        Op::Clr => {
+            let it = registers_of(cpu, front, told);
+            set_code(cpu, logical_order(it.first, it.second), it.updated)
+        }
+        Op::Xr => {
+            let it = registers_of(cpu, front, told);
+            let word = it.first ^ it.second;
+            load_coded(cpu, it.r1, word, logical_code(word), it.updated)
+        }
+        Op::Lr => {
+            let it = registers_of(cpu, front, told);
+            load(cpu, it.r1, it.second, it.updated)
+        }
+        Op::Cr => {
+            let it = registers_of(cpu, front, told);
+            set_code(cpu, signed_order(it.first, it.second), it.updated)
+        }
+        Op::Ar => {
+            let it = registers_of(cpu, front, told);
+            put_sum(cpu, it.r1, sum(it.first, it.second), it.updated)
+        }
+        Op::Sr => {
+            let it = registers_of(cpu, front, told);
+            put_sum(cpu, it.r1, difference(it.first, it.second), it.updated)
+        }
+        Op::Mr => {
+            let it = registers_of(cpu, front, told);
+            multiply(cpu, even(it.r1)?, it.second, it.updated)
+        }
+        Op::Dr => {
+            let it = registers_of(cpu, front, told);
+            divide(cpu, even(it.r1)?, it.second, it.updated)
+        }
+        Op::Srl => {
+            let it = operands_of(cpu, front, 0, told);
+            load(
+                cpu,
+                it.r1,
+                shifted_right(it.first, (it.a % 64) as u8),
+                it.updated,
+            )
+        }
+        Op::Sll => {
+            let it = operands_of(cpu, front, 0, told);
+            load(
+                cpu,
+                it.r1,
+                shifted_left(it.first, (it.a % 64) as u8),
+                it.updated,
+            )
+        }
+        Op::Sra => {
+            let it = operands_of(cpu, front, 0, told);
+            shift_right(cpu, it.r1, (it.a % 64) as u8, it.updated)
+        }
+        Op::Sla => {
+            let it = operands_of(cpu, front, 0, told);
+            shift_left(cpu, it.r1, (it.a % 64) as u8, it.updated)
+        }
+        Op::Srda => {
+            let it = operands_of(cpu, front, 0, told);
+            shift_pair(cpu, even(it.r1)?, (it.a % 64) as u8, it.updated)
+        }
+        Op::Stm => {
+            let it = operands_of(cpu, front, 0, told);
+            store_multiple(cpu, store, it.r1, it.r3, it.a, it.updated)
+        }
+        Op::Lm => {
+            let it = operands_of(cpu, front, 0, told);
+            load_multiple(cpu, store, it.r1, it.r3, it.a, it.updated)
+        }
+        Op::Stcm => {
+            let it = operands_of(cpu, front, 0, told);
+            stcm(cpu, store, it.r1, it.r3, it.a, it.updated)
+        }
+        Op::Icm => {
+            let it = operands_of(cpu, front, 0, told);
+            icm(cpu, store, it.r1, it.r3, it.a, it.updated)
+        }
+        // Not reached.
+        _ => Err(Interruption::Operation),
+    }
+}
+
+/// The effect of L, CL and C.
+#[tactic(auto, unfolding(crate::specs::Rows::Effect, crate::specs::Rows::RxEffect, cx_code::specs::Reading::fields_at, cx_code::specs::Reading::fields_in, cx_code::specs::Table::row_of, cx_code::specs::Table::is_shift))]
+#[inline(always)]
+pub(crate) fn word_rows<S: Store>(
+    cpu: &mut Cpu,
+    store: &mut S,
+    op: Op,
+    front: &Front,
+    told: Option<Updated>,
+) -> Result<(), Interruption>
+    requires rows { has_word op ≡ true }
+    requires length { IfSome told (λ updated. updated.length_code ≤ 3) }
+    requires address { IfSome told (λ updated. updated.address < 2 ^ 24) }
+    ensures { Effect (instruction op (fields_at op front.now)) (unwrap_or told (updated_by cpu.old.next (length_of op)))
+        (machine cpu.old (S.storage store.old)) result (machine cpu.new (S.storage store.new)) }
+{
+    match op {
+        Op::L => {
+            let it = indexed_of(cpu, front, told);
+            let second = word_at(store, it.a)?;
+            load(cpu, it.r1, second, it.updated)
+        }
+        Op::Cl => {
+            let it = indexed_of(cpu, front, told);
+            let second = word_at(store, it.a)?;
+            set_code(cpu, logical_order(it.first, second), it.updated)
+        }
+        Op::C => {
+            let it = indexed_of(cpu, front, told);
+            let second = word_at(store, it.a)?;
+            set_code(cpu, signed_order(it.first, second), it.updated)
+        }
+        // Not reached.
+        _ => Err(Interruption::Operation),
+    }
+}
+
+/// The effect of A, S, M and D.
+#[tactic(auto, unfolding(crate::specs::Rows::Effect, crate::specs::Rows::RxEffect, cx_code::specs::Reading::fields_at, cx_code::specs::Reading::fields_in, cx_code::specs::Table::row_of, cx_code::specs::Table::is_shift))]
+#[inline(always)]
+pub(crate) fn word_result_rows<S: Store>(
+    cpu: &mut Cpu,
+    store: &mut S,
+    op: Op,
+    front: &Front,
+    told: Option<Updated>,
+) -> Result<(), Interruption>
+    requires rows { has_word_result op ≡ true }
+    requires length { IfSome told (λ updated. updated.length_code ≤ 3) }
+    requires address { IfSome told (λ updated. updated.address < 2 ^ 24) }
+    ensures { Effect (instruction op (fields_at op front.now)) (unwrap_or told (updated_by cpu.old.next (length_of op)))
+        (machine cpu.old (S.storage store.old)) result (machine cpu.new (S.storage store.new)) }
+{
+    match op {
+        Op::A => {
+            let it = indexed_of(cpu, front, told);
+            let second = word_at(store, it.a)?;
+            put_sum(cpu, it.r1, sum(it.first, second), it.updated)
+        }
+        Op::S => {
+            let it = indexed_of(cpu, front, told);
+            let second = word_at(store, it.a)?;
+            put_sum(cpu, it.r1, difference(it.first, second), it.updated)
+        }
+        Op::M => {
+            let it = indexed_of(cpu, front, told);
+            multiply(cpu, even(it.r1)?, word_at(store, it.a)?, it.updated)
+        }
+        Op::D => {
+            let it = indexed_of(cpu, front, told);
+            divide(cpu, even(it.r1)?, word_at(store, it.a)?, it.updated)
+        }
+        // Not reached.
+        _ => Err(Interruption::Operation),
+    }
+}
+
+/// The effect of the rows whose second operand is a halfword in storage.
+#[tactic(auto, unfolding(crate::specs::Rows::Effect, crate::specs::Rows::RxEffect, cx_code::specs::Reading::fields_at, cx_code::specs::Reading::fields_in, cx_code::specs::Table::row_of, cx_code::specs::Table::is_shift))]
+#[inline(always)]
+pub(crate) fn half_rows<S: Store>(
+    cpu: &mut Cpu,
+    store: &mut S,
+    op: Op,
+    front: &Front,
+    told: Option<Updated>,
+) -> Result<(), Interruption>
+    requires rows { has_half op ≡ true }
+    requires length { IfSome told (λ updated. updated.length_code ≤ 3) }
+    requires address { IfSome told (λ updated. updated.address < 2 ^ 24) }
+    ensures { Effect (instruction op (fields_at op front.now)) (unwrap_or told (updated_by cpu.old.next (length_of op)))
+        (machine cpu.old (S.storage store.old)) result (machine cpu.new (S.storage store.new)) }
+{
+    match op {
+        Op::Lh => {
+            let it = indexed_of(cpu, front, told);
+            let second = halfword_at(store, it.a)?;
+            load(cpu, it.r1, second, it.updated)
+        }
+        Op::Ch => {
+            let it = indexed_of(cpu, front, told);
+            let second = halfword_at(store, it.a)?;
+            set_code(cpu, signed_order(it.first, second), it.updated)
+        }
+        Op::Ah => {
+            let it = indexed_of(cpu, front, told);
+            let second = halfword_at(store, it.a)?;
+            put_sum(cpu, it.r1, sum(it.first, second), it.updated)
+        }
+        Op::Sh => {
+            let it = indexed_of(cpu, front, told);
+            let second = halfword_at(store, it.a)?;
+            put_sum(cpu, it.r1, difference(it.first, second), it.updated)
+        }
+        // Not reached.
+        _ => Err(Interruption::Operation),
+    }
+}
+
+/// The effect of the other rows of format RX but EX.
+#[tactic(auto, unfolding(crate::specs::Rows::Effect, crate::specs::Rows::RxEffect, cx_code::specs::Reading::fields_at, cx_code::specs::Reading::fields_in, cx_code::specs::Table::row_of, cx_code::specs::Table::is_shift))]
+#[inline(always)]
+pub(crate) fn indexed_rows<S: Store>(
+    cpu: &mut Cpu,
+    store: &mut S,
+    op: Op,
+    front: &Front,
+    told: Option<Updated>,
+) -> Result<(), Interruption>
+    requires rows { has_address op ≡ true }
+    requires length { IfSome told (λ updated. updated.length_code ≤ 3) }
+    requires address { IfSome told (λ updated. updated.address < 2 ^ 24) }
+    ensures { Effect (instruction op (fields_at op front.now)) (unwrap_or told (updated_by cpu.old.next (length_of op)))
+        (machine cpu.old (S.storage store.old)) result (machine cpu.new (S.storage store.new)) }
+{
+    match op {
+        Op::Sth => {
+            let it = indexed_of(cpu, front, told);
+            put_bytes(cpu, store, it.a, &half_bytes(it.first), it.updated)
+        }
+        Op::La => {
+            let it = indexed_of(cpu, front, told);
+            load(cpu, it.r1, it.a, it.updated)
+        }
+        Op::Stc => {
+            let it = indexed_of(cpu, front, told);
+            put_bytes(cpu, store, it.a, &[(it.first % 0x100) as u8], it.updated)
+        }
+        Op::Bal => {
+            let it = indexed_of(cpu, front, told);
+            link(cpu, it.r1, it.a, it.updated)
+        }
+        Op::Bct => {
+            let it = indexed_of(cpu, front, told);
+            count(cpu, it.r1, it.a, it.updated)
+        }
+        Op::Bc => {
+            let it = indexed_of(cpu, front, told);
+            branch(cpu, it.r1, it.a, it.updated)
+        }
+        Op::St => {
+            let it = indexed_of(cpu, front, told);
+            put_bytes(cpu, store, it.a, &word_bytes(it.first), it.updated)
+        }
+        Op::Cvd => {
+            let it = indexed_of(cpu, front, told);
+            cvd(cpu, store, it.r1, it.a, it.updated)
+        }
+        Op::Ic => {
+            let it = indexed_of(cpu, front, told);
+            let byte = byte_at(store, it.a)?;
+            load(cpu, it.r1, inserted(it.first, byte), it.updated)
+        }
+        Op::Cvb => {
+            let it = indexed_of(cpu, front, told);
+            cvb(cpu, store, it.r1, it.a, it.updated)
+        }
+        // Not reached.
+        _ => Err(Interruption::Operation),
+    }
+}
+
+/// The effect of the rows of format SI.
+#[tactic(auto, unfolding(crate::specs::Rows::Effect, crate::specs::Rows::SiEffect, cx_code::specs::Reading::fields_at, cx_code::specs::Reading::fields_in, cx_code::specs::Table::row_of, cx_code::specs::Table::is_shift))]
+#[inline(always)]
+pub(crate) fn immediate_rows<S: Store>(
+    cpu: &mut Cpu,
+    store: &mut S,
+    op: Op,
+    front: &Front,
+    told: Option<Updated>,
+) -> Result<(), Interruption>
+    requires rows { has_immediate op ≡ true }
+    requires length { IfSome told (λ updated. updated.length_code ≤ 3) }
+    requires address { IfSome told (λ updated. updated.address < 2 ^ 24) }
+    ensures { Effect (instruction op (fields_at op front.now)) (unwrap_or told (updated_by cpu.old.next (length_of op)))
+        (machine cpu.old (S.storage store.old)) result (machine cpu.new (S.storage store.new)) }
+{
+    match op {
+        Op::Tm => {
+            let it = operands_of(cpu, front, 0, told);
+            let byte = byte_at(store, it.a)?;
+            set_code(cpu, test_code(it.i2, byte), it.updated)
+        }
+        Op::Mvi => {
+            let it = operands_of(cpu, front, 0, told);
+            put_bytes(cpu, store, it.a, &[it.i2], it.updated)
+        }
+        Op::Ni => {
+            let it = operands_of(cpu, front, 0, told);
+            let byte = byte_at(store, it.a)?;
+            put_logical(cpu, store, it.a, byte & it.i2, it.updated)
+        }
+        Op::Cli => {
+            let it = operands_of(cpu, front, 0, told);
+            let byte = byte_at(store, it.a)?;
+            set_code(cpu, byte_order(byte, it.i2), it.updated)
+        }
+        Op::Oi => {
+            let it = operands_of(cpu, front, 0, told);
+            let byte = byte_at(store, it.a)?;
+            put_logical(cpu, store, it.a, byte | it.i2, it.updated)
+        }
+        // Not reached.
+        _ => Err(Interruption::Operation),
+    }
+}
+
+/// The effect of the row `op` but EX, whose bytes begin so. It goes on where that is told, else after an instruction of
+/// its length at the next address.
+#[tactic(auto, unfolding(crate::specs::Rows::Effect, crate::specs::Rows::RxEffect, cx_code::specs::Reading::fields_at, cx_code::specs::Reading::fields_in, cx_code::specs::Table::row_of, cx_code::specs::Table::is_shift))]
 pub(crate) fn effect<S: Store>(
     cpu: &mut Cpu,
     store: &mut S,
-    inst: &Inst,
+    op: Op,
+    front: &Front,
     told: Option<Updated>,
 ) -> Result<(), Interruption>
     requires length { IfSome told (λ updated. updated.length_code ≤ 3) }
     requires address { IfSome told (λ updated. updated.address < 2 ^ 24) }
-    ensures { Effect inst.now (unwrap_or told (updated_by cpu.old.next (length_of inst.now.op))) (machine cpu.old (S.storage store.old)) result (machine cpu.new (S.storage store.new)) }
+    ensures { Effect (instruction op (fields_at op front.now)) (unwrap_or told (updated_by cpu.old.next (length_of op)))
+        (machine cpu.old (S.storage store.old)) result (machine cpu.new (S.storage store.new)) }
 {
-    let op = inst.op();
-    match inst.fields() {
-        Fields::Rr { r1, r2 } => {
-            let updated = updated_at(cpu, told, 2);
-            rr_effect(cpu, op, r1, r2, updated)
+    match op {
+        Op::Balr
+        | Op::Bctr
+        | Op::Bcr
+        | Op::Ltr
+        | Op::Lcr
+        | Op::Clr
+        | Op::Xr
+        | Op::Lr
+        | Op::Cr
+        | Op::Ar
+        | Op::Sr
+        | Op::Mr
+        | Op::Dr
+        | Op::Srl
+        | Op::Sll
+        | Op::Sra
+        | Op::Sla
+        | Op::Srda
+        | Op::Stm
+        | Op::Lm
+        | Op::Stcm
+        | Op::Icm => { register_rows(cpu, store, op, front, told) }
+        Op::L | Op::Cl | Op::C => { word_rows(cpu, store, op, front, told) }
+        Op::A | Op::S | Op::M | Op::D => { word_result_rows(cpu, store, op, front, told) }
+        Op::Lh | Op::Ch | Op::Ah | Op::Sh => { half_rows(cpu, store, op, front, told) }
+        Op::Sth
+        | Op::La
+        | Op::Stc
+        | Op::Bal
+        | Op::Bct
+        | Op::Bc
+        | Op::St
+        | Op::Cvd
+        | Op::Ic
+        | Op::Cvb => { indexed_rows(cpu, store, op, front, told) }
+        Op::Tm | Op::Mvi | Op::Ni | Op::Cli | Op::Oi => {
+            immediate_rows(cpu, store, op, front, told)
         }
-        Fields::Rx { r1, x2, b2, d2 } => {
-            let updated = updated_at(cpu, told, 4);
-            let a = effective(&cpu.regs, x2, b2, d2);
-            rx_effect(cpu, store, op, r1, a, updated)
+        Op::Mvc | Op::Clc | Op::Xc | Op::Tr | Op::Trt | Op::Pack | Op::Unpk => {
+            strings_effect(cpu, store, op, front, told)
         }
-        Fields::Si { i2, b1, d1 } => {
-            let updated = updated_at(cpu, told, 4);
-            let a = effective(&cpu.regs, 0, b1, d1);
-            si_effect(cpu, store, op, i2, a, updated)
-        }
-        Fields::Rs { r1, r3, b2, d2 } => {
-            let updated = updated_at(cpu, told, 4);
-            let a = effective(&cpu.regs, 0, b2, d2);
-            rs_effect(cpu, store, op, r1, r3, a, updated)
-        }
-        Fields::Ss { l, b1, d1, b2, d2 } => {
-            let updated = updated_at(cpu, told, 6);
-            let a1 = effective(&cpu.regs, 0, b1, d1);
-            let a2 = effective(&cpu.regs, 0, b2, d2);
-            ss_effect(cpu, store, op, u32::from(l) + 1, a1, a2, updated)
-        }
-        Fields::Ss2 {
-            l1,
-            l2,
-            b1,
-            d1,
-            b2,
-            d2,
-        } => {
-            let updated = updated_at(cpu, told, 6);
-            let a1 = effective(&cpu.regs, 0, b1, d1);
-            let a2 = effective(&cpu.regs, 0, b2, d2);
-            ss2_effect(
-                cpu,
-                store,
-                op,
-                u32::from(l1) + 1,
-                u32::from(l2) + 1,
-                a1,
-                a2,
-                updated,
-            )
-        }
+        // An EX is performed by its target.
+        Op::Ex => Err(Interruption::Operation),
     }
 }

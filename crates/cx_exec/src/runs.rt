@@ -5,24 +5,118 @@ ghost use Rattle.cx_exec.specs.Machine.{machine};
 ghost use Rattle.cx_exec.specs.Advance.{Passes, Advances};
 ghost use Rattle.cx_exec.specs.declared.machine.Halt.TheVariants as halt;
 
-use crate::machine::{Cpu, ENTRY, Halt, Step};
-use crate::stepping::step;
+use crate::machine::{Cpu, ENTRY, Halt};
+use crate::rows::{
+    half_rows, immediate_rows, indexed_rows, register_rows, strings_effect, word_result_rows,
+    word_rows,
+};
+use crate::stepping::{at_hand, execute_found, run_apart};
+use cx_code::Op;
 use cx_storage::Store;
 
 /// At most so many steps are a round.
 const ROUND: u32 = 256;
 
 /// Performs `steps` instructions, or fewer where the entry is the next address or one is interrupted.
-#[tactic(auto, using(crate::proofs::RunLemmas::passes_none, crate::proofs::RunLemmas::passes_more), unfolding(crate::specs::Advance::Advances))]
+#[tactic(auto, using(crate::proofs::RunLemmas::run_more, crate::proofs::RunLemmas::run_interrupt, crate::proofs::RunLemmas::stands_at_entry))]
 fn pass<S: Store>(cpu: &mut Cpu, store: &mut S, steps: u32) -> Option<Halt>
     ensures run { MatchOption result (Passes steps (machine cpu.old (S.storage store.old)) (machine cpu.new (S.storage store.new))) (λ end. Advances steps (machine cpu.old (S.storage store.old)) end (machine cpu.new (S.storage store.new))) }
     ensures ended { result ≢ Some halt.Limit }
 {
-    for _done in 0..steps {
-        match step(cpu, store) {
-            Step::Done => {}
-            Step::AtEntry => return Some(Halt::AtEntry),
-            Step::Interrupt(cause) => return Some(Halt::Interrupt(cause, cpu.next)),
+    let mut left = steps;
+    while left > 0 {
+        if cpu.next == ENTRY {
+            return Some(Halt::AtEntry);
+        }
+        let Some(found) = at_hand(cpu, store) else {
+            match run_apart(cpu, store) {
+                Ok(()) => left -= 1,
+                Err(cause) => return Some(Halt::Interrupt(cause, cpu.next)),
+            }
+            continue;
+        };
+        match found.op {
+            Op::Balr
+            | Op::Bctr
+            | Op::Bcr
+            | Op::Ltr
+            | Op::Lcr
+            | Op::Clr
+            | Op::Xr
+            | Op::Lr
+            | Op::Cr
+            | Op::Ar
+            | Op::Sr
+            | Op::Mr
+            | Op::Dr
+            | Op::Srl
+            | Op::Sll
+            | Op::Sra
+            | Op::Sla
+            | Op::Srda
+            | Op::Stm
+            | Op::Lm
+            | Op::Stcm
+            | Op::Icm => match register_rows(cpu, store, found.op, &found.front, None) {
+                Ok(()) => left -= 1,
+                Err(cause) => return Some(Halt::Interrupt(cause, cpu.next)),
+            },
+            Op::L | Op::Cl | Op::C => match word_rows(cpu, store, found.op, &found.front, None) {
+                Ok(()) => left -= 1,
+                Err(cause) => return Some(Halt::Interrupt(cause, cpu.next)),
+            },
+            Op::A | Op::S | Op::M | Op::D => match word_result_rows(
+                cpu,
+                store,
+                found.op,
+                &found.front,
+                None,
+            ) {
+                Ok(()) => left -= 1,
+                Err(cause) => return Some(Halt::Interrupt(cause, cpu.next)),
+            },
+            Op::Lh | Op::Ch | Op::Ah | Op::Sh => match half_rows(
+                cpu,
+                store,
+                found.op,
+                &found.front,
+                None,
+            ) {
+                Ok(()) => left -= 1,
+                Err(cause) => return Some(Halt::Interrupt(cause, cpu.next)),
+            },
+            Op::Sth
+            | Op::La
+            | Op::Stc
+            | Op::Bal
+            | Op::Bct
+            | Op::Bc
+            | Op::St
+            | Op::Cvd
+            | Op::Ic
+            | Op::Cvb => match indexed_rows(cpu, store, found.op, &found.front, None) {
+                Ok(()) => left -= 1,
+                Err(cause) => return Some(Halt::Interrupt(cause, cpu.next)),
+            },
+            Op::Tm | Op::Mvi | Op::Ni | Op::Cli | Op::Oi => match immediate_rows(
+                cpu,
+                store,
+                found.op,
+                &found.front,
+                None,
+            ) {
+                Ok(()) => left -= 1,
+                Err(cause) => return Some(Halt::Interrupt(cause, cpu.next)),
+            },
+            Op::Mvc | Op::Clc | Op::Xc | Op::Tr | Op::Trt | Op::Pack | Op::Unpk =>
+                match strings_effect(cpu, store, found.op, &found.front, None) {
+                    Ok(()) => left -= 1,
+                    Err(cause) => return Some(Halt::Interrupt(cause, cpu.next)),
+                },
+            Op::Ex => match execute_found(cpu, store, &found.front) {
+                Ok(()) => left -= 1,
+                Err(cause) => return Some(Halt::Interrupt(cause, cpu.next)),
+            },
         }
     }
     None

@@ -1,17 +1,22 @@
 //! One step.
 
-ghost use Rattle.std.specs.Prelude.{◌≡◌, ◌<◌, ◌≤◌, ◌^◌, IfOk, IfSome, MatchResult};
+ghost use Rattle.std.specs.Prelude.{◌≡◌, ◌<◌, ◌≤◌, ◌^◌, Ok, IfOk, IfSome, MatchResult};
 ghost use Rattle.cx_storage.specs.Address.{along};
+ghost use Rattle.cx_storage.specs.Storage.{Storage};
+ghost use Rattle.cx_code.specs.declared.table.Op.TheVariants as op;
 ghost use Rattle.cx_code.specs.Table.{length_of};
+ghost use Rattle.cx_code.specs.Spelling.{instruction};
+ghost use Rattle.cx_code.specs.Reading.{fields_at};
 ghost use Rattle.cx_exec.specs.Machine.{machine};
 ghost use Rattle.cx_exec.specs.Outcome.{Suppressed};
 ghost use Rattle.cx_exec.specs.Rows.{Effect};
-ghost use Rattle.cx_exec.specs.Step.{target_at, updated_by, performed_of, performed, Runs, Steps};
+ghost use Rattle.cx_exec.specs.Step.{changed_copy, target_at, updated_by, performed_of, performed, Runs, Steps};
 
 use crate::fetch::code_at;
+use crate::front::{Front, lent_front, op_in};
 use crate::machine::{Cpu, ENTRY, Interruption, Step, Updated};
-use crate::rows::{effect, effective};
-use cx_code::{Fields, Inst, Op, decode};
+use crate::rows::{effect, effective, indexed_of};
+use cx_code::{Fields, Inst, Op};
 use cx_storage::{Store, along};
 
 /// An instruction to be performed, and what comes after it.
@@ -19,6 +24,13 @@ use cx_storage::{Store, along};
 pub struct Due {
     pub inst: Inst,
     pub updated: Updated,
+}
+
+/// A row, and the bytes that its instruction begins with.
+#[derive(Drop)]
+pub struct Found {
+    pub op: Op,
+    pub front: Front,
 }
 
 /// The target at `a` (below 2^24) of an EX, from its changed copy. `r1` is below 16.
@@ -72,18 +84,66 @@ fn performed<S: Store>(cpu: &Cpu, store: &S) -> Result<Due, Interruption>
 
 /// The instruction at the next address, where eight bytes from there on are lent in one piece.
 #[inline(always)]
-fn at_hand<S: Store>(cpu: &Cpu, store: &S) -> Option<Inst>
-    ensures { IfSome result (λ inst. performed (machine cpu.now (S.storage store.now)) ≡ performed_of (machine cpu.now (S.storage store.now)) inst (updated_by cpu.now.next (length_of inst.op))) }
+pub(crate) fn at_hand<S: Store>(cpu: &Cpu, store: &S) -> Option<Found>
+    ensures { IfSome result (λ found. performed (machine cpu.now (S.storage store.now))
+        ≡ performed_of (machine cpu.now (S.storage store.now)) (instruction found.op (fields_at found.op found.front)) (updated_by cpu.now.next (length_of found.op))) }
 {
     cx_code::laws::first_bits();
-    cx_code::laws::length_read();
-    cx_code::laws::read_before_rest();
     cx_code::laws::read_by_first_byte();
     if cpu.next % 2 == 1 {
         return None;
     }
-    let (inst, _) = decode(store.slice(cpu.next, 8)?)?;
-    Some(inst)
+    let front = lent_front(store, cpu.next)?;
+    let op = op_in(front.first())?;
+    Some(Found { op, front })
+}
+
+/// The front of the changed copy of a target.
+#[inline(always)]
+fn changed_copy(cpu: &Cpu, r1: u8, front: Front) -> Front
+    requires { r1 < 16 }
+    ensures { (storage : Storage) → result ≡ changed_copy (machine cpu.now storage) r1 front }
+{
+    if r1 == 0 {
+        return front;
+    }
+    front.with_joined((cpu.regs[r1 as usize] % 256) as u8)
+}
+
+/// The target at `a` (below 2^24) of an EX, where eight bytes from there on are lent in one piece. `r1` is below 16.
+#[inline(always)]
+fn target_at_hand<S: Store>(cpu: &Cpu, store: &S, r1: u8, a: u32) -> Option<Found>
+    requires first { r1 < 16 }
+    requires operand { a < 2 ^ 24 }
+    ensures { IfSome result (λ found. target_at (machine cpu.now (S.storage store.now)) r1 a ≡ Ok (instruction found.op (fields_at found.op found.front))) }
+{
+    cx_code::laws::first_bits();
+    cx_code::laws::read_by_first_byte();
+    if a % 2 == 1 {
+        return None;
+    }
+    let front = changed_copy(cpu, r1, lent_front(store, a)?);
+    let op = op_in(front.first())?;
+    if op == Op::Ex {
+        return None;
+    }
+    Some(Found { op, front })
+}
+
+/// Performs an instruction but EX, and goes on where that is told.
+#[inline(never)]
+fn perform_apart<S: Store>(
+    cpu: &mut Cpu,
+    store: &mut S,
+    inst: &Inst,
+    updated: Updated,
+) -> Result<(), Interruption>
+    requires length { updated.length_code ≤ 3 }
+    requires address { updated.address < 2 ^ 24 }
+    ensures { Effect inst.now updated (machine cpu.old (S.storage store.old)) result (machine cpu.new (S.storage store.new)) }
+{
+    let front = Front::with_fields(inst);
+    effect(cpu, store, inst.op(), &front, Some(updated))
 }
 
 /// Performs the target at `a` (below 2^24) of an EX at the next address. `r1` is below 16.
@@ -93,40 +153,55 @@ fn execute<S: Store>(cpu: &mut Cpu, store: &mut S, r1: u8, a: u32) -> Result<(),
     requires operand { a < 2 ^ 24 }
     ensures { MatchResult (target_at (machine cpu.old (S.storage store.old)) r1 a) (λ target. Effect target (record { length_code = 2; address = along cpu.old.next 4 }) (machine cpu.old (S.storage store.old)) result (machine cpu.new (S.storage store.new))) (λ cause. Suppressed cause (machine cpu.old (S.storage store.old)) result (machine cpu.new (S.storage store.new))) }
 {
-    let target = target_at(cpu, store, r1, a)?;
     let updated = Updated {
         length_code: 2,
         address: along(cpu.next, 4),
     };
-    effect(cpu, store, &target, Some(updated))
+    if let Some(found) = target_at_hand(cpu, store, r1, a) {
+        return effect(cpu, store, found.op, &found.front, Some(updated));
+    }
+    let target = target_at(cpu, store, r1, a)?;
+    perform_apart(cpu, store, &target, updated)
+}
+
+/// Performs an EX at the next address.
+#[inline(always)]
+pub(crate) fn execute_found<S: Store>(
+    cpu: &mut Cpu,
+    store: &mut S,
+    front: &Front,
+) -> Result<(), Interruption>
+    requires { performed (machine cpu.old (S.storage store.old))
+        ≡ performed_of (machine cpu.old (S.storage store.old)) (instruction op.Ex (fields_at op.Ex front.now)) (updated_by cpu.old.next (length_of op.Ex)) }
+    ensures { Runs (machine cpu.old (S.storage store.old)) result (machine cpu.new (S.storage store.new)) }
+{
+    let it = indexed_of(cpu, front, None);
+    execute(cpu, store, it.r1, it.a)
 }
 
 /// Performs the instruction at the next address, wherever it stands.
 #[tactic(auto, unfolding(crate::specs::Step::Runs))]
 #[inline(never)]
-fn run_apart<S: Store>(cpu: &mut Cpu, store: &mut S) -> Result<(), Interruption>
+pub(crate) fn run_apart<S: Store>(cpu: &mut Cpu, store: &mut S) -> Result<(), Interruption>
     ensures { Runs (machine cpu.old (S.storage store.old)) result (machine cpu.new (S.storage store.new)) }
 {
     let due = performed(cpu, store)?;
-    effect(cpu, store, &due.inst, Some(due.updated))
+    perform_apart(cpu, store, &due.inst, due.updated)
 }
 
 /// Performs the instruction at the next address.
 #[tactic(auto, unfolding(crate::specs::Step::Runs))]
-#[inline(always)]
+#[inline(never)]
 fn run<S: Store>(cpu: &mut Cpu, store: &mut S) -> Result<(), Interruption>
     ensures { Runs (machine cpu.old (S.storage store.old)) result (machine cpu.new (S.storage store.new)) }
 {
-    let Some(inst) = at_hand(cpu, store) else {
+    let Some(found) = at_hand(cpu, store) else {
         return run_apart(cpu, store);
     };
-    match inst.fields() {
-        Fields::Rx { r1, x2, b2, d2 } if inst.op() == Op::Ex => {
-            let a = effective(&cpu.regs, x2, b2, d2);
-            execute(cpu, store, r1, a)
-        }
-        _ => effect(cpu, store, &inst, None),
+    if found.op == Op::Ex {
+        return execute_found(cpu, store, &found.front);
     }
+    effect(cpu, store, found.op, &found.front, None)
 }
 
 /// Performs the instruction at the next address, unless that is the entry.
@@ -140,7 +215,7 @@ fn run<S: Store>(cpu: &mut Cpu, store: &mut S) -> Result<(), Interruption>
 ///
 /// Principles of Operation, "Instruction Execution", "Execute", "Program Interruption".
 #[tactic(auto, unfolding(crate::specs::Step::Steps))]
-#[inline(always)]
+#[inline(never)]
 pub fn step<S: Store>(cpu: &mut Cpu, store: &mut S) -> Step
     ensures { Steps (machine cpu.old (S.storage store.old)) result (machine cpu.new (S.storage store.new)) }
 {

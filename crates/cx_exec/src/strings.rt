@@ -9,7 +9,7 @@ ghost use Rattle.cx_exec.specs.Strings.{moved, xored, MvcEffect, XcEffect};
 
 use crate::logic::string_code;
 use crate::machine::{Cpu, Interruption, Updated};
-use crate::operands::put_bytes;
+use crate::operands::{put_bytes, put_coded};
 use crate::repeats::repeat;
 use crate::sequence::{content, distance, is_present, seen};
 use cx_storage::{Store, along};
@@ -95,8 +95,7 @@ fn copy_through<S: Store>(
     if !store.read(a2, bytes) {
         return Err(Interruption::Addressing);
     }
-    let cc = cpu.cc;
-    put_bytes(cpu, store, a1, bytes, cc, updated)
+    put_bytes(cpu, store, a1, bytes, updated)
 }
 
 /// MVC of such operands, whatever their length.
@@ -232,7 +231,7 @@ fn join_through<S: Store>(
         return Err(Interruption::Addressing);
     }
     let cc = string_code(bytes);
-    put_bytes(cpu, store, a1, bytes, cc, updated)
+    put_coded(cpu, store, a1, bytes, cc, updated)
 }
 
 /// XC of such operands, whatever their length.
@@ -307,8 +306,7 @@ fn fill<S: Store>(
     }
     let mut new = [0; 256];
     fill_bytes(store, n, a1, a2, &mut new);
-    let cc = cpu.cc;
-    put_bytes(cpu, store, a1, &new[..n as usize], cc, updated)
+    put_bytes(cpu, store, a1, &new[..n as usize], updated)
 }
 
 /// XC of such operands, byte by byte.
@@ -335,7 +333,7 @@ fn join_each<S: Store>(
     xor_bytes(store, n, a1, a2, &mut new);
     let bytes = &new[..n as usize];
     let cc = string_code(bytes);
-    put_bytes(cpu, store, a1, bytes, cc, updated)
+    put_coded(cpu, store, a1, bytes, cc, updated)
 }
 
 /// MVC. The operands, of `n` bytes, begin at `a1` and `a2`.

@@ -253,8 +253,7 @@ pub(crate) fn pack<S: Store>(
     if !pack_lent(store, n1, n2, a1, a2, &mut new) && !pack_each(store, n1, n2, a1, a2, &mut new) {
         return Err(Interruption::Addressing);
     }
-    let cc = cpu.cc;
-    put_bytes(cpu, store, a1, &new[16 - n1 as usize..], cc, updated)
+    put_bytes(cpu, store, a1, &new[16 - n1 as usize..], updated)
 }
 
 /// UNPK. The operands, of `n1` and `n2` bytes, begin at `a1` and `a2`.
@@ -283,6 +282,5 @@ pub(crate) fn unpk<S: Store>(
     {
         return Err(Interruption::Addressing);
     }
-    let cc = cpu.cc;
-    put_bytes(cpu, store, a1, &new[16 - n1 as usize..], cc, updated)
+    put_bytes(cpu, store, a1, &new[16 - n1 as usize..], updated)
 }

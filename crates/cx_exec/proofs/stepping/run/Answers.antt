@@ -1,9 +1,6 @@
-use Rattle.std.proofs.Common.{rules}
-use Rattle.cx_exec.specs.Machine.{machine}
-use Rattle.cx_exec.proofs.FetchLemmas.{executed}
+use Rattle.std.proofs.Common.{rules, ◌≡◌}
+use Rattle.cx_code.specs.declared.table.Op.TheVariants as op
 use Rattle.cx_exec.proofs.stepping.run.Goals as goal
 
-pub returns-in-Rx : goal.returns-in-Rx
-returns-in-Rx g c =
-    executed (machine c.args.cpu.now (g.S.Store.storage c.args.store.now)) c.in-Some.inst c.in-Rx.r1 c.in-Rx.x2 c.in-Rx.b2 c.in-Rx.d2 _ _
-    (search rules) (search rules) (search rules) (search rules) (search rules)
+pub execute_found-requires : goal.execute_found-requires
+execute_found-requires g c = let same : c.in-Some.found.op ≡ op.Ex = search rules in rw same at c.in-Some.ensures

@@ -6,4 +6,4 @@ pub returns-then-not-join_stored : goal.returns-then-not-join_stored
 returns-then-not-join_stored g c = not_joined _ _ _ _ _ (search rules)
 
 pub returns : goal.returns
-returns g c = joined _ _ _ _ _ _ _ _ _ (search rules) (search rules) c.string_code-cc.ensures.value c.put_bytes.ensures
+returns g c = joined _ _ _ _ _ _ _ _ _ (search rules) (search rules) c.string_code-cc.ensures.value c.put_coded.ensures
