@@ -42,7 +42,7 @@ pub struct Call {
     command: Command,
     first: u8,
     second: u8,
-    conditions: Conditions,
+    conditions: ArrayVec<ListedCondition, CONDITIONS>,
     places: ArrayVec<u32, ARGUMENTS>,
 }
 
@@ -53,7 +53,7 @@ impl Model for Call {
 
     ghost Value = { Call };
 
-    ghost view = { λ call. record { command = call.command; first = call.first; second = call.second; conditions = call.conditions; places = call.places.items } };
+    ghost view = { λ call. record { command = call.command; first = call.first; second = call.second; conditions = call.conditions.items; places = call.places.items } };
 
     ghost invariant = { λ call. AllByRecursion (λ place. place < 2 ^ 24) call.places.items };
 }
@@ -153,7 +153,7 @@ pub fn read_call<S: Store>(store: &S, list: u32) -> Result<Call, CallFault>
     let block = read_block(store, list)?;
     let command = block.command()?;
     let conditions = read_conditions(store, command, &block)?;
-    let count = argument_count(command, &block, &conditions);
+    let count = argument_count(command, &block, conditions.as_slice());
     let places = read_places(store, list, count)?;
     Ok(Call {
         command,
@@ -220,71 +220,20 @@ fn read_block<S: Store>(store: &S, list: u32) -> Result<Block, CallFault>
     })
 }
 
-/// Conditions that HANDLE or IGNORE CONDITION lists, at most sixteen.
-#[derive(Debug, Drop)]
-struct Conditions {
-    entries: [ListedCondition; CONDITIONS],
-    count: usize,
-}
-
-impl Model for Conditions {
-    ghost use Rattle.std.specs.Prelude.{List, take, ◌≤◌};
-    ghost use Rattle.cx_command.specs.declared.legal.ListedCondition.{ListedCondition};
-
-    ghost Value = { List ListedCondition };
-
-    ghost view = { λ conditions. take conditions.count conditions.entries };
-
-    ghost invariant = { λ conditions. conditions.count ≤ 16 };
-}
-
-impl Conditions {
-    ghost use Rattle.std.specs.Prelude.{[], ◌∷◌, ◌++◌};
-
-    /// No condition.
-    fn none() -> Conditions
-        ensures { result ≡ [] }
-    {
-        Conditions {
-            entries: [ListedCondition {
-                number: 0,
-                label: 0,
-            }; CONDITIONS],
-            count: 0,
-        }
-    }
-
-    /// One more condition, the last.
-    fn push(&mut self, listed: ListedCondition)
-        requires { length self.old < 16 }
-        ensures { self.new ≡ self.old ++ listed ∷ [] }
-    {
-        self.entries[self.count] = listed;
-        self.count += 1;
-    }
-
-    /// The conditions, in their order.
-    fn as_slice(&self) -> &[ListedCondition]
-        ensures value { result.now ≡ self.now }
-        ensures fits { length result.now ≤ 16 }
-    {
-        &self.entries[..self.count]
-    }
-}
-
 /// The conditions that HANDLE or IGNORE CONDITION lists behind the block; none for other commands.
 #[tactic(auto, unfolding(crate::specs::Call::conditions_of, cx_command::specs::Legal::is_legal))]
 fn read_conditions<S: Store>(
     store: &S,
     command: Command,
     block: &Block,
-) -> Result<Conditions, CallFault>
+) -> Result<ArrayVec<ListedCondition, CONDITIONS>, CallFault>
     requires { IsTrue (is_legal command block.now.first block.now.second) }
-    ensures value { result ≡ conditions_of (S.storage store.now) command block.now }
-    ensures others { IfOk result (λ conditions. IsFalse (lists_conditions command) → length conditions ≡ 0) }
+    ensures value { let listed = conditions_of (S.storage store.now) command block.now in
+        result_map_both (λ conditions. conditions.items) (λ fault. fault) result ≡ listed }
+    ensures others { IfOk result (λ conditions. IsFalse (lists_conditions command) → length conditions.items ≡ 0) }
 {
     if !command.lists_conditions() {
-        return Ok(Conditions::none());
+        return Ok(ArrayVec::new());
     }
     let mut bytes = [0; 2 * CONDITIONS];
     let listed = &mut bytes[..2 * block.first as usize];
@@ -301,11 +250,11 @@ fn read_conditions<S: Store>(
 
 /// The conditions in some bytes, two for each.
 #[tactic(auto, using(crate::proofs::CallLemmas::listed_step, crate::proofs::CallLemmas::listed_all))]
-fn listed_in(bytes: &[u8]) -> Conditions
+fn listed_in(bytes: &[u8]) -> ArrayVec<ListedCondition, CONDITIONS>
     requires { length bytes.now ≤ 32 }
-    ensures { result ≡ listed_in bytes.now }
+    ensures { result.items ≡ listed_in bytes.now }
 {
-    let mut conditions = Conditions::none();
+    let mut conditions = ArrayVec::new();
     for k in 0..bytes.len() / 2 {
         conditions.push(ListedCondition {
             number: bytes[2 * k],
@@ -317,8 +266,9 @@ fn listed_in(bytes: &[u8]) -> Conditions
 
 /// How many arguments a call has.
 #[tactic(auto, unfolding(crate::specs::Call::argument_count))]
-fn argument_count(command: Command, block: &Block, conditions: &Conditions) -> usize
-    requires { IsFalse (lists_conditions command) → length conditions.now ≡ 0 }
+fn argument_count(command: Command, block: &Block, conditions: &[ListedCondition]) -> usize
+    requires few { length conditions.now ≤ 16 }
+    requires others { IsFalse (lists_conditions command) → length conditions.now ≡ 0 }
     ensures value { result ≡ argument_count command block.now conditions.now }
     ensures most { result ≤ 17 }
 {
@@ -328,7 +278,6 @@ fn argument_count(command: Command, block: &Block, conditions: &Conditions) -> u
         0
     };
     let labels = conditions
-        .as_slice()
         .iter()
         .filter(|listed| listed.label == 0x80)
         .count();

@@ -6,6 +6,7 @@ ghost use Rattle.cx_command.specs.declared.legal.ListedCondition.{ListedConditio
 ghost use Rattle.cx_call.specs.Listed.{handled_with, labelled, listed_of, listed_with};
 
 use crate::call::Call;
+use arrayvec::ArrayVec;
 use cx_command::{Condition, ListedCondition};
 use std::marker::Model;
 
@@ -13,7 +14,7 @@ use std::marker::Model;
 const CONDITIONS: usize = 16;
 
 /// A condition that HANDLE or IGNORE CONDITION lists.
-#[derive(Clone, Copy, Debug, PartialEq, Eq)]
+#[derive(Clone, Copy, Debug, PartialEq, Eq, Default)]
 pub struct Listed {
     pub condition: Condition,
     /// The address of its label (below 2^24), where it has one.
@@ -23,52 +24,25 @@ pub struct Listed {
 /// The conditions that a call lists, at most sixteen, in their order. Contracts see it as the list of them.
 #[derive(Debug, Drop)]
 pub struct ListedConditions {
-    entries: [Listed; CONDITIONS],
-    count: usize,
+    entries: ArrayVec<Listed, CONDITIONS>,
 }
 
 impl Model for ListedConditions {
-    ghost use Rattle.std.specs.Prelude.{List, take, ◌≤◌};
+    ghost use Rattle.std.specs.Prelude.{List};
     ghost use Rattle.cx_call.specs.declared.listed.Listed.{Listed};
 
     ghost Value = { List Listed };
 
-    ghost view = { λ conditions. take conditions.count conditions.entries };
-
-    ghost invariant = { λ conditions. conditions.count ≤ 16 };
+    ghost view = { λ conditions. conditions.entries.items };
 }
 
 impl ListedConditions {
-    ghost use Rattle.std.specs.Prelude.{[], ◌∷◌, ◌++◌};
-
-    /// No condition.
-    fn none() -> ListedConditions
-        ensures { result ≡ [] }
-    {
-        ListedConditions {
-            entries: [Listed {
-                condition: Condition::Error,
-                label: None,
-            }; CONDITIONS],
-            count: 0,
-        }
-    }
-
-    /// One more condition, the last.
-    fn push(&mut self, listed: Listed)
-        requires { length self.old < 16 }
-        ensures { self.new ≡ self.old ++ listed ∷ [] }
-    {
-        self.entries[self.count] = listed;
-        self.count += 1;
-    }
-
     /// The conditions, in their order.
     pub fn as_slice(&self) -> &[Listed]
         ensures value { result.now ≡ self.now }
         ensures fits { length result.now ≤ 16 }
     {
-        &self.entries[..self.count]
+        self.entries.as_slice()
     }
 }
 
@@ -97,7 +71,7 @@ fn push_listed(conditions: &mut ListedConditions, number: u8, label: Option<u32>
     ensures most { length conditions.new ≤ length conditions.old + 1 }
 {
     if let Some(condition) = handled_with(number) {
-        conditions.push(Listed { condition, label });
+        conditions.entries.push(Listed { condition, label });
     }
 }
 
@@ -137,7 +111,9 @@ fn labelled(conditions: &[ListedCondition], places: &[u32]) -> ListedConditions
     requires { length conditions.now ≤ 16 }
     ensures { result ≡ labelled conditions.now places.now }
 {
-    let mut listed = ListedConditions::none();
+    let mut listed = ListedConditions {
+        entries: ArrayVec::new(),
+    };
     let mut labels = 0;
     for entry in conditions {
         labels = push_entry(&mut listed, *entry, places, labels);

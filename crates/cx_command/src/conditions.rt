@@ -13,8 +13,9 @@ pub const CONDITIONS: usize = 10;
 ///
 /// Application Programmer's Reference Manual, SC33-0077, "Exceptional conditions".
 /// The numbers and abend codes are this project's own.
-#[derive(Clone, Copy, Debug, PartialEq, Eq)]
+#[derive(Clone, Copy, Debug, PartialEq, Eq, Default)]
 pub enum Condition {
+    #[default]
     Normal,
     Error,
     Invreq,

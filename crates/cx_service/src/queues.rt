@@ -272,10 +272,10 @@ impl Queues {
     pub fn can_read(&self, name: Name8, n: usize) -> Result<(), ServiceFault>
         ensures { result_err result ≡ read_fault self.now name n }
     {
-        if self.items(name).is_none() {
+        let Some(queue) = self.queues.get(&name) else {
             return Err(ServiceFault::Qiderr);
-        }
-        if self.item_len(name, n).is_none() {
+        };
+        if queue.item(n).is_none() {
             return Err(ServiceFault::Itemerr);
         }
         Ok(())

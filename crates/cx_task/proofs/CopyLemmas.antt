@@ -1,12 +1,15 @@
 -- A copy's area, given back.
-use Rattle.std.proofs.Common.{◌≡◌, ◌<◌, ◌≤◌, ◌^◌, ℕ, Option, Some, None, refl, take, replicate}
+use Rattle.std.proofs.Common.{◌≡◌, ◌<◌, ◌≤◌, ◌^◌, ℕ, List, length, Option, Some, None, is_some, refl, take, replicate}
 use Rattle.std.proofs.lemmas.List.{take-replicate}
-use Rattle.std.specs.Prelude.{MatchOption, ⊤}
+use Rattle.std.specs.Prelude.{MatchOption, IsTrue, ⊤}
 use Rattle.cx_storage.specs.Storage.{Storage, IsSound}
+use Rattle.cx_storage.specs.Facts.Spans.{span_length}
+use Rattle.cx_call.specs.declared.inputs.Piece.{Piece}
+use Rattle.cx_call.specs.Inputs.{piece_bytes}
 use Rattle.cx_state.specs.declared.verdict.Copying.{Copying}
-use Rattle.cx_state.specs.Areas.{system_owner, with_copy_area}
+use Rattle.cx_state.specs.Areas.{bytes_in, system_owner, with_copy_area}
 use Rattle.cx_state.specs.Facts.Areas.{given_back, place_below}
-use Rattle.cx_state.specs.Parts.Fits.{FitsCopy}
+use Rattle.cx_state.specs.Parts.Fits.{FitsCopy, IsThere}
 use Rattle.cx_task.specs.Parts.Making.{without_copy}
 
 pub copy_below : (s : Storage) (copying : Option Copying) → FitsCopy copying s → MatchOption copying ⊤ (λ it. it.to < 2 ^ 24)
@@ -21,3 +24,11 @@ copy_given_back s slot (Some copying) ok fits = given_back s copying.from.len co
 
 pub front_replicate : (n m b : ℕ) → n ≤ m → take n (replicate m b) ≡ replicate n b
 front_replicate n m b le = take-replicate n m b le
+
+-- a piece that is there has no more bytes than a halfword can measure
+pub piece_few : (s : Storage) (piece : Piece) → IsThere s piece → length (bytes_in s piece) ≤ 32767
+piece_few s piece there = go (piece_bytes s piece) refl there.bytes
+  where
+    go : (read : Option (List ℕ)) → piece_bytes s piece ≡ read → IsTrue (is_some read) → length (bytes_in s piece) ≤ 32767
+    go None e some = absurd (cc)
+    go (Some read) e some = rw e (rw (span_length s piece.place piece.len read e) there.few)

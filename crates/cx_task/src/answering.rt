@@ -4,11 +4,11 @@ ghost use Rattle.cx_state.specs.State.{reach};
 ghost use Rattle.cx_state.specs.Parts.Fits.{Fits, FitsChange};
 ghost use Rattle.cx_task.specs.Answers.{Answers, LeavesAll, MeetsWith, has_room, may_grow, way_at};
 ghost use Rattle.cx_task.specs.Changes.{Settles, change_grows};
-ghost use Rattle.cx_task.specs.Ways.{Goes, is_wait, way_of};
+ghost use Rattle.cx_task.specs.Ways.{Goes, is_wait};
 
 use crate::abending::abend;
 use crate::finishing::{finish, give, has_room, report, report_of};
-use crate::going::{go, way_of};
+use crate::going::{go, way_at};
 use crate::making::grow;
 use crate::way::Way;
 use cx_call::{Call, Outputs};
@@ -73,16 +73,6 @@ fn meet<S: Store + Drop>(
     }
     settle(call, condition, outputs, change, shared, station, task)?;
     Ok(go(&way, condition, shared, station, task))
-}
-
-/// How a task goes on after a command that meets a condition and has an effect: as its current level asked, or, with no
-/// condition met, as the effect says. The condition mustn't be ERROR, which no command meets.
-pub fn way_at(call: &Call, condition: Condition, change: &Change, task: &Task) -> Way
-    requires { condition ≢ Condition.Error }
-    ensures { result ≡ way_of call.now task.now.levels.current.handles.active.entries condition change.now }
-{
-    let level = task.levels.current();
-    way_of(call, &level.handles, condition, change)
 }
 
 /// Whether the command waits: its task stays at it.

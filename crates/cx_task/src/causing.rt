@@ -11,10 +11,10 @@ ghost use Rattle.cx_task.specs.Performing.{fault_abend};
 ghost use Rattle.cx_storage.specs.Address.{along};
 ghost use Rattle.cx_storage.specs.Storage.{byte_at};
 
-use crate::answering::way_at;
 use crate::cause::{Cause, Trouble};
 use crate::due::{Due, fault_abend, perform};
 use crate::finishing::has_room;
+use crate::going::way_at;
 use crate::turning::{MOST_STEPS, halt};
 use crate::way::Way;
 use cx_call::Call;

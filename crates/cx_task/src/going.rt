@@ -64,21 +64,18 @@ fn way_by(change: &Change) -> Way
     }
 }
 
-/// The way of a task after a command.
+/// How a task goes on after a command that meets a condition and has an effect: as its current level asked, or, with no
+/// condition met, as the effect says. The condition mustn't be ERROR, which no command meets.
 #[tactic(auto, unfolding(crate::specs::Ways::way_of))]
-pub(crate) fn way_of(
-    call: &Call,
-    handles: &HandleTable,
-    condition: Condition,
-    change: &Change,
-) -> Way
+pub fn way_at(call: &Call, condition: Condition, change: &Change, task: &Task) -> Way
     requires { condition ≢ Condition.Error }
-    ensures { result ≡ way_of call.now handles.now.active.entries condition change.now }
+    ensures { result ≡ way_of call.now task.now.levels.current.handles.active.entries condition change.now }
 {
     if condition == Condition::Normal {
         return way_by(change);
     }
-    match choice_for(call, handles, condition) {
+    let level = task.levels.current();
+    match choice_for(call, &level.handles, condition) {
         Choice::Label(label) => Way::TakesLabel(label),
         Choice::GoOn => Way::GoesOn,
         Choice::Wait => Way::Waits,

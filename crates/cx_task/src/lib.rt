@@ -15,11 +15,12 @@ mod turning;
 mod way;
 
 pub use abending::end_by_abend;
-pub use answering::{is_wait, way_at};
+pub use answering::is_wait;
 pub use areas::{entry_level, entry_registers, get_at, get_filled, get_stg, put_cap, system_owner};
 pub use cause::{Cause, Trouble};
 pub use causing::half_turn_with_cause;
 pub use finishing::has_room;
+pub use going::way_at;
 pub use turning::half_turn;
 #[doc(hidden)]
 pub use way::Way;

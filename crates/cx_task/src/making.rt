@@ -342,7 +342,17 @@ fn get_replacement<S: Store>(
     Ok(())
 }
 
+/// A piece's bytes, in a list of their own.
+fn listed<S: Store>(alloc: Global, store: &S, piece: Piece) -> Result<List<u8>, AllocError>
+    requires { IsThere (S.storage store.now) piece }
+    ensures { IfOk result (λ bytes. bytes ≡ bytes_in (S.storage store.now) piece) }
+{
+    let mut list = |bytes: &[u8]| List::from_slice(alloc, bytes);
+    with_bytes(store, piece, &mut list)
+}
+
 /// The COMMAREA's bytes, in a list of their own.
+#[tactic(auto, using(crate::proofs::CopyLemmas::piece_few))]
 fn kept_bytes<S: Store>(
     alloc: Global,
     store: &S,
@@ -356,11 +366,8 @@ fn kept_bytes<S: Store>(
     let Some(piece) = commarea else {
         return Ok(List::from_vec(Vec::new(alloc)));
     };
-    let mut buffer = [0; MOST_BYTES];
-    let bytes = &mut buffer[..piece.len as usize];
-    store.read(piece.place, bytes);
-    let list = List::from_slice(alloc, bytes)?;
-    Ok(list)
+    let bytes = listed(alloc, store, piece)?;
+    Ok(bytes)
 }
 
 /// The next transaction, with the COMMAREA that is kept for it.
