@@ -2,12 +2,13 @@
 use Rattle.std.proofs.Common.{◌≡◌, ℕ, zero, suc, ◌+◌, Bool, true, false, List, [], ◌∷◌, ◌++◌, append-nil, append_assoc, add-one, ◌<◌, drop, drop-cons, get_or, slice_get, length, arith, refl, sym, ◌∙◌, ap}
 use Rattle.cx_code.specs.declared.disassembly.Line.{Line}
 use Rattle.std.specs.Prelude.{Result, Ok, Err}
+use Rattle.std.specs.List.{repeat}
 use Rattle.cx_terms.specs.Bytes.{Made}
 use Rattle.cx_terms.specs.Items.{Constant}
 use Rattle.cx_terms.specs.declared.faults.FaultKind.{FaultKind}
 use Rattle.cx_asm.specs.Parts.Kept.{kept}
 use Rattle.cx_asm.specs.Parts.Passing.{literal_standing}
-use Rattle.cx_asm.specs.Resolving.{Standing, constant_standing, copies, item_standing, items_standing, joined, nothing, pool_standing, standing, standing_from, statement_standing}
+use Rattle.cx_asm.specs.Resolving.{Standing, constant_standing, item_standing, items_standing, joined, nothing, pool_standing, standing, standing_from, statement_standing}
 use Rattle.cx_pools.specs.Pools.{Placed}
 use Rattle.cx_operands.specs.Bases.{Bases}
 use Rattle.cx_second.specs.Statements.{Stated}
@@ -27,18 +28,18 @@ pub joined_in_turn : (a b c : Standing) → joined (joined a b) c ≡ joined a (
 joined_in_turn a b c = same _ _ _ _ (append_assoc a.lines b.lines c.lines) (append_assoc a.relocs b.relocs c.relocs)
 
 -- one copy more
-pub copies_more : (n : ℕ) (bytes : List ℕ) → copies n bytes ++ bytes ≡ copies (n + 1) bytes
+pub copies_more : (n : ℕ) (bytes : List ℕ) → repeat n bytes ++ bytes ≡ repeat (n + 1) bytes
 copies_more n bytes = rw add-one (more n bytes)
   where
-    more : (n : ℕ) (bytes : List ℕ) → copies n bytes ++ bytes ≡ bytes ++ copies n bytes
+    more : (n : ℕ) (bytes : List ℕ) → repeat n bytes ++ bytes ≡ bytes ++ repeat n bytes
     more zero bytes = sym (append-nil bytes)
-    more (suc n) bytes = append_assoc bytes (copies n bytes) bytes ∙ ap (λ l. bytes ++ l) (more n bytes)
+    more (suc n) bytes = append_assoc bytes (repeat n bytes) bytes ∙ ap (λ l. bytes ++ l) (more n bytes)
 
-pub copies_none : (n : ℕ) → copies n [] ≡ []
+pub copies_none : (n : ℕ) → repeat {A = ℕ} n [] ≡ []
 copies_none zero = refl
 copies_none (suc n) = copies_none n
 
-pub copies_empty : (n : ℕ) (bytes : List ℕ) → length bytes ≡ 0 → copies n bytes ≡ []
+pub copies_empty : (n : ℕ) (bytes : List ℕ) → length bytes ≡ 0 → repeat n bytes ≡ []
 copies_empty n [] e = copies_none n
 copies_empty n (b ∷ bytes) e = absurd (omega (arith, e))
 

@@ -1,5 +1,5 @@
 -- A constant's bytes are no more than its length.
-use Rattle.std.specs.Prelude.{Result, Ok, Err, ◌&&◌, ◌==◌, ◌*◌, ◌^◌, ⊤, option_and_then, sum_by, take, unwrap_or}
+use Rattle.std.specs.Prelude.{pos, Result, Ok, Err, ◌&&◌, ◌==◌, ◌*◌, ◌^◌, ⊤, option_and_then, sum_by, take, unwrap_or}
 use Rattle.std.specs.Option.{option_map_or}
 use Rattle.std.specs.Int.{bytes_high_first}
 use Rattle.std.proofs.Common.{◌≡◌, ◌≤◌, ℕ, zero, suc, ℤ, Bool, true, false, cond, Option, Some, None, option_map, List, [], ◌∷◌, length, refl, sym, ◌∙◌, ap, subst, arith}
@@ -7,11 +7,11 @@ use Rattle.std.proofs.lemmas.Bool.Decides.{nat_tests}
 use Rattle.std.proofs.lemmas.List.Concat.{length-flat_map}
 use Rattle.std.proofs.lemmas.List.Sums.{sum_by-le-sum_by}
 use Rattle.std.proofs.lemmas.Option.{none-some}
-use Rattle.cx_terms.specs.Bytes.{Made, address_made, body_made, half_bytes, integer_bytes, integer_of, is_below, made, made_of, placed, plain_made, value_bytes, values_bytes, values_fault}
+use Rattle.cx_terms.specs.Bytes.{Made, address_made, body_made, made, made_of, placed, plain_made, values_bytes, values_fault}
 use Rattle.cx_terms.specs.Digits.{at_most, number_in}
 use Rattle.cx_terms.specs.Expressions.{value_of}
 use Rattle.cx_terms.specs.Items.{Constant, Written, constant, constant_in, duplication_in, judged, length_of, limited, modifier_in, value_length, values_in, written_in}
-use Rattle.cx_terms.specs.Kinds.{row_of}
+use Rattle.cx_terms.specs.Kinds.{bounded_decimal, half_bytes, integer_bytes, is_below, row_of}
 use Rattle.cx_terms.specs.Weights.{stands_in}
 use Rattle.cx_terms.specs.declared.faults.FaultKind.{FaultKind}
 use Rattle.cx_terms.specs.declared.faults.FaultKind.TheVariants.{BadOperand, NotRelocatable, ValueOutOfRange}
@@ -56,7 +56,7 @@ integers n number = when_word _ n _
 
 -- ---- one value
 abbrev bytes_of_value : ConstantKind → Option ℕ → List ℕ → List ℕ
-bytes_of_value kind modifier value = value_bytes kind (value_length kind modifier value) value
+bytes_of_value kind modifier value = (row_of kind).bytes value (value_length kind modifier value)
 
 abbrev body_length : ConstantKind → Option ℕ → Option (List ℕ) → ℕ
 body_length kind modifier value =
@@ -71,8 +71,8 @@ value_fits : (kind : ConstantKind) (modifier : Option ℕ) → Modified kind mod
 value_fits Character modifier is value = taken (value_length Character modifier value) _
 value_fits Hexadecimal modifier is value = omega (arith, halves Hexadecimal value (value_length Hexadecimal modifier value))
 value_fits Binary modifier is value = omega (arith, halves Binary value (value_length Binary modifier value))
-value_fits Fullword modifier is value = integers (value_length Fullword modifier value) (integer_of value)
-value_fits Halfword modifier is value = integers (value_length Halfword modifier value) (integer_of value)
+value_fits Fullword modifier is value = integers (value_length Fullword modifier value) (unwrap_or (bounded_decimal value) (pos 0))
+value_fits Halfword modifier is value = integers (value_length Halfword modifier value) (unwrap_or (bounded_decimal value) (pos 0))
 value_fits Packed modifier is value = omega (arith, halves Packed value (value_length Packed modifier value))
 value_fits Address modifier is value = omega arith
 value_fits External None is value = omega arith

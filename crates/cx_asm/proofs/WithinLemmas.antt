@@ -3,7 +3,7 @@ use Rattle.std.specs.Prelude.{Result, Ok, Err, ◌==◌, ◌*◌}
 use Rattle.std.proofs.Common.{◌≡◌, ◌≤◌, ℕ, zero, suc, ◌+◌, Bool, true, false, cond, Option, Some, None, List, [], ◌∷◌, ◌++◌, length, refl, sym, ◌∙◌, ap, subst, arith, length-append}
 use Rattle.std.proofs.Math.Nat.{mul-le-mul_left}
 use Rattle.std.proofs.lemmas.Option.{same_Some}
-use Rattle.std.specs.List.{zip}
+use Rattle.std.specs.List.{zip, repeat}
 use Rattle.std.specs.Option.{option_map_or}
 use Rattle.std.specs.Result.{result_ok}
 use Rattle.cx_code.specs.Spelling.{Instruction as Made_instruction, IsWellFormed, spelling}
@@ -33,7 +33,7 @@ use Rattle.cx_terms.specs.Items.{Constant, constant_in, length_of, size_of}
 use Rattle.cx_terms.specs.declared.faults.FaultKind.{FaultKind}
 use Rattle.cx_terms.specs.declared.values.Value.{Value}
 use Rattle.cx_asm.specs.Laws.Standing.{IsWithin, WordsApart}
-use Rattle.cx_asm.specs.Resolving.{Standing, constant_standing, copies, counter_at, data_line, data_standing, instruction_standing, items_standing, item_standing, joined, line, nothing, pool_standing, relocated, space_line, space_standing}
+use Rattle.cx_asm.specs.Resolving.{Standing, constant_standing, counter_at, data_line, data_standing, instruction_standing, items_standing, item_standing, joined, line, nothing, pool_standing, relocated, space_line, space_standing}
 use Rattle.cx_asm.proofs.MadeLemmas.{MadeFits, item_fits}
 
 -- ---- one behind the other
@@ -57,9 +57,9 @@ within_later from mid end one le h =
     record { lines = apart_append from [] one.lines mid end le h.lines; words = words_later from mid one.relocs end le h.words }
 
 -- ---- constants
-copies_length : (n : ℕ) (bytes : List ℕ) → length (copies n bytes) ≡ n * length bytes
+copies_length : (n : ℕ) (bytes : List ℕ) → length (repeat n bytes) ≡ n * length bytes
 copies_length zero bytes = omega arith
-copies_length (suc n) bytes = length-append bytes (copies n bytes) ∙ grind (arith, copies_length n bytes)
+copies_length (suc n) bytes = length-append bytes (repeat n bytes) ∙ grind (arith, copies_length n bytes)
 
 line_within : (at : ℕ) (bytes : List ℕ) (end : ℕ) → at + length bytes ≤ end → AreApart at (data_line at bytes) end
 line_within at [] end le = omega (arith, le)
@@ -82,7 +82,7 @@ constant_within at (Ok item) (Ok made) fits =
     let fit = fits item made refl refl in
     let bytes = copied item.duplication (length_of item) (length made.bytes) fit.short in
     record {
-      lines = line_within at (copies item.duplication made.bytes) (at + size_of item) (omega (arith, copies_length item.duplication made.bytes, bytes));
+      lines = line_within at (repeat item.duplication made.bytes) (at + size_of item) (omega (arith, copies_length item.duplication made.bytes, bytes));
       words = relocated_within at item.duplication made.is_relocated (at + size_of item) (omega arith)
           (λ is. let word = copied item.duplication (length_of item) 4 (fit.word is) in omega (arith, word));
     }

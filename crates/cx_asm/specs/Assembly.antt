@@ -1,5 +1,5 @@
 -- What a source is assembled to, or why it is refused (GC33-4010, "END"; the faults and the limit of 65,536 bytes are own).
-use Rattle.std.specs.Prelude.{◌≡◌, ℕ, ◌-◌, nat_le, if◌then◌else◌, Option, Some, None, unwrap_or, Result, Ok, Err, List, length, reverse, slice_get}
+use Rattle.std.specs.Prelude.{◌≡◌, ℕ, ◌-◌, nat_le, if◌then◌else◌, Option, Some, None, unwrap_or, Result, Ok, Err, List, length, reverse, slice_get, map}
 use Rattle.std.specs.Option.{option_map_or}
 use Rattle.std.specs.Result.{result_ok}
 use Rattle.cx_source.specs.declared.source.Source.{Source}
@@ -11,11 +11,11 @@ use Rattle.cx_operands.specs.Bases.{none_in_use}
 use Rattle.cx_operands.specs.Directives.{entry_in}
 use Rattle.cx_image.specs.Assembled.{AssembledParts, assembled}
 use Rattle.cx_image.specs.Storage.{working_storage}
-use Rattle.cx_second.specs.Statements.{Stated, end_of, statements_of}
+use Rattle.cx_second.specs.Statements.{Stated, end_of, statements_of, placed_of}
 use Rattle.cx_second.specs.Whole.{Whole, directive_context, whole_of}
 use Rattle.cx_second.specs.SecondFaults.{judged_behind}
 use Rattle.cx_asm.specs.Resolving.{Standing, standing_from}
-use Rattle.cx_asm.specs.Listing.{listing_of}
+use Rattle.cx_asm.specs.Listing.{listed}
 use Rattle.cx_asm.specs.declared.faults.AsmFault.{AsmFault}
 use Rattle.cx_asm.specs.declared.faults.AsmFault.TheVariants as fault
 
@@ -23,9 +23,6 @@ use Rattle.cx_asm.specs.declared.faults.AsmFault.TheVariants as fault
 pub record AssemblyParts : Type 0 where
   pub section : AssembledParts
   pub listing : List (List ℕ)
-
-abbrev pub parts : AssembledParts → List (List ℕ) → AssemblyParts
-parts section listing = record { section = section; listing = listing }
 
 -- ---- the section
 -- what stands in the control section
@@ -40,16 +37,16 @@ size_of source = option_map_or (λ control. control.length) (control_section (kn
 abbrev pub entry_by : Whole → Stated → ℕ
 entry_by told s = unwrap_or (result_ok (entry_in told.control (directive_context told none_in_use s) s.stmt.operand)) 0
 
-abbrev pub entry_of : Source → ℕ
-entry_of source = option_map_or (entry_by (whole_of source)) (end_of (statements_of source)) 0
-
 unfoldable pub section_of : Source → AssembledParts
 section_of source =
     let stands = standing_of source in let storage = working_storage (storage_length (known_of source)) in
-    assembled stands.lines (size_of source) stands.relocs (entry_of source) storage
+    let entry = option_map_or (entry_by (whole_of source)) (end_of (statements_of source)) 0 in
+    assembled stands.lines (size_of source) stands.relocs entry storage
 
 abbrev pub made_of : Source → AssemblyParts
-made_of source = parts (section_of source) (listing_of (whole_of source) (section_of source).image.text source)
+made_of source =
+    let listing = map (listed (whole_of source) (section_of source).image.text) (placed_of source) in
+    record { section = section_of source; listing = listing }
 
 -- ---- faults
 abbrev pub fault_on : ℕ → FaultKind → AsmFault
@@ -93,6 +90,5 @@ assembly_of source =
 
 -- The answer is the one due, unless memory runs out.
 abbrev pub Assembles : Result AssemblyParts AsmFault → Result AssemblyParts AsmFault → Type 0
-Assembles due (Ok made) = due ≡ Ok made
 Assembles due (Err fault.Memory) = Unit {0}
-Assembles due (Err other) = due ≡ Err other
+Assembles due result = due ≡ result

@@ -1,13 +1,12 @@
 -- The listing (GC33-4010, "Assembler Listing"; the columns are own).
-use Rattle.std.specs.Prelude.{ℕ, ◌+◌, ◌-◌, if◌then◌else◌, Option, Some, None, List, [], length, map, slice_get, take, drop}
+use Rattle.std.specs.Prelude.{ℕ, ◌+◌, ◌-◌, if◌then◌else◌, Option, Some, None, List, [], length, slice_get, take, drop}
 use Rattle.std.specs.Option.{option_map_or}
-use Rattle.cx_source.specs.declared.source.Source.{Source}
 use Rattle.cx_pools.specs.Pools.{capped, literal_size}
 use Rattle.cx_places.specs.Known.{is_control, role_in}
 use Rattle.cx_places.specs.declared.roles.Role.{Role}
 use Rattle.cx_places.specs.declared.roles.Role.TheVariants.{Instruction, Storage}
 use Rattle.cx_image.specs.Listing.{listing_line}
-use Rattle.cx_second.specs.Statements.{PlacedItem, Stated, placed_items, placed_of, stated_in}
+use Rattle.cx_second.specs.Statements.{PlacedItem, Stated, placed_items, stated_in}
 use Rattle.cx_second.specs.Whole.{Whole}
 
 -- An instruction, a DS and a DC are listed with their offset.
@@ -40,7 +39,3 @@ line_with told text number written (Some s) =
 
 unfoldable pub listed : Whole → List ℕ → PlacedItem → List ℕ
 listed told text placed = line_with told text placed.item.line placed.item.text (stated_in placed)
-
--- a line for each of the source's
-abbrev pub listing_of : Whole → List ℕ → Source → List (List ℕ)
-listing_of told text source = map (listed told text) (placed_of source)

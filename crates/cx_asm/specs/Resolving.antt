@@ -1,5 +1,6 @@
 -- The resolved lines of a source, in address order (GC33-4010, "DC -- Define Constant", "DS -- Define Storage", "Literal Pool"; that they are lines is own).
-use Rattle.std.specs.Prelude.{ℕ, ◌-◌, zero, suc, Bool, true, false, ◌==◌, if◌then◌else◌, Option, option_and_then, unwrap_or, Result, Ok, Err, List, [], ◌∷◌, ◌++◌, length, slice_get}
+use Rattle.std.specs.Prelude.{ℕ, ◌-◌, Bool, true, false, ◌==◌, if◌then◌else◌, Option, option_and_then, unwrap_or, Result, Ok, Err, List, [], ◌∷◌, ◌++◌, length, slice_get}
+use Rattle.std.specs.List.{repeat}
 use Rattle.std.specs.Option.{option_map_or}
 use Rattle.std.specs.Result.{result_ok}
 use Rattle.cx_code.specs.declared.disassembly.Line.{Line}
@@ -40,11 +41,6 @@ abbrev pub joined : Standing → Standing → Standing
 joined one other = standing (one.lines ++ other.lines) (one.relocs ++ other.relocs)
 
 -- ---- constants
--- so many copies of bytes
-abbrev pub copies : ℕ → List ℕ → List ℕ
-copies zero bytes = []
-copies (suc n) bytes = bytes ++ copies n bytes
-
 -- bytes are a line where there are any, and so is a space
 abbrev pub data_line : ℕ → List ℕ → List Line
 data_line at [] = []
@@ -60,7 +56,7 @@ relocated at count is_relocated = if is_relocated then words_at at count else []
 -- a constant, by what one copy of it is; at fault it is nothing
 abbrev pub constant_standing : ℕ → Result Constant FaultKind → Result Made FaultKind → Standing
 constant_standing at (Ok item) (Ok made) =
-    standing (data_line at (copies item.duplication made.bytes)) (relocated at item.duplication made.is_relocated)
+    standing (data_line at (repeat item.duplication made.bytes)) (relocated at item.duplication made.is_relocated)
 constant_standing at item made = nothing
 
 -- an item of a DC, or a literal, at an offset

@@ -36,11 +36,11 @@ pub struct Assembly {
 
 impl Model for Assembly {
     ghost use Rattle.cx_image.specs.Assembled.{IsAssembled};
-    ghost use Rattle.cx_asm.specs.Assembly.{AssemblyParts, parts};
+    ghost use Rattle.cx_asm.specs.Assembly.{AssemblyParts};
 
     ghost Value = { AssemblyParts };
 
-    ghost view = { λ made. parts made.section made.listing.items };
+    ghost view = { λ made. record { section = made.section; listing = made.listing.items } };
 
     ghost invariant = { λ made. IsAssembled made.section };
 }

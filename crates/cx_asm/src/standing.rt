@@ -1,9 +1,10 @@
 //! What stands in the control section, in the making.
 
 ghost use Rattle.std.specs.Prelude.{◌≡◌, ◌++◌, ◌∷◌, [], IfOk, OnOk, true};
+ghost use Rattle.std.specs.List.{repeat};
 ghost use Rattle.cx_asm.specs.Laws.Standing.{IsWithin, WordsApart};
 ghost use Rattle.cx_asm.specs.Parts.Kept.{Fits, kept};
-ghost use Rattle.cx_asm.specs.Resolving.{copies, data_line, joined, line as resolved_line, nothing, relocated, space_line, standing};
+ghost use Rattle.cx_asm.specs.Resolving.{data_line, joined, line as resolved_line, nothing, relocated, space_line, standing};
 ghost use Rattle.cx_code.specs.declared.disassembly.What.TheVariants.{Code};
 
 use cx_code::{Bytes, Inst, Line, What};
@@ -30,7 +31,7 @@ impl Model for Standing {
 /// So many copies of bytes.
 #[tactic(auto, using(crate::proofs::JoinLemmas::copies_more, crate::proofs::JoinLemmas::copies_empty))]
 fn copies(alloc: Global, bytes: &[u8], count: u32) -> Result<Vec<u8>, AllocError>
-    ensures { IfOk result (λ found. found.items ≡ copies count bytes.now) }
+    ensures { IfOk result (λ found. found.items ≡ repeat count bytes.now) }
 {
     let mut found = Vec::new(alloc);
     if bytes.is_empty() {
@@ -88,9 +89,9 @@ impl Standing {
         keeps: bool,
     ) -> Result<(), AllocError>
         requires { let words = relocated at count made.now.is_relocated in
-            Fits keeps self.old (standing (data_line at (copies count made.now.bytes)) words) }
+            Fits keeps self.old (standing (data_line at (repeat count made.now.bytes)) words) }
         ensures { let words = relocated at count made.now.is_relocated in
-            OnOk result (self.new ≡ kept keeps self.old (standing (data_line at (copies count made.now.bytes)) words)) }
+            OnOk result (self.new ≡ kept keeps self.old (standing (data_line at (repeat count made.now.bytes)) words)) }
     {
         if !keeps {
             return Ok(());

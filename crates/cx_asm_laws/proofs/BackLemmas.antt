@@ -1,5 +1,6 @@
 -- The instructions of an accepted source are well formed, and its lines come back.
 use Rattle.std.specs.Prelude.{Result, Ok, Err, ◌==◌}
+use Rattle.std.specs.List.{repeat}
 use Rattle.std.specs.Option.{option_map_or}
 use Rattle.std.specs.Result.{result_ok}
 use Rattle.std.proofs.Common.{◌≡◌, ◌≤◌, ℕ, Bool, true, false, cond, Option, Some, None, List, [], ◌∷◌, ◌++◌, map, length, refl, subst}
@@ -33,7 +34,7 @@ use Rattle.cx_asm.specs.Assembly.{AssemblyParts, assembly_of, section_of, size_o
 use Rattle.cx_asm.specs.Facts.Accepted.{accepted}
 use Rattle.cx_asm.specs.Facts.Bases.{after_sixteen}
 use Rattle.cx_asm.specs.Laws.Standing.{IsWithin}
-use Rattle.cx_asm.specs.Resolving.{constant_standing, counter_at, data_line, data_standing, instruction_standing, item_standing, items_standing, last_pool, line, nothing, pool_standing, role_standing, space_standing, standing_from, statement_standing, copies}
+use Rattle.cx_asm.specs.Resolving.{constant_standing, counter_at, data_line, data_standing, instruction_standing, item_standing, items_standing, last_pool, line, nothing, pool_standing, role_standing, space_standing, standing_from, statement_standing}
 use Rattle.cx_asm_laws.specs.Laws.Back.{ComesBack}
 
 abbrev pub Resolves : Type 0
@@ -49,7 +50,7 @@ data_sound at [] = tt
 data_sound at (byte ∷ bytes) = (tt, tt)
 
 constant_sound : (at : ℕ) (item : Result Constant FaultKind) (made : Result Made FaultKind) → AreWellFormed (constant_standing at item made).lines
-constant_sound at (Ok item) (Ok made) = data_sound at (copies item.duplication made.bytes)
+constant_sound at (Ok item) (Ok made) = data_sound at (repeat item.duplication made.bytes)
 constant_sound at (Ok item) (Err fault) = tt
 constant_sound at (Err fault) made = tt
 

@@ -1,8 +1,8 @@
 -- The constants of an accepted source stand among its resolved lines.
 use Rattle.std.specs.Prelude.{Result, Ok, Err, Contains, ◌==◌, map, reverse}
-use Rattle.std.specs.List.{AllByRecursion}
+use Rattle.std.specs.List.{AllByRecursion, repeat}
 use Rattle.std.specs.Result.{result_err}
-use Rattle.std.proofs.Common.{◌≡◌, ℕ, Bool, true, false, cond, Option, Some, None, List, [], ◌∷◌, ◌++◌, length, refl, sym, ◌∙◌, ap, subst, arith}
+use Rattle.std.proofs.Common.{◌≡◌, ℕ, Bool, true, false, cond, Option, Some, None, List, [], ◌∷◌, ◌++◌, length, refl, sym, ap, subst, arith}
 use Rattle.std.proofs.lemmas.Grind.{reverse_onto}
 use Rattle.std.proofs.lemmas.List.{reverse-reverse}
 use Rattle.std.proofs.lemmas.List.Elements.{Contains-append_left, Contains-append_right}
@@ -10,14 +10,14 @@ use Rattle.cx_code.specs.declared.disassembly.Line.{Line}
 use Rattle.cx_code.specs.declared.disassembly.What.TheVariants.{Space}
 use Rattle.cx_source.specs.declared.source.Source.{Source}
 use Rattle.cx_terms.specs.Bytes.{Made}
-use Rattle.cx_terms.specs.Faults.{lower, lowest}
+use Rattle.cx_terms.specs.Faults.{lowest}
 use Rattle.cx_terms.specs.Items.{Constant, constant_in, size_of as constant_size}
 use Rattle.cx_terms.specs.declared.faults.FaultKind.{FaultKind}
 use Rattle.cx_terms.specs.declared.values.Value.{Value}
 use Rattle.cx_pools.specs.Pools.{Placed}
 use Rattle.cx_places.specs.Facts.Laid.{lower_none}
 use Rattle.cx_places.specs.Given.{location_counter}
-use Rattle.cx_places.specs.Known.{is_control, role_in}
+use Rattle.cx_places.specs.Known.{role_in}
 use Rattle.cx_places.specs.Laws.FirstFaults.{AreSound, IsFirstOf}
 use Rattle.cx_places.specs.Roles.{role_of}
 use Rattle.cx_places.specs.declared.roles.Role.{Role}
@@ -27,16 +27,15 @@ use Rattle.cx_operations.specs.declared.operations.Directive.TheVariants as dire
 use Rattle.cx_operations.specs.declared.operations.Operation.{Operation}
 use Rattle.cx_operations.specs.declared.operations.Operation.TheVariants as operation
 use Rattle.cx_operands.specs.Bases.{Bases, none_in_use}
-use Rattle.cx_operands.specs.Judging.{judged}
 use Rattle.cx_operands.specs.Values.{item_in}
 use Rattle.cx_second.specs.SecondFaults.{bases_after, item_fault, items_fault, judged_behind, operand_fault, second_fault}
 use Rattle.cx_second.specs.Statements.{Stated, operation_of, placed_items, statements_of}
 use Rattle.cx_second.specs.Whole.{Whole, item_made, pool_of, whole_of}
-use Rattle.cx_asm.specs.Assembly.{AssemblyParts, assembly_of, second_fault_of, standing_of}
+use Rattle.cx_asm.specs.Assembly.{second_fault_of, standing_of}
 use Rattle.cx_asm.specs.Facts.Accepted.{accepted}
 use Rattle.cx_asm.specs.Laws.SecondFirst.{second_faults_behind}
-use Rattle.cx_asm.specs.Resolving.{constant_standing, copies, counter_at, data_line, data_standing, item_standing, items_standing, last_pool, line, nothing, pool_standing, role_standing, space_line, space_standing, standing_from, statement_standing}
-use Rattle.cx_asm_laws.specs.Laws.Constants.{AcceptedStand, AreAmong, ConstantsStand, IsData, IsSpace, ItemStands, LiteralStands, PoolStands, RoleStands, StatementStands}
+use Rattle.cx_asm.specs.Resolving.{constant_standing, counter_at, data_line, data_standing, item_standing, items_standing, last_pool, line, nothing, pool_standing, role_standing, space_standing, standing_from, statement_standing}
+use Rattle.cx_asm_laws.specs.Laws.Constants.{AcceptedStand, AreAmong, ConstantsStand, IsData, IsSpace, ItemStands, PoolStands, RoleStands, StatementStands}
 use Rattle.cx_asm_laws.proofs.BackLemmas.{resolved_is}
 
 -- ---- lines among others
@@ -107,7 +106,7 @@ module _ (told : Whole) (resolved : List Line) where
         written = e;
         once = made;
         value = f;
-        stands = data_among resolved item.1 (copies constant.duplication made.bytes) h;
+        stands = data_among resolved item.1 (repeat constant.duplication made.bytes) h;
       }
       go (Err fault) (Ok made) e f sound h = absurd (no_value (item_made told false counter item.0) fault (made_written told false counter item.0 fault e) (ap result_err f))
       go found (Err fault) e f sound h = absurd (no_value (Err fault) fault refl sound)
@@ -132,8 +131,8 @@ module _ (told : Whole) (resolved : List Line) where
   pool_stands statements (e ∷ pool) h = (
     λ constant once written value.
         let there = has_left resolved (data_standing told (counter_at statements e.1.user) e.0 e.1.offset).lines (pool_standing told statements pool).lines h in
-        data_among resolved e.1.offset (copies constant.duplication once.bytes)
-        (has_same resolved (data_standing told (counter_at statements e.1.user) e.0 e.1.offset).lines (data_line e.1.offset (copies constant.duplication once.bytes)) (rw (written, value) refl) there),
+        data_among resolved e.1.offset (repeat constant.duplication once.bytes)
+        (has_same resolved (data_standing told (counter_at statements e.1.user) e.0 e.1.offset).lines (data_line e.1.offset (repeat constant.duplication once.bytes)) (rw (written, value) refl) there),
     pool_stands statements pool (has_right resolved (data_standing told (counter_at statements e.1.user) e.0 e.1.offset).lines (pool_standing told statements pool).lines h),
   )
 

@@ -1,13 +1,13 @@
 -- What stands in a section, and the words of it that loading raises: each is one of a constant's.
 use Rattle.std.proofs.Common.{◌≡◌, ◌⊎◌, inl, inr, ◌≤◌, ℕ, zero, suc, ◌+◌, ◌*◌, Bool, true, false, cond, ◌&&◌, ◌==◌, Option, Some, None, Ok, List, [], ◌∷◌, ◌++◌, length, refl, arith}
 use Rattle.std.specs.Prelude.{Err, Result, ℤ, ◌^◌}
-use Rattle.std.specs.List.{AllByRecursion}
+use Rattle.std.specs.List.{AllByRecursion, repeat}
 use Rattle.std.specs.Option.{option_map_or}
 use Rattle.cx_code.specs.declared.disassembly.Line.{Line}
-use Rattle.cx_terms.specs.Bytes.{Made, address_made, body_made, integer_bytes, is_below, made, made_of, placed, values_bytes, values_fault}
+use Rattle.cx_terms.specs.Bytes.{Made, address_made, body_made, made, made_of, placed, values_bytes, values_fault}
 use Rattle.cx_terms.specs.Expressions.{value_of}
 use Rattle.cx_terms.specs.Items.{Constant, constant_in, value_length, values_in}
-use Rattle.cx_terms.specs.Kinds.{row_of}
+use Rattle.cx_terms.specs.Kinds.{integer_bytes, is_below, row_of}
 use Rattle.cx_terms.specs.declared.faults.FaultKind.{FaultKind}
 use Rattle.cx_terms.specs.declared.faults.FaultKind.TheVariants.{NotRelocatable, ValueOutOfRange}
 use Rattle.cx_terms.specs.Weights.{stands_in}
@@ -28,7 +28,7 @@ use Rattle.cx_image.specs.Resolved.{end_of, is_code}
 use Rattle.cx_second.specs.SecondFaults.{bases_after}
 use Rattle.cx_second.specs.Statements.{Stated, operation_of, placed_items}
 use Rattle.cx_second.specs.Whole.{Whole, item_made, pool_of}
-use Rattle.cx_asm.specs.Resolving.{Standing, constant_standing, copies, counter_at, data_line, data_standing, instruction_standing, item_standing, items_standing, joined, last_pool, nothing, pool_standing, relocated, role_standing, space_standing, standing_from, statement_standing}
+use Rattle.cx_asm.specs.Resolving.{Standing, constant_standing, counter_at, data_line, data_standing, instruction_standing, item_standing, items_standing, joined, last_pool, nothing, pool_standing, relocated, role_standing, space_standing, standing_from, statement_standing}
 use Rattle.cx_command_arrival.proofs.TogetherLemmas.{length_joined}
 
 -- ---- a word among the bytes of a constant
@@ -122,15 +122,15 @@ data_words first [] at (suc n) low high = absurd (omega arith)
 data_words first (byte ∷ bytes) at (suc n) low high =
     (inl (record { constant = refl; begins = low; ends = omega arith }), data_words first (byte ∷ bytes) (at + 4) n (omega arith) (omega arith))
 
-copies_length : (n : ℕ) (bytes : List ℕ) → length bytes ≡ 4 → length (copies n bytes) ≡ 4 * n
+copies_length : (n : ℕ) (bytes : List ℕ) → length bytes ≡ 4 → length (repeat n bytes) ≡ 4 * n
 copies_length zero bytes e = omega arith
-copies_length (suc n) bytes e = (let more = copies_length n bytes e in let all = length_joined bytes (copies n bytes) in omega (arith, more, all, e))
+copies_length (suc n) bytes e = (let more = copies_length n bytes e in let all = length_joined bytes (repeat n bytes) in omega (arith, more, all, e))
 
 constant_held : (at : ℕ) (item : Result Constant FaultKind) (m : Result Made FaultKind) → HasFour m → IsHeld (constant_standing at item m)
 constant_held at (Ok item) (Ok m) four = go m.is_relocated refl
   where
-    go : (b : Bool) → m.is_relocated ≡ b → HaveWords (relocated at item.duplication b) (data_line at (copies item.duplication m.bytes))
-    go true is = (let all = copies_length item.duplication m.bytes (four is) in data_words at (copies item.duplication m.bytes) at item.duplication (omega arith) (omega (arith, all)))
+    go : (b : Bool) → m.is_relocated ≡ b → HaveWords (relocated at item.duplication b) (data_line at (repeat item.duplication m.bytes))
+    go true is = (let all = copies_length item.duplication m.bytes (four is) in data_words at (repeat item.duplication m.bytes) at item.duplication (omega arith) (omega (arith, all)))
     go false is = tt
 constant_held at (Ok item) (Err fault) four = tt
 constant_held at (Err fault) m four = tt

@@ -8,10 +8,10 @@ use Rattle.std.proofs.lemmas.Bool.Decides.{nat_tests}
 use Rattle.std.proofs.lemmas.List.{append_assoc, append-nil}
 use Rattle.cx_source.specs.Marks.{depth_behind, is_length_attribute, parts_from, within_behind}
 use Rattle.cx_source.specs.declared.marks.Mark.TheVariants.{TopComma}
-use Rattle.cx_terms.specs.Bytes.{digit_from_right, half_bytes, made, made_of}
+use Rattle.cx_terms.specs.Bytes.{made, made_of}
 use Rattle.cx_terms.specs.Digits.{digit, is_digit, worth_of}
 use Rattle.cx_terms.specs.Items.{constant, constant_in, value_body, written_in, written_item}
-use Rattle.cx_terms.specs.Kinds.{kind_of}
+use Rattle.cx_terms.specs.Kinds.{digit_from_right, half_bytes, kind_of}
 use Rattle.cx_terms.specs.Texts.{closed, is_doubled}
 use Rattle.cx_terms.specs.declared.kinds.ConstantKind.TheVariants.{Hexadecimal}
 use Rattle.cx_terms.specs.declared.values.Value.{Value}

@@ -1,6 +1,7 @@
 -- Where the literals of instructions stand in an assembly (OS/VS-DOS/VSE-VM/370 Assembler Language, GC33-4010, "Literals",
 -- "Literal Pool"; that they are resolved lines is this project's own).
 use Rattle.std.specs.Prelude.{◌≡◌, ℕ, pos, ◌<◌, true, false, Ok, Option, Some, List, ◌∷◌, ◌++◌, length, reverse, codes}
+use Rattle.std.specs.List.{repeat}
 use Rattle.cx_code.specs.declared.disassembly.Line.{Line}
 use Rattle.cx_code.specs.declared.disassembly.What.TheVariants.{Data}
 use Rattle.cx_source.specs.declared.source.Item.{Item}
@@ -16,7 +17,7 @@ use Rattle.cx_operands.specs.Forms.{literal_in}
 use Rattle.cx_operands.specs.Storage.{indexed_in}
 use Rattle.cx_operands.specs.declared.addresses.Address.{Address}
 use Rattle.cx_second.specs.Whole.{Whole, item_made, whole_of}
-use Rattle.cx_asm.specs.Resolving.{copies, line}
+use Rattle.cx_asm.specs.Resolving.{line}
 use Rattle.cx_asm.specs.Assembly.{AssemblyParts, assembly_of}
 use Rattle.cx_command_arrival.proofs.InStorage.{IsUnraised}
 use Rattle.cx_command_arrival.proofs.Resolved.{is_instruction_role}
@@ -30,7 +31,7 @@ pub record HasBytes (told : Whole) (text bytes : List ℕ) : Type 0 where
   pub written : constant_in false text ≡ Ok constant
   pub once : List ℕ
   pub everywhere : (counter : Option Value) → item_made told false counter text ≡ Ok (made once false)
-  pub all : copies constant.duplication once ≡ bytes
+  pub all : repeat constant.duplication once ≡ bytes
 
 -- An instruction's statement on a line of a source; `before` are the lines before it, the latest first.
 pub record HasInstruction (source : Source) (before : List Item) (number : ℕ) (s : Stmt) : Type 0 where

@@ -13,16 +13,16 @@ ghost use Rattle.cx_image.specs.Text.{text_of};
 
 /// Lines that stand apart in a section ascend: each ends at or before the place of every later one, and in the section.
 pub fn lines_ascend()
-    ensures ascend { (resolved : List Line) (size i j : ℕ) (any : Line) → AreApart 0 resolved size → i < j → j < length resolved
-        → end_of (get_or resolved i any) ≤ (get_or resolved j any).at }
-    ensures within { (resolved : List Line) (size i : ℕ) (any : Line) → AreApart 0 resolved size → i < length resolved
-        → end_of (get_or resolved i any) ≤ size }
+    ensures ascend { (all : List Line) (size i j : ℕ) (any : Line) → AreApart 0 all size → i < j → j < length all
+        → end_of (get_or all i any) ≤ (get_or all j any).at }
+    ensures within { (all : List Line) (size i : ℕ) (any : Line) → AreApart 0 all size → i < length all
+        → end_of (get_or all i any) ≤ size }
 {}
 
 /// The text of lines that stand apart has the section's size, each line's bytes stand at its place, and every byte that no
 /// line covers is zero; and no other text is so.
 pub fn the_text_is_told_by_its_bytes()
-    ensures is { (resolved : List Line) (size : ℕ) → AreApart 0 resolved size → IsTextOf resolved size (text_of resolved size) }
+    ensures is { (all : List Line) (size : ℕ) → AreApart 0 all size → IsTextOf all size (text_of all size) }
     ensures decides { (resolved : List Line) (size : ℕ) (one other : List ℕ) → IsTextOf resolved size one
         → IsTextOf resolved size other → one ≡ other }
 {}

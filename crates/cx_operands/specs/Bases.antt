@@ -1,5 +1,5 @@
 -- Base registers and what they hold (GC33-4010, "USING -- Use Base Address Register" and "DROP -- Drop Base Register").
-use Rattle.std.specs.Prelude.{ℕ, ℤ, pos, ◌+ℤ◌, Option, Some, None, List, [], ◌∷◌, replicate, slice_set}
+use Rattle.std.specs.Prelude.{ℕ, ℤ, pos, ◌+ℤ◌, Option, Some, None, List, [], ◌∷◌, replicate, slice_set, fold}
 use Rattle.cx_operands.specs.declared.bases.Base.{Base}
 
 -- by register, from 0, the place that it holds where it is in use
@@ -29,8 +29,7 @@ held section number (register ∷ registers) bases =
 
 -- The use of each of these registers ends, and of no other.
 abbrev pub ended : List ℕ → Bases → Bases
-ended [] bases = bases
-ended (register ∷ registers) bases = ended registers (slice_set bases register None)
+ended registers bases = fold (λ left register. slice_set left register None) bases registers
 
 -- A DROP ends the use of the registers that it names, or of every one where it names none.
 abbrev pub dropped : Option (List ℕ) → Bases → Bases

@@ -26,12 +26,9 @@ registers_in c (text ∷ texts) = made_of (λ v. v.0 ∷ v.1) (both (register_in
 abbrev pub place_in : Value → Result (List ℕ × ℤ) FaultKind
 place_in value = ok_or (option_map (λ section. (section, value.number)) value.section) NotRelocatable
 
-abbrev pub using_by : Result ((List ℕ × ℤ) × List ℕ) FaultKind → Result Using FaultKind
-using_by given = made_of (λ v. using_with v.0.0 v.0.1 v.1) given
-
 abbrev pub using_of : Context → List (List ℕ) → Result Using FaultKind
 using_of c (base ∷ register ∷ registers) =
-    using_by (both (judged place_in (worth c base)) (registers_in c (register ∷ registers)))
+    made_of (λ v. using_with v.0.0 v.0.1 v.1) (both (judged place_in (worth c base)) (registers_in c (register ∷ registers)))
 using_of c operands = Err BadOperand
 
 unfoldable pub using_in : Context → List ℕ → Result Using FaultKind

@@ -1,11 +1,7 @@
 -- Several operands judged together: of all their faults the lowest is told (own).
-use Rattle.std.specs.Prelude.{nat_le, if◌then◌else◌, Result, Ok, Err}
-use Rattle.cx_terms.specs.Faults.{number_of}
+use Rattle.std.specs.Prelude.{Result, Ok, Err}
+use Rattle.cx_terms.specs.Faults.{lower_of}
 use Rattle.cx_terms.specs.declared.faults.FaultKind.{FaultKind}
-
--- the one of two faults with the lower number
-abbrev pub lower_of : FaultKind → FaultKind → FaultKind
-lower_of one other = if nat_le (number_of one) (number_of other) then one else other
 
 -- both values, or the lower of the faults
 abbrev pub both : {A B : Type 0} → Result A FaultKind → Result B FaultKind → Result (A × B) FaultKind

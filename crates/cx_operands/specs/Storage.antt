@@ -2,14 +2,15 @@
 use Rattle.std.specs.Prelude.{ℕ, ◌-◌, Bool, true, ◌==◌, nat_le, if◌then◌else◌, Option, Some, None, Result, Ok, Err, List, [], ◌∷◌, length, map, take, drop, slice_index, option_map}
 use Rattle.std.specs.Option.{ok_or, option_map_or}
 use Rattle.std.specs.Result.{result_err}
+use Rattle.std.specs.Str.{byte}
 use Rattle.cx_source.specs.Marks.{first_mark, parts}
 use Rattle.cx_source.specs.declared.marks.Mark.TheVariants.{TopComma, Parenthesis}
-use Rattle.cx_terms.specs.Faults.{lowest}
+use Rattle.cx_terms.specs.Faults.{lower_of, lowest}
 use Rattle.cx_terms.specs.Items.{parenthesized_body}
 use Rattle.cx_terms.specs.declared.values.Value.{Value}
 use Rattle.cx_terms.specs.declared.faults.FaultKind.{FaultKind}
 use Rattle.cx_terms.specs.declared.faults.FaultKind.TheVariants.{BadOperand, ValueOutOfRange}
-use Rattle.cx_operands.specs.Judging.{both, judged, made_of, lower_of}
+use Rattle.cx_operands.specs.Judging.{both, judged, made_of}
 use Rattle.cx_operands.specs.Addresses.{address, implied_address}
 use Rattle.cx_operands.specs.Context.{Context, worth, number_in, number_at_most, register_in}
 use Rattle.cx_operands.specs.declared.addresses.Address.{Address}
@@ -30,7 +31,7 @@ expression_and_list text =
     else option_map (λ body. (take at text, parts TopComma body)) (parenthesized_body (drop at text))
 
 abbrev pub is_literal : List ℕ → Bool
-is_literal text = slice_index text 0 == 61
+is_literal text = slice_index text 0 == byte "="
 
 -- A literal stands for its place, where one may stand here. None where the text is no storage operand.
 unfoldable pub operand_in : Bool → Context → List ℕ → Option Operand

@@ -12,16 +12,17 @@ ghost use Rattle.cx_terms.specs.declared.faults.TermFault.TheVariants.{Refused};
 ghost use Rattle.cx_operations.specs.declared.operations.Directive.TheVariants as directive;
 ghost use Rattle.cx_operations.specs.declared.operations.Operation.TheVariants as operation;
 ghost use Rattle.cx_operands.specs.Judging.{both, judged, made_of};
+ghost use Rattle.cx_operands.specs.Bases.{using_with};
 ghost use Rattle.cx_operands.specs.Context.{context, register_in, told, worth};
-ghost use Rattle.cx_operands.specs.Directives.{bases_in, changes_bases, copy_fault, drop_in, entry_in, entry_of, place_in, registers_in, using_by, using_in, using_of};
+ghost use Rattle.cx_operands.specs.Directives.{bases_in, changes_bases, copy_fault, drop_in, entry_in, entry_of, place_in, registers_in, using_in, using_of};
 
 use crate::bases::{Bases, Dropped, Using};
 use crate::context::Context;
-use crate::judging::{Judged, lower_of};
+use crate::judging::Judged;
 use cx_ebcdic::Name8;
 use cx_operations::{Directive, Operation};
 use cx_source::{Mark, cut};
-use cx_terms::{FaultKind, SymbolTable, TermFault, Value, lower};
+use cx_terms::{FaultKind, SymbolTable, TermFault, Value, lower, lower_of};
 use std::alloc::{AllocError, Global};
 
 /// The last offset that may be an entry.
@@ -115,7 +116,8 @@ fn joined(
     registers: Result<Vec<u8>, FaultKind>,
 ) -> Result<Using, FaultKind>
     requires { IfOk place (λ place. unsigned_abs place.1 ≤ 2 ^ 100) }
-    ensures { result ≡ using_by (both place (made_of (λ registers. registers.items) registers)) }
+    ensures { let named = made_of (λ registers. registers.items) registers in
+        result ≡ made_of (λ v. using_with v.0.0 v.0.1 v.1) (both place named) }
 {
     match place {
         Ok((section, number)) => match registers {

@@ -296,8 +296,8 @@ pub fn literal_in(alloc: Global, operand: &[u8]) -> Result<Option<&[u8]>, AllocE
 
 /// A text, if it is a literal.
 fn literal_of(text: Option<&[u8]>) -> Option<&[u8]>
-    ensures { let literal = option_map (λ text. text.now) result in let written = option_map (λ text. text.now) text.entry in
-        literal ≡ option_and_then (λ text. if is_literal text then Some text else None) written }
+    ensures { let written = option_map (λ text. text.now) text.entry in option_map (λ text. text.now) result
+        ≡ option_and_then (λ text. if is_literal text then Some text else None) written }
 {
     let text = text?;
     if is_literal(text) { Some(text) } else { None }

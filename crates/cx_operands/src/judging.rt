@@ -1,24 +1,13 @@
 //! Several operands judged together.
 
 ghost use Rattle.std.specs.Prelude.{◌≡◌};
-ghost use Rattle.cx_operands.specs.Judging.{both, lower_of};
+ghost use Rattle.cx_operands.specs.Judging.{both};
 
-use cx_terms::FaultKind;
+use cx_terms::{FaultKind, lower_of};
 use std::alloc::AllocError;
 
 /// What is judged of an operand: a value or a fault, unless memory runs out.
 pub(crate) type Judged<T> = Result<Result<T, FaultKind>, AllocError>;
-
-/// The one of two faults with the lower number.
-pub(crate) fn lower_of(one: FaultKind, other: FaultKind) -> FaultKind
-    ensures { result ≡ lower_of one other }
-{
-    if one.number() <= other.number() {
-        one
-    } else {
-        other
-    }
-}
 
 /// Both values, or the lower of the faults.
 pub(crate) fn both<A: Drop, B: Drop>(

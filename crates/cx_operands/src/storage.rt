@@ -14,9 +14,9 @@ ghost use Rattle.cx_operands.specs.Storage.{addressed, counted_by, counted_in, c
 
 use crate::addresses::Address;
 use crate::context::{Context, number_of};
-use crate::judging::{Judged, both, lower_of};
+use crate::judging::{Judged, both};
 use cx_source::{Mark, cut, first_mark};
-use cx_terms::{FaultKind, Value, lower, parenthesized_body};
+use cx_terms::{FaultKind, Value, lower, lower_of, parenthesized_body};
 use std::alloc::{AllocError, Global};
 use std::marker::Model;
 

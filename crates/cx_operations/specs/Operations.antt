@@ -99,7 +99,6 @@ base_row (kinds.Directive d) = None
 
 -- the mask that a branch stands for
 abbrev pub mask_of : Operation → Option ℕ
-mask_of (kinds.Machine op) = None
 mask_of (kinds.Branch b) = Some (branch_of b).1
 mask_of (kinds.RegisterBranch b) = Some (register_branch_of b).1
-mask_of (kinds.Directive d) = None
+mask_of operation = None

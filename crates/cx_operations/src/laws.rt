@@ -6,7 +6,7 @@ ghost use Rattle.cx_operations.specs.declared.operations.Operation.{Operation};
 
 /// No two operations have one name: an operation is found under a name exactly where it has that name.
 pub fn one_name()
-    ensures { (name : List ℕ) (operation : Operation) → (operation_named name ≡ Some operation) ↔ (name_of operation ≡ name) }
+    ensures { (name : List ℕ) (it : Operation) → (operation_named name ≡ Some it) ↔ (name_of it ≡ name) }
 {
     cx_code::laws::one_mnemonic();
 }

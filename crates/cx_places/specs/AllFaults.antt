@@ -1,15 +1,12 @@
 -- The faults of all lines: of each the lowest, where the line's first one was met (own).
-use Rattle.std.specs.Prelude.{ℕ, ◌==◌, nat_le, if◌then◌else◌, Option, Some, None, option_and_then, List, [], ◌∷◌, reverse}
+use Rattle.std.specs.Prelude.{ℕ, ◌==◌, if◌then◌else◌, Option, Some, None, option_and_then, List, [], ◌∷◌, reverse}
 use Rattle.cx_source.specs.declared.source.Item.{Item}
 use Rattle.cx_source.specs.declared.source.Source.{Source}
 use Rattle.cx_source.specs.declared.source.Stmt.{Stmt}
-use Rattle.cx_terms.specs.Faults.{number_of}
+use Rattle.cx_terms.specs.Faults.{lower_of}
 use Rattle.cx_terms.specs.declared.faults.FaultKind.{FaultKind}
 use Rattle.cx_places.specs.Known.{Known, fault_in, known_behind, line_fault}
 use Rattle.cx_places.specs.declared.place.LineFault.{LineFault}
-
-abbrev pub lower_kind : FaultKind → FaultKind → FaultKind
-lower_kind one other = if nat_le (number_of one) (number_of other) then one else other
 
 -- a line of a table of the lines' lowest faults
 abbrev pub entry_fault : ℕ × FaultKind → LineFault
@@ -20,7 +17,7 @@ abbrev pub with_fault : ℕ → Option FaultKind → List LineFault → List Lin
 with_fault line None faults = faults
 with_fault line (Some kind) [] = line_fault line kind ∷ []
 with_fault line (Some kind) (fault ∷ more) =
-    if line == fault.line then line_fault fault.line (lower_kind fault.kind kind) ∷ more else fault ∷ with_fault line (Some kind) more
+    if line == fault.line then line_fault fault.line (lower_of fault.kind kind) ∷ more else fault ∷ with_fault line (Some kind) more
 
 -- the lowest fault of a line's statement, if one begins on it
 abbrev pub stmt_fault : Option Stmt → Known → Option FaultKind

@@ -1,9 +1,8 @@
 -- What a statement gives to symbols (GC33-4010, "Symbols", "EQU -- Equate Symbol", "CSECT", "DSECT"; DFHREGS and the member DFHAID are
 -- this product's own).
-use Rattle.std.specs.Prelude.{ℕ, ℤ, pos, neg_ℤ, int_le, ◌&&◌, not, Bool, false, if◌then◌else◌, codes, Option, Some, None, option_map, Result, Ok, Err, List, [], ◌∷◌, ◌++◌, map, is_some, unwrap_or}
+use Rattle.std.specs.Prelude.{ℕ, ℤ, pos, neg_ℤ, int_le, ◌&&◌, not, Bool, false, if◌then◌else◌, codes, Option, Some, None, option_map, Result, Ok, Err, List, [], ◌∷◌, ◌++◌, map, is_some}
 use Rattle.std.specs.List.{filter_map, list_any}
 use Rattle.std.specs.Option.{option_map_or}
-use Rattle.std.specs.Result.{result_ok}
 use Rattle.std.specs.Str.{bytes_eq}
 use Rattle.cx_ebcdic.specs.Aids.{key_of}
 use Rattle.cx_ebcdic.specs.declared.aids.Aid.TheVariants.{Enter, Clear, Pa1, Pa2, Pf1, Pf2, Pf3, Pf4, Pf5, Pf6, Pf7, Pf8, Pf9, Pf10, Pf11, Pf12}
@@ -84,10 +83,6 @@ abbrev pub definitions : Role → Option (List ℕ) → Option (List ℕ) → (L
 definitions Registers name control find operand value = row_symbols register_rows
 definitions Member name control find operand value = if bytes_eq operand (codes "DFHAID") then row_symbols aid_rows else []
 definitions role name control find operand value = named role name control find value
-
--- A value at fault is given, too: where only the name counts, any stands for it.
-abbrev pub any_value : Result (Option Value) FaultKind → Option Value
-any_value given = unwrap_or (result_ok given) (Some (absolute (pos 0)))
 
 -- A symbol keeps the value that it was given first; to define it again is a fault.
 abbrev pub is_any_known : (List ℕ → Option Value) → Symbols → Bool

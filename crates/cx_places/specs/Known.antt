@@ -1,6 +1,6 @@
 -- What the statements behind one tell of it, the latest first (GC33-4010, "CSECT", "DSECT", "EQU", "LTORG" and "Literal Pool"; the faults are
 -- this product's own).
-use Rattle.std.specs.Prelude.{ℕ, Bool, false, not, ◌==◌, if◌then◌else◌, Option, Some, None, option_and_then, option_map, Result, List, [], ◌∷◌, ◌++◌, length, is_some, unwrap_or}
+use Rattle.std.specs.Prelude.{ℕ, Bool, false, not, ◌==◌, if◌then◌else◌, Option, Some, None, option_and_then, option_map, Result, List, [], ◌∷◌, ◌++◌, length, is_some, map, unwrap_or, pos}
 use Rattle.std.specs.Option.{option_or}
 use Rattle.std.specs.Result.{result_err, result_ok}
 use Rattle.cx_operations.specs.Operations.{operation_named}
@@ -10,15 +10,15 @@ use Rattle.cx_source.specs.declared.source.Stmt.{Stmt}
 use Rattle.cx_source.specs.declared.source.Item.{Item}
 use Rattle.cx_terms.specs.Faults.{lower, lowest}
 use Rattle.cx_terms.specs.Names.{is_same, symbol_name}
-use Rattle.cx_terms.specs.Symbols.{Symbols, find_in}
+use Rattle.cx_terms.specs.Symbols.{Symbols, find_in, absolute}
 use Rattle.cx_terms.specs.Weights.{stands_in}
 use Rattle.cx_terms.specs.declared.faults.FaultKind.{FaultKind}
 use Rattle.cx_terms.specs.declared.faults.FaultKind.TheVariants.{UnknownOperation, BadOperand}
 use Rattle.cx_terms.specs.declared.values.Value.{Value}
-use Rattle.cx_pools.specs.Pools.{Pooled, Placed, capped, lowest_part, placed, pool_extent, with_parts}
+use Rattle.cx_pools.specs.Pools.{Pooled, Placed, capped, part_fault, placed, pool_extent, with_parts}
 use Rattle.cx_places.specs.Roles.{role_of}
 use Rattle.cx_places.specs.Layout.{beyond, laid}
-use Rattle.cx_places.specs.Given.{any_value, definitions, duplicate, value_given}
+use Rattle.cx_places.specs.Given.{definitions, duplicate, value_given}
 use Rattle.cx_places.specs.declared.layout.Laid.{Laid}
 use Rattle.cx_places.specs.declared.place.Place.{Place}
 use Rattle.cx_places.specs.declared.place.LineFault.{LineFault}
@@ -118,13 +118,13 @@ section_fault _ name section control = None
 -- the literals of an instruction, among them that the pool would go beyond the bound
 abbrev pub literal_fault : Role → ℕ → List (List ℕ) → Pooled → Option FaultKind
 literal_fault (Instruction size) user parts pool =
-    lower (lowest_part parts) (option_and_then beyond (pool_extent (with_parts user pool parts)))
+    lower (lowest (map part_fault parts)) (option_and_then beyond (pool_extent (with_parts user pool parts)))
 literal_fault _ user parts pool = None
 
--- It defines a name again, whatever its value.
+-- It defines a name again, whatever its value: where that is at fault, any stands for it.
 abbrev pub duplicate_in : Stmt → Known → Option FaultKind
 duplicate_in stmt known =
-    let value = any_value (given_in stmt known) in
+    let value = unwrap_or (result_ok (given_in stmt known)) (Some (absolute (pos 0))) in
     duplicate known.symbols (definitions (role_in stmt) (name_in stmt) known.control known.symbols stmt.operand value)
 
 -- all but the literals

@@ -1,6 +1,6 @@
 -- Where a statement stands in its section, and what it takes there (GC33-4010, "Location Counter Reference", "DC -- Define Constant",
 -- "DS -- Define Storage" and "Literal Pool").
-use Rattle.std.specs.Prelude.{ℕ, ◌+◌, ◌-◌, ◌*◌, ◌/◌, nat_le, if◌then◌else◌, Bool, Option, Some, None, Result, Ok, Err, List, [], ◌∷◌, map, slice_get, unwrap_or}
+use Rattle.std.specs.Prelude.{ℕ, ◌+◌, ◌-◌, ◌*◌, ◌/◌, nat_le, if◌then◌else◌, Bool, Option, Some, None, Result, Ok, Err, List, [], ◌∷◌, map, slice_get, unwrap_or, fold}
 use Rattle.std.specs.Option.{option_map_or}
 use Rattle.std.specs.Result.{result_err}
 use Rattle.cx_terms.specs.Digits.{bound}
@@ -43,8 +43,7 @@ offsets_from [] at = []
 offsets_from (item ∷ items) at = item_start item at ∷ offsets_from items (item_end item at)
 
 abbrev pub end_from : List StorageItem → ℕ → ℕ
-end_from [] at = at
-end_from (item ∷ items) at = end_from items (item_end item at)
+end_from items at = fold (λ end item. item_end item end) at items
 
 -- the length of one copy
 abbrev pub item_length : StorageItem → ℕ
@@ -53,10 +52,6 @@ item_length (Err fault) = 1
 
 abbrev pub laid_at : ℕ → List ℕ → ℕ → ℕ → Option FaultKind → Laid
 laid_at offset items end length fault = record { offset = offset; items = items; end = end; length = length; fault = fault }
-
--- nothing, at an offset
-abbrev pub nothing_at : ℕ → Laid
-nothing_at at = laid_at at [] at 1 None
 
 -- so many bytes on a boundary, with a length attribute
 abbrev pub bytes_at : ℕ → ℕ → ℕ → ℕ → Laid
@@ -76,4 +71,4 @@ unfoldable pub laid : Role → List (List ℕ) → Option ℕ → ℕ → Laid
 laid (Instruction size) parts extent at = bytes_at 2 (capped size) size at
 laid (Storage is_ds) parts extent at = items_at (items_in is_ds parts) at
 laid Pool parts (Some size) at = bytes_at 8 size 1 at
-laid _ parts extent at = nothing_at at
+laid _ parts extent at = laid_at at [] at 1 None

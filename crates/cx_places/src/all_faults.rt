@@ -1,33 +1,22 @@
 //! The faults of all lines.
 
 ghost use Rattle.std.specs.Prelude.{◌≡◌, [], IfOk, OnOk, map};
-ghost use Rattle.cx_places.specs.AllFaults.{entry_fault, lower_kind, with_fault};
+ghost use Rattle.cx_places.specs.AllFaults.{entry_fault, with_fault};
 ghost use Rattle.cx_places.specs.Parts.Faulty.{lowest_with};
 
 use crate::place::LineFault;
 use cx_tables::List;
-use cx_terms::FaultKind;
+use cx_terms::{FaultKind, lower_of};
 use indexmap::IndexMap;
 use std::alloc::{AllocError, Global};
 use std::marker::Model;
-
-/// The one of two faults with the lower number.
-fn lower_kind(one: FaultKind, other: FaultKind) -> FaultKind
-    ensures { result ≡ lower_kind one other }
-{
-    if one.number() <= other.number() {
-        one
-    } else {
-        other
-    }
-}
 
 /// The lower one of a line's fault in a table and another.
 fn lowest_with(table: &IndexMap<usize, FaultKind>, line: usize, kind: FaultKind) -> FaultKind
     ensures { result ≡ lowest_with line kind table.now.entries }
 {
     match table.get(&line) {
-        Some(first) => lower_kind(*first, kind),
+        Some(first) => lower_of(*first, kind),
         None => kind,
     }
 }

@@ -1,11 +1,11 @@
 //! What is told of a statement before anything changes.
 
-ghost use Rattle.std.specs.Prelude.{◌≡◌, ◌≤◌, ◌+◌, map, IfOk, IfSome, None, OnOk, List, is_some, unwrap_or, ℕ};
+ghost use Rattle.std.specs.Prelude.{◌≡◌, ◌≤◌, ◌+◌, map, IfOk, IfSome, None, OnOk, List, is_some, unwrap_or, ℕ, Some, pos};
 ghost use Rattle.std.specs.Result.{result_ok};
 ghost use Rattle.std.specs.Option.{option_or};
 ghost use Rattle.cx_terms.specs.Digits.{bound};
-ghost use Rattle.cx_terms.specs.Symbols.{find_in};
-ghost use Rattle.cx_places.specs.Given.{any_value, definitions, duplicate, value_given};
+ghost use Rattle.cx_terms.specs.Symbols.{find_in, absolute};
+ghost use Rattle.cx_places.specs.Given.{definitions, duplicate, value_given};
 
 use crate::faults::Heading;
 use crate::given::{AIDS, REGISTERS, define, define_rows, is_any_defined, resumes, value_given};
@@ -63,7 +63,7 @@ pub(crate) fn value_in(given: &Result<Option<Value>, FaultKind>) -> Option<Value
 
 /// Whether a value is given, be it at fault.
 fn gives_value(given: &Result<Option<Value>, FaultKind>) -> bool
-    ensures { result ≡ is_some (any_value given.now) }
+    ensures { result ≡ is_some (unwrap_or (result_ok given.now) (Some (absolute (pos 0)))) }
 {
     match given {
         Ok(value) => value.is_some(),
@@ -79,7 +79,8 @@ pub(crate) fn duplicate(
     given: &Result<Option<Value>, FaultKind>,
 ) -> Option<FaultKind>
     ensures { let h = heading.now in let find = find_in symbols.now in
-        result ≡ duplicate find (definitions h.role h.name h.control find operand.now (any_value given.now)) }
+        let value = unwrap_or (result_ok given.now) (Some (absolute (pos 0))) in
+        result ≡ duplicate find (definitions h.role h.name h.control find operand.now value) }
 {
     let is_known = match heading.role {
         Role::Registers => is_any_defined(symbols, &REGISTERS),

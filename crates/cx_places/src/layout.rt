@@ -1,11 +1,11 @@
 //! Where a statement stands in its section, and what it takes there.
 
-ghost use Rattle.std.specs.Prelude.{◌≡◌, ◌≤◌, ◌<◌, ◌+◌, ◌^◌, IfOk, IfSome, map, Ok, Err, Result};
+ghost use Rattle.std.specs.Prelude.{◌≡◌, ◌≤◌, ◌<◌, ◌+◌, ◌^◌, IfOk, IfSome, [], map, None, Ok, Err, Result};
 ghost use Rattle.std.specs.Result.{result_err};
 ghost use Rattle.cx_terms.specs.Digits.{bound};
 ghost use Rattle.cx_terms.specs.Items.{constant_in};
 ghost use Rattle.cx_pools.specs.Pools.{capped};
-ghost use Rattle.cx_places.specs.Layout.{aligned, beyond, bytes_at, item_end, item_start, items_at, items_in, laid, nothing_at};
+ghost use Rattle.cx_places.specs.Layout.{aligned, beyond, bytes_at, item_end, item_start, items_at, items_in, laid, laid_at};
 
 use crate::roles::Role;
 use cx_pools::capped;
@@ -120,7 +120,7 @@ fn items_at(alloc: Global, is_ds: bool, parts: &[&[u8]], next: u128) -> Result<L
 impl Laid {
     /// Nothing, at an offset.
     fn nothing_at(alloc: Global, at: u128) -> Laid
-        ensures { result ≡ nothing_at at }
+        ensures { result ≡ laid_at at [] at 1 None }
     {
         Laid {
             offset: at,

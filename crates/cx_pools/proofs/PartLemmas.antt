@@ -1,10 +1,12 @@
 -- Operands of an instruction, one after the other.
-use Rattle.std.specs.Prelude.{if◌then◌else◌, Result, Ok, Err}
+use Rattle.std.specs.Prelude.{if◌then◌else◌, Result, Ok, Err, is_some}
+use Rattle.std.specs.Map.{lookup}
+use Rattle.std.specs.Str.{bytes_eq}
 use Rattle.std.specs.Option.{option_map_or}
 use Rattle.std.proofs.Common.{◌≡◌, ◌<◌, ℕ, zero, suc, Bool, true, false, Option, Some, None, List, [], ◌∷◌, ◌++◌, ◌≤◌, length, length-append, get_or, map, take, refl, ap, arith, Bor}
 use Rattle.cx_terms.specs.Items.{Constant, constant_in}
 use Rattle.cx_terms.specs.declared.faults.FaultKind.{FaultKind}
-use Rattle.cx_pools.specs.Pools.{Pooled, is_pooled, literal_text, with_constant, with_literal, with_part, with_parts}
+use Rattle.cx_pools.specs.Pools.{Pooled, literal_text, with_constant, with_literal, with_part, with_parts}
 use Rattle.cx_pools.specs.declared.open.Used.{Used}
 
 pub one_more : (user : ℕ) (pool : Pooled) (operands : List (Bor (List ℕ))) (i : ℕ) (d : Bor (List ℕ)) → i < length operands
@@ -25,7 +27,7 @@ not_itself pool e same =
     omega (arith, long, equal)
 
 literal_grows : (pool : Pooled) (text : List ℕ) (used : Used) → Grows pool (with_literal pool text used)
-literal_grows pool text used = go (is_pooled text pool)
+literal_grows pool text used = go (is_some (lookup (bytes_eq text) pool))
   where
     go : (b : Bool) → Grows pool (if b then pool else pool ++ (text, used) ∷ [])
     go true = (omega arith, λ short. refl)
@@ -57,5 +59,5 @@ first_kept user pool part parts same =
     (part_grows user pool part).1 (omega (arith, more, equal))
 
 -- a text that isn't pooled puts itself in
-pub put_new : (pool : Pooled) (text : List ℕ) (used : Used) → is_pooled text pool ≡ false → with_literal pool text used ≡ pool → ⊥
+pub put_new : (pool : Pooled) (text : List ℕ) (used : Used) → is_some (lookup (bytes_eq text) pool) ≡ false → with_literal pool text used ≡ pool → ⊥
 put_new pool text used none same = not_itself pool (text, used) (rw none at same)

@@ -1,13 +1,12 @@
 -- Literals and their pools (GC33-4010, "Literals" and "Literal Pool").
-use Rattle.std.specs.Prelude.{◌≡◌, ℕ, ◌+◌, ◌%◌, Bool, false, ◌==◌, nat_le, if◌then◌else◌, is_some, Option, Some, None, option_and_then, Result, Ok, Err, List, [], ◌∷◌, ◌++◌, map, take, drop, slice_index, sum_by}
+use Rattle.std.specs.Prelude.{◌≡◌, ℕ, ◌+◌, ◌%◌, false, ◌==◌, nat_le, if◌then◌else◌, is_some, Option, Some, None, option_and_then, Result, Ok, Err, List, [], ◌∷◌, ◌++◌, map, take, drop, slice_index, sum_by, fold}
 use Rattle.std.specs.List.{filter}
 use Rattle.std.specs.Map.{lookup}
 use Rattle.std.specs.Option.{option_map_or}
 use Rattle.std.specs.Result.{result_err}
-use Rattle.std.specs.Str.{bytes_eq}
+use Rattle.std.specs.Str.{byte, bytes_eq}
 use Rattle.std.specs.Borrow.{Bor}
 use Rattle.cx_terms.specs.Digits.{bound}
-use Rattle.cx_terms.specs.Faults.{lowest}
 use Rattle.cx_terms.specs.Items.{Constant, constant_in, size_of}
 use Rattle.cx_terms.specs.declared.faults.FaultKind.{FaultKind}
 use Rattle.cx_pools.specs.declared.open.Used.{Used}
@@ -22,16 +21,13 @@ capped n = if nat_le n bound then n else bound + 1
 abbrev pub Pooled : Type 0
 Pooled = List (List ℕ × Used)
 
-abbrev pub is_pooled : List ℕ → Pooled → Bool
-is_pooled text pool = is_some (lookup (bytes_eq text) pool)
-
 -- equal texts stand once
 abbrev pub with_literal : Pooled → List ℕ → Used → Pooled
-with_literal pool text used = if is_pooled text pool then pool else pool ++ (text, used) ∷ []
+with_literal pool text used = if is_some (lookup (bytes_eq text) pool) then pool else pool ++ (text, used) ∷ []
 
 -- an operand that begins with an equals sign is a literal, and what stands behind the sign is its text
 abbrev pub literal_text : List ℕ → Option (List ℕ)
-literal_text part = if slice_index part 0 == 61 then Some (drop 1 part) else None
+literal_text part = if slice_index part 0 == byte "=" then Some (drop 1 part) else None
 
 abbrev pub with_constant : ℕ → Pooled → List ℕ → Result Constant FaultKind → Pooled
 with_constant user pool text (Ok constant) = with_literal pool text (record { size = size_of constant; user = user })
@@ -44,15 +40,11 @@ with_part user pool part =
 
 -- with all operands of the statement
 abbrev pub with_parts : ℕ → Pooled → List (List ℕ) → Pooled
-with_parts user pool [] = pool
-with_parts user pool (part ∷ parts) = with_parts user (with_part user pool part) parts
+with_parts user pool parts = fold (with_part user) pool parts
 
 -- what is wrong with an operand that is a literal: it is no constant, or its lengths are outside their limits
 abbrev pub part_fault : List ℕ → Option FaultKind
 part_fault part = option_and_then (λ text. result_err (constant_in false text)) (literal_text part)
-
-abbrev pub lowest_part : List (List ℕ) → Option FaultKind
-lowest_part parts = lowest (map part_fault parts)
 
 -- Of several operands that may be literals the first ones are in.
 pub record UsesFirst (user : ℕ) (parts : List (List ℕ)) (old new : Pooled) : Type 0 where
@@ -91,13 +83,11 @@ grouped pool = of_group 8 pool ++ of_group 4 pool ++ of_group 2 pool ++ of_group
 abbrev pub Placed : Type 0
 Placed = List (List ℕ × Literal)
 
-abbrev pub stands_at : ℕ → Used → Literal
-stands_at offset used = record { offset = offset; user = used.user }
-
 -- They stand one behind the other, from an offset on.
 abbrev pub placed_from : ℕ → Pooled → Placed
 placed_from offset [] = []
-placed_from offset (e ∷ es) = (e.0, stands_at offset e.1) ∷ placed_from (capped (offset + e.1.size)) es
+placed_from offset (e ∷ es) =
+    (e.0, record { offset = offset; user = e.1.user }) ∷ placed_from (capped (offset + e.1.size)) es
 
 -- the literals of a pool that begins at an offset
 abbrev pub placed : ℕ → Pooled → Placed

@@ -4,8 +4,9 @@ ghost use Rattle.std.specs.Prelude.{◌≡◌, ◌≤◌, ◌+◌, [], ◌∷◌
 ghost use Rattle.std.specs.List.{IsDistinct};
 ghost use Rattle.std.specs.Map.{keys_of, lookup};
 ghost use Rattle.std.specs.Str.{bytes_eq};
-ghost use Rattle.cx_pools.specs.Pools.{UsesFirst, capped, literal_text, lowest_part, part_fault, pool_extent, pool_size, with_literal, with_part, with_parts, by_text};
+ghost use Rattle.cx_pools.specs.Pools.{UsesFirst, capped, literal_text, part_fault, pool_extent, pool_size, with_literal, with_part, with_parts, by_text};
 ghost use Rattle.cx_terms.specs.Digits.{bound};
+ghost use Rattle.cx_terms.specs.Faults.{lowest};
 
 use crate::texts::push_used;
 use cx_terms::{Constant, FaultKind, lower};
@@ -173,7 +174,7 @@ impl<'a> OpenPool<'a> {
         user: usize,
     ) -> Result<Option<FaultKind>, AllocError>
         ensures used { OnOk result (self.new ≡ with_parts user self.old (map (λ part. part.now) parts.now)) }
-        ensures fault { IfOk result (λ fault. fault ≡ lowest_part (map (λ part. part.now) parts.now)) }
+        ensures fault { IfOk result (λ fault. fault ≡ lowest (map part_fault (map (λ part. part.now) parts.now))) }
         ensures err { OnErr result (UsesFirst user (map (λ part. part.now) parts.now) self.old self.new) }
         ensures known { with_parts user self.old (map (λ part. part.now) parts.now) ≡ self.old → IsOk result }
     {

@@ -1,5 +1,5 @@
 -- What the lines of a source are made into: what is written of it, and its image; or why they give no program (own).
-use Rattle.std.specs.Prelude.{ℕ, ◌≡◌, Bool, if◌then◌else◌, Result, Ok, Err, List, [], ◌∷◌, ◌++◌, flat_map, map}
+use Rattle.std.specs.Prelude.{ℕ, ◌≡◌, Bool, if◌then◌else◌, Result, Ok, Err, List, [], ◌++◌, codes, flat_map, map}
 use Rattle.cx_asm.specs.Assembly.{AssemblyParts, assembly_of}
 use Rattle.cx_asm.specs.declared.faults.AsmFault.{AsmFault}
 use Rattle.cx_code.specs.Text.{line_text}
@@ -15,14 +15,11 @@ use Rattle.cx_prepare.specs.declared.program.Prepared.{Prepared}
 
 -- lines, each ended by LF
 abbrev pub ended : List ℕ → List ℕ
-ended line = line ++ 10 ∷ []
-
-abbrev pub lines_text : List (List ℕ) → List ℕ
-lines_text all = flat_map ended all
+ended line = line ++ codes "\n"
 
 -- what is written: the listing and then the disassembly, each where it is wanted
 abbrev pub where_wanted : Bool → List (List ℕ) → List ℕ
-where_wanted wanted all = if wanted then lines_text all else []
+where_wanted wanted all = if wanted then flat_map ended all else []
 
 unfoldable pub written : Bool → Bool → AssemblyParts → List ℕ
 written listing disassembly assembly =
@@ -47,6 +44,5 @@ prepared_of listing disassembly all = by_source listing disassembly (source_in a
 
 -- The answer is the one due, unless memory runs out.
 abbrev pub Prepares : Result Prepared PrepareFault → Result Prepared PrepareFault → Type 0
-Prepares due (Ok found) = due ≡ Ok found
 Prepares due (Err Memory) = Unit {0}
-Prepares due (Err fault) = due ≡ Err fault
+Prepares due result = due ≡ result

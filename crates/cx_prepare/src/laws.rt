@@ -12,5 +12,6 @@ pub fn no_source_is_refused_for_memory()
 /// Lines behind the 10,001st don't matter: a source that has not ended with the 10,000th is refused.
 #[tactic(auto, using(crate::proofs::KeptLemmas::prepared_kept))]
 pub fn lines_behind_the_10001st_do_not_matter()
-    ensures { (listing disassembly : Bool) (all : List (List ℕ)) → prepared_of listing disassembly (take 10001 all) ≡ prepared_of listing disassembly all }
+    ensures { (listing code : Bool) (all : List (List ℕ)) → let made = prepared_of listing code in
+        made (take 10001 all) ≡ made all }
 {}

@@ -1,11 +1,11 @@
 //! A source prepared for execution.
 
-ghost use Rattle.std.specs.Prelude.{◌≡◌, ◌++◌, ◌∷◌, [], IfOk, OnOk, fold, map};
+ghost use Rattle.std.specs.Prelude.{◌≡◌, ◌++◌, ◌∷◌, [], IfOk, OnOk, flat_map, fold, map};
 ghost use Rattle.cx_asm.specs.Assembly.{assembly_of};
 ghost use Rattle.cx_code.specs.Text.{line_text};
 ghost use Rattle.cx_source.specs.Reader.{at_start, take_line};
 ghost use Rattle.cx_translate.specs.Translation.{translation_of};
-ghost use Rattle.cx_prepare.specs.Prepared.{Prepares, by_assembly, by_translation, ended, lines_text, prepared_of, written};
+ghost use Rattle.cx_prepare.specs.Prepared.{Prepares, by_assembly, by_translation, ended, prepared_of, written};
 
 use crate::faults::PrepareFault;
 use cx_asm::{Assembly, assemble};
@@ -34,7 +34,7 @@ fn push_line(text: &mut Vec<u8>, line: &[u8]) -> Result<(), AllocError>
 
 /// Puts lines behind a text.
 fn push_lines(text: &mut Vec<u8>, lines: &[Text]) -> Result<(), AllocError>
-    ensures { OnOk result (text.new.items ≡ text.old.items ++ lines_text lines.now) }
+    ensures { OnOk result (text.new.items ≡ text.old.items ++ flat_map ended lines.now) }
 {
     for line in lines {
         push_line(text, line.as_slice())?;
@@ -44,7 +44,7 @@ fn push_lines(text: &mut Vec<u8>, lines: &[Text]) -> Result<(), AllocError>
 
 /// Puts the lines of a disassembly behind a text.
 fn push_disassembly(alloc: Global, text: &mut Vec<u8>, lines: &[Line]) -> Result<(), AllocError>
-    ensures { OnOk result (text.new.items ≡ text.old.items ++ lines_text (map line_text lines.now)) }
+    ensures { OnOk result (text.new.items ≡ text.old.items ++ flat_map ended (map line_text lines.now)) }
 {
     for line in lines {
         push_line(text, line_text(alloc, line)?.as_bytes())?;

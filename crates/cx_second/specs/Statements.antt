@@ -64,9 +64,6 @@ abbrev pub is_end_operation : Option Operation → Bool
 is_end_operation (Some (operation.Directive directive.End)) = true
 is_end_operation operation = false
 
-abbrev pub is_end : Stated → Bool
-is_end s = is_end_operation (operation_of s)
-
 -- the first END
 abbrev pub end_of : List Stated → Option Stated
-end_of statements = find is_end statements
+end_of statements = find (λ s. is_end_operation (operation_of s)) statements

@@ -8,7 +8,6 @@ use Rattle.cx_terms.specs.declared.values.Value.{Value}
 use Rattle.cx_terms.specs.declared.faults.FaultKind.{FaultKind}
 use Rattle.cx_terms.specs.Symbols.{find_in}
 use Rattle.cx_pools.specs.Pools.{Placed, literal_text}
-use Rattle.cx_pools.specs.declared.closed.Literal.{Literal}
 use Rattle.cx_places.specs.Given.{location_counter}
 use Rattle.cx_places.specs.Layout.{item_length}
 use Rattle.cx_places.specs.Known.{Known, role_in}

@@ -4,7 +4,7 @@ ghost use Rattle.std.specs.Prelude.{◌≡◌, IfOk, IsOk, length, map, option_m
 ghost use Rattle.std.specs.List.{filter_map, find, zip};
 ghost use Rattle.cx_places.specs.Known.{parts_in, role_in};
 ghost use Rattle.cx_places.specs.Placed.{known_of};
-ghost use Rattle.cx_second.specs.Statements.{end_of, is_end, operation_of, placed_items, placed_of, stated_in};
+ghost use Rattle.cx_second.specs.Statements.{end_of, operation_of, placed_items, placed_of, stated_in, is_end_operation};
 
 use cx_operations::{Directive, Operation};
 use cx_places::{Place, Places, Role};
@@ -106,7 +106,7 @@ impl<'a> Statement<'a> {
 
     /// Whether it is an END. It takes no memory.
     pub fn is_end(&self) -> bool
-        ensures { result ≡ is_end self.now }
+        ensures { result ≡ is_end_operation (operation_of self.now) }
     {
         self.operation() == Some(Operation::Directive(Directive::End))
     }

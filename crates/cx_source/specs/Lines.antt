@@ -1,10 +1,11 @@
 -- The lines of a source (OS/VS-DOS/VSE-VM/370 Assembler Language, GC33-4010, "Assembler Language Coding Conventions").
 use Rattle.std.specs.Prelude.{ℕ, ◌-◌, Bool, true, ◌&&◌, ◌||◌, not, ◌==◌, nat_le, List, [], ◌∷◌, length, take, drop, slice_index}
 use Rattle.std.specs.List.{list_all, list_any, suffix_len, position_or_len, before_first}
+use Rattle.std.specs.Str.{byte}
 
 -- a blank
 abbrev pub is_blank : ℕ → Bool
-is_blank c = c == 32
+is_blank c = c == byte " "
 
 -- any other character
 abbrev pub is_written : ℕ → Bool
@@ -33,15 +34,15 @@ is_marked text = list_any is_written (columns 72 72 text)
 -- A comment: an asterisk in column 1, or blank to column 72.
 unfoldable pub is_comment : List ℕ → Bool
 is_comment [] = true
-is_comment (c ∷ cs) = c == 42
+is_comment (c ∷ cs) = c == byte "*"
 
 -- One of A to Z, @ # $.
 unfoldable pub is_letter : ℕ → Bool
-is_letter c = (nat_le 65 c && nat_le c 90) || (c == 64) || (c == 35) || (c == 36)
+is_letter c = (nat_le (byte "A") c && nat_le c (byte "Z")) || (c == byte "@") || (c == byte "#") || (c == byte "$")
 
 -- One of A to Z, @ # $, 0 to 9.
 unfoldable pub is_name_character : ℕ → Bool
-is_name_character c = is_letter c || (nat_le 48 c && nat_le c 57)
+is_name_character c = is_letter c || (nat_le (byte "0") c && nat_le c (byte "9"))
 
 -- A name: 1 to 8 of these, the first a letter.
 unfoldable pub is_name : List ℕ → Bool

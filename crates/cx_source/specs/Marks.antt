@@ -1,5 +1,6 @@
 -- Which characters of an operand lie outside apostrophes, and cutting an operand there (GC33-4010, "Expressions" and "Terms").
 use Rattle.std.specs.Prelude.{ℕ, ◌+◌, ◌-◌, Bool, false, ◌&&◌, ◌||◌, not, ◌==◌, if◌then◌else◌, List, [], ◌∷◌, ◌++◌, slice_index}
+use Rattle.std.specs.Str.{byte}
 use Rattle.cx_source.specs.Lines.{is_letter, is_name_character}
 use Rattle.cx_source.specs.declared.marks.Scan.{Scan}
 use Rattle.cx_source.specs.declared.marks.Mark.{Mark}
@@ -8,16 +9,16 @@ use Rattle.cx_source.specs.declared.marks.Mark.TheVariants.{TopComma, Blank, Par
 -- L' before a letter, where L begins a term: no name's character stands before it. `before` and `last` are the two characters before the apostrophe.
 unfoldable pub is_length_attribute : ℕ → ℕ → List ℕ → Bool
 is_length_attribute before last behind =
-    last == 76 && not (is_name_character before) && is_letter (slice_index behind 0)
+    last == byte "L" && not (is_name_character before) && is_letter (slice_index behind 0)
 
 -- Before an operand's first character: outside apostrophes and parentheses, as behind a blank.
 abbrev pub at_start : Scan
-at_start = record { within = false; depth = 0; before = 32; last = 32 }
+at_start = record { within = false; depth = 0; before = byte " "; last = byte " " }
 
 -- An apostrophe ends the text that it stands in, and outside of one it opens one, unless it is that of a length attribute. (So of two in a text the second opens it again.)
 unfoldable pub within_behind : Scan → ℕ → List ℕ → Bool
 within_behind scan c behind =
-    if c == 39 then not scan.within && not (is_length_attribute scan.before scan.last behind) else scan.within
+    if c == byte "'" then not scan.within && not (is_length_attribute scan.before scan.last behind) else scan.within
 
 -- The character c, with what stands behind it, lies outside apostrophes: neither in a text nor one of its apostrophes.
 abbrev pub lies_outside : Scan → ℕ → List ℕ → Bool
@@ -26,8 +27,8 @@ lies_outside scan c behind = not scan.within && not (within_behind scan c behind
 -- how many parentheses outside apostrophes are open behind the character
 unfoldable pub depth_behind : Scan → ℕ → List ℕ → ℕ
 depth_behind scan c behind =
-    if lies_outside scan c behind && c == 40 then scan.depth + 1
-    else (if lies_outside scan c behind && c == 41 then scan.depth - 1 else scan.depth)
+    if lies_outside scan c behind && c == byte "(" then scan.depth + 1
+    else (if lies_outside scan c behind && c == byte ")" then scan.depth - 1 else scan.depth)
 
 -- behind the character
 abbrev pub passed : Scan → ℕ → List ℕ → Scan
@@ -44,10 +45,10 @@ outside text = outside_from at_start text
 
 -- where a text is cut: at commas in no parentheses, at blanks, at parentheses, at a closing parenthesis that none in the text opens
 abbrev pub is_mark : Mark → ℕ → ℕ → Bool
-is_mark TopComma depth c = c == 44 && depth == 0
-is_mark Blank depth c = c == 32
-is_mark Parenthesis depth c = c == 40 || c == 41
-is_mark Closing depth c = c == 41 && depth == 0
+is_mark TopComma depth c = c == byte "," && depth == 0
+is_mark Blank depth c = c == byte " "
+is_mark Parenthesis depth c = c == byte "(" || c == byte ")"
+is_mark Closing depth c = c == byte ")" && depth == 0
 
 -- the place of the first mark outside apostrophes, or the length
 abbrev pub first_from : Mark → Scan → List ℕ → ℕ

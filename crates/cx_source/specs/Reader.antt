@@ -1,6 +1,7 @@
 -- What a reader of a source is after the bytes that it was fed (this product's own; the source is that of GC33-4010).
 use Rattle.std.specs.Prelude.{ℕ, ◌+◌, ◌≡◌, Bool, false, ◌==◌, if◌then◌else◌, Result, Ok, Err, IfOk, IsOkUnless, List, [], ◌∷◌, ◌++◌, length, fold}
 use Rattle.std.specs.Option.{option_map_or}
+use Rattle.std.specs.Str.{byte}
 use Rattle.std.specs.Str.Lines.{strip_carriage_return}
 use Rattle.cx_source.specs.Lines.{text_of}
 use Rattle.cx_source.specs.Statements.{is_continued, is_last}
@@ -46,13 +47,13 @@ with_line continues line reading =
 
 -- After a byte: LF ends a line. After END and after a fault no byte changes anything.
 abbrev pub with_byte : Progress → Reading → ℕ → Reading
-with_byte (Expects continues) reading byte =
-    if byte == 10 then with_line continues (strip_carriage_return reading.unfinished) reading
-    else record { texts = reading.texts; unfinished = reading.unfinished ++ byte ∷ []; progress = reading.progress }
-with_byte progress reading byte = reading
+with_byte (Expects continues) reading b =
+    if b == byte "\n" then with_line continues (strip_carriage_return reading.unfinished) reading
+    else record { texts = reading.texts; unfinished = reading.unfinished ++ b ∷ []; progress = reading.progress }
+with_byte progress reading b = reading
 
 unfoldable pub take_byte : Reading → ℕ → Reading
-take_byte reading byte = with_byte reading.progress reading byte
+take_byte reading b = with_byte reading.progress reading b
 
 -- after a piece of the source
 abbrev pub take_piece : Reading → List ℕ → Reading

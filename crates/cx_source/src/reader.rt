@@ -77,7 +77,8 @@ fn take_line(
     continues: bool,
     line: &[u8],
 ) -> Result<Progress, AllocError>
-    ensures progress { IfOk result (λ progress. progress ≡ behind_line continues (length texts.old.items + 1) line.now) }
+    ensures progress { let number = length texts.old.items + 1 in
+        IfOk result (λ progress. progress ≡ behind_line continues number line.now) }
     ensures texts { IfOk result (λ progress. texts.new.items ≡ texts_with progress texts.old.items (text_of line.now)) }
     ensures err { OnErr result (texts.new.items ≡ texts.old.items) }
 {
@@ -106,7 +107,8 @@ fn finish_line(
     continues: bool,
     line: &[u8],
 ) -> Result<Source, SourceFault>
-    ensures { Answers (finish (record { texts = texts.items; unfinished = line.now; progress = Progress.Expects continues })) result }
+    ensures { let progress = Progress.Expects continues in
+        Answers (finish (record { texts = texts.items; unfinished = line.now; progress = progress })) result }
 {
     let number = texts.len() + 1;
     if line.is_empty() {

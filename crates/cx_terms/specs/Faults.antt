@@ -25,11 +25,15 @@ name_of ValueOutOfRange = codes "ValueOutOfRange"
 name_of NotRelocatable = codes "NotRelocatable"
 name_of TooLarge = codes "TooLarge"
 
+-- the one of two with the lower number
+abbrev pub lower_of : FaultKind → FaultKind → FaultKind
+lower_of one other = if nat_le (number_of one) (number_of other) then one else other
+
 -- the one of two faults with the lower number, where there is any
 abbrev pub lower : Option FaultKind → Option FaultKind → Option FaultKind
 lower None other = other
 lower (Some one) None = Some one
-lower (Some one) (Some other) = Some (if nat_le (number_of one) (number_of other) then one else other)
+lower (Some one) (Some other) = Some (lower_of one other)
 
 -- the one of a list with the lowest number, where there is any
 abbrev pub lowest : List (Option FaultKind) → Option FaultKind

@@ -1,16 +1,16 @@
 -- One item of a DC, a DS or a literal (GC33-4010, "DC -- Define Constant"): duplication factor, type, length modifier, nominal value.
-use Rattle.std.specs.Prelude.{ℕ, ◌+◌, ◌*◌, ◌/◌, Bool, true, false, not, ◌&&◌, ◌||◌, ◌==◌, if◌then◌else◌, Option, Some, None, Result, Ok, Err, List, [], ◌∷◌, length, take, drop, slice_index, option_map, option_and_then, is_some, unwrap_or, sum_by}
-use Rattle.std.specs.List.{list_all, prefix_len, take_while}
+use Rattle.std.specs.Prelude.{ℕ, ◌+◌, ◌*◌, Bool, not, ◌&&◌, ◌==◌, if◌then◌else◌, Option, Some, None, Result, Ok, Err, List, [], ◌∷◌, length, take, drop, slice_index, option_map, option_and_then, is_some, unwrap_or, sum_by}
+use Rattle.std.specs.List.{prefix_len, take_while}
 use Rattle.std.specs.Option.{option_map_or}
+use Rattle.std.specs.Str.{byte}
 use Rattle.cx_source.specs.Marks.{first_mark}
 use Rattle.cx_source.specs.declared.marks.Mark.TheVariants.{Closing}
 use Rattle.cx_terms.specs.Digits.{at_most, is_digit, number_in}
-use Rattle.cx_terms.specs.Texts.{closed, is_doubled, is_paired, characters}
+use Rattle.cx_terms.specs.Texts.{closed}
 use Rattle.cx_terms.specs.Worth.{greatest}
-use Rattle.cx_terms.specs.Kinds.{row_of, kind_of, greatest_modifier}
-use Rattle.cx_terms.specs.Fields.{fields, is_decimal, unsigned}
+use Rattle.cx_terms.specs.Kinds.{kind_of, row_of}
+use Rattle.cx_terms.specs.Fields.{fields}
 use Rattle.cx_terms.specs.declared.kinds.ConstantKind.{ConstantKind}
-use Rattle.cx_terms.specs.declared.kinds.ConstantKind.TheVariants.{Character, Hexadecimal, Binary, Packed, Address, External}
 use Rattle.cx_terms.specs.declared.kinds.Style.{Style}
 use Rattle.cx_terms.specs.declared.kinds.Style.TheVariants.{Values, Expression, Nothing}
 use Rattle.cx_terms.specs.declared.faults.FaultKind.{FaultKind}
@@ -41,33 +41,21 @@ constant duplication kind modifier value = record { duplication = duplication; k
 abbrev pub behind_digits : List ℕ → List ℕ
 behind_digits text = drop (prefix_len (is_digit 10) text) text
 
--- what stands in apostrophes
-abbrev pub quoted_body : List ℕ → Option (List ℕ)
-quoted_body value = if slice_index value 0 == 39 then closed (drop 1 value) else None
-
 -- what stands in one pair of parentheses: the one that closes the first character is the last
 abbrev pub parenthesized_body : List ℕ → Option (List ℕ)
 parenthesized_body value =
     let behind = drop 1 value in
-    if slice_index value 0 == 40 && first_mark Closing behind + 1 == length behind then Some (take (first_mark Closing behind) behind) else None
+    if slice_index value 0 == byte "(" && first_mark Closing behind + 1 == length behind then Some (take (first_mark Closing behind) behind) else None
 
 abbrev pub body_in : Style → List ℕ → Option (List ℕ)
 body_in Expression value = parenthesized_body value
 body_in Nothing value = None
-body_in style value = quoted_body value
-
--- A value's text is whole: in C apostrophes and ampersands stand in twos, in other texts apostrophes do; the values of P without a length modifier are decimals, since they give the length.
-abbrev pub is_whole : ConstantKind → Bool → List ℕ → Bool
-is_whole Character modified body = is_paired body
-is_whole Packed modified body = is_doubled 39 false body && (modified || list_all is_decimal (fields body))
-is_whole Address modified body = true
-is_whole External modified body = true
-is_whole kind modified body = is_doubled 39 false body
+body_in style value = if slice_index value 0 == byte "'" then closed (drop 1 value) else None
 
 -- the value of an item, where it is one and isn't empty
 abbrev pub value_body : ConstantKind → Bool → List ℕ → Option (List ℕ)
 value_body kind modified value =
-    option_and_then (λ body. if not (length body == 0) && is_whole kind modified body then Some body else None) (body_in (row_of kind).style value)
+    option_and_then (λ body. if not (length body == 0) && (row_of kind).is_whole modified body then Some body else None) (body_in (row_of kind).style value)
 
 -- A DS needs no value.
 abbrev pub with_value : Bool → List ℕ → ConstantKind → Option (List ℕ) → List ℕ → Option Written
@@ -78,7 +66,7 @@ with_value is_ds duplication kind modifier value =
 -- L and at least one digit are a length modifier, where the type takes one.
 abbrev pub with_modifier : Bool → List ℕ → ConstantKind → List ℕ → Option Written
 with_modifier is_ds duplication kind rest =
-    if slice_index rest 0 == 76 then
+    if slice_index rest 0 == byte "L" then
     (let digits = take_while (is_digit 10) (drop 1 rest) in
     if not ((row_of kind).greatest_in_dc == 0) && not (length digits == 0)
     then with_value is_ds duplication kind (Some digits) (behind_digits (drop 1 rest)) else None)
@@ -99,13 +87,12 @@ duplication_in digits = if length digits == 0 then Some 1 else at_most greatest 
 abbrev pub modifier_in : Bool → ConstantKind → Option (List ℕ) → Option (Option ℕ)
 modifier_in is_ds kind None = Some None
 modifier_in is_ds kind (Some digits) =
-    let written = at_most (greatest_modifier is_ds kind) (number_in 10 digits) in
-    option_map Some (option_and_then (λ number. if number == 0 then None else Some number) written)
+    let most = if is_ds then (row_of kind).greatest_in_ds else (row_of kind).greatest_in_dc in
+    option_map Some (option_and_then (λ number. if number == 0 then None else Some number) (at_most most (number_in 10 digits)))
 
 abbrev pub limited : Option ℕ → Option (Option ℕ) → ConstantKind → Option (List ℕ) → Result Constant FaultKind
-limited None modifier kind value = Err ValueOutOfRange
-limited (Some duplication) None kind value = Err ValueOutOfRange
 limited (Some duplication) (Some modifier) kind value = Ok (constant duplication kind modifier value)
+limited duplication modifier kind value = Err ValueOutOfRange
 
 abbrev pub judged : Bool → Written → Result Constant FaultKind
 judged is_ds item = limited (duplication_in item.duplication) (modifier_in is_ds item.kind item.modifier) item.kind item.value
@@ -124,18 +111,9 @@ abbrev pub values_in : Style → List ℕ → List (List ℕ)
 values_in Values body = fields body
 values_in style body = body ∷ []
 
--- The length that a value gives itself: the bytes that hold its characters, its half bytes, its bits, or its digits
--- with the sign, half a byte each; else that of its type.
-abbrev pub natural_length : ConstantKind → List ℕ → ℕ
-natural_length Character value = length (characters value)
-natural_length Hexadecimal value = (length value + 1) / 2
-natural_length Binary value = (length value + 7) / 8
-natural_length Packed value = length (unsigned value) / 2 + 1
-natural_length kind value = (row_of kind).alignment
-
 -- the length of one value: the modifier, or its own
 abbrev pub value_length : ConstantKind → Option ℕ → List ℕ → ℕ
-value_length kind modifier value = unwrap_or modifier (natural_length kind value)
+value_length kind modifier value = unwrap_or modifier ((row_of kind).own_length value)
 
 -- the length of one copy: of all its values, without duplication
 unfoldable pub length_of : Constant → ℕ

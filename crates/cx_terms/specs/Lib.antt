@@ -7,8 +7,8 @@ pub mod Terms
 pub mod Worth
 pub mod Weights
 pub mod Expressions
-pub mod Kinds
 pub mod Fields
+pub mod Kinds
 pub mod Items
 pub mod Bytes
 pub mod Laws

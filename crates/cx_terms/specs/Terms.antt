@@ -1,5 +1,6 @@
 -- The terms of an expression (GC33-4010, "Terms" and "Expressions").
 use Rattle.std.specs.Prelude.{ℕ, Bool, not, ◌&&◌, ◌||◌, ◌==◌, nat_le, if◌then◌else◌, Option, Some, None, List, [], ◌∷◌, ◌++◌, length, map, drop, slice_index, option_and_then, codes}
+use Rattle.std.specs.Str.{byte}
 use Rattle.cx_ebcdic.specs.Lookup.{each_some}
 use Rattle.cx_source.specs.Lines.{is_name}
 use Rattle.cx_source.specs.Marks.{outside}
@@ -28,14 +29,14 @@ abbrev pub term_of : Sign → TermKind → List ℕ → Term
 term_of sign kind text = record { sign = sign; kind = kind; text = text }
 
 abbrev pub is_sign : ℕ → Bool
-is_sign c = c == 43 || c == 45
+is_sign c = c == byte "+" || c == byte "-"
 
 -- The parts between signs. With each character comes whether it lies outside apostrophes; `text` is what stands of the first part already.
 abbrev pub parts_from : Sign → List ℕ → List ℕ → List Bool → List Part
 parts_from sign text [] outs = part_of sign text ∷ []
 parts_from sign text (c ∷ behind) [] = parts_from sign (text ++ c ∷ []) behind []
 parts_from sign text (c ∷ behind) (out ∷ outs) =
-    if out && is_sign c then part_of sign text ∷ parts_from (if c == 45 then Minus else Plus) [] behind outs
+    if out && is_sign c then part_of sign text ∷ parts_from (if c == byte "-" then Minus else Plus) [] behind outs
     else parts_from sign (text ++ c ∷ []) behind outs
 
 -- the parts of an expression, cut at the signs that lie outside apostrophes; before the first stands a plus
@@ -53,22 +54,22 @@ is_short_text body = is_paired body && has_codes body && not (length body == 0) 
 -- X'..', B'..' and C'..', of at most 4 bytes
 abbrev pub self_defining : Sign → ℕ → List ℕ → Option Term
 self_defining sign letter body =
-    if letter == 88 && is_short_number 16 8 body then Some (term_of sign Hexadecimal body)
-    else (if letter == 66 && is_short_number 2 32 body then Some (term_of sign Binary body)
-    else (if letter == 67 && is_short_text body then Some (term_of sign Characters body) else None))
+    if letter == byte "X" && is_short_number 16 8 body then Some (term_of sign Hexadecimal body)
+    else (if letter == byte "B" && is_short_number 2 32 body then Some (term_of sign Binary body)
+    else (if letter == byte "C" && is_short_text body then Some (term_of sign Characters body) else None))
 
 -- what a letter and an apostrophe begin
 abbrev pub quoted_term : Sign → ℕ → List ℕ → Option Term
 quoted_term sign letter behind =
-    if letter == 76 then (if is_name behind then Some (term_of sign LengthOf behind) else None)
+    if letter == byte "L" then (if is_name behind then Some (term_of sign LengthOf behind) else None)
     else option_and_then (self_defining sign letter) (closed behind)
 
 -- The term that a part writes, if it writes one: a letter and an apostrophe begin it, or it is an asterisk, a symbol
 -- or a decimal.
 unfoldable pub read_term : Part → Option Term
 read_term part =
-    if slice_index part.text 1 == 39 then quoted_term part.sign (slice_index part.text 0) (drop 2 part.text)
-    else (if slice_index part.text 0 == 42 && length part.text == 1 then Some (term_of part.sign Here [])
+    if slice_index part.text 1 == byte "'" then quoted_term part.sign (slice_index part.text 0) (drop 2 part.text)
+    else (if slice_index part.text 0 == byte "*" && length part.text == 1 then Some (term_of part.sign Here [])
     else (if is_name part.text then Some (term_of part.sign Symbol part.text)
     else (if is_number 10 part.text then Some (term_of part.sign Decimal part.text) else None)))
 

@@ -2,11 +2,12 @@
 use Rattle.std.specs.Prelude.{ℕ, ◌-◌, Bool, false, not, ◌&&◌, ◌||◌, ◌==◌, if◌then◌else◌, Option, Some, None, is_some, List, [], ◌∷◌, length, map, take, unwrap_or, slice_index}
 use Rattle.std.specs.List.{list_all}
 use Rattle.std.specs.Int.Digits.{number_from_digits}
+use Rattle.std.specs.Str.{byte}
 use Rattle.cx_ebcdic.specs.Characters.{code_of}
 
 -- what stands before the apostrophe that ends a text
 abbrev pub closed : List ℕ → Option (List ℕ)
-closed behind = if slice_index behind (length behind - 1) == 39 then Some (take (length behind - 1) behind) else None
+closed behind = if slice_index behind (length behind - 1) == byte "'" then Some (take (length behind - 1) behind) else None
 
 -- A mark stands in twos alone; `opened` says that one stands before already.
 abbrev pub is_doubled : ℕ → Bool → List ℕ → Bool
@@ -15,10 +16,10 @@ is_doubled mark opened (c ∷ cs) = if c == mark then is_doubled mark (not opene
 
 -- Apostrophes and ampersands stand in twos.
 abbrev pub is_paired : List ℕ → Bool
-is_paired body = is_doubled 39 false body && is_doubled 38 false body
+is_paired body = is_doubled (byte "'") false body && is_doubled (byte "&") false body
 
 abbrev pub is_mark : ℕ → Bool
-is_mark c = c == 39 || c == 38
+is_mark c = c == byte "'" || c == byte "&"
 
 -- the characters, of two apostrophes or ampersands one
 abbrev pub single : Bool → List ℕ → List ℕ

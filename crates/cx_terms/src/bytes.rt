@@ -1,6 +1,6 @@
 //! The bytes of a constant.
 
-ghost use Rattle.std.specs.Prelude.{◌≡◌, ◌≤◌, ◌<◌, ◌-◌, ◌*◌, ◌^◌, ◌++◌, IfOk, map, replicate, take};
+ghost use Rattle.std.specs.Prelude.{◌≡◌, ◌≤◌, ◌<◌, ◌-◌, ◌*◌, ◌^◌, IfOk, None, Some, if◌then◌else◌, map};
 ghost use Rattle.std.specs.Option.{option_copied};
 ghost use Rattle.cx_terms.specs.Digits.{worth_of};
 ghost use Rattle.cx_terms.specs.Symbols.{find_in};
@@ -8,7 +8,8 @@ ghost use Rattle.cx_terms.specs.Expressions.{Answers};
 ghost use Rattle.cx_terms.specs.Items.{value_length, values_in};
 ghost use Rattle.cx_terms.specs.Weights.{stands_in};
 ghost use Rattle.cx_terms.specs.Texts.{characters, code};
-ghost use Rattle.cx_terms.specs.Bytes.{bad_unless, bit_from_right, bits_from_right, bounded_decimal, digit_from_right, half_byte, half_bytes, integer_bytes, integer_fault, is_below, made, made_of, placed, plain_made, packed_from_right, value_bytes, value_fault, values_bytes, values_fault};
+ghost use Rattle.cx_terms.specs.Bytes.{made, made_of, placed, plain_made, values_bytes, values_fault};
+ghost use Rattle.cx_terms.specs.Kinds.{bit_from_right, bits_from_right, bounded_decimal, character_bytes, digit_from_right, half_byte, half_bytes, integer_bytes, integer_fault, is_below, packed_from_right, row_of};
 
 use crate::digits::{digit, is_number, number};
 use crate::expressions::value_of;
@@ -99,7 +100,7 @@ fn codes_of(alloc: Global, body: &[u8]) -> Result<Vec<u8>, AllocError>
 
 /// So many bytes of characters: filled with blanks, or cut, on the right.
 fn character_bytes(alloc: Global, n: usize, body: &[u8]) -> Result<Vec<u8>, AllocError>
-    ensures { IfOk result (λ found. found.items ≡ take n (map code (characters body.now) ++ replicate n 64)) }
+    ensures { IfOk result (λ found. found.items ≡ character_bytes body.now n) }
 {
     let mut found = codes_of(alloc, body)?;
     let blanks = vec![in alloc; BLANK; n]?;
@@ -259,7 +260,7 @@ fn decimal_number(field: &[u8]) -> Option<i128>
 
 /// The fault of a binary number of n bytes.
 fn integer_fault(n: usize, value: &[u8]) -> Option<FaultKind>
-    ensures { result ≡ integer_fault n value.now }
+    ensures { result ≡ integer_fault value.now n }
 {
     if !is_decimal(value) {
         return Some(FaultKind::BadOperand);
@@ -272,7 +273,7 @@ fn integer_fault(n: usize, value: &[u8]) -> Option<FaultKind>
 
 /// BadOperand for a value that isn't good.
 fn bad_unless(good: bool) -> Option<FaultKind>
-    ensures { result ≡ bad_unless good }
+    ensures { result ≡ (if good then None else Some FaultKind.BadOperand) }
 {
     if good {
         None
@@ -283,7 +284,7 @@ fn bad_unless(good: bool) -> Option<FaultKind>
 
 /// The fault of one value.
 fn fault_of_value(kind: ConstantKind, modifier: Option<u16>, value: &[u8]) -> Option<FaultKind>
-    ensures { result ≡ value_fault kind (value_length kind modifier value.now) value.now }
+    ensures { result ≡ (row_of kind).fault value.now (value_length kind modifier value.now) }
 {
     match kind {
         ConstantKind::Character => bad_unless(has_codes(value)),
@@ -305,7 +306,8 @@ fn bytes_of_value(
     modifier: Option<u16>,
     value: &[u8],
 ) -> Result<Vec<u8>, AllocError>
-    ensures { IfOk result (λ found. found.items ≡ value_bytes kind (value_length kind modifier value.now) value.now) }
+    ensures { let n = value_length kind modifier value.now in
+        IfOk result (λ found. found.items ≡ (row_of kind).bytes value.now n) }
 {
     let n = value_length(kind, modifier, value);
     match kind {

@@ -1,7 +1,7 @@
 //! What may be wrong with a statement.
 
 ghost use Rattle.std.specs.Prelude.{◌≡◌, codes};
-ghost use Rattle.cx_terms.specs.Faults.{lower, name_of, number_of};
+ghost use Rattle.cx_terms.specs.Faults.{lower, lower_of, name_of, number_of};
 ghost use Rattle.cx_terms.specs.declared.faults.TermFault.TheVariants.{Memory};
 
 use std::alloc::{AllocError, AllocFailed};
@@ -70,6 +70,17 @@ impl FaultKind {
     }
 }
 
+/// The one of two kinds with the lower number. It takes no memory.
+pub fn lower_of(one: FaultKind, other: FaultKind) -> FaultKind
+    ensures { result ≡ lower_of one other }
+{
+    if one.number() <= other.number() {
+        one
+    } else {
+        other
+    }
+}
+
 /// The one of two faults with the lower number, where there is any.
 pub fn lower(one: Option<FaultKind>, other: Option<FaultKind>) -> Option<FaultKind>
     ensures { result ≡ lower one other }
@@ -77,11 +88,7 @@ pub fn lower(one: Option<FaultKind>, other: Option<FaultKind>) -> Option<FaultKi
     match (one, other) {
         (None, _) => other,
         (_, None) => one,
-        (Some(first), Some(second)) => Some(if first.number() <= second.number() {
-            first
-        } else {
-            second
-        }),
+        (Some(first), Some(second)) => Some(lower_of(first, second)),
     }
 }
 

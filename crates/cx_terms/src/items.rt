@@ -4,8 +4,8 @@ ghost use Rattle.std.specs.Prelude.{◌≡◌, ◌≤◌, ◌<◌, ◌^◌, is_s
 ghost use Rattle.std.specs.List.{prefix_len, take_while};
 ghost use Rattle.std.specs.Option.{option_map};
 ghost use Rattle.cx_terms.specs.Digits.{at_most, bound, is_digit, number_in};
-ghost use Rattle.cx_terms.specs.Kinds.{kind_of};
-ghost use Rattle.cx_terms.specs.Items.{behind_digits, body_in, constant, constant_in, duplication_in, is_whole, judged, modifier_in, parenthesized_body, quoted_body, value_body, with_modifier, with_value, written_in, written_item};
+ghost use Rattle.cx_terms.specs.Kinds.{kind_of, row_of};
+ghost use Rattle.cx_terms.specs.Items.{behind_digits, body_in, constant, constant_in, duplication_in, judged, modifier_in, parenthesized_body, value_body, with_modifier, with_value, written_in, written_item};
 
 use crate::digits::{is_digit, number};
 use crate::faults::FaultKind;
@@ -50,7 +50,7 @@ impl<'a> Model for Constant<'a> {
 
     ghost Value = { ConstantValue };
 
-    ghost view = { λ item. constant item.duplication item.kind item.modifier (option_map (λ body. body.now) item.value) };
+    ghost view = { λ it. constant it.duplication it.kind it.modifier (option_map (λ body. body.now) it.value) };
 }
 
 /// How many digits a text begins with.
@@ -74,17 +74,6 @@ fn split_digits(text: &[u8]) -> (&[u8], &[u8])
     text.split_at(digit_count(text))
 }
 
-/// What stands in apostrophes.
-fn quoted_body(value: &[u8]) -> Option<&[u8]>
-    ensures { option_map (λ body. body.now) result ≡ quoted_body value.now }
-{
-    if value.is_empty() || value[0] != APOSTROPHE {
-        return None;
-    }
-    let (_, behind) = value.split_at(1);
-    closed(behind)
-}
-
 /// What stands in one pair of parentheses, which is the whole text; None where the text is anything else (GC33-4010,
 /// "Expressions"). Parentheses close in pairs.
 pub fn parenthesized_body(value: &[u8]) -> Option<&[u8]>
@@ -103,7 +92,13 @@ fn body_in(style: Style, value: &[u8]) -> Option<&[u8]>
     ensures { option_map (λ body. body.now) result ≡ body_in style value.now }
 {
     match style {
-        Style::Text | Style::Values => quoted_body(value),
+        Style::Text | Style::Values => {
+            if value.is_empty() || value[0] != APOSTROPHE {
+                return None;
+            }
+            let (_, behind) = value.split_at(1);
+            closed(behind)
+        }
         Style::Expression => parenthesized_body(value),
         Style::Nothing => None,
     }
@@ -111,7 +106,7 @@ fn body_in(style: Style, value: &[u8]) -> Option<&[u8]>
 
 /// Whether a value's text is whole.
 fn is_whole(kind: ConstantKind, modified: bool, body: &[u8]) -> bool
-    ensures { result ≡ is_whole kind modified body.now }
+    ensures { result ≡ (row_of kind).is_whole modified body.now }
 {
     match kind {
         ConstantKind::Character => is_paired(body),
@@ -203,7 +198,8 @@ impl<'a> Written<'a> {
         modifier: Option<&'a [u8]>,
         value: &'a [u8],
     ) -> Option<Written<'a>>
-        ensures { result ≡ with_value is_ds duplication.now kind (option_map (λ digits. digits.now) modifier.entry) value.now }
+        ensures { let digits = option_map (λ digits. digits.now) modifier.entry in
+            result ≡ with_value is_ds duplication.now kind digits value.now }
     {
         if value.is_empty() {
             if !is_ds {

@@ -1,7 +1,7 @@
 //! The types of constants.
 
-ghost use Rattle.std.specs.Prelude.{◌≡◌, ◌<◌, ◌≤◌, ◌^◌, ◌==◌, not};
-ghost use Rattle.cx_terms.specs.Kinds.{greatest_modifier, kind_of, row_of};
+ghost use Rattle.std.specs.Prelude.{◌≡◌, ◌<◌, ◌≤◌, ◌^◌, ◌==◌, if◌then◌else◌, not};
+ghost use Rattle.cx_terms.specs.Kinds.{kind_of, row_of};
 
 /// A type of constant (GC33-4010, "DC -- Define Constant").
 #[derive(Clone, Copy, Debug, PartialEq, Eq)]
@@ -103,7 +103,7 @@ impl ConstantKind {
 
     /// The greatest length modifier, in DS or in DC; 0 where it takes none.
     pub fn greatest_modifier(self, is_ds: bool) -> u128
-        ensures greatest { result ≡ greatest_modifier is_ds self }
+        ensures greatest { result ≡ (if is_ds then (row_of self).greatest_in_ds else (row_of self).greatest_in_dc) }
         ensures bound { result < 2 ^ 16 }
     {
         match self {

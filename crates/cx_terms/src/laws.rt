@@ -2,6 +2,7 @@
 
 ghost use Rattle.std.specs.Prelude.{◌≡◌, ◌∷◌, ◌↔◌, ◌<◌, ◌^◌, ℕ, List, Option, Some, true, length};
 ghost use Rattle.std.specs.List.{flat_map};
+ghost use Rattle.std.specs.Str.{byte};
 ghost use Rattle.cx_terms.specs.Digits.{is_number, number_in};
 ghost use Rattle.cx_terms.specs.Faults.{lowest};
 ghost use Rattle.cx_terms.specs.Kinds.{kind_of, row_of};
@@ -16,27 +17,27 @@ ghost use Rattle.cx_terms.specs.declared.expressions.Signed.{Signed};
 /// The terms of an expression, written one behind the other, each with its sign, are a plus and the expression's text.
 #[tactic(auto, using(crate::proofs::WrittenLemmas::written_again))]
 pub fn terms_written_again_are_the_text()
-    ensures { (text : List ℕ) (terms : List Term) → terms_of text ≡ Some terms → flat_map written terms ≡ 43 ∷ text }
+    ensures { (text : List ℕ) (all : List Term) → terms_of text ≡ Some all → flat_map written all ≡ byte "+" ∷ text }
 {}
 
 /// A sum weighs in one way at most: it is absolute, or a place in one section.
 #[tactic(auto, using(crate::proofs::WeighLemmas::decides))]
 pub fn weighing_decides()
-    ensures { (values : List Signed) (one other : Option (List ℕ)) → Weighs values one → Weighs values other → one ≡ other }
+    ensures { (sum : List Signed) (one other : Option (List ℕ)) → Weighs sum one → Weighs sum other → one ≡ other }
 {}
 
 /// The section that is answered for a sum is the one that it weighs in, and none is answered exactly where it weighs in
 /// none.
 #[tactic(auto, using(crate::proofs::WeighLemmas::where_it_weighs))]
 pub fn a_sum_is_where_it_weighs()
-    ensures { (values : List Signed) (section : Option (List ℕ)) → (relocation values ≡ Some section) ↔ Weighs values section }
+    ensures { (sum : List Signed) (section : Option (List ℕ)) → (relocation sum ≡ Some section) ↔ Weighs sum section }
 {}
 
 /// The number that digits of a base write is below the base raised to their number, and the number of characters is below
 /// 256 raised to theirs: so a self-defining term of n bytes is below 2^(8n), since two hexadecimal or eight binary digits,
 /// or one character, make a byte.
 pub fn self_defining_terms_fit()
-    ensures digits { (base : ℕ) (text : List ℕ) → is_number base text ≡ true → number_in base text < base ^ length text }
+    ensures digits { (base : ℕ) (it : List ℕ) → is_number base it ≡ true → number_in base it < base ^ length it }
     ensures characters { (body : List ℕ) → character_number body < 256 ^ length (characters body) }
 {}
 

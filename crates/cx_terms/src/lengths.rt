@@ -2,7 +2,8 @@
 
 ghost use Rattle.std.specs.Prelude.{◌≡◌, ◌≤◌, ◌<◌, ◌+◌, ◌-◌, ◌*◌, ◌/◌, ◌^◌, length, sum_by};
 ghost use Rattle.cx_terms.specs.Fields.{fields};
-ghost use Rattle.cx_terms.specs.Items.{alignment_of, length_of, natural_length, size_of, value_length};
+ghost use Rattle.cx_terms.specs.Items.{alignment_of, length_of, size_of, value_length};
+ghost use Rattle.cx_terms.specs.Kinds.{row_of};
 
 use crate::fields::packed_length;
 use crate::items::Constant;
@@ -22,7 +23,7 @@ fn rounded_up(count: usize, each: u8) -> usize
 
 /// The length that a value gives itself.
 fn natural_length(kind: ConstantKind, value: &[u8]) -> usize
-    ensures length { result ≡ natural_length kind value.now }
+    ensures length { result ≡ (row_of kind).own_length value.now }
     ensures bound { result ≤ length value.now + 8 }
 {
     match kind {

@@ -19,7 +19,7 @@ mod worth;
 
 pub use bytes::ConstantBytes;
 pub use expressions::{Signed, value_of};
-pub use faults::{FaultKind, TermFault, lower};
+pub use faults::{FaultKind, TermFault, lower, lower_of};
 pub use items::{Constant, parenthesized_body};
 pub use kinds::{ConstantKind, Style};
 pub use symbols::{SymbolTable, symbol_name};

@@ -1,6 +1,7 @@
 //! The terms of an expression.
 
 ghost use Rattle.std.specs.Prelude.{◌≡◌, ◌&&◌, ◌==◌, if◌then◌else◌, IfOk, MatchOption, map};
+ghost use Rattle.std.specs.Str.{byte};
 ghost use Rattle.cx_ebcdic.specs.Lookup.{each_some};
 ghost use Rattle.cx_terms.specs.Terms.{is_short_number, is_short_text, is_sign, part_of, parts_of, quoted_term, read_term, self_defining, term_of, terms_of};
 
@@ -78,7 +79,7 @@ pub(crate) fn is_sign(c: u8) -> bool
 
 /// The sign that a character is.
 fn sign_of(c: u8) -> Sign
-    ensures { result ≡ (if c == 45 then Sign.Minus else Sign.Plus) }
+    ensures { result ≡ (if c == byte "-" then Sign.Minus else Sign.Plus) }
 {
     if c == b'-' { Sign::Minus } else { Sign::Plus }
 }
@@ -218,7 +219,8 @@ impl<'a> Term<'a> {
 /// Memory comes only where a growth was refused.
 #[tactic(auto, unfolding(crate::specs::Terms::terms_of))]
 pub fn terms_of(alloc: Global, text: &[u8]) -> Result<Option<Vec<Term<'_>>>, AllocError>
-    ensures { IfOk result (λ found. MatchOption found (terms_of text.now ≡ None) (λ terms. terms_of text.now ≡ Some terms.items)) }
+    ensures { let due = terms_of text.now in
+        IfOk result (λ found. MatchOption found (due ≡ None) (λ terms. due ≡ Some terms.items)) }
 {
     let parts = parts_of(alloc, text)?;
     read_terms(alloc, parts.as_slice())

@@ -138,7 +138,8 @@ impl Term<'_> {
         here: Option<&Value>,
         values: &mut Vec<Signed>,
     ) -> Result<(), AllocError>
-        ensures { OnOk result (values.new.items ≡ values.old.items ++ cons_option (signed_worth (find_in symbols.now) (option_copied here.entry) self.now) []) }
+        ensures { let worth = signed_worth (find_in symbols.now) (option_copied here.entry) self.now in
+            OnOk result (values.new.items ≡ values.old.items ++ cons_option worth []) }
     {
         let Ok(value) = self.worth(symbols, here) else {
             return Ok(());

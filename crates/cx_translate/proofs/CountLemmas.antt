@@ -2,7 +2,7 @@
 use Rattle.std.proofs.Common.{◌≡◌, ◌≤◌, ℕ, ◌+◌, Bool, true, false, cond, ◌&&◌, ◌||◌, List, [], ◌∷◌, ◌++◌, length, Option, Some, None, refl, sym, ◌∙◌, arith, nat_lt, nat_le, nat_eq, length-append}
 use Rattle.std.specs.Prelude.{is_none, is_some, option_map}
 use Rattle.std.specs.List.{find, list_all, list_any, sum_by}
-use Rattle.std.specs.Option.{option_or, option_to_list}
+use Rattle.std.specs.Option.{option_or, option_to_list, option_and}
 use Rattle.std.specs.Str.{bytes_eq}
 use Rattle.std.proofs.lemmas.Bool.{eqb-true, ltb-false, leb-true}
 use Rattle.std.proofs.lemmas.List.Sums.{sum_by-cons}
@@ -21,7 +21,7 @@ use Rattle.cx_translate.specs.Due.{common_due, condition_called, condition_due, 
 use Rattle.cx_translate.specs.Refusals.{conditions_in, fault_in, first_byte, has_too_many, has_unknown}
 use Rattle.cx_translate.proofs.RefusalLemmas.{few_conditions, known}
 use Rattle.cx_command.specs.declared.options.CommonOption.TheVariants.{Resp}
-use Rattle.cx_translate.specs.Call.{argument_of, label_by, labels_of, list_of, listed_by, listed_of, operand_by, operands_of, text_in}
+use Rattle.cx_translate.specs.Call.{argument_of, labels_of, list_of, listed_by, listed_of, operand_by, operands_of, text_in}
 
 -- what a look-up finds passes its test, and every test that all pass
 pub found : (q p : Condition → Bool) (xs : List Condition) (x : Condition) → find p xs ≡ Some x → list_all q xs ≡ true → (p x ≡ true) × (q x ≡ true)
@@ -86,7 +86,7 @@ none_listed c (word ∷ rest) l u =
     go true false s d f more = let e = unlisted c word.name l s in absurd (cc)
     go false false s d f more = rw (more f) refl
 
-few_by : (o : Option Condition) (t : Option (List ℕ)) → length (label_by o t) ≤ cond (is_some o) 1 0
+few_by : (o : Option Condition) (t : Option (List ℕ)) → length (option_to_list (option_and o t)) ≤ cond (is_some o) 1 0
 few_by None None = omega arith
 few_by None (Some t) = omega arith
 few_by (Some x) None = omega arith
@@ -100,7 +100,7 @@ few_labels (word ∷ rest) =
     let a = few_by (condition_called word.name) (text_in word.argument) in
     let b = few_labels rest in
     let s = sum_by-cons (λ w. cond (is_some (condition_called w.name)) 1 0) word rest in
-    let l = length-append (label_by (condition_called word.name) (text_in word.argument)) (labels_of rest) in
+    let l = length-append (option_to_list (option_and (condition_called word.name) (text_in word.argument))) (labels_of rest) in
     omega (arith, a, b, s, l)
 
 one_by : (o : CommandOption) (t : Option (List ℕ)) → length (operand_by o.mark t) ≤ 1

@@ -2,7 +2,7 @@
 use Rattle.std.proofs.Common.{◌≡◌, ℕ, ◌+◌, Bool, true, false, cond, not, ◌&&◌, ◌||◌, nat_eq, List, [], ◌∷◌, ◌++◌, length, Option, Some, None, refl, sym, ap, ◌∙◌, arith, bit_and, bit_or, length-append}
 use Rattle.std.specs.Prelude.{is_some, fold}
 use Rattle.std.specs.List.{filter, list_all, list_any, sum_by}
-use Rattle.std.specs.Option.{option_to_list}
+use Rattle.std.specs.Option.{option_to_list, option_and}
 use Rattle.std.specs.Str.{bytes_eq}
 use Rattle.std.specs.Int.{bit_at}
 use Rattle.std.proofs.lemmas.Bool.{eqb-true}
@@ -28,7 +28,7 @@ use Rattle.cx_translate.specs.declared.words.Argument.TheVariants.{Absent, Given
 use Rattle.cx_translate.specs.declared.words.Word.{Word}
 use Rattle.cx_translate.specs.Due.{common_due, condition_called, condition_due, due_of, option_called, suits}
 use Rattle.cx_translate.specs.Refusals.{fault_in, first_byte, has_wrong, is_given, is_wrong, second_byte, with_option}
-use Rattle.cx_translate.specs.Call.{argument_of, label_by, labels_of, list_of, listed, listed_by, listed_of, operand_by, operands_of, text_in}
+use Rattle.cx_translate.specs.Call.{argument_of, labels_of, list_of, listed, listed_by, listed_of, operand_by, operands_of, text_in}
 use Rattle.cx_translate.specs.Laws.Read.{has_label, words_read}
 use Rattle.cx_translate.proofs.RefusalLemmas.{right}
 
@@ -257,7 +257,7 @@ in_options command.SendText words w = operands_read command.SendText words (row_
 
 -- ---- the labels, and RESP's argument
 
-label_read : (o : Option Condition) (a : Argument) → length (label_by o (text_in a)) ≡ sum_by (λ l. cond (has_label l) 1 0) (listed_by o a)
+label_read : (o : Option Condition) (a : Argument) → length (option_to_list (option_and o (text_in a))) ≡ sum_by (λ l. cond (has_label l) 1 0) (listed_by o a)
 label_read None a = refl
 label_read (Some x) Absent = refl
 label_read (Some x) (Given text) = refl
@@ -266,11 +266,11 @@ label_read (Some x) Bad = refl
 labels_read : (words : List Word) → length (labels_of words) ≡ sum_by (λ l. cond (has_label l) 1 0) (listed_of words)
 labels_read [] = refl
 labels_read (word ∷ rest) =
-    length-append (label_by (condition_called word.name) (text_in word.argument)) (labels_of rest)
+    length-append (option_to_list (option_and (condition_called word.name) (text_in word.argument))) (labels_of rest)
     ∙ go (condition_called word.name) word.argument (labels_read rest)
   where
     go : (o : Option Condition) (a : Argument) → length (labels_of rest) ≡ sum_by (λ l. cond (has_label l) 1 0) (listed_of rest)
-        → length (label_by o (text_in a)) + length (labels_of rest) ≡ sum_by (λ l. cond (has_label l) 1 0) (listed_by o a ++ listed_of rest)
+        → length (option_to_list (option_and o (text_in a))) + length (labels_of rest) ≡ sum_by (λ l. cond (has_label l) 1 0) (listed_by o a ++ listed_of rest)
     go None a e = omega (arith, e)
     go (Some x) Absent e = omega (arith, e, sum_by-cons (λ l. cond (has_label l) 1 0) (listed x Absent) (listed_of rest))
     go (Some x) (Given text) e = omega (arith, e, sum_by-cons (λ l. cond (has_label l) 1 0) (listed x (Given text)) (listed_of rest))

@@ -2,7 +2,7 @@
 -- Manual, SC33-0077, the syntax of each command; the argument list is this product's own).
 use Rattle.std.specs.Prelude.{ℕ, ◌/◌, ◌%◌, true, List, [], ◌∷◌, ◌++◌, Option, Some, None, codes, if◌then◌else◌, is_some}
 use Rattle.std.specs.List.{flat_map}
-use Rattle.std.specs.Option.{option_to_list}
+use Rattle.std.specs.Option.{option_to_list, option_and}
 use Rattle.std.specs.Fmt.{digit_glyph}
 use Rattle.std.specs.Str.{bytes_eq}
 use Rattle.cx_command.specs.declared.commands.Command.{Command}
@@ -48,17 +48,12 @@ operand_by mark (Some text) = operand_of mark text ∷ []
 
 -- the arguments of the options given, in the order of the command's options
 abbrev pub operands_of : List CommandOption → List Word → List (List ℕ)
-operands_of [] words = []
-operands_of (option ∷ rest) words = operand_by option.mark (argument_of words (option_name option.name)) ++ operands_of rest words
-
-abbrev pub label_by : Option Condition → Option (List ℕ) → List (List ℕ)
-label_by (Some condition) (Some label) = label ∷ []
-label_by condition label = []
+operands_of options words = flat_map (λ option. operand_by option.mark (argument_of words (option_name option.name))) options
 
 -- the labels of the conditions listed, in the order written
 abbrev pub labels_of : List Word → List (List ℕ)
-labels_of [] = []
-labels_of (word ∷ rest) = label_by (condition_called word.name) (text_in word.argument) ++ labels_of rest
+labels_of words =
+    flat_map (λ word. option_to_list (option_and (condition_called word.name) (text_in word.argument))) words
 
 -- a condition as it is listed: with a label or without
 abbrev pub listed : Condition → Argument → ListedCondition
@@ -70,8 +65,7 @@ listed_by (Some condition) argument = listed condition argument ∷ []
 
 -- the conditions listed, in the order written
 abbrev pub listed_of : List Word → List ListedCondition
-listed_of [] = []
-listed_of (word ∷ rest) = listed_by (condition_called word.name) word.argument ++ listed_of rest
+listed_of words = flat_map (λ word. listed_by (condition_called word.name) word.argument) words
 
 abbrev pub two_bytes : ListedCondition → List ℕ
 two_bytes condition = condition.number ∷ condition.label ∷ []
@@ -101,5 +95,4 @@ pointer_by mark argument = []
 
 -- the registers that the command's pointers are loaded into
 abbrev pub pointers_of : List CommandOption → List Word → List (List ℕ)
-pointers_of [] words = []
-pointers_of (option ∷ rest) words = pointer_by option.mark (argument_of words (option_name option.name)) ++ pointers_of rest words
+pointers_of options words = flat_map (λ option. pointer_by option.mark (argument_of words (option_name option.name))) options

@@ -1,7 +1,8 @@
 -- The statements made of one EXEC statement (this product's own; the columns are those of OS/VS-DOS/VSE-VM/370 Assembler
 -- Language, GC33-4010, "Assembler Language Coding Conventions").
-use Rattle.std.specs.Prelude.{ℕ, ◌+◌, ◌-◌, ◌*◌, ◌==◌, if◌then◌else◌, List, [], ◌∷◌, ◌++◌, Option, Some, None, codes, decimal, drop, length, map, replicate}
+use Rattle.std.specs.Prelude.{ℕ, ◌+◌, ◌-◌, ◌*◌, ◌==◌, if◌then◌else◌, List, [], ◌∷◌, ◌++◌, Some, codes, decimal, drop, length, map, replicate}
 use Rattle.std.specs.Option.{option_map_or}
+use Rattle.std.specs.Str.{byte}
 use Rattle.cx_command.specs.declared.commands.Command.{Command}
 use Rattle.cx_command.specs.Commands.{row_of}
 use Rattle.cx_source.specs.declared.source.Item.{Item}
@@ -54,7 +55,7 @@ made_of name words =
 
 -- a text filled with blanks up to a column
 abbrev pub filled : ℕ → List ℕ → List ℕ
-filled columns text = text ++ replicate (columns - length text) 32
+filled columns text = text ++ replicate (columns - length text) (byte " ")
 
 -- A made line: name, operation and operand in columns 1, 10 and 16, as far as column 72.
 unfoldable pub made_item : ℕ → Stmt → Item

@@ -1,29 +1,27 @@
 -- Arguments as they may be written: values as they stand, and names in apostrophes (Application Programmer's Reference
 -- Manual, SC33-0077, "Argument values"; GC33-4010, "Character Constant").
-use Rattle.std.specs.Prelude.{ℕ, ◌+◌, Bool, false, ◌&&◌, ◌||◌, not, ◌==◌, nat_le, if◌then◌else◌, List, [], ◌∷◌, drop}
+use Rattle.std.specs.Prelude.{ℕ, ◌+◌, Bool, false, ◌&&◌, ◌||◌, not, ◌==◌, nat_le, if◌then◌else◌, List, [], ◌∷◌, drop, slice_index}
 use Rattle.std.specs.List.{list_any}
+use Rattle.std.specs.Str.{byte}
 use Rattle.cx_source.specs.Lines.{is_written, skip_blanks, trimmed}
 
 -- an argument without the blanks round it
 unfoldable pub bare : List ℕ → List ℕ
 bare text = trimmed (skip_blanks text)
 
-abbrev pub begins_with_apostrophe : List ℕ → Bool
-begins_with_apostrophe [] = false
-begins_with_apostrophe (c ∷ cs) = c == 39
-
+-- it begins with an apostrophe
 unfoldable pub is_quoted : List ℕ → Bool
-is_quoted text = begins_with_apostrophe (bare text)
+is_quoted text = slice_index (bare text) 0 == byte "'"
 
 -- Behind an opening apostrophe: each apostrophe is one of a pair but the last character, which ends the text. The first
 -- argument says whether an apostrophe stands before that may be the first of a pair.
 abbrev pub closes_from : Bool → List ℕ → Bool
 closes_from pending [] = pending
-closes_from pending (c ∷ cs) = if c == 39 then closes_from (not pending) cs else (not pending && closes_from false cs)
+closes_from pending (c ∷ cs) = if c == byte "'" then closes_from (not pending) cs else (not pending && closes_from false cs)
 
 -- an apostrophe or an ampersand, of which two stand for one
 abbrev pub is_doubled : ℕ → Bool
-is_doubled c = c == 39 || c == 38
+is_doubled c = c == byte "'" || c == byte "&"
 
 -- how many characters a text stands for; the first argument is the character before it, where that waits for its other half, else 0
 abbrev pub characters_from : ℕ → List ℕ → ℕ
@@ -34,7 +32,7 @@ characters_from held (c ∷ cs) =
 -- a name of 1 to n characters in apostrophes; with the apostrophe that ends it, one character more is counted
 unfoldable pub is_name_text : ℕ → List ℕ → Bool
 is_name_text n text =
-    begins_with_apostrophe text && closes_from false (drop 1 text)
+    slice_index text 0 == byte "'" && closes_from false (drop 1 text)
     && nat_le 2 (characters_from 0 (drop 1 text)) && nat_le (characters_from 0 (drop 1 text)) (n + 1)
 
 -- A value that is written as it stands: not blank, and not in apostrophes.

@@ -2,6 +2,7 @@
 -- words, each perhaps with an argument in parentheses behind it; a blank between them is allowed, and needed only
 -- between two words. Which parentheses and blanks count: those outside apostrophes.
 use Rattle.std.specs.Prelude.{ℕ, ◌+◌, ◌-◌, Bool, ◌&&◌, ◌||◌, ◌==◌, if◌then◌else◌, List, [], ◌∷◌, ◌++◌, length}
+use Rattle.std.specs.Str.{byte}
 use Rattle.cx_source.specs.Marks.{outside}
 use Rattle.cx_translate.specs.declared.pieces.Piece.{Piece}
 use Rattle.cx_translate.specs.declared.pieces.Piece.TheVariants.{Word, Argument, Broken}
@@ -11,12 +12,12 @@ use Rattle.cx_translate.specs.declared.pieces.Piece.TheVariants.{Word, Argument,
 -- how many are open behind it
 unfoldable pub depth_behind : ℕ → Bool → ℕ → ℕ
 depth_behind depth is_outside c =
-    if is_outside && c == 40 then depth + 1 else (if is_outside && c == 41 then depth - 1 else depth)
+    if is_outside && c == byte "(" then depth + 1 else (if is_outside && c == byte ")" then depth - 1 else depth)
 
 -- A piece ends before it: outside parentheses a word, at a blank or a parenthesis; in parentheses an argument, where they close.
 unfoldable pub is_cut : ℕ → Bool → ℕ → Bool
 is_cut depth is_outside c =
-    is_outside && (if depth == 0 then c == 32 || c == 40 || c == 41 else (depth == 1 && c == 41))
+    is_outside && (if depth == 0 then c == byte " " || c == byte "(" || c == byte ")" else (depth == 1 && c == byte ")"))
 
 -- a word, where there is one
 abbrev pub word : List ℕ → List Piece
@@ -25,11 +26,11 @@ word part = if length part == 0 then [] else Word part ∷ []
 -- the pieces that end at the character c; `part` is what stands before it. A `)` that closes nothing is a piece of its own.
 unfoldable pub ended : ℕ → List ℕ → ℕ → List Piece
 ended depth part c =
-    if depth == 0 then word part ++ (if c == 41 then Broken (41 ∷ []) ∷ [] else []) else Argument part ∷ []
+    if depth == 0 then word part ++ (if c == byte ")" then Broken (byte ")" ∷ []) ∷ [] else []) else Argument part ∷ []
 
 -- what is left at the end: a word, or an argument that isn't closed, with its parenthesis
 unfoldable pub last_of : ℕ → List ℕ → List Piece
-last_of depth part = if depth == 0 then word part else Broken (40 ∷ part) ∷ []
+last_of depth part = if depth == 0 then word part else Broken (byte "(" ∷ part) ∷ []
 
 abbrev pub pieces_from : ℕ → List ℕ → List Bool → List ℕ → List Piece
 pieces_from depth part [] cs = last_of depth part

@@ -8,7 +8,7 @@ use Rattle.cx_command.specs.declared.commands.Command.{Command}
 use Rattle.cx_command.specs.declared.options.CommandOption.{CommandOption}
 use Rattle.cx_command.specs.declared.options.CommonOption.TheVariants.{Nohandle, Resp}
 use Rattle.cx_command.specs.declared.options.Rule.{Rule}
-use Rattle.cx_command.specs.declared.options.Rule.TheVariants.{Together, NotBoth, Needs, OneOfTwo, OneOfThree}
+use Rattle.cx_command.specs.declared.options.Rule.TheVariants.{NotBoth, OneOfTwo, OneOfThree}
 use Rattle.cx_command.specs.Options.{common_of, option_name}
 use Rattle.cx_command.specs.Commands.{row_of, command_named}
 use Rattle.cx_command.specs.Legal.{has_bit, is_legal, lists_conditions}
@@ -92,11 +92,10 @@ second_byte words =
 
 -- more options stand together than a rule allows
 abbrev pub exceeds : (ℕ → Bool) → Rule → Bool
-exceeds present (Together a b) = false
 exceeds present (NotBoth a b) = present a && present b
-exceeds present (Needs a b) = false
 exceeds present (OneOfTwo a b) = present a && present b
 exceeds present (OneOfThree a b c) = (present a && present b) || (present a && present c) || (present b && present c)
+exceeds present rule = false
 
 unfoldable pub has_excluded : List Rule → ℕ → Bool
 has_excluded rules byte = list_any (exceeds (has_bit byte)) rules

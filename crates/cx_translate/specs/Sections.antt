@@ -1,9 +1,8 @@
 -- What a translated source gets beside its sections (this product's own; the statements are those of GC33-4010).
-use Rattle.std.specs.Prelude.{option_and_then, ℕ, ◌+◌, Bool, false, true, ◌&&◌, ◌||◌, if◌then◌else◌, List, [], ◌∷◌, ◌++◌, Option, Some, None, is_none, slice_get, take, drop, map, codes, decimal}
+use Rattle.std.specs.Prelude.{option_and_then, ℕ, ◌+◌, Bool, false, true, ◌&&◌, ◌||◌, if◌then◌else◌, List, [], ◌∷◌, ◌++◌, Option, is_none, slice_get, take, drop, map, codes, decimal}
 use Rattle.std.specs.Option.{option_map_or}
 use Rattle.std.specs.List.{position}
 use Rattle.std.specs.Str.{bytes_eq}
-use Rattle.cx_command.specs.declared.eib.EibField.{EibField}
 use Rattle.cx_command.specs.declared.eib.EibPiece.{EibPiece}
 use Rattle.cx_command.specs.declared.eistg.EistgField.TheVariants.{Eipl, Eitp, Eicap}
 use Rattle.cx_command.specs.Eib.{eib_field, eib_pieces}

@@ -56,9 +56,8 @@ translation_of source =
 
 -- The answer is the one due, unless memory runs out.
 abbrev pub AnswersAs : Result Source TransFault → Result Source TransFault → Type 0
-AnswersAs due (Ok found) = due ≡ Ok found
 AnswersAs due (Err Memory) = Unit {0}
-AnswersAs due (Err fault) = due ≡ Err fault
+AnswersAs due result = due ≡ result
 
 -- ---- all faults
 -- those of all EXEC statements, in their order

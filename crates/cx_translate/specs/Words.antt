@@ -7,32 +7,24 @@ use Rattle.cx_translate.specs.declared.words.Argument.TheVariants.{Absent, Given
 use Rattle.cx_translate.specs.declared.words.Word.{Word}
 use Rattle.cx_translate.specs.Pieces.{pieces_of}
 
--- an argument behind which the next word follows, or nothing
-abbrev pub alone : List ℕ → List Piece → Argument
-alone text [] = Given text
-alone text (piece.Word name ∷ rest) = Given text
-alone text (piece.Argument other ∷ rest) = Bad
-alone text (piece.Broken other ∷ rest) = Bad
-
 -- What stands behind a word, up to the next: nothing, one argument, or anything else, which is bad.
 unfoldable pub argument_behind : List Piece → Argument
 argument_behind [] = Absent
 argument_behind (piece.Word name ∷ rest) = Absent
-argument_behind (piece.Argument text ∷ rest) = alone text rest
-argument_behind (piece.Broken text ∷ rest) = Bad
+argument_behind (piece.Argument text ∷ []) = Given text
+argument_behind (piece.Argument text ∷ piece.Word name ∷ rest) = Given text
+argument_behind pieces = Bad
 
 abbrev pub words_in : List Piece → List Word
 words_in [] = []
 words_in (piece.Word name ∷ rest) = record { name = name; argument = argument_behind rest } ∷ words_in rest
-words_in (piece.Argument text ∷ rest) = words_in rest
-words_in (piece.Broken text ∷ rest) = words_in rest
+words_in (other ∷ rest) = words_in rest
 
 -- what stands before the first word stands behind an empty one
 abbrev pub nameless : List Piece → List Word
 nameless [] = []
 nameless (piece.Word name ∷ rest) = []
-nameless (piece.Argument text ∷ rest) = record { name = []; argument = Bad } ∷ []
-nameless (piece.Broken text ∷ rest) = record { name = []; argument = Bad } ∷ []
+nameless pieces = record { name = []; argument = Bad } ∷ []
 
 -- the words of an operand, in order
 unfoldable pub words_of : List ℕ → List Word

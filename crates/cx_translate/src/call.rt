@@ -2,7 +2,7 @@
 
 ghost use Rattle.std.specs.Prelude.{◌≡◌, ◌++◌, IfOk, OnOk, codes, false, option_map, string_bytes};
 ghost use Rattle.std.specs.List.{flat_map};
-ghost use Rattle.std.specs.Option.{option_to_list};
+ghost use Rattle.std.specs.Option.{option_to_list, option_and};
 ghost use Rattle.cx_command.specs.Options.{option_name};
 ghost use Rattle.cx_translate.specs.Due.{condition_called};
 ghost use Rattle.cx_translate.specs.Refusals.{has_too_many};
@@ -11,7 +11,6 @@ ghost use Rattle.cx_translate.specs.Call.{
   block_bytes,
   block_literal,
   hex_pair,
-  label_by,
   labels_of,
   list_of,
   listed_by,
@@ -89,7 +88,8 @@ fn push_operand(
     option: CommandOption,
     words: &[Word],
 ) -> Result<(), AllocError>
-    ensures { OnOk result (list.new.items ≡ list.old.items ++ operand_by option.mark (argument_of words.now (option_name option.name))) }
+    ensures { let argument = argument_of words.now (option_name option.name) in
+        OnOk result (list.new.items ≡ list.old.items ++ operand_by option.mark argument) }
 {
     if let Some(text) = argument_of(words, option.name.name().as_bytes()) {
         list.push(operand_of(alloc, option.mark, text)?)?;
@@ -114,7 +114,8 @@ fn push_operands(
 
 /// Puts the label of a condition behind others, where the word has one.
 fn push_label(alloc: Global, list: &mut Vec<Text>, word: &Word) -> Result<(), AllocError>
-    ensures { OnOk result (list.new.items ≡ list.old.items ++ label_by (condition_called word.now.name) (text_in word.now.argument)) }
+    ensures { let label = option_and (condition_called word.now.name) (text_in word.now.argument) in
+        OnOk result (list.new.items ≡ list.old.items ++ option_to_list label) }
 {
     if condition_called(word.name.as_slice()).is_some() {
         if let Some(label) = text_in(&word.argument) {
@@ -146,7 +147,8 @@ fn push_response(alloc: Global, list: &mut Vec<Text>, words: &[Word]) -> Result<
 
 /// Puts the two bytes of a condition listed behind others.
 fn push_listed(bytes: &mut Vec<u8>, word: &Word) -> Result<(), AllocError>
-    ensures { OnOk result (bytes.new.items ≡ bytes.old.items ++ flat_map two_bytes (listed_by (condition_called word.now.name) word.now.argument)) }
+    ensures { let listed = listed_by (condition_called word.now.name) word.now.argument in
+        OnOk result (bytes.new.items ≡ bytes.old.items ++ flat_map two_bytes listed) }
 {
     if let Some(condition) = condition_called(word.name.as_slice()) {
         bytes.push(condition.number())?;
@@ -240,7 +242,8 @@ fn push_pointer(
     option: CommandOption,
     words: &[Word],
 ) -> Result<(), AllocError>
-    ensures { OnOk result (registers.new.items ≡ registers.old.items ++ pointer_by option.mark (argument_of words.now (option_name option.name))) }
+    ensures { let argument = argument_of words.now (option_name option.name) in
+        OnOk result (registers.new.items ≡ registers.old.items ++ pointer_by option.mark argument) }
 {
     if let Mark::Pointer = option.mark {
         if let Some(text) = argument_of(words, option.name.name().as_bytes()) {

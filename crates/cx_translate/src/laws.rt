@@ -26,7 +26,7 @@ pub fn pieces_are_the_operand()
 /// The option bytes of an accepted statement are legal for its command.
 #[tactic(auto, using(crate::proofs::RefusalLemmas::legal_bytes))]
 pub fn accepted_bytes_are_legal()
-    ensures { (line : ℕ) (command : Command) (cics named words : List Word) → fault_in line command cics named words ≡ None
+    ensures { (n : ℕ) (command : Command) (cics named words : List Word) → fault_in n command cics named words ≡ None
         → is_legal command (first_byte command words) (second_byte words) ≡ true }
 {}
 
@@ -49,15 +49,16 @@ pub fn accepted_conditions_are_counted()
 /// The argument list of an accepted statement has at most the eighteen words that DFHEIPL has.
 #[tactic(auto, using(crate::proofs::CountLemmas::at_most_18))]
 pub fn accepted_lists_have_room()
-    ensures { (line : ℕ) (command : Command) (cics named words : List Word) → fault_in line command cics named words ≡ None
+    ensures { (n : ℕ) (command : Command) (cics named words : List Word) → fault_in n command cics named words ≡ None
         → length (list_of command words) ≤ 18 }
 {}
 
 /// It has exactly the words that the command reads of it.
 #[tactic(auto, using(crate::proofs::ReadLemmas::all_read))]
 pub fn accepted_lists_are_read()
-    ensures { (line : ℕ) (command : Command) (cics named words : List Word) → fault_in line command cics named words ≡ None
-        → length (list_of command words) ≡ words_read command (first_byte command words) (second_byte words) (listed_of words) }
+    ensures { (n : ℕ) (command : Command) (cics named words : List Word) → fault_in n command cics named words ≡ None
+        → let read = words_read command (first_byte command words) (second_byte words) (listed_of words) in
+        length (list_of command words) ≡ read }
 {}
 
 /// A source without an EXEC statement stays as it is.

@@ -54,7 +54,8 @@ fn word_of_list(
     place: usize,
     behind: &str,
 ) -> Result<String, AllocError>
-    ensures { IfOk result (λ text. string_bytes text ≡ before.now ++ codes "DFHEIPL+" ++ decimal (4 * place) ++ behind.now) }
+    ensures { let word = codes "DFHEIPL+" ++ decimal (4 * place) in
+        IfOk result (λ text. string_bytes text ≡ before.now ++ word ++ behind.now) }
 {
     let offset = 4 * place as u128;
     let mut text = String::from_str(alloc, before)?;

@@ -1,11 +1,11 @@
 //! Arguments as they may be written: values as they stand, and names in apostrophes.
 
-ghost use Rattle.std.specs.Prelude.{◌≡◌, false};
+ghost use Rattle.std.specs.Prelude.{◌≡◌, ◌==◌, false, slice_index};
 ghost use Rattle.std.specs.List.{list_any};
+ghost use Rattle.std.specs.Str.{byte};
 ghost use Rattle.cx_source.specs.Lines.{is_written};
 ghost use Rattle.cx_translate.specs.Names.{
   bare,
-  begins_with_apostrophe,
   characters_from,
   closes_from,
   is_doubled,
@@ -30,7 +30,7 @@ pub(crate) fn bare(text: &[u8]) -> &[u8]
 
 /// Whether a text begins with an apostrophe.
 fn begins_with_apostrophe(text: &[u8]) -> bool
-    ensures { result ≡ begins_with_apostrophe text.now }
+    ensures { result ≡ (slice_index text.now 0 == byte "'") }
 {
     match text {
         [] => false,

@@ -144,7 +144,8 @@ fn expand(
     faults: &mut Vec<TransFault>,
 ) -> Result<(), AllocError>
     ensures faults { OnOk result (faults.new.items ≡ faults.old.items ++ option_to_list (fault_at item.now)) }
-    ensures made { OnOk result (fault_at item.now ≡ None → made.new.items ≡ made.old.items ++ expansion continues item.now) }
+    ensures made { let lines = expansion continues item.now in
+        OnOk result (fault_at item.now ≡ None → made.new.items ≡ made.old.items ++ lines) }
 {
     match expansion(alloc, continues, item) {
         Ok(mut lines) => {

@@ -1,7 +1,7 @@
 -- Where the items of DS and DC, and literals, stand in an assembly (GC33-4010, "DC -- Define Constant", "DS -- Define Storage",
 -- "Literal Pool"; that they are resolved lines is this project's own).
 use Rattle.std.specs.Prelude.{◌≡◌, ℕ, Bool, true, false, Option, Ok, List, Contains, ⊤}
-use Rattle.std.specs.List.{AllByRecursion}
+use Rattle.std.specs.List.{AllByRecursion, repeat}
 use Rattle.cx_code.specs.declared.disassembly.Line.{Line}
 use Rattle.cx_source.specs.declared.source.Source.{Source}
 use Rattle.cx_terms.specs.Bytes.{Made}
@@ -16,7 +16,7 @@ use Rattle.cx_places.specs.declared.roles.Role.TheVariants.{Storage, Pool}
 use Rattle.cx_second.specs.Statements.{Stated, placed_items, statements_of}
 use Rattle.cx_second.specs.Whole.{Whole, item_made, pool_of, whole_of}
 use Rattle.cx_asm.specs.Assembly.{AssemblyParts, assembly_of}
-use Rattle.cx_asm.specs.Resolving.{copies, counter_at, data_line, last_pool, space_line}
+use Rattle.cx_asm.specs.Resolving.{counter_at, data_line, last_pool, space_line}
 
 abbrev pub AreAmong : List Line → List Line → Type 0
 AreAmong resolved some = AllByRecursion (Contains resolved) some
@@ -33,7 +33,7 @@ pub record IsData (told : Whole) (resolved : List Line) (counter : Option Value)
   pub written : constant_in false item.0 ≡ Ok constant
   pub once : Made
   pub value : item_made told false counter item.0 ≡ Ok once
-  pub stands : AreAmong resolved (data_line item.1 (copies constant.duplication once.bytes))
+  pub stands : AreAmong resolved (data_line item.1 (repeat constant.duplication once.bytes))
 
 abbrev pub ItemStands : Whole → List Line → Bool → Stated → List ℕ × ℕ → Type 0
 ItemStands told resolved true s item = IsSpace resolved item
@@ -44,7 +44,7 @@ abbrev pub LiteralStands : Whole → List Stated → List Line → List ℕ × L
 LiteralStands told statements resolved literal =
     (constant : Constant) (once : Made) → constant_in false literal.0 ≡ Ok constant
     → item_made told false (counter_at statements literal.1.user) literal.0 ≡ Ok once
-    → AreAmong resolved (data_line literal.1.offset (copies constant.duplication once.bytes))
+    → AreAmong resolved (data_line literal.1.offset (repeat constant.duplication once.bytes))
 
 abbrev pub PoolStands : Whole → List Stated → List Line → Placed → Type 0
 PoolStands told statements resolved pool = AllByRecursion (LiteralStands told statements resolved) pool

@@ -2,8 +2,9 @@
 use Rattle.std.proofs.Common.{◌≡◌, ℕ, Bool, true, false, cond, ◌==◌, Option, Some, None, List, [], ◌∷◌, slice_get, refl, ◌∙◌, ap}
 use Rattle.cx_source.specs.declared.source.Item.{Item}
 use Rattle.cx_source.specs.declared.source.Stmt.{Stmt}
+use Rattle.cx_terms.specs.Faults.{lower_of}
 use Rattle.cx_terms.specs.declared.faults.FaultKind.{FaultKind}
-use Rattle.cx_places.specs.AllFaults.{faults_after, lower_kind, stmt_fault, with_fault}
+use Rattle.cx_places.specs.AllFaults.{faults_after, stmt_fault, with_fault}
 use Rattle.cx_places.specs.Known.{Known, after, after_line, fault_in, first_fault_behind, known_behind, line_fault}
 use Rattle.cx_places.specs.declared.place.LineFault.{LineFault}
 
@@ -12,8 +13,8 @@ kept_first true first = refl
 kept_first false first = refl
 
 lowered_first : (is : Bool) (kind : FaultKind) (first : LineFault) (more rest : List LineFault)
-    → slice_get (cond is (line_fault first.line (lower_kind first.kind kind) ∷ more) (first ∷ rest)) 0
-    ≡ cond is (Some (line_fault first.line (lower_kind first.kind kind))) (Some first)
+    → slice_get (cond is (line_fault first.line (lower_of first.kind kind) ∷ more) (first ∷ rest)) 0
+    ≡ cond is (Some (line_fault first.line (lower_of first.kind kind))) (Some first)
 lowered_first true kind first more rest = refl
 lowered_first false kind first more rest = refl
 

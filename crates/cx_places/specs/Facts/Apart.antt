@@ -14,7 +14,6 @@ use Rattle.cx_places.specs.Facts.Faults.{none_before, sound_statement}
 use Rattle.cx_places.specs.Facts.Laid.{capped_same, laid_begins, laid_stands, laid_within, pool_apart, pool_begins}
 use Rattle.cx_places.specs.Known.{Known, after, after_line, control_after, is_control, known_behind, laid_in, length_after, length_of_section, name_in, next_in, parts_in, pool_after, role_in}
 use Rattle.cx_places.specs.Laws.Apart.{AreApart, ClosesApart, EndWithin, IsBehind, Stands, Stretch, control_length, section_length, stretch_before, stretch_of, stretches_behind}
-use Rattle.cx_places.specs.Layout.{laid}
 use Rattle.cx_places.specs.Placed.{closing}
 use Rattle.cx_places.specs.declared.roles.Role.{Role}
 use Rattle.cx_places.specs.declared.roles.Role.TheVariants.{Unknown, Instruction, Control, Dummy, Equate, Storage, Pool, Registers, Member, Nothing}

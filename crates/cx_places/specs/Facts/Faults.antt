@@ -1,13 +1,14 @@
 -- What holds of statements without a fault.
-use Rattle.std.specs.Prelude.{Result, option_map, unwrap_or}
+use Rattle.std.specs.Prelude.{Result, option_map, unwrap_or, pos}
 use Rattle.std.specs.Result.{result_err, result_ok}
 use Rattle.std.proofs.Common.{◌≡◌, ℕ, ◌==◌, Bool, true, false, cond, Option, Some, None, Ok, Err, refl, sym, ◌∙◌, ap}
 use Rattle.cx_source.specs.declared.source.Stmt.{Stmt}
 use Rattle.cx_terms.specs.Faults.{lower}
+use Rattle.cx_terms.specs.Symbols.{absolute}
 use Rattle.cx_terms.specs.declared.faults.FaultKind.{FaultKind}
 use Rattle.cx_terms.specs.declared.values.Value.{Value}
 use Rattle.cx_places.specs.Facts.Laid.{lower_none}
-use Rattle.cx_places.specs.Given.{any_value, definitions, duplicate}
+use Rattle.cx_places.specs.Given.{definitions, duplicate}
 use Rattle.cx_places.specs.Known.{Known, after, definitions_in, duplicate_in, fault_in, first_fault_behind, given_in, laid_in, literal_fault, name_fault, name_in, operation_fault, own_fault, parts_in, role_in, section_fault, line_fault}
 use Rattle.cx_places.specs.declared.place.LineFault.{LineFault}
 
@@ -42,7 +43,8 @@ pub record IsSound (stmt : Stmt) (known : Known) : Type 0 where
   pub laid : (laid_in stmt known).fault ≡ None
   pub definitions : duplicate known.symbols (definitions_in stmt known) ≡ None
 
-sound_value : (given : Result (Option Value) FaultKind) → result_err given ≡ None → any_value given ≡ unwrap_or (result_ok given) None
+sound_value : (given : Result (Option Value) FaultKind) → result_err given ≡ None
+    → unwrap_or (result_ok given) (Some (absolute (pos 0))) ≡ unwrap_or (result_ok given) None
 sound_value (Ok value) e = refl
 sound_value (Err fault) e = cc
 

@@ -1,5 +1,5 @@
 use Rattle.std.proofs.Common.{◌≡◌, ◌≤◌, ◌++◌}
-use Rattle.cx_terms.specs.Bytes.{half_bytes}
+use Rattle.cx_terms.specs.Kinds.{half_bytes}
 use Rattle.cx_terms.proofs.bytes.half_bytes.Given as goal
 
 abbrev pub invariant-loop-left : goal.invariant-loop-left
