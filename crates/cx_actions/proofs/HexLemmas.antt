@@ -2,15 +2,16 @@
 use Rattle.std.proofs.Common.{◌≡◌, ℕ, true, slice_index_or, ◌+◌, ◌*◌, ◌/◌, ◌%◌, ◌<◌, ◌≤◌, ◌^◌, false, List, [], ◌∷◌, length, Some, None, Result, Ok, Err, MatchResult, is_ok, refl, sym, ◌∙◌, add-one, lit<, arith, inl, inr}
 use Rattle.std.specs.Prelude.{◌==◌, if◌then◌else◌, Option, Bool}
 use Rattle.std.specs.Option.{option_map}
+use Rattle.std.specs.Result.{result_ok}
 use Rattle.std.proofs.Math.Nat.{pow-le-pow_right}
 use Rattle.std.proofs.lemmas.Bool.{cases_eq, eq-eqb, ne_eqb}
 use Rattle.hex.specs.Hex.{decode_sized}
 use Rattle.hex.specs.declared.error.FromHexError.{FromHexError}
 use Rattle.cx_actions.specs.Alterations.{hex_number, number_in}
-use Rattle.cx_actions.specs.Words.{hex_bytes, bytes_or_none}
+use Rattle.cx_actions.specs.Words.{hex_bytes}
 
 -- decoding into a buffer of that length spells the digits
-sized : (n : ℕ) (word : List ℕ) → option_map number_in (bytes_or_none (decode_sized word n)) ≡ hex_number n word
+sized : (n : ℕ) (word : List ℕ) → option_map number_in (result_ok (decode_sized word n)) ≡ hex_number n word
 unfolding hex_number hex_bytes
 sized n word = elim (cases_eq (length word) (2 * n)) [
   | inl is ↦
@@ -30,7 +31,7 @@ pub spelled : (n : ℕ) (word : List ℕ) (r : Result (Unit {0}) FromHexError) (
 spelled n word r new h = sym (sized n word) ∙ go (decode_sized word n) h
   where
     go : (d : Result (List ℕ) FromHexError) → MatchResult d (λ bytes. (r ≡ Ok tt) × (new ≡ bytes)) (λ e. r ≡ Err e)
-        → option_map number_in (bytes_or_none d) ≡ (if is_ok r then Some (number_in new) else None)
+        → option_map number_in (result_ok d) ≡ (if is_ok r then Some (number_in new) else None)
     go (Ok bytes) h = rw (h.0, h.1) refl
     go (Err e) h = rw h refl
 

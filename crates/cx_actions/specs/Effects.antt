@@ -1,11 +1,11 @@
 -- What an action does to the region, and what is written for it (own).
-use Rattle.std.specs.Prelude.{◌≡◌, ℕ, ◌++◌, List, [], codes, Option, Some, None}
+use Rattle.std.specs.Prelude.{◌≡◌, ℕ, ◌++◌, List, [], map, codes, Option, Some, None}
 use Rattle.std.specs.Option.{option_and_then, option_map}
+use Rattle.cx_text.specs.Texts.{shown}
 use Rattle.cx_code.specs.declared.image.Image.{Image}
-use Rattle.cx_load.specs.Fault.{IsFit, IsLowestFault, fault_name}
+use Rattle.cx_load.specs.Fault.{fault_name, fault_of}
 use Rattle.cx_load.specs.declared.fault.ImageFault.{ImageFault}
 use Rattle.cx_region.specs.Defining.{fresh_region}
-use Rattle.cx_region.specs.State.{RegionState}
 use Rattle.cx_region.specs.Tables.{terminal_of}
 use Rattle.cx_region.specs.declared.replies.Event.TheVariants as event
 use Rattle.cx_display.specs.declared.displays.Display.{Display}
@@ -17,7 +17,7 @@ use Rattle.cx_edf.specs.declared.modes.PageName.TheVariants as page
 use Rattle.cx_edf.specs.Sessions.{nth_back, shown_of}
 use Rattle.cx_edf.specs.State.{EdfState, session_at}
 use Rattle.cx_edf.specs.Steps.{EdfHappens}
-use Rattle.cx_actions.specs.Texts.{answer_text, display_text, refused_text, screen_text}
+use Rattle.cx_actions.specs.Texts.{answer_text, page_lines, refused_text}
 use Rattle.cx_actions.specs.declared.actions.Action.{Action}
 use Rattle.cx_actions.specs.declared.actions.Action.TheVariants as action
 
@@ -29,31 +29,14 @@ fresh_state = record { region = fresh_region; sessions = [] }
 unfoldable pub Replies : EdfState → EdfEvent → List ℕ → EdfState → Type 0
 Replies old event text new = (given : Answer) × EdfHappens old event given new × (text ≡ answer_text event given)
 
--- what checking an image finds: no fault where it is fit, else its lowest one
-abbrev pub Finds : Image → Option ImageFault → Type 0
-Finds image None = IsFit image
-Finds image (Some fault) = IsLowestFault image fault
-
--- an image without a fault is defined as a program; of another the fault is told
+-- an image without a fault is defined as a program; of another its lowest fault is told
 abbrev pub ByFault : Option ImageFault → EdfState → List ℕ → Image → List ℕ → EdfState → Type 0
 ByFault None old name image text new = Replies old (edf_event.Plain (event.Program name image)) text new
-ByFault (Some fault) old name image text new = (text ≡ refused_text (codes "PROGRAM") name (fault_name fault)) × (new ≡ old)
+ByFault (Some fault) old name _ text new = (text ≡ refused_text (codes "PROGRAM") name (fault_name fault)) × (new ≡ old)
 
--- an image is checked before it is defined
-pub record Checks (old : EdfState) (name : List ℕ) (image : Image) (text : List ℕ) (new : EdfState) : Type 0 where
-  pub fault : Option ImageFault
-  pub finds : Finds image fault
-  pub does : ByFault fault old name image text new
-
--- What is written of a source comes before what its image gives.
-pub record Prepares (old : EdfState) (name before : List ℕ) (image : Image) (text : List ℕ) (new : EdfState) : Type 0 where
-  pub own : List ℕ
-  pub checks : Checks old name image own new
-  pub written : text ≡ before ++ own
-
--- the screen of a terminal
-abbrev pub screen_of : RegionState → List ℕ → Option (List (List ℕ))
-screen_of region name = option_map (λ terminal. terminal.screen) (terminal_of region name)
+-- the screen of a terminal, as it is shown
+abbrev pub shown_screen : EdfState → List ℕ → Option (List (List ℕ))
+shown_screen state name = option_map (map shown) (option_map (λ t. t.screen) (terminal_of state.region name))
 
 -- the page of a display that has this name
 abbrev pub page_of : Display → PageName → List (List ℕ)
@@ -63,17 +46,21 @@ page_of display page.User = display.user
 
 -- the page that EDF shows at a terminal, in Stopped
 abbrev pub shown_page : EdfState → List ℕ → Option (List (List ℕ))
-shown_page state name = option_map (λ shown. page_of shown.0 shown.1.page) (option_and_then shown_of (session_at state name))
+shown_page state name = option_map (λ s. page_of s.0 s.1.page) (option_and_then shown_of (session_at state name))
 
 -- the main page of the display that is so many before the newest one of a terminal's session
 abbrev pub main_page_back : EdfState → List ℕ → ℕ → Option (List (List ℕ))
-main_page_back state name k = option_map (λ display. display.main) (option_and_then (λ session. nth_back session.displays k) (session_at state name))
+main_page_back state name k =
+    option_map (λ display. display.main) (option_and_then (λ s. nth_back s.displays k) (session_at state name))
 
--- One action: the region under EDF before, the action, what is written for it, and the region after.
+-- One action: the region under EDF before, the action, what is written for it, and the region after. What is written of a source
+-- comes before what its image gives.
 unfoldable pub Performs : EdfState → Action → List ℕ → EdfState → Type 0
-Performs old (action.Image name image) text new = Checks old name image text new
-Performs old (action.Source name before image) text new = Prepares old name before image text new
+Performs old (action.Image name image) text new = ByFault (fault_of image) old name image text new
+Performs old (action.Source name before image) text new =
+    (own : List ℕ) × ByFault (fault_of image) old name image own new × (text ≡ before ++ own)
 Performs old (action.Event event) text new = Replies old event text new
-Performs old (action.Screen name) text new = (text ≡ screen_text name (screen_of old.region name)) × (new ≡ old)
-Performs old (action.Display name) text new = (text ≡ display_text name (shown_page old name)) × (new ≡ old)
-Performs old (action.Previous name k) text new = (text ≡ display_text name (main_page_back old name k)) × (new ≡ old)
+Performs old (action.Screen name) text new = (text ≡ page_lines (codes "SCREEN") name (shown_screen old name)) × (new ≡ old)
+Performs old (action.Display name) text new = (text ≡ page_lines (codes "DISPLAY") name (shown_page old name)) × (new ≡ old)
+Performs old (action.Previous name k) text new =
+    (text ≡ page_lines (codes "DISPLAY") name (main_page_back old name k)) × (new ≡ old)

@@ -1,13 +1,12 @@
 //! What a line of a script asks.
 
-ghost use Rattle.std.specs.Prelude.{◌≡◌, IfOk, IfSome, OnErr, is_some, true};
+ghost use Rattle.std.specs.Prelude.{◌≡◌, ◌≤◌, IfOk, IfSome, OnErr, codes, is_some, length, true};
 ghost use Rattle.std.specs.List.{find};
-ghost use Rattle.std.specs.Option.{option_copied, option_map};
+ghost use Rattle.std.specs.Option.{option_copied};
 ghost use Rattle.cx_ebcdic.specs.Aids.{key_of};
 ghost use Rattle.std.specs.Str.{bytes_eq};
 ghost use Rattle.cx_actions.specs.Allowed.{IsAllowed, IsAllowedLine};
-ghost use Rattle.cx_actions.specs.Actions.{aid_of, asked, does, is_idle, key_words, line_of, switch_of, verb_name, verb_of, wanted_of};
-ghost use Rattle.cx_edf.specs.declared.answers.EdfEvent.TheVariants as edf;
+ghost use Rattle.cx_actions.specs.Actions.{aid_of, asked, does, is_idle, key_with_text, line_of, switch_of, wanted_of};
 
 use crate::alterations::change_of;
 use crate::words::{codes_of_key, name4, name8, number, split_word};
@@ -43,58 +42,6 @@ pub enum Action {
     Previous(Name4, usize),
 }
 
-/// The word that begins a line.
-#[derive(Clone, Copy, Debug, PartialEq, Eq)]
-pub enum Verb {
-    Image,
-    Source,
-    Transaction,
-    Terminal,
-    Clock,
-    Key,
-    Turn,
-    Edf,
-    Screen,
-    Display,
-    Alter,
-}
-
-impl Verb {
-    /// All of these words.
-    pub const ALL: [Verb; 11] = [
-        Verb::Image,
-        Verb::Source,
-        Verb::Transaction,
-        Verb::Terminal,
-        Verb::Clock,
-        Verb::Key,
-        Verb::Turn,
-        Verb::Edf,
-        Verb::Screen,
-        Verb::Display,
-        Verb::Alter,
-    ];
-
-    /// The word as it is written.
-    fn name(self) -> &'static [u8]
-        ensures { result.now ≡ verb_name self }
-    {
-        match self {
-            Verb::Image => b"IMAGE",
-            Verb::Source => b"SOURCE",
-            Verb::Transaction => b"TRANSACTION",
-            Verb::Terminal => b"TERMINAL",
-            Verb::Clock => b"CLOCK",
-            Verb::Key => b"KEY",
-            Verb::Turn => b"TURN",
-            Verb::Edf => b"EDF",
-            Verb::Screen => b"SCREEN",
-            Verb::Display => b"DISPLAY",
-            Verb::Alter => b"ALTER",
-        }
-    }
-}
-
 /// What a line asks where it is not in a block; `A` is an action of the script's language.
 #[derive(Drop)]
 pub enum Line<A> {
@@ -108,21 +55,6 @@ pub enum Line<A> {
     Lines(Name8),
     /// An action.
     Action(A),
-}
-
-/// The first of some words that begin a line which is this word.
-fn verb_in(verbs: &[Verb], word: &[u8]) -> Option<Verb>
-    ensures { result ≡ find (λ v. bytes_eq (verb_name v) word.now) verbs.now }
-{
-    verbs.iter().copied().find(|verb| verb.name() == word)
-}
-
-/// The word that begins a line, where it is one of these.
-#[tactic(auto, unfolding(crate::specs::Actions::verb_of))]
-fn verb_of(word: &[u8]) -> Option<Verb>
-    ensures { result ≡ verb_of word.now }
-{
-    verb_in(&Verb::ALL, word)
 }
 
 /// The first of some keys that has a name.
@@ -144,7 +76,7 @@ fn aid_of(name: &[u8]) -> Option<Aid>
 
 /// The line that asks an event of the region.
 fn event_line(event: Event) -> Line<Action>
-    ensures { result ≡ does (edf.Plain event) }
+    ensures { result ≡ does event }
 {
     Line::Action(Action::Event(EdfEvent::Plain(event)))
 }
@@ -152,7 +84,7 @@ fn event_line(event: Event) -> Line<Action>
 /// The line that begins an image's block, by what is behind its first word.
 #[tactic(auto, unfolding(crate::specs::Actions::asked))]
 fn image_line(text: &[u8]) -> Option<Line<Action>>
-    ensures { result ≡ asked Verb.Image text.now }
+    ensures { result ≡ asked (codes "IMAGE") text.now }
 {
     let (word, rest) = split_word(text);
     let name = name8(word)?;
@@ -193,7 +125,7 @@ fn wanted_of(rest: Option<&[u8]>) -> Option<Wanted>
 /// The line that begins a source's block, by what is behind its first word.
 #[tactic(auto, unfolding(crate::specs::Actions::asked))]
 fn source_line(text: &[u8]) -> Option<Line<Action>>
-    ensures { result ≡ asked Verb.Source text.now }
+    ensures { result ≡ asked (codes "SOURCE") text.now }
 {
     let (word, rest) = split_word(text);
     let name = name8(word)?;
@@ -204,7 +136,7 @@ fn source_line(text: &[u8]) -> Option<Line<Action>>
 /// TRANSACTION, by what is behind its first word.
 #[tactic(auto, unfolding(crate::specs::Actions::asked))]
 fn transaction_line(text: &[u8]) -> Option<Line<Action>>
-    ensures { result ≡ asked Verb.Transaction text.now }
+    ensures { result ≡ asked (codes "TRANSACTION") text.now }
 {
     let (word, rest) = split_word(text);
     let name = name4(word)?;
@@ -215,7 +147,7 @@ fn transaction_line(text: &[u8]) -> Option<Line<Action>>
 /// CLOCK, by what is behind its first word.
 #[tactic(auto, unfolding(crate::specs::Actions::asked))]
 fn clock_line(text: &[u8]) -> Option<Line<Action>>
-    ensures value { result ≡ asked Verb.Clock text.now }
+    ensures value { result ≡ asked (codes "CLOCK") text.now }
     ensures allowed { IfSome result (IsAllowedLine IsAllowed) }
 {
     let (word, rest) = split_word(text);
@@ -224,28 +156,34 @@ fn clock_line(text: &[u8]) -> Option<Line<Action>>
     Some(event_line(Event::Clock(time, date)))
 }
 
-/// The terminal and the key of KEY, and what is behind them.
-fn key_words(text: &[u8]) -> Option<(Name4, Aid, Option<&[u8]>)>
-    ensures { option_map (λ words. (words.0, words.1, option_map (λ rest. rest.now) words.2)) result ≡ key_words text.now }
+/// A key and the codes of its text, by what is behind the terminal.
+fn key_with_text(alloc: Global, text: &[u8]) -> Result<Option<(Aid, Bytes)>, AllocError>
+    ensures value { IfOk result (λ key. key ≡ key_with_text text.now) }
+    ensures memory { OnErr result (is_some (key_with_text text.now) ≡ true) }
+    ensures bound { IfOk result (λ key. IfSome key (λ pressed. length pressed.1 ≤ 1920)) }
 {
     let (word, rest) = split_word(text);
-    let name = name4(word)?;
-    let (key, behind) = split_word(rest?);
-    let aid = aid_of(key)?;
-    Some((name, aid, behind))
+    let Some(aid) = aid_of(word) else {
+        return Ok(None);
+    };
+    let Some(codes) = codes_of_key(alloc, rest.unwrap_or(b""))? else {
+        return Ok(None);
+    };
+    Ok(Some((aid, codes)))
 }
 
 /// KEY, by what is behind its first word.
 #[tactic(auto, unfolding(crate::specs::Actions::asked))]
 fn key_line(alloc: Global, text: &[u8]) -> Result<Option<Line<Action>>, AllocError>
-    ensures value { IfOk result (λ line. line ≡ asked Verb.Key text.now) }
-    ensures memory { OnErr result (is_some (asked Verb.Key text.now) ≡ true) }
+    ensures value { IfOk result (λ line. line ≡ asked (codes "KEY") text.now) }
+    ensures memory { OnErr result (is_some (asked (codes "KEY") text.now) ≡ true) }
     ensures allowed { IfOk result (λ line. IfSome line (IsAllowedLine IsAllowed)) }
 {
-    let Some((name, aid, behind)) = key_words(text) else {
+    let (word, rest) = split_word(text);
+    let (Some(name), Some(rest)) = (name4(word), rest) else {
         return Ok(None);
     };
-    let Some(codes) = codes_of_key(alloc, behind.unwrap_or(b""))? else {
+    let Some((aid, codes)) = key_with_text(alloc, rest)? else {
         return Ok(None);
     };
     Ok(Some(event_line(Event::Key(name, aid, codes))))
@@ -267,7 +205,7 @@ fn switch_of(word: &[u8]) -> Option<bool>
 /// EDF, by what is behind its first word.
 #[tactic(auto, unfolding(crate::specs::Actions::asked))]
 fn edf_line(text: &[u8]) -> Option<Line<Action>>
-    ensures value { result ≡ asked Verb.Edf text.now }
+    ensures value { result ≡ asked (codes "EDF") text.now }
     ensures allowed { IfSome result (IsAllowedLine IsAllowed) }
 {
     let (word, rest) = split_word(text);
@@ -283,7 +221,7 @@ fn edf_line(text: &[u8]) -> Option<Line<Action>>
 /// DISPLAY, by what is behind its first word.
 #[tactic(auto, unfolding(crate::specs::Actions::asked))]
 fn display_line(text: &[u8]) -> Option<Line<Action>>
-    ensures value { result ≡ asked Verb.Display text.now }
+    ensures value { result ≡ asked (codes "DISPLAY") text.now }
     ensures allowed { IfSome result (IsAllowedLine IsAllowed) }
 {
     let (word, rest) = split_word(text);
@@ -298,7 +236,7 @@ fn display_line(text: &[u8]) -> Option<Line<Action>>
 /// ALTER, by what is behind its first word.
 #[tactic(auto, unfolding(crate::specs::Actions::asked))]
 fn alter_line(text: &[u8]) -> Option<Line<Action>>
-    ensures value { result ≡ asked Verb.Alter text.now }
+    ensures value { result ≡ asked (codes "ALTER") text.now }
     ensures allowed { IfSome result (IsAllowedLine IsAllowed) }
 {
     let (word, rest) = split_word(text);
@@ -309,23 +247,35 @@ fn alter_line(text: &[u8]) -> Option<Line<Action>>
 
 /// What a line asks by its first word and what is behind it.
 #[tactic(auto, unfolding(crate::specs::Actions::asked))]
-fn asked(alloc: Global, verb: Verb, text: &[u8]) -> Result<Option<Line<Action>>, AllocError>
-    ensures value { IfOk result (λ line. line ≡ asked verb text.now) }
-    ensures memory { OnErr result (is_some (asked verb text.now) ≡ true) }
+fn asked(alloc: Global, verb: &[u8], text: &[u8]) -> Result<Option<Line<Action>>, AllocError>
+    ensures value { IfOk result (λ line. line ≡ asked verb.now text.now) }
+    ensures memory { OnErr result (is_some (asked verb.now text.now) ≡ true) }
     ensures allowed { IfOk result (λ line. IfSome line (IsAllowedLine IsAllowed)) }
 {
-    match verb {
-        Verb::Image => Ok(image_line(text)),
-        Verb::Source => Ok(source_line(text)),
-        Verb::Transaction => Ok(transaction_line(text)),
-        Verb::Terminal => Ok(name4(text).map(|name| event_line(Event::Terminal(name)))),
-        Verb::Clock => Ok(clock_line(text)),
-        Verb::Key => key_line(alloc, text),
-        Verb::Turn => Ok(name4(text).map(|name| event_line(Event::Turn(name)))),
-        Verb::Edf => Ok(edf_line(text)),
-        Verb::Display => Ok(display_line(text)),
-        Verb::Screen => Ok(name4(text).map(|name| Line::Action(Action::Screen(name)))),
-        Verb::Alter => Ok(alter_line(text)),
+    if verb == b"IMAGE".as_slice() {
+        Ok(image_line(text))
+    } else if verb == b"SOURCE".as_slice() {
+        Ok(source_line(text))
+    } else if verb == b"TRANSACTION".as_slice() {
+        Ok(transaction_line(text))
+    } else if verb == b"TERMINAL".as_slice() {
+        Ok(name4(text).map(|name| event_line(Event::Terminal(name))))
+    } else if verb == b"CLOCK".as_slice() {
+        Ok(clock_line(text))
+    } else if verb == b"KEY".as_slice() {
+        key_line(alloc, text)
+    } else if verb == b"TURN".as_slice() {
+        Ok(name4(text).map(|name| event_line(Event::Turn(name))))
+    } else if verb == b"EDF".as_slice() {
+        Ok(edf_line(text))
+    } else if verb == b"DISPLAY".as_slice() {
+        Ok(display_line(text))
+    } else if verb == b"SCREEN".as_slice() {
+        Ok(name4(text).map(|name| Line::Action(Action::Screen(name))))
+    } else if verb == b"ALTER".as_slice() {
+        Ok(alter_line(text))
+    } else {
+        Ok(None)
     }
 }
 
@@ -347,8 +297,8 @@ pub fn line_of(alloc: Global, text: &[u8]) -> Result<Option<Line<Action>>, Alloc
         return Ok(Some(Line::Idle));
     }
     let (word, rest) = split_word(text);
-    let (Some(verb), Some(rest)) = (verb_of(word), rest) else {
+    let Some(rest) = rest else {
         return Ok(None);
     };
-    asked(alloc, verb, rest)
+    asked(alloc, word, rest)
 }

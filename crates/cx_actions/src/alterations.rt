@@ -2,7 +2,9 @@
 
 ghost use Rattle.std.specs.Prelude.{◌≡◌, ◌≤◌, ◌<◌, ◌^◌, IfSome, None, Some, if◌then◌else◌, length};
 ghost use Rattle.cx_region.specs.Alter.{IsAllowedChange};
-ghost use Rattle.cx_actions.specs.Alterations.{byte_change, change_of, hex_number, number_in, register_change, register_of};
+ghost use Rattle.cx_actions.specs.Alterations.{change_of, hex_number, number_in, register_of};
+ghost use Rattle.cx_actions.specs.Words.{two_words};
+ghost use Rattle.cx_region.specs.declared.changes.Change.TheVariants.{Byte, Register};
 
 use crate::words::{number, split_word};
 use cx_region::Change;
@@ -83,7 +85,7 @@ fn register_of(word: &[u8]) -> Option<u8>
 
 /// What REG alters, by what is behind it.
 fn register_change(text: &[u8]) -> Option<Change>
-    ensures value { result ≡ register_change text.now }
+    ensures value { result ≡ two_words Register register_of (hex_number 4) text.now }
     ensures allowed { IfSome result IsAllowedChange }
 {
     let (word, rest) = split_word(text);
@@ -94,7 +96,7 @@ fn register_change(text: &[u8]) -> Option<Change>
 
 /// What BYTE alters, by what is behind it.
 fn byte_change(text: &[u8]) -> Option<Change>
-    ensures value { result ≡ byte_change text.now }
+    ensures value { result ≡ two_words Byte (hex_number 3) (hex_number 1) text.now }
     ensures allowed { IfSome result IsAllowedChange }
 {
     let (word, rest) = split_word(text);

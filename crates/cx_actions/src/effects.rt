@@ -1,14 +1,14 @@
 //! What actions do to a region under EDF.
 
-ghost use Rattle.std.specs.Prelude.{◌≡◌, IfOk};
+ghost use Rattle.std.specs.Prelude.{◌≡◌, IfOk, codes};
 ghost use Rattle.cx_edf.specs.Runs.{IsAllowedEdf};
-ghost use Rattle.cx_actions.specs.Effects.{Performs, Replies, main_page_back, page_of, screen_of, shown_page};
-ghost use Rattle.cx_actions.specs.Texts.{display_text, screen_text};
+ghost use Rattle.cx_actions.specs.Effects.{Performs, Replies, main_page_back, page_of, shown_page, shown_screen};
+ghost use Rattle.cx_actions.specs.Texts.{page_lines};
 ghost use Rattle.cx_actions.specs.declared.actions.Action.TheVariants as action;
 
 use crate::actions::Action;
 use crate::stage::Stage;
-use crate::texts::{answer_text, display_text, refused_image, screen_text};
+use crate::texts::{answer_text, page_lines, refused_image};
 use cx_code::{Bytes, Image};
 use cx_ebcdic::{Name4, Name8};
 use cx_edf::{Debugged, Display, EdfEvent, PageName};
@@ -70,14 +70,23 @@ fn define_source<S: Store + Drop>(
 }
 
 /// Shows the screen of a terminal.
+#[tactic(auto, using(crate::proofs::ScreenLemmas::screen_is_page))]
 fn show_screen<S: Store + Drop>(
     region: &Debugged<S>,
     alloc: Global,
     name: Name4,
 ) -> Result<Vec<u8>, AllocError>
-    ensures { IfOk result (λ text. text.items ≡ screen_text name (screen_of region.now.region name)) }
+    ensures { IfOk result (λ text. text.items ≡ page_lines (codes "SCREEN") name (shown_screen region.now name)) }
 {
-    screen_text(alloc, name, region.screen(name))
+    match region.screen(name) {
+        Some(screen) => page_lines(
+            alloc,
+            b"SCREEN",
+            name,
+            Some(&Page::of_bytes(screen.cells())),
+        ),
+        None => page_lines(alloc, b"SCREEN", name, None),
+    }
 }
 
 /// The page of a display that has this name.
@@ -97,11 +106,13 @@ fn show_display<S: Store + Drop>(
     alloc: Global,
     name: Name4,
 ) -> Result<Vec<u8>, AllocError>
-    ensures { IfOk result (λ text. text.items ≡ display_text name (shown_page region.now name)) }
+    ensures { IfOk result (λ text. text.items ≡ page_lines (codes "DISPLAY") name (shown_page region.now name)) }
 {
     match region.display(name) {
-        Some((display, view)) => display_text(alloc, name, Some(page_of(display, view.page))),
-        None => display_text(alloc, name, None),
+        Some((display, view)) => {
+            page_lines(alloc, b"DISPLAY", name, Some(page_of(display, view.page)))
+        }
+        None => page_lines(alloc, b"DISPLAY", name, None),
     }
 }
 
@@ -112,11 +123,12 @@ fn show_previous<S: Store + Drop>(
     name: Name4,
     back: usize,
 ) -> Result<Vec<u8>, AllocError>
-    ensures { IfOk result (λ text. text.items ≡ display_text name (main_page_back region.now name back)) }
+    ensures { let page = main_page_back region.now name back in
+        IfOk result (λ text. text.items ≡ page_lines (codes "DISPLAY") name page) }
 {
     match region.previous(name, back) {
-        Some(display) => display_text(alloc, name, Some(&display.main)),
-        None => display_text(alloc, name, None),
+        Some(display) => page_lines(alloc, b"DISPLAY", name, Some(&display.main)),
+        None => page_lines(alloc, b"DISPLAY", name, None),
     }
 }
 

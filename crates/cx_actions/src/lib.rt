@@ -8,7 +8,7 @@ mod stage;
 mod texts;
 mod words;
 
-pub use actions::{Action, Line, Verb, Wanted, line_of};
+pub use actions::{Action, Line, Wanted, line_of};
 pub use alterations::hex_address;
 pub use stage::{ScriptAction, Stage};
 pub use texts::answer_text;

@@ -4,13 +4,12 @@ ghost use Rattle.std.specs.Prelude.{◌≡◌, IfOk, [], ◌∷◌, codes};
 ghost use Rattle.std.specs.Option.{option_copied, option_map};
 ghost use Rattle.cx_load.specs.Fault.{fault_name};
 ghost use Rattle.cx_text.specs.Texts.{shown_name, written_line};
-ghost use Rattle.cx_actions.specs.Texts.{alter_text, answer_text, clock_text, defined_text, display_text, edf_text, held_text, key_text, not_stopped_text, program_text, refused_text, reply_text, screen_text, to_edf_text, turn_reply_detail, turn_text};
+ghost use Rattle.cx_actions.specs.Texts.{answer_text, defined_text, named_line, page_lines, plain_text, program_text, refused_text, reply_text, turn_reply_detail, turn_text};
 
 use cx_ebcdic::{Name4, Name8};
-use cx_edf::{Answer, EdfEvent, EdfReply};
+use cx_edf::{Answer, EdfEvent};
 use cx_load::{ImageFault, Loaded};
-use cx_region::{AlterReply, DefineFault, Event, KeyReply, Reply, TurnReply};
-use cx_service::Screen;
+use cx_region::{DefineFault, Event, Reply, TurnReply};
 use cx_text::{Page, hexadecimal, shown, shown_name, written_line};
 use std::alloc::{AllocError, Global};
 
@@ -21,7 +20,8 @@ fn refused_text(
     name: &[u8],
     fault: &[u8],
 ) -> Result<Vec<u8>, AllocError>
-    ensures { IfOk result (λ text. text.items ≡ written_line verb.now (name.now ∷ codes "REFUSED" ∷ fault.now ∷ [])) }
+    ensures { let words = name.now ∷ codes "REFUSED" ∷ fault.now ∷ [] in
+        IfOk result (λ text. text.items ≡ written_line verb.now words) }
 {
     written_line(alloc, verb, &[name, b"REFUSED", fault])
 }
@@ -72,49 +72,19 @@ fn defined_text(
     }
 }
 
-/// The line of a transaction's definition.
-fn transaction_text(
-    alloc: Global,
-    name: Name4,
-    answer: Result<(), DefineFault>,
-) -> Result<Vec<u8>, AllocError>
-    ensures { IfOk result (λ text. text.items ≡ defined_text (codes "TRANSACTION") name answer) }
-{
-    defined_text(alloc, b"TRANSACTION", name, answer)
-}
-
-/// The line of a terminal's definition.
-fn terminal_text(
-    alloc: Global,
-    name: Name4,
-    answer: Result<(), DefineFault>,
-) -> Result<Vec<u8>, AllocError>
-    ensures { IfOk result (λ text. text.items ≡ defined_text (codes "TERMINAL") name answer) }
-{
-    defined_text(alloc, b"TERMINAL", name, answer)
-}
-
 /// The line of a clock that is set.
 fn clock_text(alloc: Global) -> Result<Vec<u8>, AllocError>
-    ensures { IfOk result (λ text. text.items ≡ clock_text) }
+    ensures { IfOk result (λ text. text.items ≡ written_line (codes "CLOCK") (codes "SET" ∷ [])) }
 {
     written_line(alloc, b"CLOCK", &[b"SET"])
 }
 
-/// The line of a reply.
-fn reply_line(alloc: Global, verb: &[u8], name: &[u8], reply: &[u8]) -> Result<Vec<u8>, AllocError>
-    ensures { IfOk result (λ text. text.items ≡ written_line verb.now (name.now ∷ reply.now ∷ [])) }
-{
-    written_line(alloc, verb, &[name, reply])
-}
-
-/// The line of a key.
-#[tactic(auto, unfolding(crate::specs::Texts::key_text))]
-fn key_text(alloc: Global, name: Name4, reply: KeyReply) -> Result<Vec<u8>, AllocError>
-    ensures { IfOk result (λ text. text.items ≡ key_text name reply) }
+/// A line of a terminal's name and one word.
+fn named_line(alloc: Global, verb: &[u8], name: Name4, word: &[u8]) -> Result<Vec<u8>, AllocError>
+    ensures { IfOk result (λ text. text.items ≡ named_line verb.now name word.now) }
 {
     let name = shown_name(alloc, name)?;
-    reply_line(alloc, b"KEY", &name, reply.name().as_bytes())
+    written_line(alloc, verb, &[&name, word])
 }
 
 /// The condition's name or the code of a turn's reply, where it has one.
@@ -139,7 +109,8 @@ fn detailed_line(
     reply: &[u8],
     detail: &[u8],
 ) -> Result<Vec<u8>, AllocError>
-    ensures { IfOk result (λ text. text.items ≡ written_line (codes "TURN") (name.now ∷ reply.now ∷ detail.now ∷ [])) }
+    ensures { let words = name.now ∷ reply.now ∷ detail.now ∷ [] in
+        IfOk result (λ text. text.items ≡ written_line (codes "TURN") words) }
 {
     written_line(alloc, b"TURN", &[name, reply, detail])
 }
@@ -149,21 +120,14 @@ fn detailed_line(
 fn turn_text(alloc: Global, name: Name4, reply: TurnReply) -> Result<Vec<u8>, AllocError>
     ensures { IfOk result (λ text. text.items ≡ turn_text name reply) }
 {
-    let name = shown_name(alloc, name)?;
     let answer = reply.name().as_bytes();
     match turn_reply_detail(alloc, &reply)? {
-        Some(detail) => detailed_line(alloc, &name, answer, &detail),
-        None => reply_line(alloc, b"TURN", &name, answer),
+        Some(detail) => {
+            let name = shown_name(alloc, name)?;
+            detailed_line(alloc, &name, answer, &detail)
+        }
+        None => named_line(alloc, b"TURN", name, answer),
     }
-}
-
-/// The line of an alteration.
-#[tactic(auto, unfolding(crate::specs::Texts::alter_text))]
-fn alter_text(alloc: Global, name: Name4, reply: AlterReply) -> Result<Vec<u8>, AllocError>
-    ensures { IfOk result (λ text. text.items ≡ alter_text name reply) }
-{
-    let name = shown_name(alloc, name)?;
-    reply_line(alloc, b"ALTER", &name, reply.name().as_bytes())
 }
 
 /// What is written for the reply to an event.
@@ -174,46 +138,35 @@ fn reply_text(alloc: Global, event: &Event, reply: Reply) -> Result<Vec<u8>, All
     match (event, reply) {
         (Event::Program(name, _), Reply::Program(answer)) => program_text(alloc, *name, answer),
         (Event::Transaction(name, _), Reply::Transaction(answer)) => {
-            transaction_text(alloc, *name, answer)
+            defined_text(alloc, b"TRANSACTION", *name, answer)
         }
-        (Event::Terminal(name), Reply::Terminal(answer)) => terminal_text(alloc, *name, answer),
+        (Event::Terminal(name), Reply::Terminal(answer)) => {
+            defined_text(alloc, b"TERMINAL", *name, answer)
+        }
         (Event::Clock(_, _), Reply::Clock) => clock_text(alloc),
-        (Event::Key(name, _, _), Reply::Key(answer)) => key_text(alloc, *name, answer),
+        (Event::Key(name, _, _), Reply::Key(answer)) => {
+            named_line(alloc, b"KEY", *name, answer.name().as_bytes())
+        }
         (Event::Turn(name), Reply::Turn(answer)) => turn_text(alloc, *name, answer),
-        (Event::Alter(name, _), Reply::Alter(answer)) => alter_text(alloc, *name, answer),
+        (Event::Alter(name, _), Reply::Alter(answer)) => {
+            named_line(alloc, b"ALTER", *name, answer.name().as_bytes())
+        }
         _ => Ok(Vec::new(alloc)),
     }
 }
 
-/// The line of a key that is EDF's.
-#[tactic(auto, unfolding(crate::specs::Texts::to_edf_text))]
-fn to_edf_text(alloc: Global, event: &Event) -> Result<Vec<u8>, AllocError>
-    ensures { IfOk result (λ text. text.items ≡ to_edf_text event.now) }
+/// What is written for an event of the region under EDF.
+#[tactic(auto, unfolding(crate::specs::Texts::plain_text))]
+fn plain_text(alloc: Global, event: &Event, answer: Answer) -> Result<Vec<u8>, AllocError>
+    ensures { IfOk result (λ text. text.items ≡ plain_text event.now answer) }
 {
-    match event {
-        Event::Key(name, _, _) => named_line(alloc, b"KEY", *name, b"ToEdf"),
-        _ => Ok(Vec::new(alloc)),
-    }
-}
-
-/// The line of a turn that is held.
-#[tactic(auto, unfolding(crate::specs::Texts::held_text))]
-fn held_text(alloc: Global, event: &Event) -> Result<Vec<u8>, AllocError>
-    ensures { IfOk result (λ text. text.items ≡ held_text event.now) }
-{
-    match event {
-        Event::Turn(name) => named_line(alloc, b"TURN", *name, b"Held"),
-        _ => Ok(Vec::new(alloc)),
-    }
-}
-
-/// The line of an alteration of a terminal that isn't in Stopped.
-#[tactic(auto, unfolding(crate::specs::Texts::not_stopped_text))]
-fn not_stopped_text(alloc: Global, event: &Event) -> Result<Vec<u8>, AllocError>
-    ensures { IfOk result (λ text. text.items ≡ not_stopped_text event.now) }
-{
-    match event {
-        Event::Alter(name, _) => named_line(alloc, b"ALTER", *name, b"NotStopped"),
+    match (event, answer) {
+        (event, Answer::Region(reply)) => reply_text(alloc, event, reply),
+        (Event::Key(name, _, _), Answer::ToEdf) => named_line(alloc, b"KEY", *name, b"ToEdf"),
+        (Event::Turn(name), Answer::Held) => named_line(alloc, b"TURN", *name, b"Held"),
+        (Event::Alter(name, _), Answer::NotStopped) => {
+            named_line(alloc, b"ALTER", *name, b"NotStopped")
+        }
         _ => Ok(Vec::new(alloc)),
     }
 }
@@ -224,60 +177,32 @@ pub fn answer_text(alloc: Global, event: &EdfEvent, answer: Answer) -> Result<Ve
     ensures { IfOk result (λ text. text.items ≡ answer_text event.now answer) }
 {
     match (event, answer) {
-        (EdfEvent::Plain(event), Answer::Region(reply)) => reply_text(alloc, event, reply),
-        (EdfEvent::Plain(event), Answer::ToEdf) => to_edf_text(alloc, event),
-        (EdfEvent::Plain(event), Answer::Held) => held_text(alloc, event),
-        (EdfEvent::Plain(event), Answer::NotStopped) => not_stopped_text(alloc, event),
-        (EdfEvent::On(name), Answer::Edf(reply)) => edf_text(alloc, *name, reply),
-        (EdfEvent::Off(name), Answer::Edf(reply)) => edf_text(alloc, *name, reply),
+        (EdfEvent::Plain(event), answer) => plain_text(alloc, event, answer),
+        (EdfEvent::On(name), Answer::Edf(reply)) => {
+            named_line(alloc, b"EDF", *name, reply.name().as_bytes())
+        }
+        (EdfEvent::Off(name), Answer::Edf(reply)) => {
+            named_line(alloc, b"EDF", *name, reply.name().as_bytes())
+        }
         _ => Ok(Vec::new(alloc)),
     }
 }
 
-/// A line of a terminal's name and one word.
-fn named_line(alloc: Global, verb: &[u8], name: Name4, word: &[u8]) -> Result<Vec<u8>, AllocError>
-    ensures { IfOk result (λ text. text.items ≡ written_line verb.now (shown_name name ∷ word.now ∷ [])) }
-{
-    let name = shown_name(alloc, name)?;
-    reply_line(alloc, verb, &name, word)
-}
-
-/// The line of EDF ON or EDF OFF.
-#[tactic(auto, unfolding(crate::specs::Texts::edf_text))]
-fn edf_text(alloc: Global, name: Name4, reply: EdfReply) -> Result<Vec<u8>, AllocError>
-    ensures { IfOk result (λ text. text.items ≡ edf_text name reply) }
-{
-    named_line(alloc, b"EDF", name, reply.name().as_bytes())
-}
-
-/// The lines of a display's page.
-#[tactic(auto, unfolding(crate::specs::Texts::display_text))]
-pub fn display_text(alloc: Global, name: Name4, page: Option<&Page>) -> Result<Vec<u8>, AllocError>
-    ensures { IfOk result (λ text. text.items ≡ display_text name (option_copied page.entry)) }
-{
-    let name = shown_name(alloc, name)?;
-    let Some(page) = page else {
-        return written_line(alloc, b"DISPLAY", &[&name, b"NONE"]);
-    };
-    let mut text = written_line(alloc, b"DISPLAY", &[&name])?;
-    page.push_text(&mut text)?;
-    Ok(text)
-}
-
-/// The lines of a screen.
-#[tactic(auto, unfolding(crate::specs::Texts::screen_text), using(crate::proofs::ScreenLemmas::screen_is_page))]
-pub fn screen_text(
+/// The lines of a page, where it is there.
+#[tactic(auto, unfolding(crate::specs::Texts::page_lines))]
+pub fn page_lines(
     alloc: Global,
+    verb: &[u8],
     name: Name4,
-    screen: Option<&Screen>,
+    page: Option<&Page>,
 ) -> Result<Vec<u8>, AllocError>
-    ensures { IfOk result (λ text. text.items ≡ screen_text name (option_copied screen.entry)) }
+    ensures { IfOk result (λ text. text.items ≡ page_lines verb.now name (option_copied page.entry)) }
 {
-    let name = shown_name(alloc, name)?;
-    let Some(screen) = screen else {
-        return written_line(alloc, b"SCREEN", &[&name, b"NONE"]);
+    let Some(page) = page else {
+        return named_line(alloc, verb, name, b"NONE");
     };
-    let mut text = written_line(alloc, b"SCREEN", &[&name])?;
-    Page::of_bytes(screen.cells()).push_text(&mut text)?;
+    let name = shown_name(alloc, name)?;
+    let mut text = written_line(alloc, verb, &[&name])?;
+    page.push_text(&mut text)?;
     Ok(text)
 }

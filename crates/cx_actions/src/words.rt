@@ -6,7 +6,7 @@ ghost use Rattle.std.specs.List.{filter_map, list_all};
 ghost use Rattle.std.specs.Char.{is_ascii_digit};
 ghost use Rattle.cx_ebcdic.specs.Characters.{code_of};
 ghost use Rattle.cx_ebcdic.specs.Names.{name_of};
-ghost use Rattle.cx_actions.specs.Words.{behind, codes_of_key, decimal, has_code, hex_bytes, is_blank, number_of, word};
+ghost use Rattle.cx_actions.specs.Words.{behind, codes_of_key, decimal, is_blank, number_of, word};
 
 use cx_code::Bytes;
 use cx_ebcdic::{Name4, Name8, to_ebcdic};
@@ -92,7 +92,7 @@ pub fn number(word: &[u8], least: usize, most: usize) -> Option<u32>
 
 /// Whether each of these characters has a code.
 fn have_codes(text: &[u8]) -> bool
-    ensures { result ≡ list_all has_code text.now }
+    ensures { result ≡ list_all (λ c. is_some (code_of c)) text.now }
 {
     text.iter().all(|c| to_ebcdic(char::from(*c)).is_some())
 }

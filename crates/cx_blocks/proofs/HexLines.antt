@@ -1,12 +1,13 @@
 -- Lines of hexadecimal digits, decoded into a buffer of their length.
 use Rattle.std.proofs.Common.{◌≡◌, ℕ, ◌/◌, true, false, List, length, Result, Ok, Err, MatchResult, MatchOption, is_ok, refl, ap, ◌∙◌, subst, eq-eqb}
+use Rattle.std.specs.Result.{result_ok}
 use Rattle.hex.specs.Hex.{decode_of, decode_sized}
 use Rattle.hex.specs.declared.error.FromHexError.{FromHexError}
-use Rattle.cx_actions.specs.Words.{hex_bytes, bytes_or_none}
+use Rattle.cx_actions.specs.Words.{hex_bytes}
 
 answered : (d : Result (List ℕ) FromHexError) (r : Result (Unit {0}) FromHexError) (new : List ℕ)
     → MatchResult d (λ bytes. (r ≡ Ok tt) × (new ≡ bytes)) (λ e. r ≡ Err e)
-    → MatchOption (bytes_or_none d) (is_ok r ≡ false) (λ bytes. (is_ok r ≡ true) × (new ≡ bytes))
+    → MatchOption (result_ok d) (is_ok r ≡ false) (λ bytes. (is_ok r ≡ true) × (new ≡ bytes))
 answered (Ok bytes) r new h = (ap is_ok h.0, h.1)
 answered (Err e) r new h = ap is_ok h
 
@@ -18,5 +19,5 @@ pub spelled : (line : List ℕ) (n : ℕ) (r : Result (Unit {0}) FromHexError) (
     → MatchOption (hex_bytes line) (is_ok r ≡ false) (λ bytes. (is_ok r ≡ true) × (new ≡ bytes))
 unfolding hex_bytes
 spelled line n r new e h =
-    subst (λ d. MatchOption (bytes_or_none d) (is_ok r ≡ false) (λ bytes. (is_ok r ≡ true) × (new ≡ bytes))) (ap (decode_sized line) e ∙ half line)
+    subst (λ d. MatchOption (result_ok d) (is_ok r ≡ false) (λ bytes. (is_ok r ≡ true) × (new ≡ bytes))) (ap (decode_sized line) e ∙ half line)
     (answered (decode_sized line n) r new h)

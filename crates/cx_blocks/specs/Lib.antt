@@ -1,7 +1,4 @@
 -- The definitions, in reading order.
-pub mod ImageBlock
-pub mod SourceBlock
-pub mod LinesBlock
 pub mod Blocks
 pub mod Faults
 pub mod Status

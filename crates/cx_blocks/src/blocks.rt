@@ -1,8 +1,10 @@
 //! Lines and blocks: what each line of a script leads to.
 
-ghost use Rattle.std.specs.Prelude.{◌≡◌, ◌≤◌, ◌/◌, ◌++◌, ◌∷◌, [], None, Err, IfOk, IfSome, OnErr, OnOk, MatchOption, is_some, true, false, length};
+ghost use Rattle.std.specs.Prelude.{◌≡◌, ◌≤◌, ◌/◌, ◌++◌, ◌∷◌, [], None, Err, IfOk, IfSome, OnErr, MatchOption, Some, is_some, true, false, length};
 ghost use Rattle.cx_actions.specs.Words.{hex_bytes};
-ghost use Rattle.cx_blocks.specs.Blocks.{ended, first_line, image_action, kept, kept_lines, located, step_at, step_in, step_of, step_within, with_line};
+ghost use Rattle.cx_blocks.specs.Blocks.{body_with, continued, ended, image_of, kept, kept_lines, located, step_at, step_in, step_of, with_line};
+ghost use Rattle.cx_actions.specs.declared.actions.Action.TheVariants as action;
+ghost use Rattle.std.specs.Option.{option_map};
 ghost use Rattle.cx_blocks.specs.Faults.{is_memory, is_read, is_write};
 ghost use Rattle.cx_blocks.specs.declared.faults.RunFault.TheVariants.{BadLine};
 
@@ -13,8 +15,8 @@ use cx_ebcdic::Name8;
 use cx_lines::is_too_long;
 use cx_prepare::{PrepareFault, Prepared, prepare};
 use cx_source::Text;
+use cx_tables::List;
 use std::alloc::{AllocError, Global};
-use std::marker::Model;
 
 /// The most bytes that a line of hexadecimal digits spells.
 const MOST_IN_LINE: usize = 2_048;
@@ -27,155 +29,24 @@ const MOST_LINES: usize = 10_001;
 
 /// A block, up to some line of it.
 #[derive(Drop)]
-pub enum Block {
-    /// That of an image.
-    Image(ImageBlock),
-    /// That of a source.
-    Source(SourceBlock),
-    /// One of lines that are handed over as they stand.
-    Lines(LinesBlock),
+pub struct Block {
+    /// The number of the line that begins it.
+    pub line: usize,
+    /// Its name: a program's.
+    pub name: Name8,
+    /// What it has so far, as far as that is kept.
+    pub body: Body,
 }
 
-/// An image's block, up to some line of it.
+/// What a block has so far, as far as that is kept.
 #[derive(Drop)]
-pub struct ImageBlock {
-    line: usize,
-    name: Name8,
-    stg_len: u32,
-    text: Vec<u8>,
-}
-
-impl Model for ImageBlock {
-    ghost use Rattle.cx_blocks.specs.ImageBlock.{ImageBlock as Gathered};
-
-    ghost Value = { Gathered };
-
-    ghost view = { λ block. record { line = block.line; name = block.name; stg_len = block.stg_len; text = block.text.items } };
-}
-
-impl ImageBlock {
-    /// A block that has no line yet.
-    fn new(alloc: Global, line: usize, name: Name8, stg_len: u32) -> ImageBlock
-        ensures { result ≡ record { line = line; name = name; stg_len = stg_len; text = [] } }
-    {
-        ImageBlock {
-            line,
-            name,
-            stg_len,
-            text: Vec::new(alloc),
-        }
-    }
-
-    /// What is done at its end.
-    fn action(self, alloc: Global) -> Action
-        ensures { result ≡ image_action self }
-    {
-        let ImageBlock {
-            line: _,
-            name,
-            stg_len,
-            text,
-        } = self;
-        let image = Image {
-            text: Bytes::from_vec(text),
-            entry: 0,
-            relocs: Offsets::from_vec(Vec::new(alloc)),
-            stg_len,
-        };
-        Action::Image(name, image)
-    }
-}
-
-/// A source's block, up to some line of it.
-#[derive(Drop)]
-pub struct SourceBlock {
-    line: usize,
-    name: Name8,
-    wanted: Wanted,
-    lines: Vec<Text>,
-}
-
-impl Model for SourceBlock {
-    ghost use Rattle.cx_blocks.specs.SourceBlock.{SourceBlock as Collected};
-
-    ghost Value = { Collected };
-
-    ghost view = { λ block. record { line = block.line; name = block.name; wanted = block.wanted; lines = block.lines.items } };
-}
-
-impl SourceBlock {
-    /// A block that has no line yet.
-    fn new(alloc: Global, line: usize, name: Name8, wanted: Wanted) -> SourceBlock
-        ensures { result ≡ record { line = line; name = name; wanted = wanted; lines = [] } }
-    {
-        SourceBlock {
-            line,
-            name,
-            wanted,
-            lines: Vec::new(alloc),
-        }
-    }
-
-    /// What its end leads to: the program of its source, or the fault.
-    #[tactic(auto, using(crate::proofs::BlockLemmas::source_refused))]
-    fn end<A: ScriptAction>(self, alloc: Global) -> Result<Step<A>, RunFault>
-        ensures value { is_memory result ≡ false → result ≡ ended A.language (Block.Source self) }
-        ensures allowed { IfOk result (λ step. IfSome step.action A.allowed) }
-        ensures unwritten { is_write result ≡ false }
-        ensures unread { is_read result ≡ false }
-    {
-        let SourceBlock {
-            line,
-            name,
-            wanted,
-            lines,
-        } = self;
-        match prepare(alloc, lines.as_slice(), wanted.listing, wanted.disassembly) {
-            Ok(Prepared { text, image }) => Ok(Step {
-                action: Some(A::of_source(name, lines, Action::Source(name, text, image))),
-                block: None,
-            }),
-            Err(fault) => refused(line, fault),
-        }
-    }
-}
-
-/// A block of lines that are handed over as they stand, up to some line of it.
-#[derive(Drop)]
-pub struct LinesBlock {
-    line: usize,
-    name: Name8,
-    lines: Vec<Text>,
-}
-
-impl Model for LinesBlock {
-    ghost use Rattle.cx_blocks.specs.LinesBlock.{LinesBlock as Listed};
-
-    ghost Value = { Listed };
-
-    ghost view = { λ block. record { line = block.line; name = block.name; lines = block.lines.items } };
-}
-
-impl LinesBlock {
-    /// A block that has no line yet.
-    fn new(alloc: Global, line: usize, name: Name8) -> LinesBlock
-        ensures { result ≡ record { line = line; name = name; lines = [] } }
-    {
-        LinesBlock {
-            line,
-            name,
-            lines: Vec::new(alloc),
-        }
-    }
-
-    /// What is done at its end.
-    fn action<A: ScriptAction>(self) -> Option<A>
-        ensures value { result ≡ A.language.of_lines self.line self.name self.lines }
-        ensures allowed { IfSome result A.allowed }
-    {
-        let LinesBlock { line, name, lines } = self;
-        A::of_lines(line, name, lines)
-    }
+pub enum Body {
+    /// An image: the length of its working storage, and its bytes.
+    Image(u32, Bytes),
+    /// A source: what is to be written of it, and its lines.
+    Source(Wanted, List<Text>),
+    /// Lines that are handed over as they stand.
+    Lines(List<Text>),
 }
 
 /// The fault of a source that begins behind this line. No source has so many lines that the sum doesn't fit.
@@ -194,60 +65,98 @@ fn refused<A: ScriptAction>(first: usize, fault: PrepareFault) -> Result<Step<A>
     }
 }
 
-impl Block {
-    /// The number of the line that begins it.
-    pub fn line(&self) -> usize
-        ensures { result ≡ first_line self.now }
-    {
-        match self {
-            Block::Image(block) => block.line,
-            Block::Source(block) => block.line,
-            Block::Lines(block) => block.line,
-        }
-    }
+/// The action of an image's block.
+fn image_action(alloc: Global, name: Name8, stg_len: u32, text: Bytes) -> Action
+    ensures { result ≡ action.Image name (image_of stg_len text) }
+{
+    let image = Image {
+        text,
+        entry: 0,
+        relocs: Offsets::from_vec(Vec::new(alloc)),
+        stg_len,
+    };
+    Action::Image(name, image)
+}
 
+/// What the end of a source's block leads to: the program of its source, or the fault.
+#[tactic(auto, using(crate::proofs::BlockLemmas::source_refused))]
+fn end_source<A: ScriptAction>(
+    alloc: Global,
+    first: usize,
+    name: Name8,
+    wanted: Wanted,
+    lines: Vec<Text>,
+) -> Result<Step<A>, RunFault>
+    ensures value { let body = Body.Source wanted lines.items in
+        is_memory result ≡ false → result ≡ ended A.language first name body }
+    ensures allowed { IfOk result (λ step. IfSome step.action A.allowed) }
+    ensures unwritten { is_write result ≡ false }
+    ensures unread { is_read result ≡ false }
+{
+    match prepare(alloc, lines.as_slice(), wanted.listing, wanted.disassembly) {
+        Ok(Prepared { text, image }) => Ok(Step {
+            action: Some(A::of_source(name, lines, Action::Source(name, text, image))),
+            block: None,
+        }),
+        Err(fault) => refused(first, fault),
+    }
+}
+
+impl Body {
+    /// What it has with one more line, where it may have that line.
+    fn with_line(self, alloc: Global, line: &[u8]) -> Result<Option<Body>, AllocError>
+        requires { length line.now ≤ 4096 }
+        ensures value { IfOk result (λ more. more ≡ body_with self line.now) }
+        ensures memory { OnErr result (is_some (body_with self line.now) ≡ true) }
+    {
+        Ok(match self {
+            Body::Image(stg_len, text) => match with_bytes(text, line)? {
+                Some(text) => Some(Body::Image(stg_len, text)),
+                None => None,
+            },
+            Body::Source(wanted, lines) => {
+                Some(Body::Source(wanted, with_text(alloc, lines, line)?))
+            }
+            Body::Lines(lines) => Some(Body::Lines(with_text(alloc, lines, line)?)),
+        })
+    }
+}
+
+impl Block {
     /// What its end leads to.
     fn end<A: ScriptAction>(self, alloc: Global) -> Result<Step<A>, RunFault>
-        ensures value { is_memory result ≡ false → result ≡ ended A.language self }
+        ensures value { is_memory result ≡ false → result ≡ ended A.language self.line self.name self.body }
         ensures allowed { IfOk result (λ step. IfSome step.action A.allowed) }
         ensures unwritten { is_write result ≡ false }
         ensures unread { is_read result ≡ false }
     {
-        match self {
-            Block::Image(block) => Ok(Step {
-                action: Some(A::of_block(block.action(alloc))),
-                block: None,
-            }),
-            Block::Source(block) => block.end(alloc),
-            Block::Lines(block) => Ok(Step {
-                action: block.action(),
-                block: None,
-            }),
-        }
+        let Block { line, name, body } = self;
+        let action = match body {
+            Body::Image(stg_len, text) => {
+                Some(A::of_block(image_action(alloc, name, stg_len, text)))
+            }
+            Body::Source(wanted, lines) => {
+                return end_source(alloc, line, name, wanted, lines.into_vec());
+            }
+            Body::Lines(lines) => A::of_lines(line, name, lines.into_vec()),
+        };
+        Ok(Step {
+            action,
+            block: None,
+        })
     }
 
     /// The block with one more line, where it may have that line.
-    fn with_line(self, alloc: Global, line: &[u8]) -> Result<Option<Block>, AllocError>
-        requires { length line.now ≤ 4096 }
-        ensures value { IfOk result (λ block. block ≡ with_line self line.now) }
-        ensures memory { OnErr result (is_some (with_line self line.now) ≡ true) }
+    fn with_line(self, alloc: Global, text: &[u8]) -> Result<Option<Block>, AllocError>
+        requires { length text.now ≤ 4096 }
+        ensures value { IfOk result (λ block. block ≡ with_line self text.now) }
+        ensures memory { OnErr result (is_some (with_line self text.now) ≡ true) }
     {
-        match self {
-            Block::Image(mut block) => {
-                if !append_line(&mut block.text, line)? {
-                    return Ok(None);
-                }
-                Ok(Some(Block::Image(block)))
-            }
-            Block::Source(mut block) => {
-                append_text(alloc, &mut block.lines, line)?;
-                Ok(Some(Block::Source(block)))
-            }
-            Block::Lines(mut block) => {
-                append_text(alloc, &mut block.lines, line)?;
-                Ok(Some(Block::Lines(block)))
-            }
-        }
+        let Block { line, name, body } = self;
+        Ok(match body.with_line(alloc, text)? {
+            Some(body) => Some(Block { line, name, body }),
+            None => None,
+        })
     }
 }
 
@@ -256,6 +165,16 @@ impl Block {
 pub struct Step<A> {
     pub action: Option<A>,
     pub block: Option<Block>,
+}
+
+/// A block that begins with this line, which leaves it to the next.
+fn begun<A: ScriptAction>(line: usize, name: Name8, body: Body) -> Step<A>
+    ensures { result ≡ continued (record { line = line; name = name; body = body }) }
+{
+    Step {
+        action: None,
+        block: Some(Block { line, name, body }),
+    }
 }
 
 /// What a line outside a block leads to.
@@ -267,18 +186,18 @@ fn step_of<A: ScriptAction>(alloc: Global, number: usize, line: Line<A>) -> Step
             action: None,
             block: None,
         },
-        Line::Image(name, stg_len) => Step {
-            action: None,
-            block: Some(Block::Image(ImageBlock::new(alloc, number, name, stg_len))),
-        },
-        Line::Source(name, wanted) => Step {
-            action: None,
-            block: Some(Block::Source(SourceBlock::new(alloc, number, name, wanted))),
-        },
-        Line::Lines(name) => Step {
-            action: None,
-            block: Some(Block::Lines(LinesBlock::new(alloc, number, name))),
-        },
+        Line::Image(name, stg_len) => {
+            let text = Bytes::from_vec(Vec::new(alloc));
+            begun(number, name, Body::Image(stg_len, text))
+        }
+        Line::Source(name, wanted) => {
+            let lines = List::from_vec(Vec::new(alloc));
+            begun(number, name, Body::Source(wanted, lines))
+        }
+        Line::Lines(name) => {
+            let lines = List::from_vec(Vec::new(alloc));
+            begun(number, name, Body::Lines(lines))
+        }
         Line::Action(action) => Step {
             action: Some(action),
             block: None,
@@ -303,30 +222,32 @@ fn keep(text: &mut Vec<u8>)
     text.truncate(MOST_KEPT);
 }
 
-/// Adds the bytes that a line of hexadecimal digits spells, as far as they are kept; false where it isn't one.
-fn append_line(text: &mut Vec<u8>, line: &[u8]) -> Result<bool, AllocError>
+/// A text with the bytes that a line of hexadecimal digits spells, as far as they are kept; None where it isn't one.
+fn with_bytes(text: Bytes, line: &[u8]) -> Result<Option<Bytes>, AllocError>
     requires { length line.now ≤ 4096 }
-    ensures value { IfOk result (λ spelled. MatchOption (hex_bytes line.now) (spelled ≡ false) (λ bytes. (spelled ≡ true) × (text.new.items ≡ kept (text.old.items ++ bytes)))) }
+    ensures value { IfOk result (λ more. more ≡ option_map (λ bytes. kept (text ++ bytes)) (hex_bytes line.now)) }
     ensures memory { OnErr result (is_some (hex_bytes line.now) ≡ true) }
 {
     let mut buffer = [0; MOST_IN_LINE];
     let out = &mut buffer[..line.len() / 2];
     if !decode_line(line, out) {
-        return Ok(false);
+        return Ok(None);
     }
+    let mut text = text.into_vec();
     text.extend_from_slice(out)?;
-    keep(text);
-    Ok(true)
+    keep(&mut text);
+    Ok(Some(Bytes::from_vec(text)))
 }
 
-/// Adds a line to those of a block, as far as they are kept.
+/// The lines of a block with one more, as far as they are kept.
 #[tactic(auto, unfolding(crate::specs::Blocks::kept_lines))]
-fn append_text(alloc: Global, lines: &mut Vec<Text>, line: &[u8]) -> Result<(), AllocError>
-    ensures { OnOk result (lines.new.items ≡ kept_lines (lines.old.items ++ line.now ∷ [])) }
+fn with_text(alloc: Global, lines: List<Text>, line: &[u8]) -> Result<List<Text>, AllocError>
+    ensures { IfOk result (λ more. more ≡ kept_lines (lines ++ line.now ∷ [])) }
 {
+    let mut lines = lines.into_vec();
     lines.push(Text::from_slice(alloc, line)?)?;
     lines.truncate(MOST_LINES);
-    Ok(())
+    Ok(List::from_vec(lines))
 }
 
 /// What a line inside a block leads to.
@@ -338,8 +259,9 @@ fn step_within<A: ScriptAction>(
     line: &[u8],
 ) -> Result<Step<A>, RunFault>
     requires { length line.now ≤ 4096 }
-    ensures value { is_memory result ≡ false → result ≡ step_within A.language number block line.now }
-    ensures bad { step_within A.language number block line.now ≡ Err (BadLine number) → result ≡ Err (BadLine number) }
+    ensures value { is_memory result ≡ false → result ≡ step_in A.language number (Some block) line.now }
+    ensures bad { let due = step_in A.language number (Some block) line.now in
+        due ≡ Err (BadLine number) → result ≡ Err (BadLine number) }
     ensures allowed { IfOk result (λ step. IfSome step.action A.allowed) }
     ensures unwritten { is_write result ≡ false }
     ensures unread { is_read result ≡ false }
@@ -363,7 +285,8 @@ fn step_outside<A: ScriptAction>(
     line: &[u8],
 ) -> Result<Step<A>, RunFault>
     ensures value { is_memory result ≡ false → result ≡ step_in A.language number None line.now }
-    ensures bad { step_in A.language number None line.now ≡ Err (BadLine number) → result ≡ Err (BadLine number) }
+    ensures bad { let due = step_in A.language number None line.now in
+        due ≡ Err (BadLine number) → result ≡ Err (BadLine number) }
     ensures allowed { IfOk result (λ step. IfSome step.action A.allowed) }
     ensures unwritten { is_write result ≡ false }
     ensures unread { is_read result ≡ false }
@@ -385,7 +308,8 @@ pub fn step_at<A: ScriptAction>(
     line: &[u8],
 ) -> Result<Step<A>, RunFault>
     ensures value { is_memory result ≡ false → result ≡ step_at A.language number block line.now }
-    ensures bad { step_at A.language number block line.now ≡ Err (BadLine number) → result ≡ Err (BadLine number) }
+    ensures bad { let due = step_at A.language number block line.now in
+        due ≡ Err (BadLine number) → result ≡ Err (BadLine number) }
     ensures allowed { IfOk result (λ step. IfSome step.action A.allowed) }
     ensures unwritten { is_write result ≡ false }
     ensures unread { is_read result ≡ false }

@@ -5,6 +5,6 @@ mod blocks;
 mod faults;
 
 #[doc(hidden)]
-pub use blocks::{Block, ImageBlock, LinesBlock, SourceBlock, Step, step_at};
+pub use blocks::{Block, Body, Step, step_at};
 pub use cx_prepare::SourceKind;
 pub use faults::{RunFault, Summary, status};

@@ -1,6 +1,7 @@
 -- What was done of a script that ran.
 use Rattle.std.proofs.Common.{◌≡◌, ℕ, false, List, length, take, take_all, le_refl, Option, None, Result, Ok, Err, refl, sym}
 use Rattle.std.specs.List.{flat_map}
+use Rattle.std.specs.Io.KnownBytes.{Appends}
 use Rattle.cx_edf.specs.declared.answers.Answer.{Answer}
 use Rattle.cx_edf.specs.declared.answers.EdfEvent.{EdfEvent}
 use Rattle.cx_edf.specs.State.{EdfState}
@@ -12,8 +13,8 @@ use Rattle.cx_blocks.specs.declared.faults.Summary.{Summary}
 use Rattle.cx_lines.specs.Lines.{lines_met}
 use Rattle.cx_lines.specs.declared.input.Ending.{Ending}
 use Rattle.cx_script.specs.Facts.Fronts.{first_actions}
-use Rattle.cx_script.specs.Script.{Script, script_in, script_of}
-use Rattle.cx_script.specs.Transcript.{Ends, Runs, Stops, WroteAll, front_of}
+use Rattle.cx_script.specs.Script.{Script, script_in}
+use Rattle.cx_script.specs.Transcript.{Ends, Runs, Wrote, front_of}
 use Rattle.cx_script.specs.Laws.Events.{ScriptsRunTheirEvents, events_of}
 use Rattle.cx_script.specs.Laws.Inputs.{was_stopped}
 use Rattle.cx_look_stage.specs.Laws.Looks.{LooksChangeNothing, plain_of, written_of}
@@ -36,7 +37,7 @@ record Done {A S : Type 0} (performs : S → A → List ℕ → S → Type 0) (b
 
 -- all of its actions
 of_whole : {A S : Type 0} (performs : S → A → List ℕ → S → Type 0) (begin : S) (script : Script A) (answer : Result Summary RunFault) (before after : Option (List ℕ))
-    (w : WroteAll performs begin script.actions before after) → WasWritten answer before after w.text → Done performs begin script answer before after
+    (w : Wrote Appends performs begin script.actions before after) → WasWritten answer before after w.text → Done performs begin script answer before after
 of_whole performs begin script answer before after w written =
     record {
       count = length script.actions;
@@ -51,7 +52,7 @@ of_whole performs begin script answer before after w written =
 
 done_in : {A S : Type 0} (language : Language A) (performs : S → A → List ℕ → S → Type 0) (begin : S) (ending : Ending) (bytes : List ℕ) (answer : Result Summary RunFault)
     (before after : Option (List ℕ)) → Ends language performs begin ending bytes answer before after → Done performs begin (script_in language ending bytes) answer before after
-unfolding Stops script_in
+unfolding Ends script_in
 done_in language performs begin ending bytes (Ok summary) before after e = of_whole performs begin (script_in language ending bytes) (Ok summary) before after e.2 e.2.written
 done_in language performs begin ending bytes (Err (BadLine n)) before after e = of_whole performs begin (script_in language ending bytes) (Err (BadLine n)) before after e.1 e.1.written
 done_in language performs begin ending bytes (Err (Source n which)) before after e =
@@ -84,7 +85,7 @@ done_in {A} language performs begin ending bytes (Err Write) before after e =
     }
 
 done_of : ScriptsRunTheirEvents → (ending : Ending) (bytes : List ℕ) (answer : Result Summary RunFault) (before after : Option (List ℕ))
-    → Ends edf_language Performs fresh_state ending bytes answer before after → IsDoneOf (script_of ending bytes) answer before after
+    → Ends edf_language Performs fresh_state ending bytes answer before after → IsDoneOf (script_in edf_language ending bytes) answer before after
 done_of law ending bytes answer before after e =
     let d = done_in edf_language Performs fresh_state ending bytes answer before after e in
     record {

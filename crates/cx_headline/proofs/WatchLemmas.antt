@@ -5,7 +5,6 @@ use Rattle.std.specs.List.{AllByRecursion}
 use Rattle.std.proofs.lemmas.List.{map-append}
 use Rattle.cx_code.specs.declared.image.Image.{Image}
 use Rattle.cx_load.specs.Fault.{fault_of}
-use Rattle.cx_load.specs.Facts.Faults.{answered_of_lowest, no_fault_of_fit}
 use Rattle.cx_load.specs.declared.fault.ImageFault.{ImageFault}
 use Rattle.cx_region.specs.declared.changes.AlterReply.TheVariants as alter
 use Rattle.cx_region.specs.declared.replies.Event.{Event}
@@ -26,7 +25,7 @@ use Rattle.cx_edf.specs.Steps.{Door, EdfHappens, Keeps, door_of}
 use Rattle.cx_edf.specs.Erasure.{erased, is_own, is_refused, left_in, left_of, told}
 use Rattle.cx_edf.specs.Runs.{EdfRun, Trace, last_state}
 use Rattle.cx_edf.specs.Laws.Edf.{ErasedEvents, OffIsTheRegion, OtherEventsArePassed, OwnEventsHaveOwnAnswers, ends_task, is_alteration}
-use Rattle.cx_actions.specs.Effects.{ByFault, Checks, Finds, Performs}
+use Rattle.cx_actions.specs.Effects.{ByFault, Performs}
 use Rattle.cx_actions.specs.declared.actions.Action.TheVariants as action
 use Rattle.cx_script.specs.Laws.Events.{program_event}
 use Rattle.cx_headline.specs.Laws.Runs.{OfEachRun, state_behind}
@@ -138,22 +137,14 @@ same_states decide own erased_law law off old events answers new run =
     }
 
 -- ---- what is shown
-found_by_cascade : (image : Image) (fault : Option ImageFault) → Finds image fault → fault_of image ≡ fault
-found_by_cascade image None fit = no_fault_of_fit image fit
-found_by_cascade image (Some fault) lowest = answered_of_lowest image fault lowest
-
 by_fault : (fault : Option ImageFault) (old : EdfState) (name : List ℕ) (image : Image) (text : List ℕ) (new : EdfState) → ByFault fault old name image text new → program_event fault name image ≡ None → new ≡ old
 by_fault None old name image text new does none = cc
 by_fault (Some fault) old name image text new does none = does.1
 
-unchecked : (old : EdfState) (name : List ℕ) (image : Image) (text : List ℕ) (new : EdfState) → Checks old name image text new → program_event (fault_of image) name image ≡ None → new ≡ old
-unchecked old name image text new c none =
-    by_fault c.fault old name image text new c.does (subst (λ (o : Option ImageFault). program_event o name image ≡ None) (found_by_cascade image c.fault c.finds) none)
-
 pub showing_changes_nothing : ShowingChangesNothing
 unfolding Performs
-showing_changes_nothing old (action.Image name image) text new none h = unchecked old name image text new h none
-showing_changes_nothing old (action.Source name before image) text new none h = unchecked old name image h.own new h.checks none
+showing_changes_nothing old (action.Image name image) text new none h = by_fault (fault_of image) old name image text new h none
+showing_changes_nothing old (action.Source name before image) text new none h = by_fault (fault_of image) old name image h.0 new h.1 none
 showing_changes_nothing old (action.Event event) text new none h = cc
 showing_changes_nothing old (action.Screen name) text new none h = h.1
 showing_changes_nothing old (action.Display name) text new none h = h.1

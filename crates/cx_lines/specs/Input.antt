@@ -10,9 +10,8 @@ most_bytes = 16777216
 
 -- whether a read failed
 abbrev pub is_failure : Ending → Bool
-is_failure AtEnd = false
 is_failure Failed = true
-is_failure PastBound = false
+is_failure _ = false
 
 -- Of a device that told the bytes it had before and after: all of them were read, or those in front of the failure,
 -- or the most that a script may have.

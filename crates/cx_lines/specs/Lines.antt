@@ -3,7 +3,7 @@ use Rattle.std.specs.Prelude.{ℕ, Bool, ◌==◌, nat_lt, if◌then◌else◌, 
 use Rattle.std.specs.List.{slice_split}
 use Rattle.std.specs.Str.Lines.{strip_carriage_return}
 use Rattle.cx_lines.specs.declared.input.Ending.{Ending}
-use Rattle.cx_lines.specs.declared.input.Ending.TheVariants.{AtEnd, Failed, PastBound}
+use Rattle.cx_lines.specs.declared.input.Ending.TheVariants.{AtEnd}
 
 -- a line has at most 4,096 bytes
 abbrev pub is_too_long : List ℕ → Bool
@@ -13,8 +13,7 @@ is_too_long line = nat_lt 4096 (length line)
 -- have too many bytes already, a CR at their end not counted.
 abbrev pub last_met : Ending → List ℕ → List (List ℕ)
 last_met AtEnd part = if length part == 0 then [] else part ∷ []
-last_met Failed part = let line = strip_carriage_return part in if is_too_long line then line ∷ [] else []
-last_met PastBound part = let line = strip_carriage_return part in if is_too_long line then line ∷ [] else []
+last_met _ part = let line = strip_carriage_return part in if is_too_long line then line ∷ [] else []
 
 -- A part that an LF ends is a line; one CR at its end is dropped.
 abbrev pub lines_of_parts : Ending → List (List ℕ) → List (List ℕ)

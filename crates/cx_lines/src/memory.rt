@@ -87,11 +87,12 @@ impl<'a> ScriptOut for MemoryOut<'a> {
     /// Takes all bytes that it has room for.
     fn write(&mut self, bytes: &[u8]) -> Result<usize, DeviceFault>
         ensures bound { IfOk result (λ n. n ≤ length bytes.now) }
-        ensures bytes { WriteAppends (Some (take self.old.len self.old.buffer.now)) (Some (take self.new.len self.new.buffer.now)) result bytes.now }
+        ensures bytes { let before = take self.old.len self.old.buffer.now in
+            let after = take self.new.len self.new.buffer.now in WriteAppends (Some before) (Some after) result bytes.now }
         ensures failure { self.new.failed ≡ (self.old.failed || is_refused result bytes.now) }
         ensures all { result ≡ Ok (min (length bytes.now) (length self.old.buffer.now - self.old.len)) }
-        ensures room { length self.new.buffer.now - self.new.len
-            ≡ length self.old.buffer.now - self.old.len - min (length bytes.now) (length self.old.buffer.now - self.old.len) }
+        ensures room { let room = length self.old.buffer.now - self.old.len in
+            length self.new.buffer.now - self.new.len ≡ room - min (length bytes.now) room }
     {
         let len = self.len;
         let n = bytes.len().min(self.room());

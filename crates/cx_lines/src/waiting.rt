@@ -57,7 +57,8 @@ impl Waiting {
     #[tactic(auto, using(crate::specs::Facts::Devices::sends_put, crate::specs::Facts::Devices::sends_after, crate::specs::Facts::Devices::sends_past, crate::specs::Facts::Devices::front_more, crate::specs::Facts::Devices::front_after))]
     pub fn put<W: ScriptOut>(&mut self, writer: &mut W, text: &[u8]) -> Result<(), DeviceFault>
         requires { W.has_failed writer.old ≡ false }
-        ensures ok { OnOk result (Sends (told (W.written writer.old) self.old) (told (W.written writer.new) self.new) text.now) }
+        ensures ok { let before = told (W.written writer.old) self.old in
+            let after = told (W.written writer.new) self.new in OnOk result (Sends before after text.now) }
         ensures err { OnErr result (WroteFront (W.written writer.old) (W.written writer.new) (self.old ++ text.now)) }
         ensures failure { W.has_failed writer.new ≡ is_err result }
     {

@@ -1,11 +1,12 @@
 -- Hexadecimal digits decoded into the eight bytes of a name.
 use Rattle.std.proofs.Common.{◌≡◌, ℕ, List, length, Some, None, Result, Ok, Err, MatchResult, is_ok, refl, sym, ◌∙◌}
 use Rattle.std.specs.Prelude.{if◌then◌else◌}
+use Rattle.std.specs.Result.{result_ok}
 use Rattle.hex.specs.Hex.{decode_sized}
 use Rattle.hex.specs.declared.error.FromHexError.{FromHexError}
-use Rattle.cx_actions.specs.Words.{hex_bytes, bytes_or_none}
+use Rattle.cx_actions.specs.Words.{hex_bytes}
 
-sized : (word : List ℕ) → length word ≡ 16 → bytes_or_none (decode_sized word 8) ≡ hex_bytes word
+sized : (word : List ℕ) → length word ≡ 16 → result_ok (decode_sized word 8) ≡ hex_bytes word
 unfolding hex_bytes
 sized word is = rw is refl
 
@@ -15,6 +16,6 @@ pub spelled : (word : List ℕ) (r : Result (Unit {0}) FromHexError) (new : List
 spelled word r new is h = sym (sized word is) ∙ go (decode_sized word 8) h
   where
     go : (d : Result (List ℕ) FromHexError) → MatchResult d (λ bytes. (r ≡ Ok tt) × (new ≡ bytes)) (λ e. r ≡ Err e)
-        → bytes_or_none d ≡ (if is_ok r then Some new else None)
+        → result_ok d ≡ (if is_ok r then Some new else None)
     go (Ok bytes) h = rw (h.0, h.1) refl
     go (Err e) h = rw h refl

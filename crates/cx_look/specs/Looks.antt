@@ -5,7 +5,7 @@ use Rattle.std.specs.Option.{option_and_then, option_map}
 use Rattle.std.specs.Str.{bytes_eq}
 use Rattle.cx_ebcdic.specs.Names.{name_of}
 use Rattle.cx_actions.specs.Alterations.{hex_number}
-use Rattle.cx_actions.specs.Words.{behind, hex_bytes, number_of, pair_of, word}
+use Rattle.cx_actions.specs.Words.{behind, hex_bytes, number_of, two_words, word}
 use Rattle.cx_look.specs.declared.look.Look.{Look}
 use Rattle.cx_look.specs.declared.look.Look.TheVariants as look
 use Rattle.cx_look.specs.declared.look.Subject.{Subject}
@@ -53,7 +53,7 @@ queue_look name (Some text) = option_map (λ n. look.Item name n) (count_of 3276
 
 -- a look by its first word, and by the words behind it where there are some
 unfoldable pub looked : Subject → Option (List ℕ) → Option Look
-looked subject.Storage (Some text) = option_map (λ p. look.Storage p.0 p.1) (pair_of (hex_number 3) (count_of 4096) text)
+looked subject.Storage (Some text) = two_words look.Storage (hex_number 3) (count_of 4096) text
 looked subject.Areas None = Some look.Areas
 looked subject.Areas (Some text) = option_map (λ name. look.AreasOf name) (name_of 4 text)
 looked subject.Task (Some text) = option_map (λ name. look.Task name) (name_of 4 text)
@@ -64,7 +64,7 @@ looked subject.Queue (Some text) = option_and_then (λ name. queue_look name (be
 looked subject.Resources None = Some look.Resources
 looked subject.Programs None = Some look.Programs
 looked subject.Command (Some text) = option_map (λ name. look.Command name) (name_of 4 text)
-looked subject.Symbol (Some text) = option_map (λ p. look.Symbol p.0 p.1) (pair_of (name_of 8) (name_of 8) text)
+looked subject.Symbol (Some text) = two_words look.Symbol (name_of 8) (name_of 8) text
 looked subject.Symbols (Some text) = option_map (λ name. look.Symbols name) (name_of 8 text)
 looked subject.Xref (Some text) = option_map (λ name. look.Xref name) (name_of 8 text)
 looked _ _ = None

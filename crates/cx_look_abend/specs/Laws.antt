@@ -30,12 +30,14 @@ KeepsTurn before name _ after = after ≡ before
 
 abbrev pub AbendsAreKept : Type 0
 AbendsAreKept = (old new : EdfState) (before after : Abends) (name : List ℕ) (given : TurnReply)
-    → HappensNoted old before (edf_event.Plain (event.Turn name)) (answer.Region (reply.Turn given)) new after → KeepsTurn before name given after
+    → HappensNoted old before (edf_event.Plain (event.Turn name)) (answer.Region (reply.Turn given)) new after
+    → KeepsTurn before name given after
 
 -- the state and what is kept before an event decide its answer, the state after it, and what is kept then
 abbrev pub NotedDecide : Type 0
 NotedDecide = (old new later : EdfState) (before after others : Abends) (e : EdfEvent) (given other : Answer)
-    → HappensNoted old before e given new after → HappensNoted old before e other later others → (given ≡ other) × (new ≡ later) × (after ≡ others)
+    → HappensNoted old before e given new after → HappensNoted old before e other later others
+    → (given ≡ other) × (new ≡ later) × (after ≡ others)
 
 -- the text of a look is lines
 pub record IsOfLines (text : List ℕ) : Type 0 where

@@ -147,7 +147,8 @@ pub fn happen_noted<S: Store + Drop>(
     event: &EdfEvent,
 ) -> Result<Answer, AllocError>
     requires { IsAllowedEdf event.now }
-    ensures happens { IfOk result (λ given. HappensNoted state.old abends.old.entries event.now given state.new abends.new.entries) }
+    ensures happens { let before = abends.old.entries in let after = abends.new.entries in
+        IfOk result (λ given. HappensNoted state.old before event.now given state.new after) }
     ensures memory { OnErr result (MayTakeNoted state.old event.now) }
     ensures err { OnErr result ((state.new ≡ state.old) × (abends.new.entries ≡ abends.old.entries)) }
 {

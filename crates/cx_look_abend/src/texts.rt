@@ -184,7 +184,8 @@ fn where_lines(
     trouble: &Trouble,
     place: &Place,
 ) -> Result<Vec<u8>, AllocError>
-    ensures { IfOk result (λ text. text.items ≡ where_lines sources.now.entries trouble.now.cause trouble.now place.now) }
+    ensures { let cause = trouble.now.cause in
+        IfOk result (λ text. text.items ≡ where_lines sources.now.entries cause trouble.now place.now) }
 {
     match trouble.cause {
         Cause::Interrupted(_) | Cause::Limit => next_line(alloc, sources, trouble, place),
@@ -271,7 +272,8 @@ fn push_told(
     sources: &SourcePlaces,
     told: &Option<Told>,
 ) -> Result<(), AllocError>
-    ensures { OnOk result (text.new.items ≡ text.old.items ++ option_map_or (told_lines sources.now.entries) told.now []) }
+    ensures { let more = option_map_or (told_lines sources.now.entries) told.now [] in
+        OnOk result (text.new.items ≡ text.old.items ++ more) }
 {
     let Some(told) = told else {
         return Ok(());

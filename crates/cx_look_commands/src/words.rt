@@ -135,7 +135,8 @@ fn push_option<S: Store>(
     call: &Call,
     option: &CommandOption,
 ) -> Result<(), AllocError>
-    ensures { OnOk result (text.new.items ≡ text.old.items ++ spaced (option_words (S.storage store.now) call.now (option.now ∷ []))) }
+    ensures { let more = spaced (option_words (S.storage store.now) call.now (option.now ∷ [])) in
+        OnOk result (text.new.items ≡ text.old.items ++ more) }
 {
     if has_bit(call.first(), option.bit) {
         let word = option_word(alloc, store, call, option)?;
@@ -152,7 +153,8 @@ fn push_options<S: Store>(
     call: &Call,
     options: &[CommandOption],
 ) -> Result<(), AllocError>
-    ensures { OnOk result (text.new.items ≡ text.old.items ++ spaced (option_words (S.storage store.now) call.now options.now)) }
+    ensures { let more = spaced (option_words (S.storage store.now) call.now options.now) in
+        OnOk result (text.new.items ≡ text.old.items ++ more) }
 {
     for option in options {
         push_option(text, alloc, store, call, option)?;
@@ -242,7 +244,8 @@ fn input_value<S: Store>(
     call: &Call,
     option: &CommandOption,
 ) -> Result<Vec<u8>, AllocError>
-    ensures { IfOk result (λ value. value.items ≡ bytes_value (bytes_of (S.storage store.now) call.now option.now.name (min 64 (count_read (S.storage store.now) call.now option.now)))) }
+    ensures { let storage = S.storage store.now in let count = min 64 (count_read storage call.now option.now) in
+        IfOk result (λ value. value.items ≡ bytes_value (bytes_of storage call.now option.now.name count)) }
 {
     let mut buffer = [0; MOST_BYTES];
     let count = count_read(store, call, option).min(MOST_BYTES);
@@ -276,7 +279,8 @@ fn push_input<S: Store>(
     call: &Call,
     option: &CommandOption,
 ) -> Result<(), AllocError>
-    ensures { OnOk result (text.new.items ≡ text.old.items ++ input_lines (S.storage store.now) call.now (option.now ∷ [])) }
+    ensures { let more = input_lines (S.storage store.now) call.now (option.now ∷ []) in
+        OnOk result (text.new.items ≡ text.old.items ++ more) }
 {
     if option.is_argument(call.first()) && is_input(store, call, option) {
         let line = input_line(alloc, store, call, option)?;
@@ -293,7 +297,8 @@ fn push_inputs<S: Store>(
     call: &Call,
     options: &[CommandOption],
 ) -> Result<(), AllocError>
-    ensures { OnOk result (text.new.items ≡ text.old.items ++ input_lines (S.storage store.now) call.now options.now) }
+    ensures { let lines = input_lines (S.storage store.now) call.now options.now in
+        OnOk result (text.new.items ≡ text.old.items ++ lines) }
 {
     for option in options {
         push_input(text, alloc, store, call, option)?;

@@ -12,10 +12,12 @@ use Rattle.cx_look_names.specs.Texts.{symbol_text, symbols_text}
 use Rattle.cx_look_names.specs.declared.statements.StatementPlace.{StatementPlace}
 
 abbrev pub IsSymbolMarked : Type 0
-IsSymbolMarked = (program : Option Loaded) (lines : List (List ℕ)) (name : List ℕ) → IsOfLooks (symbol_text program lines name)
+IsSymbolMarked = (program : Option Loaded) (lines : List (List ℕ)) (name : List ℕ)
+    → IsOfLooks (symbol_text program lines name)
 
 abbrev pub AreSymbolsMarked : Type 0
-AreSymbolsMarked = (program : Option Loaded) (name : List ℕ) (lines : List (List ℕ)) → IsOfLooks (symbols_text program name lines)
+AreSymbolsMarked = (program : Option Loaded) (name : List ℕ) (lines : List (List ℕ))
+    → IsOfLooks (symbols_text program name lines)
 
 -- the bytes of a section's text at a place; none without one
 abbrev pub bytes_at : List ℕ → Option StatementPlace → List ℕ
@@ -23,4 +25,5 @@ bytes_at text place = option_map_or (λ it. take (it.end - it.start) (drop it.st
 
 -- The bytes that are listed beside a statement are those at its place; none where it has no place.
 abbrev pub ListedThere : Type 0
-ListedThere = (told : Whole) (text : List ℕ) (s : Stated) → length text ≤ bound → object_of told text s ≡ bytes_at text (place_of told.control s)
+ListedThere = (told : Whole) (text : List ℕ) (s : Stated) → length text ≤ bound
+    → object_of told text s ≡ bytes_at text (place_of told.control s)

@@ -38,7 +38,8 @@ fn push_symbols(
     program: Option<Loaded>,
     symbols: &BTreeMap<Name8, Symbol>,
 ) -> Result<(), AllocError>
-    ensures { OnOk result (text.new.items ≡ text.old.items ++ flat_map (symbol_line control program) symbols.now.entries) }
+    ensures { let more = flat_map (symbol_line control program) symbols.now.entries in
+        OnOk result (text.new.items ≡ text.old.items ++ more) }
 {
     for (name, symbol) in symbols.iter() {
         text.extend_from_slice(&symbol_line(alloc, control, program, *name, symbol)?)?;

@@ -59,7 +59,8 @@ fn put_text(
     line: usize,
     text: &str,
 ) -> Result<(), AllocError>
-    ensures { OnOk result (rows.new.entries ≡ with_names (find_in symbols.now) line rows.old.entries (names_among (text.now ∷ []))) }
+    ensures { let names = names_among (text.now ∷ []) in
+        OnOk result (rows.new.entries ≡ with_names (find_in symbols.now) line rows.old.entries names) }
 {
     let Some(name) = symbol_name(text.as_bytes()) else {
         return Ok(());
@@ -122,7 +123,8 @@ fn put_line(
     symbols: &SymbolTable,
     item: &Item,
 ) -> Result<(), AllocError>
-    ensures { OnOk result (rows.new.entries ≡ with_stmt (find_in symbols.now) item.now.line item.now.stmt rows.old.entries) }
+    ensures { let find = find_in symbols.now in
+        OnOk result (rows.new.entries ≡ with_stmt find item.now.line item.now.stmt rows.old.entries) }
 {
     if let Some(stmt) = &item.stmt {
         put_stmt(rows, symbols, item.line, stmt)?;

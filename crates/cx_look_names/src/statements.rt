@@ -59,7 +59,8 @@ fn push_place(
     places: &Places<'_>,
     statement: &Statement<'_>,
 ) -> Result<(), AllocError>
-    ensures { OnOk result (found.new.items ≡ found.old.items ++ cons_option (place_of (told_by places.now).control statement.now) []) }
+    ensures { let more = cons_option (place_of (told_by places.now).control statement.now) [] in
+        OnOk result (found.new.items ≡ found.old.items ++ more) }
 {
     let Some(place) = place_of(alloc, control_name(places), statement)? else {
         return Ok(());

@@ -2,17 +2,19 @@
 use Rattle.std.proofs.Common.{◌≡◌, ℕ, ◌+◌, Bool, true, false, Option, Some, None, List, [], ◌∷◌, codes, map, unwrap_or, refl, sym, ap, ◌∙◌, subst}
 use Rattle.std.specs.Prelude.{Result, Ok, Err, if◌then◌else◌}
 use Rattle.std.specs.Option.{ok_or, option_map}
+use Rattle.std.specs.Result.{result_map_both}
 use Rattle.std.specs.Str.{bytes_eq}
 use Rattle.cx_actions.specs.Actions.{line_of}
 use Rattle.cx_actions.specs.Effects.{Performs}
 use Rattle.cx_actions.specs.Language.{edf_language}
 use Rattle.cx_actions.specs.declared.actions.Action.{Action}
+use Rattle.cx_actions.specs.declared.actions.Action.TheVariants as script
 use Rattle.cx_actions.specs.declared.actions.Line.{Line}
 use Rattle.cx_actions.specs.declared.actions.Line.TheVariants as line
-use Rattle.cx_blocks.specs.Blocks.{continued, ended, source_ended, step_at, step_in, step_of, step_within, with_line}
-use Rattle.cx_blocks.specs.SourceBlock.{SourceBlock}
+use Rattle.cx_blocks.specs.Blocks.{continued, done, ended, located, step_at, step_in, step_of, with_line}
 use Rattle.cx_blocks.specs.declared.blocks.Block.{Block}
-use Rattle.cx_blocks.specs.declared.blocks.Block.TheVariants as kind
+use Rattle.cx_blocks.specs.declared.blocks.Body.{Body}
+use Rattle.cx_blocks.specs.declared.blocks.Body.TheVariants as kind
 use Rattle.cx_blocks.specs.declared.blocks.Step.{Step}
 use Rattle.cx_blocks.specs.declared.faults.RunFault.{RunFault}
 use Rattle.cx_blocks.specs.declared.faults.RunFault.TheVariants.{BadLine}
@@ -28,7 +30,7 @@ use Rattle.cx_look_stage.specs.Laws.Scripts.{ActionsStay, ArePlain, HasNoBadLine
 use Rattle.cx_look_stage.specs.Looking.{LookPerforms}
 use Rattle.cx_look_stage.specs.State.{Looked}
 use Rattle.cx_look_stage.proofs.LawLemmas.{performs}
-use Rattle.cx_look_stage.proofs.PlainLemmas.{IsPlain, LeavesPlain, steps_leave}
+use Rattle.cx_look_stage.proofs.PlainLemmas.{IsPlain, IsPlainBody, LeavesPlain, steps_leave}
 use Rattle.cx_look_stage.specs.Reading.{line_by, look_language, look_line_of, own_line, scripted}
 use Rattle.cx_look_stage.specs.declared.action.LookAction.{LookAction}
 use Rattle.cx_look_stage.specs.declared.action.LookAction.TheVariants as action
@@ -55,30 +57,35 @@ outside : (number : ℕ) (l : Option (Line Action)) (own : Option (Line LookActi
 outside number None own good = absurd (good refl)
 outside number (Some l) own good = line_steps number l
 
-source_steps : (block : SourceBlock) (prepared : Result Prepared PrepareFault)
-    → IsLedSame (source_ended edf_language block prepared) (source_ended look_language block prepared)
-source_steps block (Ok prepared) = (refl, refl)
-source_steps block (Err fault) = refl
+source_steps : (first : ℕ) (make : Prepared → Option Action) (here : Prepared → Option LookAction) (made : Result Prepared PrepareFault)
+    → ((p : Prepared) → option_map plain_action (here p) ≡ option_map (λ (a : Action). Some a) (make p))
+    → IsLedSame (result_map_both (λ (p : Prepared). done (make p)) (located first) made) (result_map_both (λ (p : Prepared). done (here p)) (located first) made)
+source_steps first make here (Ok prepared) same = (refl, same prepared)
+source_steps first make here (Err fault) same = refl
 
-block_steps : (block : Block) → IsPlain (Some block) → IsLedSame (ended edf_language block) (ended look_language block)
-block_steps (kind.Image block) plain = (refl, refl)
-block_steps (kind.Lines block) plain = absurd plain
-block_steps (kind.Source block) plain = source_steps block (prepared_of block.wanted.listing block.wanted.disassembly block.lines)
+block_steps : (block : Block) (has : Body) → IsPlainBody has
+    → IsLedSame (ended edf_language block.line block.name has) (ended look_language block.line block.name has)
+block_steps block (kind.Image stg_len text) plain = (refl, refl)
+block_steps block (kind.Lines lines) plain = absurd plain
+block_steps block (kind.Source wanted lines) plain =
+    source_steps block.line (λ made. Some (edf_language.of_source block.name lines (script.Source block.name made.text made.image)))
+    (λ made. Some (look_language.of_source block.name lines (script.Source block.name made.text made.image)))
+    (prepared_of wanted.listing wanted.disassembly lines) (λ made. refl)
 
 one_more : (number : ℕ) (next : Option Block) → (ok_or (option_map (λ b. continued {A = Action} b) next) (BadLine number) ≡ Err (BadLine number) → ⊥)
     → IsLedSame (ok_or (option_map (λ b. continued {A = Action} b) next) (BadLine number)) (ok_or (option_map (λ b. continued {A = LookAction} b) next) (BadLine number))
 one_more number None good = absurd (good refl)
 one_more number (Some block) good = (refl, refl)
 
-within : (number : ℕ) (block : Block) (text : List ℕ) → IsPlain (Some block) → (step_within edf_language number block text ≡ Err (BadLine number) → ⊥)
-    → IsLedSame (step_within edf_language number block text) (step_within look_language number block text)
+within : (number : ℕ) (block : Block) (text : List ℕ) → IsPlainBody block.body → (step_in edf_language number (Some block) text ≡ Err (BadLine number) → ⊥)
+    → IsLedSame (step_in edf_language number (Some block) text) (step_in look_language number (Some block) text)
 within number block text plain good = go (bytes_eq text (codes "/*")) good
   where
     go : (b : Bool)
-        → ((if b then ended edf_language block else ok_or (option_map continued (with_line block text)) (BadLine number)) ≡ Err (BadLine number) → ⊥)
-        → IsLedSame (if b then ended edf_language block else ok_or (option_map continued (with_line block text)) (BadLine number))
-        (if b then ended look_language block else ok_or (option_map continued (with_line block text)) (BadLine number))
-    go true h = block_steps block plain
+        → ((if b then ended edf_language block.line block.name block.body else ok_or (option_map continued (with_line block text)) (BadLine number)) ≡ Err (BadLine number) → ⊥)
+        → IsLedSame (if b then ended edf_language block.line block.name block.body else ok_or (option_map continued (with_line block text)) (BadLine number))
+        (if b then ended look_language block.line block.name block.body else ok_or (option_map continued (with_line block text)) (BadLine number))
+    go true h = block_steps block block.body plain
     go false h = one_more number (with_line block text) h
 
 in_block : (number : ℕ) (block : Option Block) (text : List ℕ) → IsPlain block → (step_in edf_language number block text ≡ Err (BadLine number) → ⊥)

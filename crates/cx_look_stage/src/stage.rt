@@ -38,7 +38,7 @@ impl<S: Store + Drop> Model for Looking<S> {
 
     ghost Value = { Looked };
 
-    ghost view = { λ looking. record { edf = looking.state; abends = looking.abends.entries; sources = looking.sources } };
+    ghost view = { λ held. record { edf = held.state; abends = held.abends.entries; sources = held.sources } };
 }
 
 impl<S: Store + Drop> Looking<S> {

@@ -83,7 +83,8 @@ fn push_programs(
     programs: &IndexMap<Name8, Loaded>,
     transactions: &IndexMap<Name4, Name8>,
 ) -> Result<(), AllocError>
-    ensures { OnOk result (text.new.items ≡ text.old.items ++ flat_map (program_line transactions.now.entries) programs.now.entries) }
+    ensures { let more = flat_map (program_line transactions.now.entries) programs.now.entries in
+        OnOk result (text.new.items ≡ text.old.items ++ more) }
 {
     for (name, loaded) in programs.iter() {
         text.extend_from_slice(&program_line(alloc, transactions, *name, loaded)?)?;

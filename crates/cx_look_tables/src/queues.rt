@@ -48,7 +48,8 @@ fn item_line(alloc: Global, n: usize, item: &[u8]) -> Result<Vec<u8>, AllocError
 
 /// Adds the line of a queue's item number n, counted from 1, where it is there.
 fn push_item(alloc: Global, text: &mut Vec<u8>, queue: &Queue, n: usize) -> Result<(), AllocError>
-    ensures { OnOk result (text.new.items ≡ text.old.items ++ unwrap_or (option_map (item_line n) (numbered n queue.now)) []) }
+    ensures { let more = unwrap_or (option_map (item_line n) (numbered n queue.now)) [] in
+        OnOk result (text.new.items ≡ text.old.items ++ more) }
 {
     let Some(item) = queue.item(n) else {
         return Ok(());
@@ -114,7 +115,8 @@ pub(crate) fn queue_text(alloc: Global, queues: &Queues, name: Name8) -> Result<
 
 /// The lines of an item that isn't there.
 fn absent_item(alloc: Global, name: &[u8], n: &[u8]) -> Result<Vec<u8>, AllocError>
-    ensures { IfOk result (λ text. text.items ≡ look_line (codes "QUEUE" ∷ name.now ∷ codes "ITEM" ∷ n.now ∷ codes "NONE" ∷ [])) }
+    ensures { let words = codes "QUEUE" ∷ name.now ∷ codes "ITEM" ∷ n.now ∷ codes "NONE" ∷ [] in
+        IfOk result (λ text. text.items ≡ look_line words) }
 {
     look_line(alloc, &[b"QUEUE", name, b"ITEM", n, b"NONE"])
 }
@@ -122,8 +124,8 @@ fn absent_item(alloc: Global, name: &[u8], n: &[u8]) -> Result<Vec<u8>, AllocErr
 /// The lines of an item, as a whole.
 fn whole_item(alloc: Global, name: &[u8], n: &[u8], item: &[u8]) -> Result<Vec<u8>, AllocError>
     requires { length item.now ≤ 32767 }
-    ensures { IfOk result (λ text. text.items
-        ≡ look_line (codes "QUEUE" ∷ name.now ∷ codes "ITEM" ∷ n.now ∷ codes "LENGTH" ∷ decimal (length item.now) ∷ []) ++ rows_text item.now) }
+    ensures { let words = codes "ITEM" ∷ n.now ∷ codes "LENGTH" ∷ decimal (length item.now) ∷ [] in
+        IfOk result (λ text. text.items ≡ look_line (codes "QUEUE" ∷ name.now ∷ words) ++ rows_text item.now) }
 {
     let length = decimal(alloc, item.len())?;
     let mut text = look_line(alloc, &[b"QUEUE", name, b"ITEM", n, b"LENGTH", &length])?;

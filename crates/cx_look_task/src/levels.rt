@@ -90,7 +90,8 @@ fn label_line(
     condition: Condition,
     label: u32,
 ) -> Result<Vec<u8>, AllocError>
-    ensures { IfOk result (λ line. line.items ≡ label_line sources.now.entries programs.now.entries k condition label) }
+    ensures { let due = label_line sources.now.entries programs.now.entries k condition label in
+        IfOk result (λ line. line.items ≡ due) }
 {
     let number = decimal::<2>(k);
     let name = condition.name().as_bytes();
@@ -112,7 +113,8 @@ fn push_handle(
     condition: Condition,
     entry: Entry,
 ) -> Result<(), AllocError>
-    ensures { OnOk result (text.new.items ≡ text.old.items ++ handle_line sources.now.entries programs.now.entries k condition entry) }
+    ensures { let more = handle_line sources.now.entries programs.now.entries k condition entry in
+        OnOk result (text.new.items ≡ text.old.items ++ more) }
 {
     match entry {
         Entry::NoEntry => (),
@@ -153,7 +155,8 @@ fn exit_words(
     label: u32,
     state: &[u8],
 ) -> Result<Vec<u8>, AllocError>
-    ensures { IfOk result (λ line. line.items ≡ exit_words sources.now.entries programs.now.entries k label state.now) }
+    ensures { let due = exit_words sources.now.entries programs.now.entries k label state.now in
+        IfOk result (λ line. line.items ≡ due) }
 {
     let number = decimal::<2>(k);
     let address = hexadecimal::<6>(label);
@@ -173,7 +176,8 @@ fn push_exit(
     k: u32,
     exit: Exit,
 ) -> Result<(), AllocError>
-    ensures { OnOk result (text.new.items ≡ text.old.items ++ exit_line sources.now.entries programs.now.entries k exit) }
+    ensures { let more = exit_line sources.now.entries programs.now.entries k exit in
+        OnOk result (text.new.items ≡ text.old.items ++ more) }
 {
     match exit {
         Exit::NoExit => (),
@@ -226,8 +230,8 @@ fn push_level_at<S: Store + Drop>(
     index: usize,
 ) -> Result<(), AllocError>
     requires { index ≤ 16 }
-    ensures { OnOk result (text.new.items
-        ≡ text.old.items ++ level_at sources.now.entries shared.now (index + 1) (slice_get (all_levels levels.now) index)) }
+    ensures { let level = slice_get (all_levels levels.now) index in
+        OnOk result (text.new.items ≡ text.old.items ++ level_at sources.now.entries shared.now (index + 1) level) }
 {
     let Some(level) = levels.get(index) else {
         return Ok(());
@@ -244,7 +248,8 @@ pub(crate) fn push_levels<S: Store + Drop>(
     shared: &Shared<S>,
     levels: &LevelStack,
 ) -> Result<(), AllocError>
-    ensures { OnOk result (text.new.items ≡ text.old.items ++ levels_text sources.now.entries shared.now 1 (all_levels levels.now)) }
+    ensures { let more = levels_text sources.now.entries shared.now 1 (all_levels levels.now) in
+        OnOk result (text.new.items ≡ text.old.items ++ more) }
 {
     for index in 0..levels.len() {
         push_level_at(alloc, text, sources, shared, levels, index)?;

@@ -15,7 +15,8 @@ is_wait_reply _ = false
 
 -- a terminal is told as waiting exactly where its next turn would be answered Waiting
 abbrev pub WaitsAreTold : Type 0
-WaitsAreTold = (region new : RegionState) (name : List ℕ) (terminal : TerminalState) (activity : Activity) (reply : TurnReply)
+WaitsAreTold = (region new : RegionState) (name : List ℕ) (terminal : TerminalState) (activity : Activity)
+    (reply : TurnReply)
     → terminal_of region name ≡ Some terminal → IsActivity region terminal activity → Turned region name reply new
     → is_wait_reply reply ≡ is_waiting activity
 
@@ -26,7 +27,9 @@ ActivitiesDecide = (region : RegionState) (terminal : TerminalState) (one other 
 
 -- so are the texts of TASKS and of RESOURCES, each as a whole
 abbrev pub TasksTextsDecide : Type 0
-TasksTextsDecide = (region : RegionState) (one other : List ℕ) → TasksText region one → TasksText region other → one ≡ other
+TasksTextsDecide = (region : RegionState) (one other : List ℕ)
+    → TasksText region one → TasksText region other → one ≡ other
 
 abbrev pub ResourcesTextsDecide : Type 0
-ResourcesTextsDecide = (region : RegionState) (one other : List ℕ) → ResourcesText region one → ResourcesText region other → one ≡ other
+ResourcesTextsDecide = (region : RegionState) (one other : List ℕ)
+    → ResourcesText region one → ResourcesText region other → one ≡ other

@@ -54,7 +54,8 @@ fn activity_met<S: Store + Drop>(
     task: &Task,
 ) -> Activity
     requires { condition ≢ Condition.Error }
-    ensures { result ≡ activity_by (Verdict.Meets condition outputs.now change.now) call.now (reach shared.now station.now task.now) }
+    ensures { let before = reach shared.now station.now task.now in
+        result ≡ activity_by (Verdict.Meets condition outputs.now change.now) call.now before }
 {
     if has_room(call, outputs, change, shared, station, task)
         && is_wait(&way_at(call, condition, change, task))

@@ -79,7 +79,8 @@ fn push_waiter<S: Store + Drop>(
     index: usize,
     activity: &Activity,
 ) -> Result<(), AllocError>
-    ensures { OnOk result (text.new.items ≡ text.old.items ++ of_one (λ entry. waiter_text name.now entry activity.now) (slice_get region.now.terminals index)) }
+    ensures { let due = slice_get region.now.terminals index in
+        OnOk result (text.new.items ≡ text.old.items ++ of_one (λ entry. waiter_text name.now entry activity.now) due) }
 {
     let Some((terminal, _state)) = region.terminals().get_index(index) else {
         return Ok(());
@@ -100,7 +101,8 @@ fn push_waiters<S: Store + Drop>(
     name: &ResourceName,
     activities: &[Activity],
 ) -> Result<(), AllocError>
-    ensures { OnOk result (text.new.items ≡ text.old.items ++ of_each (waiter_text name.now) region.now.terminals activities.now) }
+    ensures { let more = of_each (waiter_text name.now) region.now.terminals activities.now in
+        OnOk result (text.new.items ≡ text.old.items ++ more) }
 {
     for (i, activity) in activities.iter().enumerate() {
         push_waiter(text, alloc, region, name, i, activity)?;
@@ -125,7 +127,8 @@ fn push_hold<S: Store + Drop>(
     name: &ResourceName,
     hold: Hold,
 ) -> Result<(), AllocError>
-    ensures { OnOk result (text.new.items ≡ text.old.items ++ resource_lines region.now activities.now (name.now, hold)) }
+    ensures { let more = resource_lines region.now activities.now (name.now, hold) in
+        OnOk result (text.new.items ≡ text.old.items ++ more) }
 {
     let line = hold_line(alloc, region, name, hold)?;
     text.extend_from_slice(line.as_slice())?;
@@ -141,7 +144,8 @@ fn push_resource<S: Store + Drop>(
     activities: &[Activity],
     index: usize,
 ) -> Result<(), AllocError>
-    ensures { OnOk result (text.new.items ≡ text.old.items ++ of_one (resource_lines region.now activities.now) (slice_get region.now.resources index)) }
+    ensures { let more = of_one (resource_lines region.now activities.now) (slice_get region.now.resources index) in
+        OnOk result (text.new.items ≡ text.old.items ++ more) }
 {
     let Some((name, hold)) = holds(region).get_index(index) else {
         return Ok(());
@@ -156,7 +160,8 @@ fn resource_lines<S: Store + Drop>(
     region: &Region<S>,
     activities: &[Activity],
 ) -> Result<Vec<u8>, AllocError>
-    ensures { IfOk result (λ text. text.items ≡ flat_map (resource_lines region.now activities.now) region.now.resources) }
+    ensures { let lines = flat_map (resource_lines region.now activities.now) region.now.resources in
+        IfOk result (λ text. text.items ≡ lines) }
 {
     let mut text = Vec::new(alloc);
     for i in 0..holds(region).len() {

@@ -107,7 +107,8 @@ fn push_resource<S: Store + Drop>(
     region: &Region<S>,
     name: &Option<ResourceName>,
 ) -> Result<(), AllocError>
-    ensures { OnOk result (text.new.items ≡ text.old.items ++ spaced (wait_words region.now (Wait.Resource name.now))) }
+    ensures { let words = wait_words region.now (Wait.Resource name.now) in
+        OnOk result (text.new.items ≡ text.old.items ++ spaced words) }
 {
     let resource = resource_word(alloc, name)?;
     let owner = owner_word(alloc, region, name)?;
@@ -212,7 +213,8 @@ fn push_line<S: Store + Drop>(
     index: usize,
     activity: &Activity,
 ) -> Result<(), AllocError>
-    ensures { OnOk result (text.new.items ≡ text.old.items ++ of_one (λ entry. task_line region.now entry activity.now) (slice_get region.now.terminals index)) }
+    ensures { let due = slice_get region.now.terminals index in
+        OnOk result (text.new.items ≡ text.old.items ++ of_one (λ entry. task_line region.now entry activity.now) due) }
 {
     let Some((name, terminal)) = region.terminals().get_index(index) else {
         return Ok(());
@@ -240,7 +242,8 @@ fn task_lines<S: Store + Drop>(
 /// What the task of the terminal at an index is doing.
 fn activity_at<S: Store + Drop>(region: &Region<S>, index: usize) -> Activity
     requires { IsSound region.now }
-    ensures { (entry : List ℕ × TerminalState) → slice_get region.now.terminals index ≡ Some entry → IsActivity region.now entry.1 result }
+    ensures { let due = slice_get region.now.terminals index in
+        (entry : List ℕ × TerminalState) → due ≡ Some entry → IsActivity region.now entry.1 result }
 {
     match region.terminals().get_index(index) {
         Some((_name, terminal)) => activity(region, terminal),

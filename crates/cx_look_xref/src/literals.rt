@@ -190,8 +190,8 @@ fn push_literal(
     pool: &Pool<'_>,
     index: usize,
 ) -> Result<(), AllocError>
-    ensures { OnOk result (lines.new.items ≡ lines.old.items
-        ++ option_map_or (literal_line section.now (lines_of_literal used.now.entries) number) (slice_get pool.now index) []) }
+    ensures { let line = literal_line section.now (lines_of_literal used.now.entries) number in
+        OnOk result (lines.new.items ≡ lines.old.items ++ option_map_or line (slice_get pool.now index) []) }
 {
     let Some((text, literal)) = pool.literal(index) else {
         return Ok(());

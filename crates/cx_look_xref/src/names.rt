@@ -162,7 +162,8 @@ fn push_used(
 
 /// The names that a statement uses, in their order.
 pub(crate) fn names_used(alloc: Global, stmt: &Stmt) -> Result<Vec<Name8>, AllocError>
-    ensures { IfOk result (λ names. names.items ≡ names_used (operation_named stmt.now.operation) (parts_in stmt.now)) }
+    ensures { let operation = operation_named stmt.now.operation in
+        IfOk result (λ names. names.items ≡ names_used operation (parts_in stmt.now)) }
 {
     let parts = cut(alloc, stmt.operand.as_slice(), Mark::TopComma)?;
     let operation = Operation::from_name(stmt.operation.as_slice());

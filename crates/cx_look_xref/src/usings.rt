@@ -227,7 +227,8 @@ pub fn push_usings(
     last: usize,
     statements: &[Statement<'_>],
 ) -> Result<(), AllocError>
-    ensures { OnOk result (lines.new.items ≡ lines.old.items ++ usings_from (told_by places.now) last statements.now) }
+    ensures { let more = usings_from (told_by places.now) last statements.now in
+        OnOk result (lines.new.items ≡ lines.old.items ++ more) }
 {
     for (i, statement) in statements.iter().enumerate() {
         let (_, after) = statements.split_at(i + 1);

@@ -2,7 +2,6 @@
 use Rattle.std.proofs.Common.{◌≡◌, ℕ, List, [], ◌∷◌, ◌++◌, None, Some, Option, refl, sym, ap, ◌∙◌, subst}
 use Rattle.cx_code.specs.declared.image.Image.{Image}
 use Rattle.cx_load.specs.Fault.{fault_of}
-use Rattle.cx_load.specs.Facts.Faults.{answered_of_lowest, no_fault_of_fit}
 use Rattle.cx_load.specs.declared.fault.ImageFault.{ImageFault}
 use Rattle.cx_edf.specs.declared.answers.Answer.{Answer}
 use Rattle.cx_edf.specs.declared.answers.EdfEvent.{EdfEvent}
@@ -10,7 +9,7 @@ use Rattle.cx_edf.specs.Laws.Edf.{EdfEventsDecide, TracesAreRuns}
 use Rattle.cx_edf.specs.State.{EdfState}
 use Rattle.cx_edf.specs.Steps.{EdfHappens}
 use Rattle.cx_edf.specs.Runs.{EdfRun, Trace, last_state}
-use Rattle.cx_actions.specs.Effects.{Checks, Finds, Performs, Replies, ByFault}
+use Rattle.cx_actions.specs.Effects.{Performs, Replies, ByFault}
 use Rattle.cx_actions.specs.Texts.{answer_text}
 use Rattle.cx_script.specs.Transcript.{Runs}
 use Rattle.cx_script.specs.Laws.Events.{AreTold, IsRun, IsToldBy, ScriptsRunTheirEvents, event_of, events_of, program_event, written_before}
@@ -25,16 +24,6 @@ replies_decide events old event text other new another p q =
     let same = events old event p.0 q.0 new another p.1 q.1 in
     (p.2 ∙ ap (answer_text event) same.0 ∙ sym q.2, same.1)
 
--- what is found is the answer of the cascade of tests
-found_by_cascade : (image : Image) (fault : Option ImageFault) → Finds image fault → fault_of image ≡ fault
-found_by_cascade image None fit = no_fault_of_fit image fit
-found_by_cascade image (Some fault) lowest = answered_of_lowest image fault lowest
-
-does_by_cascade : (old : EdfState) (name : List ℕ) (image : Image) (text : List ℕ) (new : EdfState) → Checks old name image text new
-    → ByFault (fault_of image) old name image text new
-does_by_cascade old name image text new c =
-    subst (λ (due : Option ImageFault). ByFault due old name image text new) (sym (found_by_cascade image c.fault c.finds)) c.does
-
 image_decides : EdfEventsDecide → (fault : Option ImageFault) (old : EdfState) (name : List ℕ) (image : Image) (text other : List ℕ) (new another : EdfState)
     → ByFault fault old name image text new → ByFault fault old name image other another → (text ≡ other) × (new ≡ another)
 image_decides events None old name image text other new another p q = replies_decide events old _ text other new another p q
@@ -43,10 +32,10 @@ image_decides events (Some fault) old name image text other new another p q = (p
 pub actions_decide : EdfEventsDecide → (old : EdfState) (a : Action) (text other : List ℕ) (new another : EdfState)
     → Performs old a text new → Performs old a other another → (text ≡ other) × (new ≡ another)
 unfolding Performs
-actions_decide events old (action.Image name image) text other new another p q = image_decides events (fault_of image) old name image text other new another (does_by_cascade old name image text new p) (does_by_cascade old name image other another q)
+actions_decide events old (action.Image name image) text other new another p q = image_decides events (fault_of image) old name image text other new another p q
 actions_decide events old (action.Source name before image) text other new another p q =
-    let same = image_decides events (fault_of image) old name image p.own q.own new another (does_by_cascade old name image p.own new p.checks) (does_by_cascade old name image q.own another q.checks) in
-    (p.written ∙ ap (λ own. before ++ own) same.0 ∙ sym q.written, same.1)
+    let same = image_decides events (fault_of image) old name image p.0 q.0 new another p.1 q.1 in
+    (p.2 ∙ ap (λ own. before ++ own) same.0 ∙ sym q.2, same.1)
 actions_decide events old (action.Event event) text other new another p q = replies_decide events old event text other new another p q
 actions_decide events old (action.Screen name) text other new another p q = (p.0 ∙ sym q.0, p.1 ∙ sym q.1)
 actions_decide events old (action.Display name) text other new another p q = (p.0 ∙ sym q.0, p.1 ∙ sym q.1)
@@ -66,8 +55,8 @@ image_gives (Some fault) old name before image own text new p w = p.1
 
 gives : (old : EdfState) (a : Action) (text : List ℕ) (new : EdfState) → Performs old a text new → Gives (event_of a) (written_before a) old text new
 unfolding Performs Replies
-gives old (action.Image name image) text new p = image_gives (fault_of image) old name [] image text text new (does_by_cascade old name image text new p) refl
-gives old (action.Source name before image) text new p = image_gives (fault_of image) old name before image p.own text new (does_by_cascade old name image p.own new p.checks) p.written
+gives old (action.Image name image) text new p = image_gives (fault_of image) old name [] image text text new p refl
+gives old (action.Source name before image) text new p = image_gives (fault_of image) old name before image p.0 text new p.1 p.2
 gives old (action.Event event) text new p = p
 gives old (action.Screen name) text new p = p.1
 gives old (action.Display name) text new p = p.1

@@ -2,6 +2,7 @@
 use Rattle.std.proofs.Common.{◌≡◌, ℕ, suc, ◌+◌, ◌-◌, ◌<◌, ◌⊎◌, inl, inr, Bool, true, false, codes, cond, List, [], ◌∷◌, length, take, None, Some, Option, Result, Ok, Err, IfSome, IsSomeAnd, MatchOption, refl, sym, ap, ◌∙◌, subst, arith}
 use Rattle.std.specs.Prelude.{slice_get}
 use Rattle.std.specs.Option.{option_map}
+use Rattle.std.specs.Result.{result_map_both}
 use Rattle.std.specs.Str.{bytes_eq}
 use Rattle.cx_blocks.specs.declared.blocks.Block.{Block}
 use Rattle.std.specs.Option.{ok_or}
@@ -9,13 +10,12 @@ use Rattle.cx_prepare.specs.Prepared.{prepared_of}
 use Rattle.cx_prepare.specs.declared.faults.PrepareFault.{PrepareFault}
 use Rattle.cx_prepare.specs.declared.faults.PrepareFault.TheVariants as prepare
 use Rattle.cx_prepare.specs.declared.program.Prepared.{Prepared}
-use Rattle.cx_blocks.specs.ImageBlock.{ImageBlock}
-use Rattle.cx_blocks.specs.SourceBlock.{SourceBlock}
-use Rattle.cx_blocks.specs.declared.blocks.Block.TheVariants as kind
-use Rattle.cx_blocks.specs.Blocks.{continued, ended, first_line, image_action, source_action, source_ended, step_at, step_in, step_of, with_bytes, with_line}
+use Rattle.cx_blocks.specs.declared.blocks.Body.{Body}
+use Rattle.cx_blocks.specs.declared.blocks.Body.TheVariants as kind
+use Rattle.cx_blocks.specs.Blocks.{body_with, continued, done, ended, located, step_at, step_in, step_of, with_line}
 use Rattle.cx_lines.specs.Lines.{is_too_long, lines_met}
 use Rattle.cx_script.specs.Script.{Script, script_in, script_from, fault_at, before, led_to}
-use Rattle.cx_actions.specs.Words.{hex_bytes}
+use Rattle.cx_actions.specs.declared.actions.Action.TheVariants as action
 use Rattle.cx_script.specs.Laws.BadLines.{block_after, block_behind, IsBadIn, IsBadLine, BadLinesAreBad}
 use Rattle.cx_actions.specs.Language.{Language}
 use Rattle.cx_actions.specs.declared.actions.Line.{Line}
@@ -40,23 +40,24 @@ told : {A : Type 0} (language : Language A) (number : ℕ) (block : Option Block
 told language number block text fault e h = subst (Told language number block text) (sym e) (refl, h)
 
 -- an end has no BadLine
-source_told : {A : Type 0} (language : Language A) (number : ℕ) (block : SourceBlock) (text : List ℕ) (due : Result Prepared PrepareFault) (fault : RunFault) → source_ended language block due ≡ Err fault
-    → Told language number (Some (kind.Source block)) text fault
-source_told language number block text (Ok prepared) fault e = cc
-source_told language number block text (Err (prepare.At n k)) fault e =
-    let same : Source (block.line + n) k ≡ fault = cc in subst (Told language number (Some (kind.Source block)) text) same tt
-source_told language number block text (Err prepare.Memory) fault e =
-    let same : Memory ≡ fault = cc in subst (Told language number (Some (kind.Source block)) text) same tt
+source_told : {A : Type 0} (language : Language A) (number : ℕ) (block : Block) (text : List ℕ) (make : Prepared → Step A) (due : Result Prepared PrepareFault) (fault : RunFault)
+    → result_map_both make (located block.line) due ≡ Err fault → Told language number (Some block) text fault
+source_told language number block text make (Ok prepared) fault e = cc
+source_told language number block text make (Err (prepare.At n k)) fault e =
+    let same : Source (block.line + n) k ≡ fault = cc in subst (Told language number (Some block) text) same tt
+source_told language number block text make (Err prepare.Memory) fault e =
+    let same : Memory ≡ fault = cc in subst (Told language number (Some block) text) same tt
 
-end_told : {A : Type 0} (language : Language A) (number : ℕ) (block : Block) (text : List ℕ) (fault : RunFault) → ended language block ≡ Err fault → Told language number (Some block) text fault
-end_told language number (kind.Image block) text fault e = cc
-end_told language number (kind.Lines block) text fault e = cc
-end_told language number (kind.Source block) text fault e =
-    source_told language number block text (prepared_of block.wanted.listing block.wanted.disassembly block.lines) fault e
+end_told : {A : Type 0} (language : Language A) (number : ℕ) (block : Block) (text : List ℕ) (has : Body) (fault : RunFault)
+    → ended language block.line block.name has ≡ Err fault → Told language number (Some block) text fault
+end_told language number block text (kind.Image stg_len bytes) fault e = cc
+end_told language number block text (kind.Lines lines) fault e = cc
+end_told language number block text (kind.Source wanted lines) fault e =
+    source_told language number block text _ (prepared_of wanted.listing wanted.disassembly lines) fault e
 
 within_told : {A : Type 0} (language : Language A) (number : ℕ) (block : Block) (text : List ℕ) (end : Bool) (fault : RunFault) → bytes_eq text (codes "/*") ≡ end
-    → cond end (ended language block) (ok_or (option_map continued (with_line block text)) (BadLine number)) ≡ Err fault → Told language number (Some block) text fault
-within_told language number block text true fault b e = end_told language number block text fault e
+    → cond end (ended language block.line block.name block.body) (ok_or (option_map continued (with_line block text)) (BadLine number)) ≡ Err fault → Told language number (Some block) text fault
+within_told language number block text true fault b e = end_told language number block text block.body fault e
 within_told language number block text false fault b e =
     let u = untold (with_line block text) continued number fault e in
     told language number (Some block) text fault u.1 (inr (b, u.0))
@@ -76,7 +77,7 @@ is_told language number block text fault e = in_told language number block text 
 
 -- ---- a block that a line leaves was begun by it, or is that which it was in
 abbrev Began : {A : Type 0} → ℕ → Option Block → Step A → Type 0
-Began number block step = MatchOption step.block (Unit {0}) (λ next. (step.action ≡ None) × MatchOption block (first_line next ≡ number) (λ b. first_line next ≡ first_line b))
+Began number block step = MatchOption step.block (Unit {0}) (λ next. (step.action ≡ None) × MatchOption block (next.line ≡ number) (λ b. next.line ≡ b.line))
 
 began_line : {A : Type 0} (number : ℕ) (asked : Option (Line A)) (step : Step A) → ok_or (option_map (step_of number) asked) (BadLine number) ≡ Ok step → Began number None step
 began_line number None step e = cc
@@ -86,42 +87,38 @@ began_line number (Some (line.Source name wanted)) step e = let same : step_of n
 began_line number (Some (line.Lines name)) step e = let same : step_of number (line.Lines name) ≡ step = cc in subst (Began number None) same (refl, refl)
 began_line number (Some (line.Action a)) step e = let same : step_of number (line.Action a) ≡ step = cc in subst (Began number None) same tt
 
-began_more : {A : Type 0} (number : ℕ) (block : Block) (more : Option Block) (step : Step A) → IfSome more (λ next. first_line next ≡ first_line block)
+began_more : {A : Type 0} (number : ℕ) (block : Block) (more : Option Block) (step : Step A) → IfSome more (λ next. next.line ≡ block.line)
     → ok_or (option_map continued more) (BadLine number) ≡ Ok step → Began number (Some block) step
 began_more number block None step h e = cc
 began_more number block (Some next) step h e = let same : continued next ≡ step = cc in subst (Began number (Some block)) same (refl, h)
 
 -- one more line leaves a block that the same line began
-same_first : (block : ImageBlock) (bytes : Option (List ℕ)) → IfSome (option_map (with_bytes block) bytes) (λ next. first_line next ≡ block.line)
-same_first block None = tt
-same_first block (Some bytes) = refl
+line_kept : (block : Block) (more : Option Body)
+    → IfSome (option_map (λ it. let next : Block = record { line = block.line; name = block.name; body = it } in next) more) (λ next. next.line ≡ block.line)
+line_kept block None = tt
+line_kept block (Some it) = refl
 
-line_kept : (block : Block) (text : List ℕ) → IfSome (with_line block text) (λ next. first_line next ≡ first_line block)
-line_kept (kind.Image block) text = same_first block (hex_bytes text)
-line_kept (kind.Source block) text = refl
-line_kept (kind.Lines block) text = refl
+began_done : {A : Type 0} (language : Language A) (number : ℕ) (block : Block) (asked : Option A) (step : Step A)
+    → (let made : Result (Step A) RunFault = Ok (done asked) in made ≡ Ok step) → Began number (Some block) step
+began_done {A} language number block asked step e =
+    let same : done asked ≡ step = cc in subst (Began number (Some block)) same tt
 
-began_source : {A : Type 0} (language : Language A) (number : ℕ) (block : SourceBlock) (due : Result Prepared PrepareFault) (step : Step A) → source_ended language block due ≡ Ok step
-    → Began number (Some (kind.Source block)) step
-began_source language number block (Err fault) step e = cc
-began_source {A} language number block (Ok prepared) step e =
-    let done : Step A = record { action = Some (language.of_source block.name block.lines (source_action block prepared)); block = None } in
-    let same : done ≡ step = cc in subst (Began number (Some (kind.Source block))) same tt
+began_source : {A : Type 0} (language : Language A) (number : ℕ) (block : Block) (make : Prepared → Option A) (due : Result Prepared PrepareFault) (step : Step A)
+    → result_map_both (λ (p : Prepared). done (make p)) (located block.line) due ≡ Ok step → Began number (Some block) step
+began_source language number block make (Err fault) step e = cc
+began_source language number block make (Ok prepared) step e = began_done language number block (make prepared) step e
 
-began_end : {A : Type 0} (language : Language A) (number : ℕ) (block : Block) (step : Step A) → ended language block ≡ Ok step → Began number (Some block) step
-began_end {A} language number (kind.Image block) step e =
-    let done : Step A = record { action = Some (language.of_block (image_action block)); block = None } in
-    let same : done ≡ step = cc in subst (Began number (Some (kind.Image block))) same tt
-began_end {A} language number (kind.Lines block) step e =
-    let done : Step A = record { action = language.of_lines block.line block.name block.lines; block = None } in
-    let same : done ≡ step = cc in subst (Began number (Some (kind.Lines block))) same tt
-began_end language number (kind.Source block) step e =
-    began_source language number block (prepared_of block.wanted.listing block.wanted.disassembly block.lines) step e
+began_end : {A : Type 0} (language : Language A) (number : ℕ) (block : Block) (has : Body) (step : Step A) → ended language block.line block.name has ≡ Ok step → Began number (Some block) step
+began_end language number block (kind.Image stg_len text) step e = began_done language number block _ step e
+began_end language number block (kind.Lines lines) step e = began_done language number block _ step e
+began_end language number block (kind.Source wanted lines) step e =
+    began_source language number block (λ made. Some (language.of_source block.name lines (action.Source block.name made.text made.image)))
+    (prepared_of wanted.listing wanted.disassembly lines) step e
 
 began_within : {A : Type 0} (language : Language A) (number : ℕ) (block : Block) (text : List ℕ) (end : Bool) (step : Step A)
-    → cond end (ended language block) (ok_or (option_map continued (with_line block text)) (BadLine number)) ≡ Ok step → Began number (Some block) step
-began_within language number block text true step e = began_end language number block step e
-began_within language number block text false step e = began_more number block (with_line block text) step (line_kept block text) e
+    → cond end (ended language block.line block.name block.body) (ok_or (option_map continued (with_line block text)) (BadLine number)) ≡ Ok step → Began number (Some block) step
+began_within language number block text true step e = began_end language number block block.body step e
+began_within language number block text false step e = began_more number block (with_line block text) step (line_kept block (body_with block.body text)) e
 
 began_in : {A : Type 0} (language : Language A) (number : ℕ) (block : Option Block) (text : List ℕ) (long : Bool) (step : Step A) → cond long (Err (BadLine number)) (step_in language number block text) ≡ Ok step → Began number block step
 began_in language number block text true step e = cc
@@ -160,7 +157,7 @@ record Open {A : Type 0} (language : Language A) (ending : Ending) (number : ℕ
   ended : ending ≡ AtEnd
   left : Block
   is : block_behind language number block lines ≡ Some left
-  at : first_line left ≡ n
+  at : left.line ≡ n
   done : script_from language Failed number block lines ≡ unended (script_from language ending number block lines)
 
 at_end : {A : Type 0} (language : Language A) (ending : Ending) (number : ℕ) (block : Option Block) (n : ℕ) → fault_at ending block ≡ Some (BadLine n) → Met language ending number block [] n ⊎ Open language ending number block [] n
@@ -241,17 +238,17 @@ found language ending number block (text ∷ lines) n e =
 record BeganAt {A : Type 0} (language : Language A) (number : ℕ) (block : Option Block) (lines : List (List ℕ)) (left : Block) : Type 0 where
   k : ℕ
   within : k < length lines
-  at : first_line left ≡ number + k
+  at : left.line ≡ number + k
   done : script_from language Failed number block (take k lines) ≡ script_from language Failed number block lines
 
 record Stays {A : Type 0} (language : Language A) (number : ℕ) (block : Option Block) (lines : List (List ℕ)) (left : Block) : Type 0 where
-  same : IsSomeAnd block (λ b. first_line b ≡ first_line left)
+  same : IsSomeAnd block (λ b. b.line ≡ left.line)
   idle : (script_from language Failed number block lines).actions ≡ []
 
 stayed : {A : Type 0} (language : Language A) (number : ℕ) (block : Option Block) (left : Block) → block ≡ Some left → Stays language number block [] left
 unfolding script_from
 stayed language number None left e = cc
-stayed language number (Some b) left e = let same : b ≡ left = cc in record { same = ap first_line same; idle = refl }
+stayed language number (Some b) left e = let same : b ≡ left = cc in record { same = ap (λ (x : Block). x.line) same; idle = refl }
 
 -- a script by its parts
 by_parts : {A : Type 0} (script : Script A) → script.actions ≡ [] → script.fault ≡ Some Read → script ≡ record { actions = []; fault = Some Read }
@@ -269,7 +266,7 @@ stays_on language number block text lines left action None e f s = absurd s.same
 stays_on {A} language number None text lines left action (Some b) e f s =
     let step : Step A = record { action = action; block = Some b } in
     let how = began language number None text step e in
-    let same : first_line left ≡ number = sym s.same ∙ how.1 in
+    let same : left.line ≡ number = sym s.same ∙ how.1 in
     let rest = script_from language Failed (number + 1) (Some b) lines in
     let whole : script_from language Failed number None (text ∷ lines) ≡ rest = led language Failed number None text lines step e ∙ ap (λ a. before a rest) how.0 in
     inl (record { k = 0; within = omega arith; at = omega (arith, same); done = sym (whole ∙ by_parts rest s.idle (sym (ap (λ (x : Script A). x.fault) whole) ∙ f)) })
@@ -317,8 +314,9 @@ opened language number block (text ∷ lines) left f b =
     opened_line language number block text lines left (step_at language number block text) refl f b (λ next g c. opened language (number + 1) next lines left g c)
 
 -- ---- both
-from_met : {A : Type 0} (language : Language A) (ending : Ending) (lines : List (List ℕ)) (n : ℕ) → Met language ending 1 None lines n → IsBadLine language ending lines n (script_from language ending 1 None lines)
-from_met language ending lines n m =
+from_met : {A : Type 0} (language : Language A) (ending : Ending) (bytes : List ℕ) (n : ℕ) → Met language ending 1 None (lines_met ending bytes) n → IsBadLine language ending bytes n
+unfolding script_in
+from_met language ending bytes n m =
     let place : n - 1 ≡ m.k = omega (arith, m.at) in
     record {
       first = omega (arith, m.at);
@@ -327,8 +325,9 @@ from_met language ending lines n m =
       done = rw place m.done;
     }
 
-from_began : {A : Type 0} (language : Language A) (ending : Ending) (lines : List (List ℕ)) (n : ℕ) (o : Open language ending 1 None lines n) → BeganAt language 1 None lines o.left → IsBadLine language ending lines n (script_from language ending 1 None lines)
-from_began language ending lines n o b =
+from_began : {A : Type 0} (language : Language A) (ending : Ending) (bytes : List ℕ) (n : ℕ) (o : Open language ending 1 None (lines_met ending bytes) n) → BeganAt language 1 None (lines_met ending bytes) o.left → IsBadLine language ending bytes n
+unfolding script_in
+from_began language ending bytes n o b =
     let place : n - 1 ≡ b.k = omega (arith, o.at, b.at) in
     record {
       first = omega (arith, o.at, b.at);
@@ -337,10 +336,10 @@ from_began language ending lines n o b =
       done = rw place (b.done ∙ o.done);
     }
 
-from_open : {A : Type 0} (language : Language A) (ending : Ending) (lines : List (List ℕ)) (n : ℕ) → Open language ending 1 None lines n → IsBadLine language ending lines n (script_from language ending 1 None lines)
-from_open {A} language ending lines n o =
-    elim (opened language 1 None lines o.left (ap (λ (s : Script A). s.fault) o.done) o.is) [
-      | inl b ↦ from_began language ending lines n o b
+from_open : {A : Type 0} (language : Language A) (ending : Ending) (bytes : List ℕ) (n : ℕ) → Open language ending 1 None (lines_met ending bytes) n → IsBadLine language ending bytes n
+from_open {A} language ending bytes n o =
+    elim (opened language 1 None (lines_met ending bytes) o.left (ap (λ (s : Script A). s.fault) o.done) o.is) [
+      | inl b ↦ from_began language ending bytes n o b
       | inr s ↦ absurd s.same
     ]
 
@@ -349,6 +348,6 @@ unfolding script_in
 bad_lines_are_bad language ending bytes n e =
     let lines = lines_met ending bytes in
     elim (found language ending 1 None lines n e) [
-      | inl m ↦ from_met language ending lines n m
-      | inr o ↦ from_open language ending lines n o
+      | inl m ↦ from_met language ending bytes n m
+      | inr o ↦ from_open language ending bytes n o
     ]

@@ -1,17 +1,17 @@
 -- Which faults a script may have, by why no more of it was read.
 use Rattle.std.proofs.Common.{◌≡◌, ◌≢◌, ℕ, ◌+◌, Bool, true, false, List, [], ◌∷◌, None, Some, Option, Result, Ok, Err, cond, codes, refl, sym, ap, ◌∙◌}
 use Rattle.cx_blocks.specs.declared.blocks.Block.{Block}
-use Rattle.std.specs.Option.{ok_or}
-use Rattle.std.specs.Option.{option_map}
+use Rattle.std.specs.Option.{ok_or, option_map}
+use Rattle.std.specs.Result.{result_map_both}
 use Rattle.std.specs.Str.{bytes_eq}
-use Rattle.cx_blocks.specs.declared.blocks.Block.TheVariants as kind
-use Rattle.cx_blocks.specs.Blocks.{continued, ended, source_ended, step_at, step_in, step_of, with_line}
+use Rattle.cx_blocks.specs.declared.blocks.Body.{Body}
+use Rattle.cx_blocks.specs.declared.blocks.Body.TheVariants as kind
+use Rattle.cx_blocks.specs.Blocks.{continued, ended, located, step_at, step_in, step_of, with_line}
 use Rattle.cx_prepare.specs.Facts.Faults.{prepared_not_memory}
 use Rattle.cx_prepare.specs.Prepared.{prepared_of}
 use Rattle.cx_prepare.specs.declared.faults.PrepareFault.{PrepareFault}
 use Rattle.cx_prepare.specs.declared.faults.PrepareFault.TheVariants as prepare
 use Rattle.cx_prepare.specs.declared.program.Prepared.{Prepared}
-use Rattle.cx_blocks.specs.SourceBlock.{SourceBlock}
 use Rattle.cx_lines.specs.Lines.{is_too_long, lines_met}
 use Rattle.cx_script.specs.Script.{Script, script_in, script_from, fault_at, before, led_to}
 use Rattle.cx_actions.specs.Language.{Language}
@@ -31,8 +31,7 @@ may_have PastBound (Some ReadBound) = true
 may_have _ _ = false
 
 pub fault_before : {A : Type 0} (action : Option A) (script : Script A) → (before action script).fault ≡ script.fault
-fault_before None script = refl
-fault_before (Some action) script = refl
+fault_before action script = refl
 
 -- what a line's fault may be
 abbrev pub is_own : RunFault → Bool
@@ -50,20 +49,20 @@ own_bad None number = refl
 own_bad (Some step) number = tt
 
 -- what a source's end leads to: want of memory is no fault of a source
-own_source : {A : Type 0} (language : Language A) (block : SourceBlock) (due : Result Prepared PrepareFault) → due ≢ Err prepare.Memory → MayBeLed (source_ended language block due)
-own_source language block (Ok prepared) h = tt
-own_source language block (Err (prepare.At n k)) h = refl
-own_source language block (Err prepare.Memory) h = absurd (h refl)
+own_source : {A : Type 0} (make : Prepared → Step A) (first : ℕ) (due : Result Prepared PrepareFault) → due ≢ Err prepare.Memory → MayBeLed (result_map_both make (located first) due)
+own_source make first (Ok prepared) h = tt
+own_source make first (Err (prepare.At n k)) h = refl
+own_source make first (Err prepare.Memory) h = absurd (h refl)
 
-own_end : {A : Type 0} (language : Language A) (block : Block) → MayBeLed (ended language block)
-own_end language (kind.Image block) = tt
-own_end language (kind.Lines block) = tt
-own_end language (kind.Source block) =
-    own_source language block (prepared_of block.wanted.listing block.wanted.disassembly block.lines)
-    (prepared_not_memory block.wanted.listing block.wanted.disassembly block.lines)
+own_end : {A : Type 0} (language : Language A) (first : ℕ) (name : List ℕ) (has : Body) → MayBeLed (ended language first name has)
+own_end language first name (kind.Image stg_len text) = tt
+own_end language first name (kind.Lines lines) = tt
+own_end language first name (kind.Source wanted lines) =
+    own_source _ first (prepared_of wanted.listing wanted.disassembly lines) (prepared_not_memory wanted.listing wanted.disassembly lines)
 
-own_within : {A : Type 0} (language : Language A) (number : ℕ) (block : Block) (text : List ℕ) (end : Bool) → MayBeLed (cond end (ended language block) (ok_or (option_map continued (with_line block text)) (BadLine number)))
-own_within language number block text true = own_end language block
+own_within : {A : Type 0} (language : Language A) (number : ℕ) (block : Block) (text : List ℕ) (end : Bool)
+    → MayBeLed (cond end (ended language block.line block.name block.body) (ok_or (option_map continued (with_line block text)) (BadLine number)))
+own_within language number block text true = own_end language block.line block.name block.body
 own_within language number block text false = own_bad (option_map continued (with_line block text)) number
 
 own_in : {A : Type 0} (language : Language A) (number : ℕ) (block : Option Block) (text : List ℕ) (long : Bool) → MayBeLed (cond long (Err (BadLine number)) (step_in language number block text))

@@ -5,8 +5,8 @@ use Rattle.std.specs.Result.{result_err}
 use Rattle.std.proofs.lemmas.List.{append_cancel_right}
 use Rattle.cx_edf.specs.State.{EdfState}
 use Rattle.cx_lines.specs.Input.{Reads, is_failure, most_bytes}
-use Rattle.cx_script.specs.Script.{script_in, script_of}
-use Rattle.cx_script.specs.Transcript.{Ends, Stops, WroteAll}
+use Rattle.cx_script.specs.Script.{script_in}
+use Rattle.cx_script.specs.Transcript.{Ends, Wrote}
 use Rattle.cx_actions.specs.Language.{Language, edf_language}
 use Rattle.cx_actions.specs.Effects.{Performs, fresh_state}
 use Rattle.cx_script.specs.Outcome.{HasRead}
@@ -56,9 +56,9 @@ same_reads PastBound PastBound input after later bytes other p q few less f e = 
 
 -- a fault of the script's own
 own : {A S : Type 0} (language : Language A) (performs : S → A → List ℕ → S → Type 0) (old : S) (ending : Ending) (bytes : List ℕ) (fault : RunFault) (before after : Option (List ℕ))
-    → was_stopped (Err fault) ≡ false → Stops language performs old ending bytes fault before after
-    → ((script_in language ending bytes).fault ≡ Some fault) × WroteAll performs old (script_in language ending bytes).actions before after
-unfolding Stops
+    → was_stopped (Err fault) ≡ false → Ends language performs old ending bytes (Err fault) before after
+    → ((script_in language ending bytes).fault ≡ Some fault) × Wrote Appends performs old (script_in language ending bytes).actions before after
+unfolding Ends
 own language performs old ending bytes (BadLine n) before after e s = s
 own language performs old ending bytes (Source n which) before after e s = s
 own language performs old ending bytes Read before after e s = s
@@ -68,12 +68,14 @@ own language performs old ending bytes ReadBound before after e s = s
 
 -- the fault of a run that was not stopped, and what it wrote
 pub told : (ending : Ending) (bytes : List ℕ) (answer : Result Summary RunFault) (before after : Option (List ℕ)) → was_stopped answer ≡ false
-    → Ends edf_language Performs fresh_state ending bytes answer before after → (result_err answer ≡ (script_of ending bytes).fault) × WroteAll Performs fresh_state (script_of ending bytes).actions before after
+    → Ends edf_language Performs fresh_state ending bytes answer before after → (result_err answer ≡ (script_in edf_language ending bytes).fault) × Wrote Appends Performs fresh_state (script_in edf_language ending bytes).actions before after
+unfolding Ends
 told ending bytes (Ok s) before after e h = (sym h.0, h.2)
 told ending bytes (Err fault) before after e h = let o = own edf_language Performs fresh_state ending bytes fault before after e h in (sym o.0, o.1)
 
 same_answer : (ending : Ending) (bytes : List ℕ) (answer other : Result Summary RunFault) (before after later : Option (List ℕ)) → was_stopped answer ≡ false → was_stopped other ≡ false
     → Ends edf_language Performs fresh_state ending bytes answer before after → Ends edf_language Performs fresh_state ending bytes other before later → answer ≡ other
+unfolding Ends
 same_answer ending bytes (Ok s) (Ok t) before after later e f p q = ap (λ (n : ℕ). let s : Summary = record { lines = n } in let r : Result Summary RunFault = Ok s in r) (p.1 ∙ sym q.1)
 same_answer ending bytes (Ok s) (Err g) before after later e f p q = let o = own edf_language Performs fresh_state ending bytes g before later f q in let none = p.0 in let some = o.0 in cc
 same_answer ending bytes (Err g) (Ok s) before after later e f p q = let o = own edf_language Performs fresh_state ending bytes g before after e p in let none = q.0 in let some = o.0 in cc
@@ -88,8 +90,8 @@ appended text (Some x) None a b e p q = absurd q
 appended text (Some x) (Some y) a b e p q = ap Some (p ∙ ap (λ l. text ++ l) e ∙ sym q)
 
 module _ (decides : (old : EdfState) (action : Action) (text other : List ℕ) (new another : EdfState) → Performs old action text new → Performs old action other another → (text ≡ other) × (new ≡ another)) where
-  same_text : (actions : List Action) (text : List ℕ) (after later : Option (List ℕ)) → WroteAll Performs fresh_state actions (Some text) after
-      → WroteAll Performs fresh_state actions (Some text) later → after ≡ later
+  same_text : (actions : List Action) (text : List ℕ) (after later : Option (List ℕ)) → Wrote Appends Performs fresh_state actions (Some text) after
+      → Wrote Appends Performs fresh_state actions (Some text) later → after ≡ later
   same_text actions text after later p q =
       let one = one_transcript Performs decides fresh_state actions p.text q.text p.new q.new p.runs q.runs in
       appended text after later p.text q.text one.0 p.written q.written
@@ -104,7 +106,7 @@ module _ (decides : (old : EdfState) (action : Action) (text other : List ℕ) (
       let first = told ending bytes answer (Some text) after f p in
       let last = told ending bytes second (Some text) later g there in (
         same_answer ending bytes answer second (Some text) after later f g p there,
-        same_text (script_of ending bytes).actions text after later first.1 last.1,
+        same_text (script_in edf_language ending bytes).actions text after later first.1 last.1,
       )
 
   pub inputs_decide : InputsDecide
@@ -116,11 +118,11 @@ module _ (decides : (old : EdfState) (action : Action) (text other : List ℕ) (
 
 -- by why no more was read
 past_bound : (ending : Ending) (input bytes : List ℕ) (after : Option (List ℕ)) (failed : Bool) → Reads most_bytes ending (Some input) after bytes → failed ≡ is_failure ending
-    → (script_of ending bytes).fault ≡ Some ReadBound → IsPastBound input failed
+    → (script_in edf_language ending bytes).fault ≡ Some ReadBound → IsPastBound input failed
 past_bound AtEnd input bytes after failed p f e = let h = has_this edf_language AtEnd bytes (Some ReadBound) e in cc
 past_bound Failed input bytes after failed p f e = let h = has_this edf_language Failed bytes (Some ReadBound) e in cc
 past_bound PastBound input bytes after failed p f e =
-    record { longer = p.0; faultless = ap (λ (l : List ℕ). (script_of PastBound l).fault) p.1 ∙ e; unfailed = f }
+    record { longer = p.0; faultless = ap (λ (l : List ℕ). (script_in edf_language PastBound l).fault) p.1 ∙ e; unfailed = f }
 
 pub read_bound_is : ReadBoundIsPastTheBound
 read_bound_is input after failed written written_after r =
@@ -132,10 +134,10 @@ err_is (Ok s) fault e = cc
 err_is (Err f) fault e = let same : f ≡ fault = cc in ap Err same
 
 bounded : (ending : Ending) (input bytes : List ℕ) (after : Option (List ℕ)) (failed : Bool) → Reads most_bytes ending (Some input) after bytes → length bytes ≤ most_bytes → failed ≡ is_failure ending
-    → IsPastBound input failed → (script_of ending bytes).fault ≡ Some ReadBound
+    → IsPastBound input failed → (script_in edf_language ending bytes).fault ≡ Some ReadBound
 bounded AtEnd input bytes after failed p few f h = let long = h.longer in absurd (omega (arith, ap length p))
 bounded Failed input bytes after failed p few f h = let good = h.unfailed in cc
-bounded PastBound input bytes after failed p few f h = ap (λ (l : List ℕ). (script_of PastBound l).fault) (sym p.1) ∙ h.faultless
+bounded PastBound input bytes after failed p few f h = ap (λ (l : List ℕ). (script_in edf_language PastBound l).fault) (sym p.1) ∙ h.faultless
 
 pub is_read_bound : PastTheBoundIsReadBound
 is_read_bound input after failed answer written written_after r h e =
@@ -154,7 +156,7 @@ read_is left after failed written written_after r =
     r.failure ∙ only_failed r.ending (has_this edf_language r.ending r.bytes (Some Read) o.0)
 
 told_by : (ending : Ending) (left after : Option (List ℕ)) (bytes : List ℕ) (answer : Result Summary RunFault) → Reads most_bytes ending left after bytes → true ≡ is_failure ending
-    → result_err answer ≡ (script_of ending bytes).fault → IsTold left after answer
+    → result_err answer ≡ (script_in edf_language ending bytes).fault → IsTold left after answer
 told_by AtEnd left after bytes answer p f e = cc
 told_by Failed left after bytes answer p f e = record { bytes = bytes; read = p; told = e }
 told_by PastBound left after bytes answer p f e = cc

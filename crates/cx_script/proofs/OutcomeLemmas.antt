@@ -6,7 +6,7 @@ use Rattle.cx_lines.specs.Input.{Reads, most_bytes}
 use Rattle.cx_lines.specs.Lines.{lines_met}
 use Rattle.cx_lines.specs.Facts.Lines.{none_met, unbroken_nil}
 use Rattle.cx_script.specs.Script.{script_from, fault_at}
-use Rattle.cx_script.specs.Transcript.{Runs, Stops, front_of}
+use Rattle.cx_script.specs.Transcript.{Ends, Runs, front_of}
 use Rattle.cx_actions.specs.Language.{Language}
 use Rattle.cx_script.specs.Outcome.{RanIn, HasRead}
 use Rattle.cx_blocks.specs.declared.faults.RunFault.{RunFault}
@@ -31,7 +31,7 @@ no_lines = none_met PastBound [] unbroken_nil
 -- where nothing was done
 pub ran_nothing : {A S : Type 0} (language : Language A) (performs : S → A → List ℕ → S → Type 0) (start : S) (before after written last : Option (List ℕ)) (failed : Bool) → after ≡ before → last ≡ written → failed ≡ false
     → RanIn language performs start before after failed (Err Memory) written last
-unfolding Stops Runs most_bytes script_from fault_at
+unfolding Ends Runs most_bytes script_from fault_at
 ran_nothing language performs start before after written last failed same e f =
     let read : Some Read ≡ Some (BadLine 1) → ⊥ = λ bad. cc in
     record {

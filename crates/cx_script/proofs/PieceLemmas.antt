@@ -16,7 +16,7 @@ use Rattle.cx_lines.specs.Input.{Reads, is_failure, most_bytes}
 use Rattle.cx_lines.specs.Lines.{is_too_long, last_met, lines_met}
 use Rattle.cx_script.specs.Outcome.{RanIn}
 use Rattle.cx_script.specs.Script.{script_from, script_in, fault_at}
-use Rattle.cx_script.specs.Transcript.{Runs, WroteAll, Stops, Ends, front_of}
+use Rattle.cx_script.specs.Transcript.{Runs, Wrote, Ends, front_of}
 use Rattle.cx_script.specs.Facts.Fronts.{first_actions}
 use Rattle.cx_blocks.specs.Faults.{is_write}
 use Rattle.cx_script.specs.Parts.Progress.{TakesLine, Took, Came, Closes, Halts, SentAll, SentSome, Stopped, Seen}
@@ -268,12 +268,12 @@ module _ {A S : Type 0} (language : Language A) (performs : S → A → List ℕ
   served_stopped (Err fault) old n block ahead first b c waits s e w = stopped_flushed old n block ahead fault first b c waits (unwritten fault e) s w
 
   -- ---- where nothing waits
-  all_written : (old : S) (actions : List A) (first last : Option (List ℕ)) → SentAll performs old actions (told first []) (told last []) → WroteAll performs old actions first last
+  all_written : (old : S) (actions : List A) (first last : Option (List ℕ)) → SentAll performs old actions (told first []) (told last []) → Wrote Appends performs old actions first last
   all_written old actions first last w = record { text = w.text; new = w.new; runs = w.runs; written = sends_written first last w.text w.written }
 
   stopped_written : (old : S) (ending : Ending) (bytes : List ℕ) (fault : RunFault) (first last : Option (List ℕ))
-      → Halts language performs old ending 0 None (lines_met ending bytes) fault (told first []) (told last []) → Stops language performs old ending bytes fault first last
-  unfolding Stops Halts script_in
+      → Halts language performs old ending 0 None (lines_met ending bytes) fault (told first []) (told last []) → Ends language performs old ending bytes (Err fault) first last
+  unfolding Ends Halts script_in
   stopped_written old ending bytes Memory first last h =
       let number : 0 + h.line + 1 ≡ h.line + 1 = omega arith in
       record {
@@ -291,7 +291,7 @@ module _ {A S : Type 0} (language : Language A) (performs : S → A → List ℕ
 
   ends_written : (old : S) (ending : Ending) (bytes : List ℕ) (answer : Result Summary RunFault) (first last : Option (List ℕ))
       → Closes language performs old ending 0 None (lines_met ending bytes) answer (told first []) (told last []) → Ends language performs old ending bytes answer first last
-  unfolding script_in
+  unfolding Ends script_in
   ends_written old ending bytes (Ok s) first last h = (h.0, omega (arith, h.1), all_written old (script_in language ending bytes).actions first last h.2)
   ends_written old ending bytes (Err fault) first last h = stopped_written old ending bytes fault first last h
 

@@ -1,11 +1,12 @@
 -- A run of a script, line by line.
 use Rattle.std.proofs.Common.{◌≡◌, ℕ, ◌+◌, List, [], ◌∷◌, ◌++◌, length, take, None, Some, Option, Result, Ok, Err, MatchOption, IsOkAnd, refl, sym, ap, ◌∙◌, subst, append-nil, append_assoc, arith, length-append}
+use Rattle.std.specs.Option.{option_to_list}
 use Rattle.std.proofs.Math.Seq.{take-append-add, take-append_seam}
 use Rattle.cx_lines.specs.Devices.{Sends, Told}
 use Rattle.cx_lines.specs.Facts.Devices.{sends_front, sends_nil, sends_trans}
 use Rattle.cx_blocks.specs.declared.blocks.Block.{Block}
-use Rattle.cx_blocks.specs.Blocks.{first_line, step_at}
-use Rattle.cx_script.specs.Script.{Script, script_from, fault_at, before, led_to}
+use Rattle.cx_blocks.specs.Blocks.{step_at}
+use Rattle.cx_script.specs.Script.{Script, script_from, fault_at, led_to}
 use Rattle.cx_blocks.specs.declared.faults.Summary.{Summary}
 use Rattle.cx_script.specs.Transcript.{Runs}
 use Rattle.cx_script.specs.Parts.Progress.{Acts, Acted, Closes, HaltedAt, Halts, SentAll, SentSome, TakesLine, Took, behind_done}
@@ -17,21 +18,12 @@ use Rattle.cx_lines.specs.declared.input.Ending.{Ending}
 use Rattle.cx_lines.specs.declared.input.Ending.TheVariants.{AtEnd, Failed, PastBound}
 use Rattle.cx_script.proofs.FaultLemmas.{fault_before}
 
--- the actions of a line
-abbrev pub of_line : {A : Type 0} → Option A → List A
-of_line None = []
-of_line (Some action) = action ∷ []
-
 behind_append : {A : Type 0} (a b : List A) (s : Script A) → behind_done a (behind_done b s) ≡ behind_done (a ++ b) s
 behind_append {A} a b s = ap (λ (l : List A). let r : Script A = record { actions = l; fault = s.fault } in r) (sym (append_assoc a b s.actions))
 
-before_done : {A : Type 0} (action : Option A) (s : Script A) → before action s ≡ behind_done (of_line action) s
-before_done None s = refl
-before_done (Some action) s = refl
-
 -- where a line leads to a step, or to a fault
-led : {A : Type 0} (due : Result (Step A) RunFault) (step : Step A) (next : Option Block → Script A) → due ≡ Ok step → led_to due next ≡ behind_done (of_line step.action) (next step.block)
-led due step next e = ap (λ d. led_to d next) e ∙ before_done step.action (next step.block)
+led : {A : Type 0} (due : Result (Step A) RunFault) (step : Step A) (next : Option Block → Script A) → due ≡ Ok step → led_to due next ≡ behind_done (option_to_list step.action) (next step.block)
+led due step next e = ap (λ d. led_to d next) e
 
 not_led : {A : Type 0} (due : Result (Step A) RunFault) (fault : RunFault) (next : Option Block → Script A) → due ≡ Err fault → led_to due next ≡ record { actions = []; fault = Some fault }
 not_led due fault next e = ap (λ d. led_to d next) e
@@ -62,7 +54,7 @@ module _ {A S : Type 0} (language : Language A) (performs : S → A → List ℕ
   runs_append old (x ∷ xs) s mid ys t new p q =
       (p.0, p.1, p.2 ++ t, p.3, runs_append p.0 xs p.2 mid ys t new p.4 q, ap (λ l. l ++ t) p.5 ∙ append_assoc p.1 p.2 t)
 
-  runs_line : (old : S) (action : Option A) (text : List ℕ) (new : S) → Acts performs action old text new → Runs performs old (of_line action) text new
+  runs_line : (old : S) (action : Option A) (text : List ℕ) (new : S) → Acts performs action old text new → Runs performs old (option_to_list action) text new
   unfolding Runs
   runs_line old None text new p = p
   runs_line old (Some action) text new p = runs_one old action text new p
@@ -85,12 +77,12 @@ module _ {A S : Type 0} (language : Language A) (performs : S → A → List ℕ
   took_line old new n block next line before after t =
       let step = t.0 in
       record {
-        done = of_line step.action;
+        done = option_to_list step.action;
         text = t.3.0;
         runs = runs_line old step.action t.3.0 new t.3.1;
         written = t.3.2;
         asks = λ ending more. led (step_at language (n + 1) block line) step (λ b. script_from language ending (n + 1 + 1) b more) t.1
-            ∙ ap (λ b. behind_done (of_line step.action) (script_from language ending (n + 1 + 1) b more)) (sym t.2);
+            ∙ ap (λ b. behind_done (option_to_list step.action) (script_from language ending (n + 1 + 1) b more)) (sym t.2);
         count = omega arith;
       }
 
@@ -201,8 +193,8 @@ module _ {A S : Type 0} (language : Language A) (performs : S → A → List ℕ
   unfolding script_from Acted
   unwritten_line old new ending n block line lines step before after e a =
       let next_lines = λ (b : Option Block). script_from language ending (n + 1 + 1) b lines in
-      let first = front (script_from language ending (n + 1) block (line ∷ lines)) (of_line step.action) (next_lines step.block) (led (step_at language (n + 1) block line) step next_lines e) in (
-        length (of_line step.action),
+      let first = front (script_from language ending (n + 1) block (line ∷ lines)) (option_to_list step.action) (next_lines step.block) (led (step_at language (n + 1) block line) step next_lines e) in (
+        length (option_to_list step.action),
         record { text = a.0; new = new; runs = subst (λ (l : List A). Runs performs old l a.0 new) (sym first) (runs_line old step.action a.0 new a.1); written = a.2 },
       )
 
@@ -224,7 +216,7 @@ module _ {A S : Type 0} (language : Language A) (performs : S → A → List ℕ
   ended old AtEnd n None (Err fault) w h = absurd h
   ended old AtEnd n (Some block) (Ok s) w h = cc
   ended old AtEnd n (Some block) (Err fault) w h =
-      let same : BadLine (first_line block) ≡ fault = cc in
+      let same : BadLine (block.line) ≡ fault = cc in
       subst (λ f. Halts language performs old AtEnd n (Some block) [] f w w) same (refl, sent_none old [] w w refl refl)
   ended old Failed n block (Ok s) w h = cc
   ended old Failed n block (Err fault) w h =

@@ -27,6 +27,7 @@ whole_by : (ending : Ending) (bytes : List ℕ) (left left_after written written
     → Reads most_bytes ending left left_after bytes → length bytes ≤ most_bytes
     → Ends edf_language Performs fresh_state ending bytes (Ok summary) written written_after
     → IfSome left (λ input. IsTranscribed input summary.lines written written_after)
+unfolding Ends
 whole_by AtEnd bytes None left_after written written_after summary r few e = tt
 whole_by AtEnd bytes (Some input) left_after written written_after summary r few e =
     subst (λ b. IsTranscribed b summary.lines written written_after) (sym r)

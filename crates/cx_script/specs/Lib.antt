@@ -5,9 +5,6 @@ pub mod Outcome
 pub mod Laws
 pub mod Parts
 pub mod Facts
-pub use Rattle.cx_blocks.specs.ImageBlock
-pub use Rattle.cx_blocks.specs.SourceBlock
-pub use Rattle.cx_blocks.specs.LinesBlock
 pub use Rattle.cx_blocks.specs.Blocks
 pub use Rattle.cx_blocks.specs.Faults
 pub use Rattle.cx_blocks.specs.Status

@@ -1,7 +1,7 @@
 -- What a script of a language asks: its actions in order, up to its first fault (own).
-use Rattle.std.specs.Prelude.{ℕ, ◌+◌, Option, Some, None, Result, Ok, Err, List, [], ◌∷◌}
-use Rattle.cx_actions.specs.Language.{Language, edf_language}
-use Rattle.cx_actions.specs.declared.actions.Action.{Action}
+use Rattle.std.specs.Prelude.{ℕ, ◌+◌, ◌++◌, Option, Some, None, Result, Ok, Err, List, [], ◌∷◌}
+use Rattle.std.specs.Option.{option_to_list}
+use Rattle.cx_actions.specs.Language.{Language}
 use Rattle.cx_blocks.specs.declared.faults.RunFault.{RunFault}
 use Rattle.cx_blocks.specs.declared.faults.RunFault.TheVariants as fault
 use Rattle.cx_lines.specs.declared.input.Ending.{Ending}
@@ -9,7 +9,7 @@ use Rattle.cx_lines.specs.declared.input.Ending.TheVariants.{AtEnd, Failed, Past
 use Rattle.cx_lines.specs.Lines.{lines_met}
 use Rattle.cx_blocks.specs.declared.blocks.Block.{Block}
 use Rattle.cx_blocks.specs.declared.blocks.Step.{Step}
-use Rattle.cx_blocks.specs.Blocks.{first_line, step_at}
+use Rattle.cx_blocks.specs.Blocks.{step_at}
 
 pub record Script (A : Type 0) : Type 0 where
   -- what is done, in order, in front of the fault
@@ -21,13 +21,12 @@ pub record Script (A : Type 0) : Type 0 where
 -- end. Else that no more was read is the fault.
 unfoldable pub fault_at : Ending → Option Block → Option RunFault
 fault_at AtEnd None = None
-fault_at AtEnd (Some block) = Some (fault.BadLine (first_line block))
+fault_at AtEnd (Some block) = Some (fault.BadLine block.line)
 fault_at Failed block = Some fault.Read
 fault_at PastBound block = Some fault.ReadBound
 
 abbrev pub before : {A : Type 0} → Option A → Script A → Script A
-before None script = script
-before (Some action) script = record { actions = action ∷ script.actions; fault = script.fault }
+before asked script = record { actions = option_to_list asked ++ script.actions; fault = script.fault }
 
 -- a line's fault ends the script; after any other line come the next ones
 abbrev pub led_to : {A : Type 0} → Result (Step A) RunFault → (Option Block → Script A) → Script A
@@ -43,7 +42,3 @@ script_from language ending number block (line ∷ lines) =
 -- the script that these bytes are in a language
 unfoldable pub script_in : {A : Type 0} → Language A → Ending → List ℕ → Script A
 script_in language ending bytes = script_from language ending 1 None (lines_met ending bytes)
-
--- the script of `cicsedf` that they are
-abbrev pub script_of : Ending → List ℕ → Script Action
-script_of ending bytes = script_in edf_language ending bytes

@@ -19,19 +19,13 @@ Runs {S} performs old (action ∷ actions) text new =
     (between : S) × (first : List ℕ) × (rest : List ℕ)
     × performs old action first between × Runs performs between actions rest new × (text ≡ first ++ rest)
 
--- the transcript of these actions was written
-pub record WroteAll {A S : Type 0} (performs : S → A → List ℕ → S → Type 0) (old : S) (actions : List A) (before after : Option (List ℕ)) : Type 0 where
+-- the transcript of these actions was written, so much of it as `Writes` says of what was written before and after it
+pub record Wrote {A S T : Type 0} (Writes : T → T → List ℕ → Type 0) (performs : S → A → List ℕ → S → Type 0)
+    (old : S) (actions : List A) (before after : T) : Type 0 where
   pub text : List ℕ
   pub new : S
   pub runs : Runs performs old actions text new
-  pub written : Appends before after text
-
--- a front of it was
-pub record WroteSome {A S : Type 0} (performs : S → A → List ℕ → S → Type 0) (old : S) (actions : List A) (before after : Option (List ℕ)) : Type 0 where
-  pub text : List ℕ
-  pub new : S
-  pub runs : Runs performs old actions text new
-  pub written : WroteFront before after text
+  pub written : Writes before after text
 
 -- what the first so many lines ask, as if no more could be read
 abbrev pub front_of : {A : Type 0} → Language A → List (List ℕ) → ℕ → Script A
@@ -39,24 +33,28 @@ front_of language lines n = script_from language Failed 1 None (take n lines)
 
 -- A run without memory stopped at a line, or before it had any: those in front of it have no fault, and are done and written;
 -- and it isn't a bad one.
-pub record StoppedAt {A S : Type 0} (language : Language A) (performs : S → A → List ℕ → S → Type 0) (old : S) (lines : List (List ℕ)) (before after : Option (List ℕ)) : Type 0 where
+pub record StoppedAt {A S : Type 0} (language : Language A) (performs : S → A → List ℕ → S → Type 0) (old : S)
+    (lines : List (List ℕ)) (before after : Option (List ℕ)) : Type 0 where
   -- how many stand in front of it
   pub line : ℕ
   pub within : (line < length lines) ⊎ (lines ≡ [])
   pub led : (front_of language lines line).fault ≡ Some Read
   pub good : (front_of language lines (line + 1)).fault ≡ Some (BadLine (line + 1)) → ⊥
-  pub done : WroteAll performs old (front_of language lines line).actions before after
+  pub done : Wrote Appends performs old (front_of language lines line).actions before after
 
--- How a run of the script that these bytes are stopped. Without memory it stopped at a line; after a failed write some of its
--- actions are done, and a front of their transcript is written; any other fault is the script's own, and everything in front of
--- it is done and written.
-unfoldable pub Stops : {A S : Type 0} → Language A → (S → A → List ℕ → S → Type 0) → S → Ending → List ℕ → RunFault → Option (List ℕ) → Option (List ℕ) → Type 0
-Stops language performs old ending bytes Memory before after = StoppedAt language performs old (lines_met ending bytes) before after
-Stops language performs old ending bytes Write before after = (n : ℕ) × WroteSome performs old (take n (script_in language ending bytes).actions) before after
-Stops language performs old ending bytes fault before after = ((script_in language ending bytes).fault ≡ Some fault) × WroteAll performs old (script_in language ending bytes).actions before after
-
--- How it ended: all of its actions are done and written, or it stopped.
-abbrev pub Ends : {A S : Type 0} → Language A → (S → A → List ℕ → S → Type 0) → S → Ending → List ℕ → Result Summary RunFault → Option (List ℕ) → Option (List ℕ) → Type 0
+-- How a run of the script that these bytes are ended. Ok: all of its actions are done and written. Without memory it stopped at a
+-- line; after a failed write some of its actions are done, and a front of their transcript is written; any other fault is the
+-- script's own, and everything in front of it is done and written.
+unfoldable pub Ends : {A S : Type 0} → Language A → (S → A → List ℕ → S → Type 0) → S → Ending → List ℕ
+    → Result Summary RunFault → Option (List ℕ) → Option (List ℕ) → Type 0
 Ends language performs old ending bytes (Ok summary) before after =
-    ((script_in language ending bytes).fault ≡ None) × (summary.lines ≡ length (lines_met ending bytes)) × WroteAll performs old (script_in language ending bytes).actions before after
-Ends language performs old ending bytes (Err fault) before after = Stops language performs old ending bytes fault before after
+    let script = script_in language ending bytes in
+    (script.fault ≡ None) × (summary.lines ≡ length (lines_met ending bytes))
+    × Wrote Appends performs old script.actions before after
+Ends language performs old ending bytes (Err Memory) before after =
+    StoppedAt language performs old (lines_met ending bytes) before after
+Ends language performs old ending bytes (Err Write) before after =
+    (n : ℕ) × Wrote WroteFront performs old (take n (script_in language ending bytes).actions) before after
+Ends language performs old ending bytes (Err fault) before after =
+    let script = script_in language ending bytes in
+    (script.fault ≡ Some fault) × Wrote Appends performs old script.actions before after

@@ -67,8 +67,9 @@ pub fn an_action_has_one_outcome()
 
 /// The transcript of actions on a region under EDF is one, and so is the state behind them.
 pub fn a_transcript_is_one()
-    ensures { (old : EdfState) (actions : List Action) (text other : List ℕ) (new another : EdfState) →
-        Runs Performs old actions text new → Runs Performs old actions other another → (text ≡ other) × (new ≡ another) }
+    ensures { (old : EdfState) (actions : List Action) (text other : List ℕ) (new another : EdfState)
+        → Runs Performs old actions text new → Runs Performs old actions other another
+        → (text ≡ other) × (new ≡ another) }
 {
     an_action_has_one_outcome();
 }

@@ -42,7 +42,9 @@ fn act<P: Stage, W: ScriptOut>(
 ) -> Result<(), RunFault>
     requires allowed { IfSome action P.Action.allowed }
     requires failure { W.has_failed writer.old ≡ false }
-    ensures acted { Acted P.performs action stage.old (told (W.written writer.old) waiting.old) result stage.new (told (W.written writer.new) waiting.new) }
+    ensures acted { let before = told (W.written writer.old) waiting.old in
+        let after = told (W.written writer.new) waiting.new in
+        Acted P.performs action stage.old before result stage.new after }
     ensures failure { W.has_failed writer.new ≡ is_write result }
     ensures unread { is_read result ≡ false }
 {
@@ -77,8 +79,11 @@ impl<P: Stage + Drop> Progress<P> {
     ) -> Result<(), RunFault>
         requires lines { self.old.lines < 2 ^ 32 }
         requires failure { W.has_failed writer.old ≡ false }
-        ensures taken { TakesLine P.performs (self.old.lines + 1) (step_at P.Action.language (self.old.lines + 1) self.old.block line.now) self.old.stage
-            (told (W.written writer.old) self.old.waiting) result self.new.stage (told (W.written writer.new) self.new.waiting) self.new.block }
+        ensures taken { let number = self.old.lines + 1 in
+            let due = step_at P.Action.language number self.old.block line.now in
+            let before = told (W.written writer.old) self.old.waiting in
+            let after = told (W.written writer.new) self.new.waiting in
+            TakesLine P.performs number due self.old.stage before result self.new.stage after self.new.block }
         ensures lines { self.new.lines ≡ self.old.lines + 1 }
         ensures failure { W.has_failed writer.new ≡ is_write result }
         ensures unread { is_read result ≡ false }
@@ -109,8 +114,10 @@ impl<P: Stage + Drop> Progress<P> {
         requires lines { self.old.lines < 2 ^ 32 }
         requires waits { self.old.waiting ≡ [] }
         requires failure { W.has_failed writer.old ≡ false }
-        ensures taken { TakesLine P.performs (self.old.lines + 1) (step_at P.Action.language (self.old.lines + 1) self.old.block line.now) self.old.stage
-            (told (W.written writer.old) []) result self.new.stage (told (W.written writer.new) []) self.new.block }
+        ensures taken { let number = self.old.lines + 1 in
+            let due = step_at P.Action.language number self.old.block line.now in
+            let before = told (W.written writer.old) [] in let after = told (W.written writer.new) [] in
+            TakesLine P.performs number due self.old.stage before result self.new.stage after self.new.block }
         ensures lines { self.new.lines ≡ self.old.lines + 1 }
         ensures failure { W.has_failed writer.new ≡ is_write result }
         ensures unread { is_read result ≡ false }
@@ -134,7 +141,7 @@ impl<P: Stage + Drop> Progress<P> {
     {
         match ending {
             Ending::AtEnd => match &self.block {
-                Some(block) => Err(RunFault::BadLine(block.line())),
+                Some(block) => Err(RunFault::BadLine(block.line)),
                 None => Ok(Summary { lines: self.lines }),
             },
             Ending::Failed => Err(RunFault::Read),
@@ -180,10 +187,12 @@ impl<P: Stage + Drop> Run<P> {
     ) -> Result<(), RunFault>
         requires lines { self.old.progress.lines < 2 ^ 32 }
         requires failure { W.has_failed writer.old ≡ false }
-        ensures taken { TakesLine P.performs (self.old.progress.lines + 1)
-            (step_at P.Action.language (self.old.progress.lines + 1) self.old.progress.block (strip_carriage_return (self.old.part.items ++ bytes.now)))
-            self.old.progress.stage (told (W.written writer.old) self.old.progress.waiting) result self.new.progress.stage
-            (told (W.written writer.new) self.new.progress.waiting) self.new.progress.block }
+        ensures taken { let old = self.old.progress in let new = self.new.progress in let number = old.lines + 1 in
+            let line = strip_carriage_return (self.old.part.items ++ bytes.now) in
+            let due = step_at P.Action.language number old.block line in
+            let before = told (W.written writer.old) old.waiting in
+            let after = told (W.written writer.new) new.waiting in
+            TakesLine P.performs number due old.stage before result new.stage after new.block }
         ensures lines { self.new.progress.lines ≡ self.old.progress.lines + 1 }
         ensures part { OnOk result (self.new.part.items ≡ []) }
         ensures failure { W.has_failed writer.new ≡ is_write result }
@@ -231,14 +240,20 @@ impl<P: Stage + Drop> Run<P> {
         requires lines { self.old.progress.lines + length piece.now < 2 ^ 32 }
         requires unbroken { IsUnbroken self.old.part.items }
         requires failure { W.has_failed writer.old ≡ false }
-        ensures came { OnOk result (Came P.Action.language P.performs self.old.progress.stage self.old.progress.lines self.old.progress.block (self.old.part.items ++ piece.now)
-            (told (W.written writer.old) self.old.progress.waiting) self.new.progress.stage self.new.progress.lines self.new.progress.block self.new.part.items
-            (told (W.written writer.new) self.new.progress.waiting)) }
+        ensures came { let old = self.old.progress in let new = self.new.progress in
+            let ahead = self.old.part.items ++ piece.now in
+            let before = told (W.written writer.old) old.waiting in
+            let after = told (W.written writer.new) new.waiting in
+            OnOk result (Came P.Action.language P.performs old.stage old.lines old.block ahead before
+            new.stage new.lines new.block self.new.part.items after) }
         ensures unbroken { OnOk result (IsUnbroken self.new.part.items) }
         ensures short { OnOk result (is_too_long (strip_carriage_return self.new.part.items) ≡ false) }
         ensures lines { OnOk result (self.new.progress.lines ≤ self.old.progress.lines + length piece.now) }
-        ensures err { IfErr result (λ fault. Stopped P.Action.language P.performs self.old.progress.stage self.old.progress.lines self.old.progress.block (self.old.part.items ++ piece.now) fault
-            (told (W.written writer.old) self.old.progress.waiting) (told (W.written writer.new) self.new.progress.waiting)) }
+        ensures err { let old = self.old.progress in let ahead = self.old.part.items ++ piece.now in
+            let before = told (W.written writer.old) old.waiting in
+            let after = told (W.written writer.new) self.new.progress.waiting in
+            let language = P.Action.language in
+            IfErr result (λ fault. Stopped language P.performs old.stage old.lines old.block ahead fault before after) }
         ensures failure { W.has_failed writer.new ≡ is_write result }
         ensures unread { is_read result ≡ false }
     {
@@ -263,14 +278,19 @@ impl<P: Stage + Drop> Run<P> {
         requires unbroken { IsUnbroken self.old.part.items }
         requires waits { self.old.progress.waiting ≡ [] }
         requires failure { W.has_failed writer.old ≡ false }
-        ensures came { OnOk result (Came P.Action.language P.performs self.old.progress.stage self.old.progress.lines self.old.progress.block (self.old.part.items ++ piece.now)
-            (told (W.written writer.old) []) self.new.progress.stage self.new.progress.lines self.new.progress.block self.new.part.items (told (W.written writer.new) [])) }
+        ensures came { let old = self.old.progress in let new = self.new.progress in
+            let ahead = self.old.part.items ++ piece.now in
+            let before = told (W.written writer.old) [] in let after = told (W.written writer.new) [] in
+            OnOk result (Came P.Action.language P.performs old.stage old.lines old.block ahead before
+            new.stage new.lines new.block self.new.part.items after) }
         ensures unbroken { OnOk result (IsUnbroken self.new.part.items) }
         ensures short { OnOk result (is_too_long (strip_carriage_return self.new.part.items) ≡ false) }
         ensures lines { OnOk result (self.new.progress.lines ≤ self.old.progress.lines + length piece.now) }
         ensures waits { OnOk result (self.new.progress.waiting ≡ []) }
-        ensures err { IfErr result (λ fault. Stopped P.Action.language P.performs self.old.progress.stage self.old.progress.lines self.old.progress.block (self.old.part.items ++ piece.now) fault
-            (told (W.written writer.old) []) (told (W.written writer.new) [])) }
+        ensures err { let old = self.old.progress in let ahead = self.old.part.items ++ piece.now in
+            let before = told (W.written writer.old) [] in let after = told (W.written writer.new) [] in
+            let language = P.Action.language in
+            IfErr result (λ fault. Stopped language P.performs old.stage old.lines old.block ahead fault before after) }
         ensures failure { W.has_failed writer.new ≡ is_write result }
         ensures unread { is_read result ≡ false }
     {
@@ -296,8 +316,9 @@ impl<P: Stage + Drop> Run<P> {
         requires short { is_too_long (strip_carriage_return self.part.items) ≡ false }
         requires waits { self.progress.waiting ≡ [] }
         requires failure { W.has_failed writer.old ≡ false }
-        ensures ends { Closes P.Action.language P.performs self.progress.stage ending self.progress.lines self.progress.block (lines_met ending self.part.items) result
-            (told (W.written writer.old) []) (told (W.written writer.new) []) }
+        ensures ends { let old = self.progress in let lines = lines_met ending self.part.items in
+            let before = told (W.written writer.old) [] in let after = told (W.written writer.new) [] in
+            Closes P.Action.language P.performs old.stage ending old.lines old.block lines result before after }
         ensures failure { W.has_failed writer.new ≡ is_write result }
         ensures read { is_read result ≡ is_failure ending }
     {
@@ -323,8 +344,10 @@ impl<P: Stage + Drop> Run<P> {
         requires waits { self.progress.waiting ≡ [] }
         requires reader { R.has_failed reader.old ≡ false }
         requires writer { W.has_failed writer.old ≡ false }
-        ensures ran { RanIn P.Action.language P.performs self.progress.stage (R.left reader.old) (R.left reader.new) (R.has_failed reader.new) result
-            (W.written writer.old) (W.written writer.new) }
+        ensures ran { let left = R.left reader.old in let left_after = R.left reader.new in
+            let failed = R.has_failed reader.new in let written = W.written writer.old in
+            let start = self.progress.stage in let written_after = W.written writer.new in
+            RanIn P.Action.language P.performs start left left_after failed result written written_after }
         ensures read { R.has_failed reader.new ≡ is_read result }
         ensures write { W.has_failed writer.new ≡ is_write result }
     {

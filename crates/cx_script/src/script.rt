@@ -1,7 +1,7 @@
 //! A script from its reader to its transcript.
 
 ghost use Rattle.std.specs.Prelude.{◌≡◌, IfOk, false};
-ghost use Rattle.cx_actions.specs.Effects.{Performs, fresh_state};
+ghost use Rattle.cx_actions.specs.Effects.{fresh_state};
 ghost use Rattle.cx_script.specs.Outcome.{RanIn, RanScript};
 ghost use Rattle.cx_blocks.specs.Faults.{is_read, is_write};
 
@@ -45,8 +45,11 @@ pub fn run_script_on<P: Stage + Drop, R: ScriptIn, W: ScriptOut>(
 ) -> Result<Summary, RunFault>
     requires reader { R.has_failed reader.old ≡ false }
     requires writer { W.has_failed writer.old ≡ false }
-    ensures ran { (start : P) → IfOk stage (λ made. made ≡ start) → RanIn P.Action.language P.performs start (R.left reader.old) (R.left reader.new)
-        (R.has_failed reader.new) result (W.written writer.old) (W.written writer.new) }
+    ensures ran { let left = R.left reader.old in let left_after = R.left reader.new in
+        let failed = R.has_failed reader.new in
+        let written = W.written writer.old in let written_after = W.written writer.new in
+        (start : P) → IfOk stage (λ made. made ≡ start)
+        → RanIn P.Action.language P.performs start left left_after failed result written written_after }
     ensures read { R.has_failed reader.new ≡ is_read result }
     ensures write { W.has_failed writer.new ≡ is_write result }
 {
@@ -64,7 +67,7 @@ pub fn run_script<R: ScriptIn, W: ScriptOut>(
 ) -> Result<Summary, RunFault>
     requires reader { R.has_failed reader.old ≡ false }
     requires writer { W.has_failed writer.old ≡ false }
-    ensures ran { RanScript Performs fresh_state (R.left reader.old) (R.left reader.new) (R.has_failed reader.new) result
+    ensures ran { RanScript (R.left reader.old) (R.left reader.new) (R.has_failed reader.new) result
         (W.written writer.old) (W.written writer.new) }
     ensures read { R.has_failed reader.new ≡ is_read result }
     ensures write { W.has_failed writer.new ≡ is_write result }

@@ -6,12 +6,13 @@ use Rattle.cx_edf.specs.declared.answers.Answer.{Answer}
 use Rattle.cx_edf.specs.declared.answers.EdfEvent.{EdfEvent}
 use Rattle.cx_edf.specs.State.{EdfState}
 use Rattle.cx_edf.specs.Runs.{EdfRun, last_state}
-use Rattle.cx_actions.specs.Effects.{Performs, fresh_state}
+use Rattle.cx_actions.specs.Effects.{fresh_state}
+use Rattle.cx_actions.specs.Language.{edf_language}
 use Rattle.cx_actions.specs.declared.actions.Action.{Action}
 use Rattle.cx_blocks.specs.declared.faults.RunFault.{RunFault}
 use Rattle.cx_blocks.specs.declared.faults.RunFault.TheVariants.{Write}
 use Rattle.cx_blocks.specs.declared.faults.Summary.{Summary}
-use Rattle.cx_script.specs.Script.{Script, script_of}
+use Rattle.cx_script.specs.Script.{Script, script_in}
 use Rattle.cx_script.specs.Outcome.{RanScript}
 use Rattle.cx_script.specs.Laws.Events.{IsRun, events_of}
 use Rattle.cx_script.specs.Laws.Inputs.{was_stopped}
@@ -48,6 +49,6 @@ pub record IsDoneOf (script : Script Action) (answer : Result Summary RunFault) 
 abbrev pub OfEachScript : (EdfState → List EdfEvent → List Answer → List EdfState → Type 0) → Type 0
 OfEachScript Holds = (left left_after : Option (List ℕ)) (failed : Bool) (answer : Result Summary RunFault)
     (before after : Option (List ℕ))
-    (ran : RanScript Performs fresh_state left left_after failed answer before after)
-    → (done : IsDoneOf (script_of ran.ending ran.bytes) answer before after)
+    (ran : RanScript left left_after failed answer before after)
+    → (done : IsDoneOf (script_in edf_language ran.ending ran.bytes) answer before after)
     × Holds fresh_state (events_of done.actions) done.did.answers done.did.run.states

@@ -42,8 +42,8 @@ kept_after old _ new = new
 unfoldable pub ArePartsOf : Looked → List LookAction → List Part → Looked → Type 0
 ArePartsOf old [] [] new = new ≡ old
 ArePartsOf old (a ∷ actions) (part ∷ parts) new =
-    (done between : Looked) × IsPart old a part × Runs NotedPerforms old part.plain part.written done × (between ≡ kept_after old a done)
-    × ArePartsOf between actions parts new
+    (done between : Looked) × IsPart old a part × Runs NotedPerforms old part.plain part.written done
+    × (between ≡ kept_after old a done) × ArePartsOf between actions parts new
 ArePartsOf old _ _ new = ⊥
 
 abbrev pub plain_of : Part → List Action
@@ -74,4 +74,5 @@ LooksAreMarked = (look : Look) (state : Looked) (text : List ℕ) → IsLookText
 
 -- the text of a look is a function of the state
 abbrev pub LooksAreToldOnce : Type 0
-LooksAreToldOnce = (look : Look) (state : Looked) (one other : List ℕ) → IsLookText look state one → IsLookText look state other → one ≡ other
+LooksAreToldOnce = (look : Look) (state : Looked) (one other : List ℕ)
+    → IsLookText look state one → IsLookText look state other → one ≡ other

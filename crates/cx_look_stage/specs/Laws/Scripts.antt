@@ -1,10 +1,11 @@
 -- A script of `cicsedf` is one of `cicslook`, and does the same.
 use Rattle.std.specs.Prelude.{◌≡◌, ℕ, List, map, Option, Some, None}
 use Rattle.cx_actions.specs.Effects.{Performs}
+use Rattle.cx_actions.specs.Language.{edf_language}
 use Rattle.cx_actions.specs.declared.actions.Action.{Action}
 use Rattle.cx_blocks.specs.declared.faults.RunFault.TheVariants.{BadLine}
 use Rattle.cx_lines.specs.declared.input.Ending.{Ending}
-use Rattle.cx_script.specs.Script.{Script, script_in, script_of}
+use Rattle.cx_script.specs.Script.{Script, script_in}
 use Rattle.cx_script.specs.Transcript.{Runs}
 use Rattle.cx_look_stage.specs.Looking.{LookPerforms}
 use Rattle.cx_look_stage.specs.Reading.{look_language}
@@ -32,8 +33,8 @@ HasNoBadLine script = (number : ℕ) → script.fault ≡ Some (BadLine number) 
 
 -- bytes that are a script of `cicsedf` without a bad line are the same script here
 abbrev pub ScriptsStay : Type 0
-ScriptsStay = (ending : Ending) (bytes : List ℕ) → HasNoBadLine (script_of ending bytes)
-    → IsSame (script_of ending bytes) (script_in look_language ending bytes)
+ScriptsStay = (ending : Ending) (bytes : List ℕ) → HasNoBadLine (script_in edf_language ending bytes)
+    → IsSame (script_in edf_language ending bytes) (script_in look_language ending bytes)
 
 -- and its actions write the same, from the same state to the same state
 abbrev pub ActionsStay : Type 0

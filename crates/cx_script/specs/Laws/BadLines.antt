@@ -2,15 +2,16 @@
 use Rattle.std.specs.Prelude.{◌≡◌, ℕ, ◌+◌, ◌-◌, ◌≤◌, ◌⊎◌, true, false, codes, List, [], ◌∷◌, length, take, slice_get, Option, Some, None, Result, Ok, Err, IsSomeAnd}
 use Rattle.std.specs.Str.{bytes_eq}
 use Rattle.cx_actions.specs.Language.{Language}
-use Rattle.cx_blocks.specs.Blocks.{first_line, step_at, with_line}
+use Rattle.cx_blocks.specs.Blocks.{step_at, with_line}
 use Rattle.cx_blocks.specs.declared.blocks.Block.{Block}
 use Rattle.cx_lines.specs.Lines.{is_too_long, lines_met}
-use Rattle.cx_script.specs.Script.{Script, script_from, script_in}
+use Rattle.cx_script.specs.Script.{script_in}
+use Rattle.cx_script.specs.Transcript.{front_of}
 use Rattle.cx_blocks.specs.declared.blocks.Step.{Step}
 use Rattle.cx_blocks.specs.declared.faults.RunFault.{RunFault}
 use Rattle.cx_blocks.specs.declared.faults.RunFault.TheVariants.{BadLine, Read}
 use Rattle.cx_lines.specs.declared.input.Ending.{Ending}
-use Rattle.cx_lines.specs.declared.input.Ending.TheVariants.{AtEnd, Failed}
+use Rattle.cx_lines.specs.declared.input.Ending.TheVariants.{AtEnd}
 
 -- the block that a line leaves to the next one
 abbrev pub block_after : {A : Type 0} → Result (Step A) RunFault → Option Block
@@ -20,31 +21,38 @@ block_after (Ok step) = step.block
 -- the block that the line behind these lines is in; the first of them has this number, and is in this block
 unfoldable pub block_behind : {A : Type 0} → Language A → ℕ → Option Block → List (List ℕ) → Option Block
 block_behind language number block [] = block
-block_behind language number block (line ∷ lines) = block_behind language (number + 1) (block_after (step_at language number block line)) lines
+block_behind language number block (line ∷ lines) =
+    block_behind language (number + 1) (block_after (step_at language number block line)) lines
 
 -- A bad line where it stands: it is too long; or it is no line of a script outside a block, and in one neither the
 -- block's end nor a line that the block may have.
 abbrev pub IsBadIn : {A : Type 0} → Language A → Option Block → List ℕ → Type 0
 IsBadIn language None line = (is_too_long line ≡ true) ⊎ (language.line_of line ≡ None)
-IsBadIn language (Some block) line = (is_too_long line ≡ true) ⊎ ((bytes_eq line (codes "/*") ≡ false) × (with_line block line ≡ None))
+IsBadIn language (Some block) line =
+    (is_too_long line ≡ true) ⊎ ((bytes_eq line (codes "/*") ≡ false) × (with_line block line ≡ None))
 
 -- the line with this number is bad where it stands
 abbrev pub IsBadThere : {A : Type 0} → Language A → List (List ℕ) → ℕ → Type 0
-IsBadThere language lines number = IsSomeAnd (slice_get lines (number - 1)) (IsBadIn language (block_behind language 1 None (take (number - 1) lines)))
+IsBadThere language lines number =
+    let block = block_behind language 1 None (take (number - 1) lines) in
+    IsSomeAnd (slice_get lines (number - 1)) (IsBadIn language block)
 
 -- it begins a block that the script's end leaves without its own
 abbrev pub IsLeftOpen : {A : Type 0} → Language A → Ending → List (List ℕ) → ℕ → Type 0
-IsLeftOpen language ending lines number = (ending ≡ AtEnd) × IsSomeAnd (block_behind language 1 None lines) (λ block. first_line block ≡ number)
+IsLeftOpen language ending lines number =
+    (ending ≡ AtEnd) × IsSomeAnd (block_behind language 1 None lines) (λ block. block.line ≡ number)
 
--- A bad line of these lines: it is one of them, and bad; those in front of it are not, and exactly what they complete
--- is done.
-pub record IsBadLine {A : Type 0} (language : Language A) (ending : Ending) (lines : List (List ℕ)) (number : ℕ) (script : Script A) : Type 0 where
+-- A bad line of the script that these bytes are: it is one of its lines, and bad; those in front of it are not, and exactly what they
+-- complete is done.
+pub record IsBadLine {A : Type 0} (language : Language A) (ending : Ending) (bytes : List ℕ) (number : ℕ) : Type 0 where
   pub first : 1 ≤ number
-  pub last : number ≤ length lines
-  pub bad : IsBadThere language lines number ⊎ IsLeftOpen language ending lines number
-  pub done : script_from language Failed 1 None (take (number - 1) lines) ≡ record { actions = script.actions; fault = Some Read }
+  pub last : number ≤ length (lines_met ending bytes)
+  pub bad : let lines = lines_met ending bytes in
+      IsBadThere language lines number ⊎ IsLeftOpen language ending lines number
+  pub done : front_of language (lines_met ending bytes) (number - 1)
+      ≡ record { actions = (script_in language ending bytes).actions; fault = Some Read }
 
 -- a script's BadLine is one
 abbrev pub BadLinesAreBad : {A : Type 0} → Language A → Type 0
-BadLinesAreBad language = (ending : Ending) (bytes : List ℕ) (number : ℕ) → (script_in language ending bytes).fault ≡ Some (BadLine number)
-    → IsBadLine language ending (lines_met ending bytes) number (script_in language ending bytes)
+BadLinesAreBad language = (ending : Ending) (bytes : List ℕ) (number : ℕ)
+    → (script_in language ending bytes).fault ≡ Some (BadLine number) → IsBadLine language ending bytes number

@@ -46,7 +46,8 @@ IsToldBy (Some event) before (answer ∷ answers) text Rest = (text ≡ before +
 -- the answers, in order, are those that the texts of these actions tell
 unfoldable pub AreTold : List Action → List Answer → List (List ℕ) → Type 0
 AreTold [] [] [] = Unit {0}
-AreTold (action ∷ actions) answers (text ∷ texts) = IsToldBy (event_of action) (written_before action) answers text (λ left. AreTold actions left texts)
+AreTold (action ∷ actions) answers (text ∷ texts) =
+    IsToldBy (event_of action) (written_before action) answers text (λ left. AreTold actions left texts)
 AreTold _ _ _ = ⊥
 
 -- the actions did their events, in order, from the one state to the other, with the answers that were written
@@ -58,4 +59,5 @@ pub record IsRun (old : EdfState) (actions : List Action) (written : List ℕ) (
   pub told : AreTold actions answers texts
 
 abbrev pub ScriptsRunTheirEvents : Type 0
-ScriptsRunTheirEvents = (old : EdfState) (actions : List Action) (text : List ℕ) (new : EdfState) → Runs Performs old actions text new → IsRun old actions text new
+ScriptsRunTheirEvents = (old : EdfState) (actions : List Action) (text : List ℕ) (new : EdfState)
+    → Runs Performs old actions text new → IsRun old actions text new

@@ -14,4 +14,5 @@ pub record IsFrontOf {A : Type 0} (front whole : Script A) : Type 0 where
 
 -- the script of bytes behind which no more could be read is a front of each that goes on behind them
 abbrev pub FrontsAreScripts : {A : Type 0} → Language A → Type 0
-FrontsAreScripts language = (ending : Ending) (seen rest : List ℕ) → IsFrontOf (script_in language Failed seen) (script_in language ending (seen ++ rest))
+FrontsAreScripts language = (ending : Ending) (seen rest : List ℕ)
+    → IsFrontOf (script_in language Failed seen) (script_in language ending (seen ++ rest))

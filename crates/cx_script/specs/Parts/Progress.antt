@@ -12,7 +12,7 @@ use Rattle.cx_blocks.specs.declared.blocks.Step.{Step}
 use Rattle.cx_blocks.specs.declared.faults.RunFault.{RunFault}
 use Rattle.cx_blocks.specs.declared.faults.RunFault.TheVariants.{BadLine, Read, Write, Memory}
 use Rattle.cx_blocks.specs.declared.faults.Summary.{Summary}
-use Rattle.cx_script.specs.Transcript.{Runs}
+use Rattle.cx_script.specs.Transcript.{Runs, Wrote}
 
 -- what is done for a line: nothing where it asks none
 abbrev pub Acts : {A S : Type 0} → (S → A → List ℕ → S → Type 0) → Option A → S → List ℕ → S → Type 0
@@ -57,18 +57,12 @@ pub record Came {A S : Type 0} (language : Language A) (performs : S → A → L
   pub took : Took language performs old n block lines before new m next after
 
 -- the transcript of these actions is written, or waits
-pub record SentAll {A S : Type 0} (performs : S → A → List ℕ → S → Type 0) (old : S) (actions : List A) (before after : Told) : Type 0 where
-  pub text : List ℕ
-  pub new : S
-  pub runs : Runs performs old actions text new
-  pub written : Sends before after text
+abbrev pub SentAll : {A S : Type 0} → (S → A → List ℕ → S → Type 0) → S → List A → Told → Told → Type 0
+SentAll performs old actions before after = Wrote Sends performs old actions before after
 
 -- a front of it is written, and of what waited
-pub record SentSome {A S : Type 0} (performs : S → A → List ℕ → S → Type 0) (old : S) (actions : List A) (before after : Told) : Type 0 where
-  pub text : List ℕ
-  pub new : S
-  pub runs : Runs performs old actions text new
-  pub written : SentFront before after text
+abbrev pub SentSome : {A S : Type 0} → (S → A → List ℕ → S → Type 0) → S → List A → Told → Told → Type 0
+SentSome performs old actions before after = Wrote SentFront performs old actions before after
 
 -- stopped without memory at one of these lines: those in front of it are done, and it isn't a bad one
 pub record HaltedAt {A S : Type 0} (language : Language A) (performs : S → A → List ℕ → S → Type 0) (old : S) (n : ℕ) (block : Option Block) (lines : List (List ℕ)) (before after : Told) : Type 0 where
