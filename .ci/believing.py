@@ -1,12 +1,12 @@
-"""What a reader must believe of a repository, in the programs, the crates that they stand on and the crates of laws:
+"""What a reader must believe of a repository, in the programs, the crates that they use and the crates of laws:
 
-- definitions: the definition files of a crate but those of its modules Laws, Facts and Parts;
+- definitions: the definition files of a crate except those of its modules Laws, Facts and Parts;
 - laws' statements: those of Laws;
 - clauses of public functions: `requires` and `ensures` of each function, and of each method of a type or a trait, that a crate's root
   gives to others; and the members of such a type's impls of traits that aren't proved: as what a value is seen, what a
   conversion gives.
 
-A definition cites definitions, a law and a clause definitions and laws: so nothing that is meant stands in Facts, which has lemmas, or
+A definition cites definitions, a law and a clause definitions and laws: so nothing that is meant is in Facts, which has lemmas, or
 in Parts, which has the words of functions that no other crate calls."""
 import functools
 import glob
@@ -21,7 +21,7 @@ HEADLINE = "cx_headline"  # laws too, of all of it
 APART = ("Laws", "Facts", "Parts")  # modules of specs/ without definitions: statements of laws, lemmas, words of private functions
 IMPORT = re.compile(r"^[ \t]*(?:pub )?(?:use|mod)\b[^{\n]*(?:\{[^}]*\})?[^\n]*\n?", re.M)
 USE = re.compile(r"\buse Rattle\.(\w+)\.([\w.]+?)(?:\.\{([^}]*)\})?(?: as (\w+))?[ \t]*(?:;|$)", re.M)
-BEFORE, BEHIND = r"[\s(){}\[\],;]", r"[\s(){}\[\],;.]"  # what may stand before a word and behind it
+BEFORE, BEHIND = r"[\s(){}\[\],;]", r"[\s(){}\[\],;.]"  # what may be before a word and after it
 
 
 @functools.cache
@@ -42,7 +42,7 @@ def filled(text, comment="--"):
 
 
 def cites(text, word):
-    """Tells whether a text cites this word."""
+    """Returns whether a text cites this word."""
     return word in text and re.search(rf"(?:^|(?<={BEFORE})){re.escape(word)}(?={BEHIND}|$)", text) is not None
 
 
@@ -80,14 +80,14 @@ class Crate:
             self.passed[renamed or path.rpartition(".")[2]] = of, path
 
     def modules(self, within="Lib", folder=""):
-        """Returns its definition files in reading order, which Lib and the files that hold others tell."""
+        """Returns its definition files in reading order, which Lib and the files that hold others give."""
         for module in re.findall(r"^pub mod (\w+)", self.texts.get(within, ""), re.M):
             if f"{folder}{module}" in self.texts and (folder or module not in APART):
                 yield f"{folder}{module}"
                 yield from self.modules(f"{folder}{module}", f"{folder}{module}/")
 
     def kinds(self):
-        """Returns each definition file with the module that tells its kind: Laws, Facts, Parts, or None where it has definitions."""
+        """Returns each definition file with the module that gives its kind: Laws, Facts, Parts, or None where it has definitions."""
         for path in self.texts:
             first = path.partition("/")[0]
             yield path, first if first in APART else None
@@ -113,7 +113,7 @@ class Crate:
 
 
 class Believed:
-    """The definitions, laws and clauses of the crates that the programs stand on, of them, and of the crates of laws."""
+    """The definitions, laws and clauses of the crates that the programs use, of them, and of the crates of laws."""
 
     def __init__(self, root="."):
         self.root, repository = root, Repository(root)

@@ -60,7 +60,7 @@ def filled_lines(text):
 
 
 def block_end(tokens, at):
-    """Returns the index behind the bracket that closes the one at this index."""
+    """Returns the index after the bracket that closes the one at this index."""
     waiting = []
     for index in range(at, len(tokens)):
         word = tokens[index][0]
@@ -82,7 +82,7 @@ def next_block(tokens, at):
 
 
 def body_of(tokens, at):
-    """Returns the indices of the body's braces and behind them for the function whose `fn` is at this index, or None where it has no body."""
+    """Returns the indices of the body's braces and after them for the function whose `fn` is at this index, or None where it has no body."""
     while True:
         word = tokens[at][0]
         if word == ";":
@@ -155,7 +155,7 @@ def private_in(text):
 
 
 def is_cited(name, text):
-    """Tells whether the text may cite an imported name; an operator's holes are left out."""
+    """Returns whether the text may cite an imported name; an operator's holes are left out."""
     parts = [it for it in re.split("◌", name.rpartition(" as ")[2].strip()) if it]
     return all(re.search(rf"(?<!\w){re.escape(it)}(?!\w)" if re.match(r"\w", it) else re.escape(it), text) for it in parts)
 
@@ -235,8 +235,8 @@ def function_start(tokens, at):
 
 
 def has_gained(path, old, new, of_source):
-    """Tells whether a file of a crate, as `of_source` reads a source of it, is the old one but for functions, types, modules or
-    definitions that it has more. Who may call a function is no matter."""
+    """Returns whether a file of a crate, as `of_source` reads a source of it, is the old one except for functions,
+    types, modules or definitions that it has more. Who may call a function is no matter."""
     if not path.endswith(".rt"):
         return definitions_have_gained(antt_text(old), antt_text(new))
     old, new = of_source(old), of_source(new)
@@ -255,7 +255,7 @@ def told_of(source):
 
 
 def spelled(source):
-    """Returns the words of a source, without who may name an item, whether a call stands in line, and a comma that layout alone asks for."""
+    """Returns the words of a source, without who may name an item, whether a call is inlined, and a comma that layout alone asks for."""
     source = re.sub(r"\bpub(?:\(crate\))? (?=(?:(?:const )?fn|const)\b)|#\[inline(?:\(\w+\))?\]", "", source)
     return re.sub(r", (?=[)\]}>])", "", " ".join(it[0] for it in tokens_of(source)[0]))
 
@@ -298,7 +298,7 @@ def added_items(old, new):
 
 
 def says_nothing(text):
-    """Tells whether an item is an impl of no trait and no functions, or passes words on."""
+    """Returns whether an item is an impl of no trait and no functions, or passes words on."""
     return re.match(r"(?:#\[doc\(hidden\)\]\s*)?pub use [^*]*;$|impl\b(?!.*\bfor\b)[^{]*{\s*}$", text) is not None
 
 
@@ -352,7 +352,7 @@ def type_named(words):
 
 
 def behind_angles(words):
-    """Returns what stands behind the parameters that an impl's head begins with."""
+    """Returns what follows the parameters that an impl's head begins with."""
     depth = 0
     for at, word in enumerate(words):
         depth += (word == "<") - (word == ">" and words[at - 1] not in ("-", "="))
@@ -369,14 +369,14 @@ def impl_head(words):
 
 
 def is_public(tokens, at):
-    """Tells whether `pub` stands before the item whose word is at this index."""
+    """Returns whether `pub` is before the item whose word is at this index."""
     while at and tokens[at - 1][0] in ("const", "unsafe", "final", "async"):
         at -= 1
     return bool(at) and tokens[at - 1][0] == "pub"
 
 
 def clauses_at(tokens, at):
-    """Returns the places of the clauses of the function whose `fn` is at this index, and the index behind it."""
+    """Returns the places of the clauses of the function whose `fn` is at this index, and the index after it."""
     found, start = [], None
     while tokens[at][0] != ";" and not (tokens[at][0] == "{" and tokens[at - 1][0] not in ("<", ",", "=")):
         if tokens[at][0] in CLAUSES:
@@ -389,8 +389,8 @@ def clauses_at(tokens, at):
 
 def functions_in(text):
     """Returns what is said of each function and value that isn't private in its type or module: which names must be public for it to be
-    seen (its own, or those of the trait and the type that it stands in), and the places of its clauses. The members of an impl of a
-    trait are clauses too, but for those that are proved: they say what a function gives, and as what a value is seen."""
+    seen (its own, or those of the trait and the type that it is in), and the places of its clauses. The members of an impl of a
+    trait are clauses too, except those that are proved: they say what a function gives, and as what a value is seen."""
     tokens, at, found, closing, owner = tokens_of(text)[0], 0, [], None, None
     while at < len(tokens):
         word = tokens[at][0]

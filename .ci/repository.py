@@ -1,4 +1,4 @@
-"""The crates of a repository: which stand on which, and copies of some or all of them."""
+"""The crates of a repository: which use which, and copies of some or all of them."""
 import os
 import shutil
 import subprocess
@@ -32,7 +32,7 @@ class Repository:
         self.root, self.libraries = root, libraries_of(text_of(f"{root}/crates.txt"))
 
     def below(self, crate):
-        """Returns the repository's crates that this one stands on, and it."""
+        """Returns the repository's crates that this one uses, and it."""
         found, waiting = set(), [crate]
         while waiting:
             it = waiting.pop()

@@ -1,6 +1,6 @@
-"""Tries wrong bodies of a crate together: a function's proof reads no other function's body, so edits that stand in different functions
-are tried by one check, which tells of each function that isn't proved. An edit is refused where that check fails in a function that it
-edits. One that isn't told so (it edits a type, say, or spoils what the others need) is left to be tried alone."""
+"""Tries wrong bodies of a crate together: a function's proof reads no other function's body, so edits in different functions
+are tried by one check, which reports each function that isn't proved. An edit is refused where that check fails in a function that it
+edits. One that isn't reported so (it edits a type, say, or spoils what the others need) is left to be tried alone."""
 import itertools
 import os
 import re
@@ -32,14 +32,14 @@ class Function:
         return path == self.path and line in self.lines
 
     def is_answered(self, place):
-        """Tells whether the proof file of this place is the function's, or that of a closure in it."""
+        """Returns whether the proof file of this place is the function's, or that of a closure in it."""
         parts = place.split("/")
         rest = [it for it in parts[len(self.module) :] if it != "fn"]
         rest = rest[1:] if self.owners != {""} and rest and rest[0] in self.owners else rest
         return parts[: len(self.module)] == self.module and rest[:1] == [self.name]
 
     def is_refused(self, said):
-        """Tells whether a check's report has a goal of this function that isn't proved."""
+        """Returns whether a check's report has a goal of this function that isn't proved."""
         goals = any(self.holds(it[1], int(it[2])) for it in UNPROVED.finditer(said))
         return goals or any(self.is_answered(it[1]) and not NAMES.search(it[2]) for it in UNANSWERED.finditer(said))
 
@@ -120,7 +120,8 @@ class Room:
         return self.run("check")
 
     def build(self):
-        """Builds the crate as a library, puts it, with the work that it kept, where the crate came from, and tells whether it was proved."""
+        """Builds the crate as a library, puts it, with the work that it kept, where the crate came from, and returns
+        whether it was proved."""
         if self.run("lib") is None:
             return False
         shutil.move(f"{self.folder}/out", self.kept)
@@ -150,7 +151,8 @@ class Room:
                 it.write(text)
 
     def is_refused_alone(self, edit):
-        """Tells whether a check of the crate with this edit alone finds a goal that isn't proved, in whatever function."""
+        """Returns whether a check of the crate with this edit alone finds a goal that isn't proved, in whatever
+        function."""
         said = self.said_of([edit])
         return bool(UNPROVED.search(said)) or any(not NAMES.search(it[2]) for it in UNANSWERED.finditer(said))
 

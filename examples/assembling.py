@@ -1,7 +1,7 @@
 """A second assembler, for the checks of this folder: of a source without faults it gives the listing, the disassembly and the
 text that are due.
 
-It knows what these sources say and no more, and asks them to stand in columns: name in column 1, operation in 10, operand from
+It knows what these sources say and no more, and asks them to be in columns: name in column 1, operation in 10, operand from
 16, without remarks. An EXEC statement becomes the written statements before.
 """
 import re
@@ -54,7 +54,7 @@ def code_of(text):
 
 
 def outside(text, mark):
-    """A text cut at a character, where it stands outside apostrophes and parentheses."""
+    """A text cut at a character, where it is outside apostrophes and parentheses."""
     parts, depth, is_text = [""], 0, False
     for character in text:
         is_text ^= character == "'"
@@ -158,7 +158,7 @@ def translated(source):
 
 
 class Item:
-    """An item of a DS or DC, or a literal behind its sign."""
+    """An item of a DS or DC, or a literal after its sign."""
 
     def __init__(self, text):
         times, self.kind, modifier, self.value = re.fullmatch(r"(\d*)([A-Z])(?:L(\d+))?(.*)", text, re.S).groups()
@@ -206,7 +206,7 @@ class Assembly:
         self.text = bytes(text)
 
     def loaded(self, start):
-        """The text as it stands in storage behind its load address."""
+        """The text as it is in storage from its load address on."""
         text = bytearray(self.text)
         for at in self.relocated:
             word = int.from_bytes(text[at : at + 4], "big") + start

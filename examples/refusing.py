@@ -14,7 +14,7 @@ from collections import Counter
 from running import Overdue, program, read, run, wanted
 
 MOST = 2_000  # of more calls not each is refused in turn, unless all are asked for
-FIRST = 500  # how many of them are, behind which a fixed choice is
+FIRST = 500  # how many of them are, after which a fixed choice is
 
 EVERYTHING = "--all" in sys.argv
 
@@ -54,7 +54,7 @@ class Sweep:
         return self.wanted.out.startswith(out) and (out == b"" or out.endswith(b"\n"))
 
     def numbers(self):
-        """The numbers of the calls to be refused: each; of very many the first, a fixed choice of those behind, and the last.
+        """The numbers of the calls to be refused: each; of very many the first, a fixed choice of those after, and the last.
         """
         every = range(1, self.count + 1)
         if EVERYTHING or self.count <= MOST:

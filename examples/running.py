@@ -28,7 +28,7 @@ resource.setrlimit(resource.RLIMIT_FSIZE, (BYTES, resource.getrlimit(resource.RL
 
 
 class Overdue(SystemExit):
-    """The line on a program that didn't end, or didn't answer. Nothing is tried behind it."""
+    """The line on a program that didn't end, or didn't answer. Nothing is tried after it."""
 
 
 class Ended(NamedTuple):
@@ -50,7 +50,7 @@ class Ended(NamedTuple):
 
 
 def lines_of(text):
-    """A text's lines; bytes behind the last line feed are a line too."""
+    """A text's lines; bytes after the last line feed are a line too."""
     lines = text.split("\n")
     return lines if lines[-1] else lines[:-1]
 
@@ -107,8 +107,8 @@ def looks():
 
 
 def wanted(name):
-    """How the run of an example ends: NAME.transcript is written, NAME.stderr is told, and NAME.status is the status; where
-    one of the latter two doesn't stand, nothing is told, and the status is 0."""
+    """How the run of an example ends: NAME.transcript is written, NAME.stderr is written on standard error, and
+    NAME.status is the status; where one of the latter two is missing, nothing is written there, and the status is 0."""
     told, status = (read(path) if os.path.exists(path) else b"" for path in (f"{name}.stderr", f"{name}.status"))
     return Ended(int(status or b"0"), read(f"{name}.transcript"), told)
 
@@ -234,7 +234,7 @@ class Session:
         return piece
 
     def read_to(self, length):
-        """Takes what is written until so many bytes are unread, or the program has ended."""
+        """Takes what is written until a number of bytes are unread, or the program has ended."""
         while len(self.unread) < length and self.read_on():
             pass
 
@@ -247,7 +247,7 @@ class Session:
         return line.decode(errors="replace")
 
     def ask(self, *lines):
-        """The lines that are answered to lines: all that is written up to the answer to a clock behind them."""
+        """The lines that are answered to lines: all that is written up to the answer to a clock after them."""
         self.type(*lines, CLOCK)
         return list(iter(self.line, CLOCK_SET))
 

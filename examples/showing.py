@@ -41,7 +41,7 @@ class Storage:
         self.areas[start][at - start : at - start + len(data)] = data
 
     def read(self, at, size):
-        """So many bytes, None for each that is absent."""
+        """A number of bytes, None for each that is absent."""
         return [self.byte(k) for k in range(at, at + size)]
 
     def byte(self, at):

@@ -89,7 +89,7 @@ class Client:
         self.do(self.parse)
 
     def close_with(self, data):
-        """Tells what isn't a 3270 terminal why it is none, and closes when that is sent."""
+        """Says to what isn't a 3270 terminal why it is none, and closes when that is sent."""
         self.phase, self.deadline = Phase.CLOSING, time.monotonic() + TO_CLOSE
         self.send(data)
 

@@ -106,7 +106,7 @@ class Painting:
             self.cursor = opening + 1
 
     def open(self, opening, end, use):
-        """A field between two attributes; the one behind it protects what follows, unless there is one already."""
+        """A field between two attributes; the one after it protects what follows, unless there is one already."""
         self.attributes[opening] = INPUT
         self.attributes.setdefault(end, PROTECTED)
         self.fields[opening + 1] = Field(end - opening - 1, use)

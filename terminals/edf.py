@@ -56,7 +56,7 @@ class Register(NamedTuple):
 
 
 class Bytes(NamedTuple):
-    """A field with the digits of four bytes of storage, and where their characters stand."""
+    """A field with the digits of four bytes of storage, and where their characters are."""
 
     address: int
     start: int
@@ -81,7 +81,7 @@ def in_pairs(digits):
 
 
 class Alteration(NamedTuple):
-    """What ALTER is asked behind the terminal, and the texts that then stand at positions of the page."""
+    """What ALTER is asked after the terminal, and the texts that are then at positions of the page."""
 
     asked: str
     shown: tuple = ()

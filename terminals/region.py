@@ -56,7 +56,7 @@ class Region:
     """A child that is asked one thing after the other, over pipes that never block."""
 
     def __init__(self, program, path, mark):
-        self.mark = f"SCREEN {mark}"  # of a terminal that is never defined: what it answers is behind the lines of an answer
+        self.mark = f"SCREEN {mark}"  # of a terminal that is never defined: what it answers follows the lines of an answer
         self.error = tempfile.TemporaryFile()
         self.child = subprocess.Popen([program], stdin=subprocess.PIPE, stdout=subprocess.PIPE, stderr=self.error, bufsize=0,
                                       start_new_session=True)

@@ -13,17 +13,17 @@ from edf import Session, alterations
 from region import Answer, Request
 
 REST = None
-LATER = 64  # turns behind which a waiting task is tried again, though others don't rest
-WITHOUT_REST = 2000  # turns of a task, behind which its operator is asked
+LATER = 64  # turns after which a waiting task is tried again, though others don't rest
+WITHOUT_REST = 2000  # turns of a task, after which its operator is asked
 
-# Replies to a turn behind which the task doesn't go on by itself; those that did nothing; those of a task that is no more.
+# Replies to a turn after which the task doesn't go on by itself; those that did nothing; those of a task that is no more.
 AT_REST = {"Waiting", "Held", "Idle", "Ended", "Abended"}
 DID_NOTHING = {"Waiting", "Held", "Idle"}
-NOT_PERFORMED = DID_NOTHING | {"AtCommand", "TookExit", "Abended"}  # those behind which a screen stays blank
+NOT_PERFORMED = DID_NOTHING | {"AtCommand", "TookExit", "Abended"}  # those after which a screen stays blank
 NO_TASK = {"Idle", "Ended", "Abended"}
 
 BEGINS_OR_GOES_ON = {"Attached", "Given"}
-LEAVES_STOP = {"ENTER", "PF3", "PF4", "PF12"}  # keys behind which a turn tells what came of them
+LEAVES_STOP = {"ENTER", "PF3", "PF4", "PF12"}  # keys after which a turn says what came of them
 TOLD = {"AlreadyHeldInput": "AN INPUT IS HELD ALREADY", "NoSuchTransaction": "NO SUCH TRANSACTION",
         "NoStorage": "NO STORAGE FOR A TASK"}
 EDF_TOLD = {"Started": "IS ON", "AlreadyOn": "IS ON ALREADY", "Closed": "IS OFF", "NotOn": "IS OFF ALREADY"}
@@ -60,7 +60,7 @@ class Terminal:
 
 
 def lines_of(page):
-    """The rows of a page, of the lines of an answer behind the first."""
+    """The rows of a page, of the lines of an answer after the first."""
     rows = list(BLANK)
     for line in page[1:]:
         rows[int(line[:2]) - 1] = line[3:]
@@ -100,7 +100,7 @@ class Owner:
 
     def work(self):
         while True:
-            for _ in range(len(self.jobs)):  # what comes meanwhile is for behind the turns
+            for _ in range(len(self.jobs)):  # what comes meanwhile is for after the turns
                 yield from self.jobs.popleft()()
             due = self.due()
             for terminal in due:
@@ -200,14 +200,14 @@ class Owner:
     # ---- EDF
 
     def switch(self, terminal, word):
-        """Begins or ends EDF at a terminal; returns what is told of it."""
+        """Begins or ends EDF at a terminal; returns what is reported of it."""
         answer = yield Request(f"EDF {terminal.name} {word}")
         reply = answer.split()[2]
         if reply == "Started":
             terminal.edf = Session(is_on=True)
         if reply == "Closed":
             if terminal.state is State.RESTING and (terminal.has_task or terminal.edf.is_stopped):
-                terminal.state, terminal.turns = State.RUNNING, 0  # its next turn tells what came of it
+                terminal.state, terminal.turns = State.RUNNING, 0  # its next turn says what came of it
             terminal.edf = Session()
         waits = reply == "Started" and terminal.state is State.WAITING
         return f"EDF AT {terminal.name} {EDF_TOLD[reply]}" + (". WAITING: NO STOP BEFORE THE TASK GOES ON" if waits else "")
@@ -270,7 +270,7 @@ class Owner:
     def paint(self, terminal, message=None, greeting="", alarm=False):
         """Paints what a terminal shows, unless a key comes meanwhile, which was pressed on the page before.
 
-        Without a message its state is told, or the greeting, where two rows are free.
+        Without a message its state is shown, or the greeting, where two rows are free.
         """
         client = terminal.client
         if client is None or terminal.is_owed:
@@ -288,7 +288,7 @@ class Owner:
             client.show(painting.orders(alarm))
 
     def screen(self, terminal):
-        """The terminal's screen; a blank one behind CLEAR."""
+        """The terminal's screen; a blank one after CLEAR."""
         if terminal.is_blanked:
             return BLANK
         answer = yield Request(f"SCREEN {terminal.name}", Answer.LINES)

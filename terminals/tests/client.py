@@ -11,7 +11,7 @@ SIZE = 1920
 
 
 def six_bits(value):
-    """The code of six bits: a letter or a digit where there is one, else the bits behind 01."""
+    """The code of six bits: a letter or a digit where there is one, else the bits after 01."""
     is_graphic = 0x30 <= value <= 0x39 or 1 <= value & 15 <= 9 and value != 0x21
     return value | (0xC0 if is_graphic else 0x40)
 
@@ -136,7 +136,7 @@ class RawTerminal:
         return self
 
     def data(self):
-        """What is sent behind the cursor's address."""
+        """What is sent after the cursor's address."""
         if not self.attributes:
             return bytes(self.codes).replace(b"\0", b"")
         out = b""

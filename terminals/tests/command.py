@@ -11,7 +11,7 @@ from tests.session import FOLDER, PROGRAM, Session, expect, expect_end, expect_p
 
 
 def refused(*parts, options=()):
-    """What is told of a set-up with which there is no session."""
+    """What is reported of a set-up with which there is no session."""
     with tempfile.TemporaryDirectory() as folder:
         with open(f"{folder}/setup.script", "wb") as file:
             file.write("".join(parts).encode())
@@ -41,7 +41,7 @@ def faulty_set_ups():
 
 @test
 def refused_definitions():
-    """They are told with their lines, and the session goes on; the set-up's own terminals stand."""
+    """They are reported with their lines, and the session goes on; the set-up's own terminals stay."""
     others = "TERMINAL X\r\n* TERMINAL Y\n\nTERMINAL X\nTRANSACTION NONE NONE\nCLOCK 101500 84060\n"
     with Session(RETURN, RETURN, others) as session:
         told = {7: "PROGRAM RET1 REFUSED Duplicate", 12: "TRANSACTION RET1 REFUSED Duplicate",

@@ -37,7 +37,7 @@ ENTER, PF13, PF24 = b"\x7D\x40\x40", b"\xC1\x40\x40", b"\x4C\x40\x40"
 
 
 def entered(text):
-    """ENTER behind a text, on a page with a message."""
+    """ENTER after a text, on a page with a message."""
     return ENTER + b"\x11\x40\xC1" + text.encode("cp037")
 
 

@@ -40,7 +40,7 @@ def a_conversation(make):
 
 @test
 def keys_one_behind_the_other():
-    """A key that comes before the last one is answered is taken behind that."""
+    """A key that comes before the last one is answered is taken after that."""
     with Session(TALK) as session:
         terminal = session.terminal().type("talk")
         keys = [bytes([0x7D]) + CODES[0] + terminal.data()] + 3 * [bytes([0xF1]) + CODES[0]]

@@ -15,7 +15,7 @@ from tests.client import SECONDS, RawTerminal, kinds_of_terminals
 FOLDER = os.path.dirname(os.path.dirname(os.path.realpath(__file__)))  # of the companion
 PROGRAM = os.path.realpath(sys.argv[1] if len(sys.argv) > 1 else f"{FOLDER}/../crates/cicsedf/out/cicsedf")
 TESTS = []
-LATEST = time.monotonic() + 60  # no session goes on behind it: then a test that still waits for it fails
+LATEST = time.monotonic() + 60  # no session goes on after it: then a test that still waits for it fails
 
 
 def test(function):
@@ -89,7 +89,7 @@ class Session:
             return int(file.read())
 
     def lines(self):
-        """The session's script so far, behind the set-up."""
+        """The session's script so far, after the set-up."""
         with open(self.script, "rb") as script, open(self.setup, "rb") as setup:
             return script.read().removeprefix(setup.read()).decode().split("\n")
 

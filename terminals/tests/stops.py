@@ -102,7 +102,7 @@ def what_is_typed_over_a_display(make):
         expect("storage", terminal.enter("", "PF5").rows()[2], storage)
         expect("older", terminal.enter("", "PF10").rows()[15], "R04 00000000 00000000 00000000 00000000")
         asked = [line for line in session.lines() if line.startswith("ALTER")]
-        # what the program does to an altered register is shown at the stop behind it: the address of RETURN's block
+        # what the program does to an altered register is shown at the stop after it: the address of RETURN's block
         terminal.enter()
         terminal.enter("", "PF12")
         terminal.enter()
@@ -142,7 +142,7 @@ def only_the_newest_display_is_typed_over():
         expect("fields", sum(attribute == 0xC8 for attribute in terminal.attributes.values()), 18)
         expect_input(terminal.enter("", "PF6"), None)
         terminal.enter("", "PF6").enter()
-        # after the command: it can't be dropped any more, and the display before takes no digits, but what EDF is told
+        # after the command: it can't be dropped any more, and the display before takes no digits, but what EDF is given
         rows = terminal.move(3, 9).enter("noop").rows()
         expect("refused", rows[22], " ALTER T001 NOTDUE")
         expect_input(terminal.enter("", "PF10"), [21 * 80])

@@ -2,7 +2,7 @@
 #![tactic(auto)]
 
 use cx_script::edf_stage;
-use cx_start::start;
+use cx_script_main::start;
 use std::process::ExitCode;
 
 /// The line on standard error where the words are refused.

@@ -1,8 +1,8 @@
 //! `cicslook [FILE]`: runs a script with looks from a file or from standard input, and writes its transcript.
 #![tactic(auto)]
 
-use cx_look_stage::look_stage;
-use cx_start::start;
+use cx_look_script::look_stage;
+use cx_script_main::start;
 use std::process::ExitCode;
 
 /// The line on standard error where the words are refused.

@@ -2,9 +2,9 @@
 use Rattle.std.specs.Prelude.{Result, Ok, Err}
 use Rattle.std.proofs.Common.{◌≡◌, ◌≤◌, ℕ, None, List, length, refl, sym, ◌∙◌, subst}
 use Rattle.cx_code.specs.declared.disassembly.Line.{Line}
-use Rattle.cx_image.specs.Resolved.{AreApart}
-use Rattle.cx_image.specs.Text.{text_of}
-use Rattle.cx_places.specs.Placed.{known_of}
+use Rattle.cx_asm_image.specs.Resolved.{AreApart}
+use Rattle.cx_asm_image.specs.Text.{text_of}
+use Rattle.cx_asm_pass1.specs.Placed.{known_of}
 use Rattle.cx_source.specs.declared.source.Source.{Source}
 use Rattle.cx_asm.specs.Assembly.{Assembles, AssemblyParts, assembly_of, made_of, section_of, size_of, standing_of}
 use Rattle.cx_asm.specs.Facts.Accepted.{accepted}

@@ -2,8 +2,8 @@
 use Rattle.std.proofs.Common.{◌≡◌, ℕ, ◌+◌, ◌<◌, Option, Some, None, List, length, get_or, drop, map, add-one, refl, arith}
 use Rattle.std.proofs.Math.Seq.{drop-cons}
 use Rattle.std.proofs.lemmas.Bool.Decides.{nat_tests}
-use Rattle.cx_terms.specs.Faults.{lower, lowest}
-use Rattle.cx_terms.specs.declared.faults.FaultKind.{FaultKind}
+use Rattle.cx_asm_expressions.specs.Faults.{lower, lowest}
+use Rattle.cx_asm_expressions.specs.declared.faults.FaultKind.{FaultKind}
 
 lower_in_turn : (a b c : Option FaultKind) → lower (lower a b) c ≡ lower a (lower b c)
 lower_in_turn None b c = refl

@@ -1,21 +1,21 @@
--- What stands apart with more behind it stands apart.
+-- Lines and words that don't overlap: the first of them, and the last.
 use Rattle.std.specs.Prelude.{◌*◌, ◌==◌, cond}
 use Rattle.std.proofs.lemmas.Bool.Decides.{nat_tests}
 use Rattle.cx_code.specs.Spelling.{Instruction}
 use Rattle.std.proofs.Common.{◌≡◌, ◌≤◌, ◌<◌, ℕ, zero, suc, ◌+◌, Bool, true, false, List, [], ◌∷◌, ◌++◌, length, refl, sym, ◌∙◌, ap, subst, arith}
 use Rattle.cx_code.specs.declared.disassembly.Line.{Line}
 use Rattle.cx_code.specs.declared.disassembly.What.TheVariants.{Code, Data, Space}
-use Rattle.cx_image.specs.Relocated.{words_at}
-use Rattle.cx_image.specs.Resolved.{AreApart, end_behind, end_of}
+use Rattle.cx_asm_image.specs.Relocated.{words_at}
+use Rattle.cx_asm_image.specs.Resolved.{AreApart, end_behind, end_of}
 use Rattle.cx_asm.specs.Laws.Standing.{IsWithin, WordsApart}
 use Rattle.cx_asm.specs.Parts.Kept.{kept}
-use Rattle.cx_asm.specs.Resolving.{Standing, data_line, joined, line as line_of, relocated, space_line, standing_from}
+use Rattle.cx_asm.specs.Resolving.{Standing, data_line, join_sections, line as line_of, relocated_offsets, space_line, standing_from}
 use Rattle.cx_source.specs.declared.source.Source.{Source}
-use Rattle.cx_places.specs.Placed.{IsPlaced, known_of}
-use Rattle.cx_places.specs.declared.places.Places.{Places}
-use Rattle.cx_operands.specs.Bases.{none_in_use}
-use Rattle.cx_second.specs.Statements.{Stated, statements_of}
-use Rattle.cx_second.specs.Whole.{whole_of, told_by}
+use Rattle.cx_asm_pass1.specs.Placed.{IsPlaced, known_of}
+use Rattle.cx_asm_pass1.specs.declared.places.Places.{Places}
+use Rattle.cx_asm_operands.specs.Bases.{none_in_use}
+use Rattle.cx_asm_pass2.specs.Statements.{PlacedStatement, statements_of}
+use Rattle.cx_asm_pass2.specs.Whole.{whole_of, told_by}
 use Rattle.cx_asm.specs.Assembly.{size_of, standing_of}
 use Rattle.cx_asm.proofs.JoinLemmas.{joined_in_turn}
 use Rattle.cx_asm.proofs.TellingLemmas.{told_is}
@@ -37,20 +37,20 @@ words_front : (from : ℕ) (one other : List ℕ) (end : ℕ) → WordsApart fro
 words_front from [] other end apart = words_end from other end apart
 words_front from (word ∷ one) other end apart = (apart.0, words_front (word + 4) one other end apart.1)
 
-within_front : (from : ℕ) (one other : Standing) (end : ℕ) → IsWithin from (joined one other) end → IsWithin from one end
+within_front : (from : ℕ) (one other : Standing) (end : ℕ) → IsWithin from (join_sections one other) end → IsWithin from one end
 within_front from one other end h =
     record { lines = apart_front from one.lines other.lines end h.lines; words = words_front from one.relocs other.relocs end h.words }
 
--- what stands first of all that is left fits behind what stands
-pub fits_first : (old part rest left all : Standing) (end : ℕ) → left ≡ joined part rest → joined old left ≡ all → IsWithin 0 all end → IsWithin 0 (joined old part) end
+-- the first part of what is left fits after what is there
+pub fits_first : (old part rest left all : Standing) (end : ℕ) → left ≡ join_sections part rest → join_sections old left ≡ all → IsWithin 0 all end → IsWithin 0 (join_sections old part) end
 fits_first old part rest left all end e f h =
-    within_front 0 (joined old part) rest end
-    (subst (λ s. IsWithin 0 s end) (sym f ∙ ap (λ (s : Standing). joined old s) e ∙ sym (joined_in_turn old part rest)) h)
+    within_front 0 (join_sections old part) rest end
+    (subst (λ s. IsWithin 0 s end) (sym f ∙ ap (λ (s : Standing). join_sections old s) e ∙ sym (joined_in_turn old part rest)) h)
 
 -- so it does where it is kept
-pub kept_fits : (keeps : Bool) (old part rest left first all : Standing) (end : ℕ) → left ≡ joined part rest → kept keeps old left ≡ kept keeps first all
-    → (keeps ≡ true → IsWithin 0 (joined first all) end) → keeps ≡ true → IsWithin 0 (joined old part) end
-kept_fits true old part rest left first all end e f h is = fits_first old part rest left (joined first all) end e f (h refl)
+pub kept_fits : (keeps : Bool) (old part rest left first all : Standing) (end : ℕ) → left ≡ join_sections part rest → kept keeps old left ≡ kept keeps first all
+    → (keeps ≡ true → IsWithin 0 (join_sections first all) end) → keeps ≡ true → IsWithin 0 (join_sections old part) end
+kept_fits true old part rest left first all end e f h is = fits_first old part rest left (join_sections first all) end e f (h refl)
 kept_fits false old part rest left first all end e f h is = cc
 
 -- ---- the last of them
@@ -63,7 +63,7 @@ words_rest from [] [] end apart = omega arith
 words_rest from [] (word ∷ other) end apart = (omega arith, apart.1)
 words_rest from (word ∷ one) other end apart = words_rest (word + 4) one other end apart.1
 
-pub words_fit : (one other : Standing) (end : ℕ) → IsWithin 0 (joined one other) end → WordsApart 0 other.relocs end
+pub words_fit : (one other : Standing) (end : ℕ) → IsWithin 0 (join_sections one other) end → WordsApart 0 other.relocs end
 words_fit one other end h = words_rest 0 one.relocs other.relocs end h.words
 
 words_last : (from at n end : ℕ) → WordsApart from (words_at at n) end → 0 < n → at + 4 * n ≤ end
@@ -71,11 +71,11 @@ words_last from at zero end apart some = absurd (omega (arith, some))
 words_last from at (suc zero) end apart some = omega (arith, apart.1)
 words_last from at (suc (suc n)) end apart some = let rest = words_last (at + 4) (at + 4) (suc n) end apart.1 (omega arith) in omega (arith, rest)
 
-pub relocated_fit : (at n : ℕ) (is : Bool) (end : ℕ) → is ≡ true → 0 < n → WordsApart 0 (relocated at n is) end → at + 4 * n ≤ end
+pub relocated_fit : (at n : ℕ) (is : Bool) (end : ℕ) → is ≡ true → 0 < n → WordsApart 0 (relocated_offsets at n is) end → at + 4 * n ≤ end
 relocated_fit at n true end e some apart = words_last 0 at n end apart some
 relocated_fit at n false end e some apart = cc
 
--- ---- where a line stands
+-- ---- where a line is
 space_stands : (none : Bool) (from : ℕ) (lines : List Line) (at size end : ℕ) → none ≡ false → AreApart from (lines ++ cond none [] (line_of at (Space size) ∷ [])) end → at + size ≤ end
 space_stands true from lines at size end e apart = cc
 space_stands false from lines at size end e apart = (line_fits from lines (line_of at (Space size)) end apart).1
@@ -101,7 +101,7 @@ some_bytes items bytes count is_empty e f g h none =
     let no : count == 0 ≡ false = sym g ∙ h in
     grind (arith, nat_tests)
 
--- ---- what stands in the control section fits in the largest text
+-- ---- what is in the control section fits in the largest text
 apart_more : (from : ℕ) (lines : List Line) (end most : ℕ) → end ≤ most → AreApart from lines end → AreApart from lines most
 apart_more from [] end most le apart = omega (arith, le, apart)
 apart_more from (l ∷ lines) end most le apart = (apart.0, apart_more (end_of l) lines end most le apart.1)
@@ -113,7 +113,7 @@ words_more from (word ∷ words) end most le apart = (apart.0, words_more (word 
 within_more : (one : Standing) (end most : ℕ) → end ≤ most → IsWithin 0 one end → IsWithin 0 one most
 within_more one end most le h = record { lines = apart_more 0 one.lines end most le h.lines; words = words_more 0 one.relocs end most le h.words }
 
-pub section_fits : (source : Source) (places : Places) (statements : List Stated) → IsPlaced (known_of source) places → statements ≡ statements_of source → size_of source ≤ 65536
+pub section_fits : (source : Source) (places : Places) (statements : List PlacedStatement) → IsPlaced (known_of source) places → statements ≡ statements_of source → size_of source ≤ 65536
     → IsWithin 0 (standing_of source) (size_of source) → IsWithin 0 (standing_from (told_by places) statements none_in_use statements) 65536
 unfolding standing_of
 section_fits source places statements placed e le h =

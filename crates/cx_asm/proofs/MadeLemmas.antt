@@ -1,5 +1,5 @@
 -- A constant's bytes are no more than its length.
-use Rattle.std.specs.Prelude.{pos, Result, Ok, Err, ◌&&◌, ◌==◌, ◌*◌, ◌^◌, ⊤, option_and_then, sum_by, take, unwrap_or}
+use Rattle.std.specs.Prelude.{pos, Result, Ok, Err, not, is_some, drop, slice_index, take_while, ◌&&◌, ◌==◌, ◌*◌, ◌^◌, ⊤, flat_map, map, option_and_then, sum_by, take, unwrap_or}
 use Rattle.std.specs.Option.{option_map_or}
 use Rattle.std.specs.Int.{bytes_high_first}
 use Rattle.std.proofs.Common.{◌≡◌, ◌≤◌, ℕ, zero, suc, ℤ, Bool, true, false, cond, Option, Some, None, option_map, List, [], ◌∷◌, length, refl, sym, ◌∙◌, ap, subst, arith}
@@ -7,30 +7,30 @@ use Rattle.std.proofs.lemmas.Bool.Decides.{nat_tests}
 use Rattle.std.proofs.lemmas.List.Concat.{length-flat_map}
 use Rattle.std.proofs.lemmas.List.Sums.{sum_by-le-sum_by}
 use Rattle.std.proofs.lemmas.Option.{none-some}
-use Rattle.cx_terms.specs.Bytes.{Made, address_made, body_made, made, made_of, placed, plain_made, values_bytes, values_fault}
-use Rattle.cx_terms.specs.Digits.{at_most, number_in}
-use Rattle.cx_terms.specs.Expressions.{value_of}
-use Rattle.cx_terms.specs.Items.{Constant, Written, constant, constant_in, duplication_in, judged, length_of, limited, modifier_in, value_length, values_in, written_in}
-use Rattle.cx_terms.specs.Kinds.{bounded_decimal, half_bytes, integer_bytes, is_below, row_of}
-use Rattle.cx_terms.specs.Weights.{stands_in}
-use Rattle.cx_terms.specs.declared.faults.FaultKind.{FaultKind}
-use Rattle.cx_terms.specs.declared.faults.FaultKind.TheVariants.{BadOperand, NotRelocatable, ValueOutOfRange}
-use Rattle.cx_terms.specs.declared.kinds.ConstantKind.{ConstantKind}
-use Rattle.cx_terms.specs.declared.kinds.ConstantKind.TheVariants.{Character, Hexadecimal, Binary, Fullword, Halfword, Packed, Address, External, Doubleword}
-use Rattle.cx_terms.specs.declared.values.Value.{Value}
-use Rattle.cx_operands.specs.Judging.{judged as judged_as}
-use Rattle.cx_operands.specs.Values.{item_in}
-use Rattle.cx_second.specs.Whole.{Whole, item_made}
+use Rattle.cx_asm_expressions.specs.Bytes.{CopyOfConstant, address_made, body_made, copy_of_constant, made_of, address_constant, plain_made}
+use Rattle.cx_asm_expressions.specs.Digits.{at_most, is_digit, number_in}
+use Rattle.cx_asm_expressions.specs.Expressions.{value_of}
+use Rattle.cx_asm_expressions.specs.Faults.{lowest}
+use Rattle.cx_asm_expressions.specs.Items.{Constant, behind_digits, constant, constant_in, duplication_in, length_of, constant_or_fault, modifier_in, value_in, value_length, values_in, with_modifier, with_value}
+use Rattle.cx_asm_expressions.specs.Kinds.{bounded_decimal, half_bytes, integer_bytes, is_below, kind_of, row_of}
+use Rattle.cx_asm_expressions.specs.Weights.{stands_in}
+use Rattle.cx_asm_expressions.specs.declared.faults.FaultKind.{FaultKind}
+use Rattle.cx_asm_expressions.specs.declared.faults.FaultKind.TheVariants.{BadOperand, NotRelocatable, ValueOutOfRange}
+use Rattle.cx_asm_expressions.specs.declared.kinds.ConstantKind.{ConstantKind}
+use Rattle.cx_asm_expressions.specs.declared.kinds.ConstantKind.TheVariants.{Character, Hexadecimal, Binary, Fullword, Halfword, Packed, Address, External, Doubleword}
+use Rattle.cx_asm_expressions.specs.declared.values.Value.{Value}
+use Rattle.cx_asm_operands.specs.Judging.{then_judge as judged_as}
+use Rattle.cx_asm_pass2.specs.Whole.{Whole, item_made}
 
 -- its bytes are no more than a size, which holds a word where it is relocated
-pub record MadeFits (made : Made) (size : ℕ) : Type 0 where
+pub record MadeFits (made : CopyOfConstant) (size : ℕ) : Type 0 where
   pub short : length made.bytes ≤ size
   pub word : made.is_relocated ≡ true → 4 ≤ size
 
-fits_more : (m : Made) (less more : ℕ) → less ≤ more → MadeFits m less → MadeFits m more
+fits_more : (m : CopyOfConstant) (less more : ℕ) → less ≤ more → MadeFits m less → MadeFits m more
 fits_more m less more le fits = record { short = omega (arith, fits.short, le); word = λ is. omega (arith, fits.word is, le) }
 
-fits_plain : (bytes : List ℕ) (m : Made) (size : ℕ) → length bytes ≤ size → made bytes false ≡ m → MadeFits m size
+fits_plain : (bytes : List ℕ) (m : CopyOfConstant) (size : ℕ) → length bytes ≤ size → copy_of_constant bytes false ≡ m → MadeFits m size
 fits_plain bytes m size le e = subst (λ m. MadeFits m size) e (record { short = le; word = λ is. cc })
 
 -- ---- bytes
@@ -80,7 +80,7 @@ value_fits External (Some modifier) is value = absurd is
 value_fits Doubleword modifier is value = omega arith
 
 -- ---- all values
-values_fit : (kind : ConstantKind) (modifier : Option ℕ) → Modified kind modifier → (values : List (List ℕ)) → length (values_bytes kind modifier values) ≤ sum_by (value_length kind modifier) values
+values_fit : (kind : ConstantKind) (modifier : Option ℕ) → Modified kind modifier → (values : List (List ℕ)) → length (flat_map (bytes_of_value kind modifier) values) ≤ sum_by (value_length kind modifier) values
 values_fit kind modifier is values =
     omega (
       arith,
@@ -88,17 +88,18 @@ values_fit kind modifier is values =
       sum_by-le-sum_by (λ value. length (bytes_of_value kind modifier value)) (value_length kind modifier) values (value_fits kind modifier is),
     )
 
-unless_fits : (fault : Option FaultKind) (bytes : List ℕ) (m : Made) (size : ℕ) → length bytes ≤ size → option_map_or Err fault (Ok (made bytes false)) ≡ Ok m → MadeFits m size
+unless_fits : (fault : Option FaultKind) (bytes : List ℕ) (m : CopyOfConstant) (size : ℕ) → length bytes ≤ size → option_map_or Err fault (Ok (copy_of_constant bytes false)) ≡ Ok m → MadeFits m size
 unless_fits None bytes m size le e = fits_plain bytes m size le cc
 unless_fits (Some fault) bytes m size le e = cc
 
-plain_fits : (kind : ConstantKind) (modifier : Option ℕ) (body : List ℕ) (m : Made) → Modified kind modifier → plain_made kind modifier body ≡ Ok m → MadeFits m (body_length kind modifier (Some body))
+plain_fits : (kind : ConstantKind) (modifier : Option ℕ) (body : List ℕ) (m : CopyOfConstant) → Modified kind modifier → plain_made kind modifier body ≡ Ok m → MadeFits m (body_length kind modifier (Some body))
 plain_fits kind modifier body m is e =
-    unless_fits (values_fault kind modifier (values_in (row_of kind).style body)) (values_bytes kind modifier (values_in (row_of kind).style body)) m _
+    let values = values_in (row_of kind).style body in
+    unless_fits (lowest (map (λ value. (row_of kind).fault value (value_length kind modifier value)) values)) (flat_map (bytes_of_value kind modifier) values) m _
     (values_fit kind modifier is (values_in (row_of kind).style body)) e
 
 -- ---- addresses
-unless_refused : (is : Bool) (one m : Made) (fault : FaultKind) → cond is (Ok one) (Err fault) ≡ Ok m → (is ≡ true) × (one ≡ m)
+unless_refused : (is : Bool) (one m : CopyOfConstant) (fault : FaultKind) → cond is (Ok one) (Err fault) ≡ Ok m → (is ≡ true) × (one ≡ m)
 unless_refused true one m fault e = (refl, cc)
 unless_refused false one m fault e = cc
 
@@ -109,23 +110,23 @@ both_true false b e = e
 is_four : (n : ℕ) (b : Bool) → (n == 4 && b) ≡ true → n ≡ 4
 is_four n b e = let f : n == 4 ≡ true = both_true (n == 4) b e in grind (arith, nat_tests)
 
-word_fits : (n : ℕ) (number : ℤ) (m : Made) → n ≡ 4 → made (integer_bytes 4 number) true ≡ m → MadeFits m n
+word_fits : (n : ℕ) (number : ℤ) (m : CopyOfConstant) → n ≡ 4 → copy_of_constant (integer_bytes 4 number) true ≡ m → MadeFits m n
 word_fits n number m is e = subst (λ m. MadeFits m n) e (record { short = omega (arith, integers 4 number, is); word = λ _. omega (arith, is) })
 
-placed_fits : (n : ℕ) (control section : Option (List ℕ)) (number : ℤ) (m : Made) → placed n control section number ≡ Ok m → MadeFits m n
+placed_fits : (n : ℕ) (control section : Option (List ℕ)) (number : ℤ) (m : CopyOfConstant) → address_constant n control section number ≡ Ok m → MadeFits m n
 placed_fits n control None number m e =
-    let h = unless_refused (is_below n number (2 ^ (8 * n))) (made (integer_bytes n number) false) m ValueOutOfRange e in
+    let h = unless_refused (is_below n number (2 ^ (8 * n))) (copy_of_constant (integer_bytes n number) false) m ValueOutOfRange e in
     fits_plain (integer_bytes n number) m n (integers n number) h.1
 placed_fits n control (Some section) number m e =
-    let h = unless_refused (n == 4 && stands_in section control) (made (integer_bytes 4 number) true) m NotRelocatable e in
+    let h = unless_refused (n == 4 && stands_in section control) (copy_of_constant (integer_bytes 4 number) true) m NotRelocatable e in
     word_fits n number m (is_four n (stands_in section control) h.0) h.1
 
-address_fits : (n : ℕ) (control : Option (List ℕ)) (value : Result Value FaultKind) (m : Made) → address_made n control value ≡ Ok m → MadeFits m n
+address_fits : (n : ℕ) (control : Option (List ℕ)) (value : Result Value FaultKind) (m : CopyOfConstant) → address_made n control value ≡ Ok m → MadeFits m n
 address_fits n control (Ok value) m e = placed_fits n control value.section value.number m e
 address_fits n control (Err fault) m e = cc
 
 -- ---- a constant
-body_fits : (find : List ℕ → Option Value) (here : Option Value) (control : Option (List ℕ)) (kind : ConstantKind) (modifier : Option ℕ) (value : Option (List ℕ)) (m : Made)
+body_fits : (find : List ℕ → Option Value) (here : Option Value) (control : Option (List ℕ)) (kind : ConstantKind) (modifier : Option ℕ) (value : Option (List ℕ)) (m : CopyOfConstant)
     → Modified kind modifier → body_made find here control kind modifier value ≡ Ok m → MadeFits m (body_length kind modifier value)
 body_fits find here control kind modifier None m is e = fits_plain [] m _ (omega arith) cc
 body_fits find here control Address modifier (Some body) m is e =
@@ -164,7 +165,7 @@ modified is_ds External None (Some modifier) e = cc
 modified is_ds External (Some digits) (Some modifier) e = absurd (external_modified is_ds digits (Some modifier) e)
 modified is_ds Doubleword digits modifier e = tt
 
-limited_parts : (duplication : Option ℕ) (modifier : Option (Option ℕ)) (kind : ConstantKind) (value : Option (List ℕ)) (item : Constant) → limited duplication modifier kind value ≡ Ok item
+limited_parts : (duplication : Option ℕ) (modifier : Option (Option ℕ)) (kind : ConstantKind) (value : Option (List ℕ)) (item : Constant) → constant_or_fault duplication modifier kind value ≡ Ok item
     → (modifier ≡ Some item.modifier) × (kind ≡ item.kind)
 limited_parts None modifier kind value item e = cc
 limited_parts (Some duplication) None kind value item e = cc
@@ -172,24 +173,43 @@ limited_parts (Some duplication) (Some modifier) kind value item e =
     let same : constant duplication kind modifier value ≡ item = cc in
     (ap (λ (i : Constant). Some i.modifier) same, ap (λ (i : Constant). i.kind) same)
 
-judged_modified : (is_ds : Bool) (written : Option Written) (item : Constant) → option_map_or (judged is_ds) written (Err BadOperand) ≡ Ok item → Modified item.kind item.modifier
-judged_modified is_ds None item e = cc
-judged_modified is_ds (Some written) item e =
-    let parts = limited_parts (duplication_in written.duplication) (modifier_in is_ds written.kind written.modifier) written.kind written.value item e in
-    subst (λ kind. Modified kind item.modifier) parts.1 (modified is_ds written.kind written.modifier item.modifier parts.0)
+-- whatever its value
+limited_modified : (is_ds : Bool) (duplication : Option ℕ) (kind : ConstantKind) (digits : Option (List ℕ)) (value : Option (Option (List ℕ))) (item : Constant)
+    → option_map_or (constant_or_fault duplication (modifier_in is_ds kind digits) kind) value (Err BadOperand) ≡ Ok item → Modified item.kind item.modifier
+limited_modified is_ds duplication kind digits None item e = cc
+limited_modified is_ds duplication kind digits (Some value) item e =
+    let parts = limited_parts duplication (modifier_in is_ds kind digits) kind value item e in
+    subst (λ kind. Modified kind item.modifier) parts.1 (modified is_ds kind digits item.modifier parts.0)
+
+value_modified : (is_ds : Bool) (duplication : List ℕ) (kind : ConstantKind) (digits : Option (List ℕ)) (rest : List ℕ) (item : Constant)
+    → with_value is_ds duplication kind digits rest ≡ Ok item → Modified item.kind item.modifier
+value_modified is_ds duplication kind digits rest item e =
+    limited_modified is_ds (duplication_in duplication) kind digits (value_in is_ds kind (is_some digits) rest) item e
+
+kind_modified : (is_ds : Bool) (duplication rest : List ℕ) (kind : Option ConstantKind) (item : Constant)
+    → option_map_or (λ kind. with_modifier is_ds duplication kind rest) kind (Err BadOperand) ≡ Ok item → Modified item.kind item.modifier
+kind_modified is_ds duplication rest None item e = cc
+kind_modified is_ds duplication rest (Some kind) item e =
+    go (slice_index rest 0 == 76) (not ((row_of kind).greatest_in_dc == 0) && not (length (take_while (is_digit 10) (drop 1 rest)) == 0)) e
+  where
+    go : (is takes : Bool) → cond is (cond takes (with_value is_ds duplication kind (Some (take_while (is_digit 10) (drop 1 rest))) (behind_digits (drop 1 rest))) (Err BadOperand))
+        (with_value is_ds duplication kind None rest) ≡ Ok item → Modified item.kind item.modifier
+    go true true e = value_modified is_ds duplication kind (Some (take_while (is_digit 10) (drop 1 rest))) (behind_digits (drop 1 rest)) item e
+    go true false e = cc
+    go false takes e = value_modified is_ds duplication kind None rest item e
 
 constant_modified : (is_ds : Bool) (text : List ℕ) (item : Constant) → constant_in is_ds text ≡ Ok item → Modified item.kind item.modifier
 unfolding constant_in
-constant_modified is_ds text item e = judged_modified is_ds (written_in is_ds text) item e
+constant_modified is_ds text item e =
+    kind_modified is_ds (take_while (is_digit 10) text) (drop 1 (behind_digits text)) (kind_of (slice_index (behind_digits text) 0)) item e
 
-made_fits : (find : List ℕ → Option Value) (here : Option Value) (control : Option (List ℕ)) (item : Constant) (m : Made) → Modified item.kind item.modifier
+made_fits : (find : List ℕ → Option Value) (here : Option Value) (control : Option (List ℕ)) (item : Constant) (m : CopyOfConstant) → Modified item.kind item.modifier
     → made_of find here control item ≡ Ok m → MadeFits m (length_of item)
 unfolding made_of length_of
 made_fits find here control item m is e = body_fits find here control item.kind item.modifier item.value m is e
 
 -- one copy of an item
-pub item_fits : (told : Whole) (counter : Option Value) (text : List ℕ) (item : Constant) (m : Made) → constant_in false text ≡ Ok item → item_made told false counter text ≡ Ok m → MadeFits m (length_of item)
-unfolding item_in
+pub item_fits : (told : Whole) (counter : Option Value) (text : List ℕ) (item : Constant) (m : CopyOfConstant) → constant_in false text ≡ Ok item → item_made told false counter text ≡ Ok m → MadeFits m (length_of item)
 item_fits told counter text item m e h =
     made_fits told.find counter told.control item m (constant_modified false text item e)
     (subst (λ r. judged_as (made_of told.find counter told.control) r ≡ Ok m) e h)

@@ -1,5 +1,5 @@
--- What stands in the control section of a source stands apart, from its start to its end.
-use Rattle.std.specs.Prelude.{unwrap_or, slice_get, ◌-◌}
+-- What is in the control section of a source doesn't overlap, from its start to its end.
+use Rattle.std.specs.Prelude.{option_and_then, unwrap_or, slice_get, ◌-◌}
 use Rattle.std.specs.List.{cons_option, filter_map}
 use Rattle.std.specs.Option.{option_map_or}
 use Rattle.std.proofs.Common.{◌≡◌, ◌≤◌, ℕ, ◌+◌, Bool, true, false, cond, Option, Some, None, option_map, List, [], ◌∷◌, ◌++◌, length, reverse, append-nil, append_assoc, refl, sym, ◌∙◌, ap, subst, arith, length-append, lit≤}
@@ -7,32 +7,39 @@ use Rattle.std.proofs.lemmas.Grind.{reverse_onto}
 use Rattle.cx_source.specs.declared.source.Item.{Item}
 use Rattle.cx_source.specs.declared.source.Source.{Source}
 use Rattle.cx_source.specs.declared.source.Stmt.{Stmt}
-use Rattle.cx_terms.specs.Digits.{bound}
-use Rattle.cx_terms.specs.Faults.{lower}
-use Rattle.cx_terms.specs.declared.faults.FaultKind.{FaultKind}
-use Rattle.cx_terms.specs.declared.faults.FaultKind.TheVariants.{BadOperand}
-use Rattle.cx_pools.specs.Pools.{Placed, Pooled, capped, placed, pool_extent}
-use Rattle.cx_places.specs.Facts.Apart.{closing_apart, in_control, lengths_grow, section_ends, statement_stands}
-use Rattle.cx_places.specs.Facts.Faults.{none_before}
-use Rattle.cx_places.specs.Facts.Laid.{lower_none}
-use Rattle.cx_places.specs.declared.place.ControlSection.{ControlSection}
-use Rattle.cx_places.specs.declared.place.LineFault.{LineFault}
-use Rattle.cx_places.specs.Facts.Kept.{last_pool as last_told, pool_among, pool_kept, pool_told}
-use Rattle.cx_places.specs.Known.{Known, after, after_line, at_start, control_after, fault_in, first_fault_behind, is_control, literal_fault, name_fault, name_in, operation_fault, own_fault, pool_after, section_fault, known_behind, laid_in, length_of_section, parts_in, place_in, role_in}
-use Rattle.cx_places.specs.Laws.Apart.{Stands, section_length}
-use Rattle.cx_places.specs.Layout.{laid}
-use Rattle.cx_places.specs.Placed.{all_pools, closing, known_of}
-use Rattle.cx_places.specs.declared.roles.Role.{Role}
-use Rattle.cx_places.specs.declared.roles.Role.TheVariants.{Unknown, Instruction, Control, Dummy, Equate, Storage, Pool, Registers, Member, Nothing}
-use Rattle.cx_operands.specs.Bases.{Bases, none_in_use}
-use Rattle.cx_second.specs.SecondFaults.{bases_after}
-use Rattle.cx_second.specs.Statements.{PlacedItem, Stated, operation_of, place_for, placed_behind, placed_item, placed_of, stated, stated_in, stated_with, statements_of}
-use Rattle.cx_second.specs.Whole.{Whole, pool_of, whole_known, whole_of}
+use Rattle.cx_asm_expressions.specs.Digits.{bound}
+use Rattle.cx_asm_expressions.specs.Faults.{lower}
+use Rattle.cx_asm_expressions.specs.declared.faults.FaultKind.{FaultKind}
+use Rattle.cx_asm_expressions.specs.declared.faults.FaultKind.TheVariants.{BadOperand}
+use Rattle.cx_asm_pools.specs.Pools.{PlacedLiterals, OpenLiterals, cap, closed_pool, pool_extent}
+use Rattle.cx_asm_pass1.specs.Facts.Apart.{closing_apart, in_control, lengths_grow, section_ends, statement_stands}
+use Rattle.cx_asm_pass1.specs.Facts.Faults.{none_before}
+use Rattle.cx_asm_pass1.specs.Facts.Laid.{lower_none}
+use Rattle.cx_asm_pass1.specs.declared.place.ControlSection.{ControlSection}
+use Rattle.cx_asm_pass1.specs.declared.place.LineFault.{LineFault}
+use Rattle.cx_asm_pass1.specs.Facts.Kept.{last_pool as last_told, pool_among, pool_kept, pool_told}
+use Rattle.cx_asm_pass1.specs.PassState.{PassState, next_state, after_line, at_start, control_after, fault_in, first_fault_behind, is_control, literal_fault, name_fault, name_in, operation_fault, own_fault, pool_after, section_fault, state_after, laid_in, length_of_section, parts_in, place_in, role_in}
+use Rattle.cx_asm_pass1.specs.Laws.Apart.{Stands, section_length}
+use Rattle.cx_asm_pass1.specs.Layout.{extent_of}
+use Rattle.cx_asm_pass1.specs.Placed.{all_pools, last_pool_extent, known_of}
+use Rattle.cx_asm_pass1.specs.declared.roles.Role.{Role}
+use Rattle.cx_asm_pass1.specs.declared.roles.Role.TheVariants.{Unknown, Instruction, Control, Dummy, Equate, Storage, Pool, Registers, Member, Nothing}
+use Rattle.cx_asm_operands.specs.Bases.{Bases, none_in_use}
+use Rattle.cx_asm_pass2.specs.SecondFaults.{bases_after}
+use Rattle.cx_asm_pass1.specs.declared.place.Place.{Place}
+use Rattle.cx_asm_pass2.specs.Statements.{PlacedItem, PlacedStatement, operation_of, placed_behind, placed_of, placed_statement, stated_in, statements_of}
+use Rattle.cx_asm_pass2.specs.Whole.{Whole, pool_of, whole_known, whole_of}
 use Rattle.cx_asm.specs.Assembly.{size_of, standing_of}
 use Rattle.cx_asm.specs.Laws.Standing.{IsWithin}
-use Rattle.cx_asm.specs.Resolving.{Standing, last_pool, nothing, pool_standing, role_standing, standing_from, statement_standing}
+use Rattle.cx_asm.specs.Resolving.{Standing, last_pool, empty_section, pool_standing, role_standing, standing_from, statement_standing}
 use Rattle.cx_asm.specs.Facts.Bases.{after_sixteen}
 use Rattle.cx_asm.proofs.WithinLemmas.{Resolves, Spelled, instruction_within, items_within, pool_within, within_joined, within_later, within_nothing}
+
+abbrev placed_item : Item → Option Place → PlacedItem
+placed_item item place = record { item = item; place = place }
+
+abbrev place_for : Option Stmt → PassState → Option Place
+place_for stmt known = option_map (λ s. place_in s known) stmt
 
 -- ---- without a control section
 first_none : (line : ℕ) (fault : Option FaultKind) (first : Option LineFault) → first ≡ None → first_fault_behind line fault first ≡ None → fault ≡ None
@@ -43,8 +50,8 @@ first_none line fault (Some first) e f = cc
 third_none : (a b c d : Option FaultKind) → lower a (lower b (lower c d)) ≡ None → c ≡ None
 third_none a b c d e = (lower_none c d (lower_none b (lower c d) (lower_none a (lower b (lower c d)) e).1).1).0
 
-section_sound : (line : ℕ) (stmt : Stmt) (known : Known) → (after line stmt known).fault ≡ None → section_fault (role_in stmt) (name_in stmt) known.section known.control ≡ None
-unfolding after
+section_sound : (line : ℕ) (stmt : Stmt) (known : PassState) → (next_state line stmt known).fault ≡ None → section_fault (role_in stmt) (name_in stmt) known.section known.control ≡ None
+unfolding next_state
 section_sound line stmt known e =
     let own = lower_none (own_fault stmt known) (literal_fault (role_in stmt) (length known.places) (parts_in stmt) known.pool)
     (first_none line (fault_in stmt known) known.fault (none_before line stmt known e) e) in
@@ -58,12 +65,12 @@ unless_inside : (is : Bool) → cond is None (Some BadOperand) ≡ None → is �
 unless_inside true e = refl
 unless_inside false e = cc
 
--- an instruction, whose literals are pooled, stands in the control section
+-- an instruction, whose literals are pooled, is in the control section
 no_instruction : (section control : Option (List ℕ)) → control ≡ None → cond (is_control section control) None (Some BadOperand) ≡ None → ⊥
 no_instruction section None e f = outside section (unless_inside (is_control section None) f)
 no_instruction section (Some control) e f = cc
 
-no_pool_after : (role : Role) (name section control : Option (List ℕ)) (user : ℕ) (operands : List (List ℕ)) (pool : Pooled) → control_after role name control ≡ None
+no_pool_after : (role : Role) (name section control : Option (List ℕ)) (user : ℕ) (operands : List (List ℕ)) (pool : OpenLiterals) → control_after role name control ≡ None
     → section_fault role name section control ≡ None → (control ≡ None → pool ≡ []) → pool_after role user operands pool ≡ []
 no_pool_after (Instruction size) name section control user operands pool e f h = absurd (no_instruction section control e f)
 no_pool_after Pool name section control user operands pool e f h = refl
@@ -77,43 +84,43 @@ no_pool_after Registers name section control user operands pool e f h = h e
 no_pool_after Member name section control user operands pool e f h = h e
 no_pool_after Nothing name section control user operands pool e f h = h e
 
-no_pool_line : (line : ℕ) (stmt : Option Stmt) (known : Known) → (after_line line stmt known).fault ≡ None → (after_line line stmt known).control ≡ None
+no_pool_line : (line : ℕ) (stmt : Option Stmt) (known : PassState) → (after_line line stmt known).fault ≡ None → (after_line line stmt known).control ≡ None
     → (known.fault ≡ None → known.control ≡ None → known.pool ≡ []) → (after_line line stmt known).pool ≡ []
-unfolding after
+unfolding next_state
 no_pool_line line None known e f h = h e f
 no_pool_line line (Some stmt) known e f h =
     no_pool_after (role_in stmt) (name_in stmt) known.section known.control (length known.places) (parts_in stmt) known.pool f (section_sound line stmt known e) (h (none_before line stmt known e))
 
-no_pool : (items : List Item) → (known_behind items).fault ≡ None → (known_behind items).control ≡ None → (known_behind items).pool ≡ []
+no_pool : (items : List Item) → (state_after items).fault ≡ None → (state_after items).control ≡ None → (state_after items).pool ≡ []
 no_pool [] e f = refl
-no_pool (item ∷ before) e f = no_pool_line item.line item.stmt (known_behind before) e f (no_pool before)
+no_pool (item ∷ before) e f = no_pool_line item.line item.stmt (state_after before) e f (no_pool before)
 
-no_end : (pool : Pooled) (control : Option (List ℕ)) (lengths : List ℕ → ℕ) → pool ≡ [] → control ≡ None → 0 ≡ (laid Pool [] (pool_extent pool) (capped (length_of_section control lengths))).end
-unfolding laid
+no_end : (pool : OpenLiterals) (control : Option (List ℕ)) (lengths : List ℕ → ℕ) → pool ≡ [] → control ≡ None → 0 ≡ (extent_of Pool [] (pool_extent pool) (cap (length_of_section control lengths))).end
+unfolding extent_of
 no_end pool control lengths e f = rw (e, f) refl
 
-sized : (known : Known) (control : Option (List ℕ)) → known.control ≡ control → (known.control ≡ None → known.pool ≡ [])
-    → option_map_or (λ (c : ControlSection). c.length) (option_map (λ name. record { name = name; length = (closing known).end }) control) 0 ≡ (closing known).end
+sized : (known : PassState) (control : Option (List ℕ)) → known.control ≡ control → (known.control ≡ None → known.pool ≡ [])
+    → option_map_or (λ (c : ControlSection). c.length) (option_map (λ name. record { name = name; length = (last_pool_extent known).end }) control) 0 ≡ (last_pool_extent known).end
 sized known (Some name) e h = refl
 sized known None e h = no_end known.pool known.control known.lengths (h e) e
 
 -- the control section's length is its end, 0 without one
-size_is : (source : Source) → (known_of source).fault ≡ None → size_of source ≡ (closing (known_of source)).end
+size_is : (source : Source) → (known_of source).fault ≡ None → size_of source ≡ (last_pool_extent (known_of source)).end
 size_is source e = sized (known_of source) (known_of source).control refl (no_pool (reverse source.items) e)
 
 -- ---- the control section
 -- the length so far of the section that is the control section in the end
-abbrev so_far : Option (List ℕ) → Known → ℕ
+abbrev so_far : Option (List ℕ) → PassState → ℕ
 so_far control known = length_of_section control known.lengths
 
-abbrev told_of : Stmt → ℕ → Known → Stated
-told_of stmt line known = stated line stmt (place_in stmt known)
+abbrev told_of : Stmt → ℕ → PassState → PlacedStatement
+told_of stmt line known = placed_statement line stmt (place_in stmt known)
 
-module _ (resolves : Resolves) (spelled : Spelled) (statements : List Stated) where
+module _ (resolves : Resolves) (spelled : Spelled) (statements : List PlacedStatement) where
   -- ---- a statement
-  module _ (told : Whole) (bases : Bases) (sixteen : length bases ≡ 16) (line : ℕ) (stmt : Stmt) (known : Known) where
+  module _ (told : Whole) (bases : Bases) (sixteen : length bases ≡ 16) (line : ℕ) (stmt : Stmt) (known : PassState) where
     role_within : (role : Role) (from : ℕ) → role_in stmt ≡ role → Stands role (parts_in stmt) known.pool from (laid_in stmt known)
-        → (role ≡ Pool → pool_of told (told_of stmt line known) ≡ placed (capped (laid_in stmt known).offset) known.pool)
+        → (role ≡ Pool → pool_of told (told_of stmt line known) ≡ closed_pool (cap (laid_in stmt known).offset) known.pool)
         → IsWithin from (role_standing told statements bases (told_of stmt line known) role) (laid_in stmt known).end
     role_within (Instruction size) from e stand pool =
         subst (λ end. IsWithin from (role_standing told statements bases (told_of stmt line known) (Instruction size)) end) (sym stand.2)
@@ -123,7 +130,7 @@ module _ (resolves : Resolves) (spelled : Spelled) (statements : List Stated) wh
     role_within Pool from e stand pool =
         within_later from (laid_in stmt known).offset _ _ stand.0
         (subst (λ p. IsWithin (laid_in stmt known).offset (pool_standing told statements p) (laid_in stmt known).end) (sym (pool refl))
-        (pool_within told statements (placed (capped (laid_in stmt known).offset) known.pool) 8 (laid_in stmt known).offset (laid_in stmt known).end stand.1.stand))
+        (pool_within told statements (closed_pool (cap (laid_in stmt known).offset) known.pool) 8 (laid_in stmt known).offset (laid_in stmt known).end stand.1.stand))
     role_within Unknown from e stand pool = within_nothing from (laid_in stmt known).end (omega (arith, stand.1))
     role_within Control from e stand pool = within_nothing from (laid_in stmt known).end (omega (arith, stand.1))
     role_within Dummy from e stand pool = within_nothing from (laid_in stmt known).end (omega (arith, stand.1))
@@ -132,33 +139,33 @@ module _ (resolves : Resolves) (spelled : Spelled) (statements : List Stated) wh
     role_within Member from e stand pool = within_nothing from (laid_in stmt known).end (omega (arith, stand.1))
     role_within Nothing from e stand pool = within_nothing from (laid_in stmt known).end (omega (arith, stand.1))
 
-  ends_at : (line : ℕ) (stmt : Stmt) (known : Known) (control : Option (List ℕ)) → is_control known.section control ≡ true → so_far control (after line stmt known) ≡ (laid_in stmt known).end
-  unfolding after
+  ends_at : (line : ℕ) (stmt : Stmt) (known : PassState) (control : Option (List ℕ)) → is_control known.section control ≡ true → so_far control (next_state line stmt known) ≡ (laid_in stmt known).end
+  unfolding next_state
   ends_at line stmt known None is = absurd (outside known.section is)
   ends_at line stmt known (Some name) is = section_ends known (laid_in stmt known).end name (in_control known.section (Some name) is)
 
-  grows : (before : List Item) (line : ℕ) (stmt : Stmt) (control : Option (List ℕ)) → (after line stmt (known_behind before)).fault ≡ None
-      → so_far control (known_behind before) ≤ so_far control (after line stmt (known_behind before))
+  grows : (before : List Item) (line : ℕ) (stmt : Stmt) (control : Option (List ℕ)) → (next_state line stmt (state_after before)).fault ≡ None
+      → so_far control (state_after before) ≤ so_far control (next_state line stmt (state_after before))
   grows before line stmt None sound = omega arith
   grows before line stmt (Some name) sound = lengths_grow before line stmt sound name
 
-  when_within : (is : Bool) (from to : ℕ) (one : Standing) → (is ≡ true → IsWithin from one to) → from ≤ to → IsWithin from (cond is one nothing) to
+  when_within : (is : Bool) (from to : ℕ) (one : Standing) → (is ≡ true → IsWithin from one to) → from ≤ to → IsWithin from (cond is one empty_section) to
   when_within true from to one h le = h refl
   when_within false from to one h le = within_nothing from to le
 
-  module _ (all : Known) where
-    statement_within : (bases : Bases) → length bases ≡ 16 → (before : List Item) (line : ℕ) (stmt : Stmt) → (after line stmt (known_behind before)).fault ≡ None
-        → ((k : ℕ) (it : Placed) → slice_get (after line stmt (known_behind before)).pools k ≡ Some it → slice_get all.pools k ≡ Some it)
-        → IsWithin (so_far all.control (known_behind before)) (statement_standing (whole_known all) statements bases (told_of stmt line (known_behind before)))
-        (so_far all.control (after line stmt (known_behind before)))
+  module _ (all : PassState) where
+    statement_within : (bases : Bases) → length bases ≡ 16 → (before : List Item) (line : ℕ) (stmt : Stmt) → (next_state line stmt (state_after before)).fault ≡ None
+        → ((k : ℕ) (it : PlacedLiterals) → slice_get (next_state line stmt (state_after before)).pools k ≡ Some it → slice_get all.pools k ≡ Some it)
+        → IsWithin (so_far all.control (state_after before)) (statement_standing (whole_known all) statements bases (told_of stmt line (state_after before)))
+        (so_far all.control (next_state line stmt (state_after before)))
     unfolding statement_standing
     statement_within bases sixteen before line stmt sound kept =
-        let known = known_behind before in
-        let pool : (role_in stmt ≡ Pool → pool_of (whole_known all) (told_of stmt line known) ≡ placed (capped (laid_in stmt known).offset) known.pool) =
+        let known = state_after before in
+        let pool : (role_in stmt ≡ Pool → pool_of (whole_known all) (told_of stmt line known) ≡ closed_pool (cap (laid_in stmt known).offset) known.pool) =
         λ e. ap (λ o. unwrap_or o []) (pool_among all (length known.pools) _ (kept (length known.pools) _ (pool_told line stmt known e))) in
         let stand : (is_control known.section all.control ≡ true
-        → IsWithin (so_far all.control known) (role_standing (whole_known all) statements bases (told_of stmt line known) (role_in stmt)) (so_far all.control (after line stmt known))) =
-        λ is. subst (λ from. IsWithin from (role_standing (whole_known all) statements bases (told_of stmt line known) (role_in stmt)) (so_far all.control (after line stmt known)))
+        → IsWithin (so_far all.control known) (role_standing (whole_known all) statements bases (told_of stmt line known) (role_in stmt)) (so_far all.control (next_state line stmt known))) =
+        λ is. subst (λ from. IsWithin from (role_standing (whole_known all) statements bases (told_of stmt line known) (role_in stmt)) (so_far all.control (next_state line stmt known)))
         (ap (λ section. length_of_section section known.lengths) (in_control known.section all.control is))
         (subst (λ to. IsWithin (section_length known) (role_standing (whole_known all) statements bases (told_of stmt line known) (role_in stmt)) to)
         (sym (ends_at line stmt known all.control is))
@@ -166,35 +173,35 @@ module _ (resolves : Resolves) (spelled : Spelled) (statements : List Stated) wh
         when_within (is_control known.section all.control) _ _ _ stand (grows before line stmt all.control sound)
 
     -- one line more
-    onward : (before : List Item) (line : ℕ) (stmt : Option Stmt) (rest : List Stated) (end : ℕ) (bases : Bases) → length bases ≡ 16
-        → (after_line line stmt (known_behind before)).fault ≡ None
-        → ((k : ℕ) (it : Placed) → slice_get (after_line line stmt (known_behind before)).pools k ≡ Some it → slice_get all.pools k ≡ Some it)
+    onward : (before : List Item) (line : ℕ) (stmt : Option Stmt) (rest : List PlacedStatement) (end : ℕ) (bases : Bases) → length bases ≡ 16
+        → (after_line line stmt (state_after before)).fault ≡ None
+        → ((k : ℕ) (it : PlacedLiterals) → slice_get (after_line line stmt (state_after before)).pools k ≡ Some it → slice_get all.pools k ≡ Some it)
         → ((bases : Bases) → length bases ≡ 16
-        → IsWithin (so_far all.control (after_line line stmt (known_behind before))) (standing_from (whole_known all) statements bases rest) end)
-        → IsWithin (so_far all.control (known_behind before))
-        (standing_from (whole_known all) statements bases (cons_option (stated_with line stmt (place_for stmt (known_behind before))) rest)) end
+        → IsWithin (so_far all.control (after_line line stmt (state_after before))) (standing_from (whole_known all) statements bases rest) end)
+        → IsWithin (so_far all.control (state_after before))
+        (standing_from (whole_known all) statements bases (cons_option (option_and_then (λ s. option_map (placed_statement line s) (place_for stmt (state_after before))) stmt) rest)) end
     onward before line None rest end bases sixteen sound kept more = more bases sixteen
     onward before line (Some stmt) rest end bases sixteen sound kept more =
-        within_joined (so_far all.control (known_behind before)) (so_far all.control (after line stmt (known_behind before))) end _ _
+        within_joined (so_far all.control (state_after before)) (so_far all.control (next_state line stmt (state_after before))) end _ _
         (statement_within bases sixteen before line stmt sound kept)
-        (more (bases_after (whole_known all) bases (told_of stmt line (known_behind before))) (after_sixteen (whole_known all) bases (told_of stmt line (known_behind before)) sixteen))
+        (more (bases_after (whole_known all) bases (told_of stmt line (state_after before))) (after_sixteen (whole_known all) bases (told_of stmt line (state_after before)) sixteen))
 
   -- ---- the last pool
   count_less : (n m : ℕ) → n ≡ m + 1 → n - 1 ≡ m
   count_less n m e = omega (arith, e)
 
-  last_is : (all : Known) → last_pool (whole_known all) ≡ placed (capped (closing all).offset) all.pool
+  last_is : (all : PassState) → last_pool (whole_known all) ≡ closed_pool (cap (last_pool_extent all).offset) all.pool
   last_is all =
-      ap (λ n. unwrap_or (slice_get (all_pools all) n) []) (count_less _ _ (length-append all.pools (placed (capped (closing all).offset) all.pool ∷ [])))
+      ap (λ n. unwrap_or (slice_get (all_pools all) n) []) (count_less _ _ (length-append all.pools (closed_pool (cap (last_pool_extent all).offset) all.pool ∷ [])))
       ∙ ap (λ o. unwrap_or o []) (last_told all)
 
-  closing_within : (items : List Item) (bases : Bases) → (known_behind items).fault ≡ None → (closing (known_behind items)).end ≤ bound
-      → IsWithin (so_far (known_behind items).control (known_behind items)) (standing_from (whole_known (known_behind items)) statements bases []) (closing (known_behind items)).end
+  closing_within : (items : List Item) (bases : Bases) → (state_after items).fault ≡ None → (last_pool_extent (state_after items)).end ≤ bound
+      → IsWithin (so_far (state_after items).control (state_after items)) (standing_from (whole_known (state_after items)) statements bases []) (last_pool_extent (state_after items)).end
   closing_within items bases sound le =
       let apart = closing_apart items sound le in
-      subst (λ pool. IsWithin (so_far (known_behind items).control (known_behind items)) (pool_standing (whole_known (known_behind items)) statements pool) (closing (known_behind items)).end)
-      (sym (last_is (known_behind items)))
-      (within_later _ (closing (known_behind items)).offset _ _ apart.begins (pool_within (whole_known (known_behind items)) statements _ 8 _ _ apart.literals.stand))
+      subst (λ pool. IsWithin (so_far (state_after items).control (state_after items)) (pool_standing (whole_known (state_after items)) statements pool) (last_pool_extent (state_after items)).end)
+      (sym (last_is (state_after items)))
+      (within_later _ (last_pool_extent (state_after items)).offset _ _ apart.begins (pool_within (whole_known (state_after items)) statements _ 8 _ _ apart.literals.stand))
 
   -- ---- all lines
   behind : List Item → List Item → List Item
@@ -203,29 +210,29 @@ module _ (resolves : Resolves) (spelled : Spelled) (statements : List Stated) wh
 
   placed_after : List Item → List Item → List PlacedItem
   placed_after before [] = []
-  placed_after before (item ∷ later) = placed_item item (place_for item.stmt (known_behind before)) ∷ placed_after (item ∷ before) later
+  placed_after before (item ∷ later) = placed_item item (place_for item.stmt (state_after before)) ∷ placed_after (item ∷ before) later
 
-  sound_line : (line : ℕ) (stmt : Option Stmt) (known : Known) → (after_line line stmt known).fault ≡ None → known.fault ≡ None
+  sound_line : (line : ℕ) (stmt : Option Stmt) (known : PassState) → (after_line line stmt known).fault ≡ None → known.fault ≡ None
   sound_line line None known e = e
   sound_line line (Some stmt) known e = none_before line stmt known e
 
-  sound_back : (later before : List Item) → (known_behind (behind later before)).fault ≡ None → (known_behind before).fault ≡ None
+  sound_back : (later before : List Item) → (state_after (behind later before)).fault ≡ None → (state_after before).fault ≡ None
   unfolding behind
   sound_back [] before e = e
-  sound_back (item ∷ later) before e = sound_line item.line item.stmt (known_behind before) (sound_back later (item ∷ before) e)
+  sound_back (item ∷ later) before e = sound_line item.line item.stmt (state_after before) (sound_back later (item ∷ before) e)
 
-  pools_back : (later before : List Item) (k : ℕ) (it : Placed) → slice_get (known_behind before).pools k ≡ Some it → slice_get (known_behind (behind later before)).pools k ≡ Some it
+  pools_back : (later before : List Item) (k : ℕ) (it : PlacedLiterals) → slice_get (state_after before).pools k ≡ Some it → slice_get (state_after (behind later before)).pools k ≡ Some it
   unfolding behind
   pools_back [] before k it e = e
   pools_back (item ∷ later) before k it e = pools_back later (item ∷ before) k it (pool_kept (item ∷ []) before k it e)
 
-  along : (later before : List Item) (bases : Bases) → length bases ≡ 16 → (known_behind (behind later before)).fault ≡ None → (closing (known_behind (behind later before))).end ≤ bound
-      → IsWithin (so_far (known_behind (behind later before)).control (known_behind before))
-      (standing_from (whole_known (known_behind (behind later before))) statements bases (filter_map stated_in (placed_after before later))) (closing (known_behind (behind later before))).end
+  along : (later before : List Item) (bases : Bases) → length bases ≡ 16 → (state_after (behind later before)).fault ≡ None → (last_pool_extent (state_after (behind later before))).end ≤ bound
+      → IsWithin (so_far (state_after (behind later before)).control (state_after before))
+      (standing_from (whole_known (state_after (behind later before))) statements bases (filter_map stated_in (placed_after before later))) (last_pool_extent (state_after (behind later before))).end
   unfolding behind placed_after
   along [] before bases sixteen sound le = closing_within before bases sound le
   along (item ∷ later) before bases sixteen sound le =
-      onward (known_behind (behind later (item ∷ before))) before item.line item.stmt (filter_map stated_in (placed_after (item ∷ before) later)) _ bases sixteen
+      onward (state_after (behind later (item ∷ before))) before item.line item.stmt (filter_map stated_in (placed_after (item ∷ before) later)) _ bases sixteen
       (sound_back later (item ∷ before) sound) (pools_back later (item ∷ before))
       (λ bases sixteen. along later (item ∷ before) bases sixteen sound le)
 
@@ -244,8 +251,8 @@ module _ (resolves : Resolves) (spelled : Spelled) (statements : List Stated) wh
   placed_is [] before = sym (append-nil (reverse (placed_behind before)))
   placed_is (item ∷ later) before =
       placed_is later (item ∷ before)
-      ∙ ap (λ (l : List PlacedItem). l ++ placed_after (item ∷ before) later) (reverse_first (placed_item item (place_for item.stmt (known_behind before))) (placed_behind before))
-      ∙ append_assoc (reverse (placed_behind before)) (placed_item item (place_for item.stmt (known_behind before)) ∷ []) (placed_after (item ∷ before) later)
+      ∙ ap (λ (l : List PlacedItem). l ++ placed_after (item ∷ before) later) (reverse_first (placed_item item (place_for item.stmt (state_after before))) (placed_behind before))
+      ∙ append_assoc (reverse (placed_behind before)) (placed_item item (place_for item.stmt (state_after before)) ∷ []) (placed_after (item ∷ before) later)
 
   reversed : (items : List Item) → behind items [] ≡ reverse items
   reversed items = behind_is items [] ∙ append-nil (reverse items)
@@ -257,20 +264,20 @@ module _ (resolves : Resolves) (spelled : Spelled) (statements : List Stated) wh
   placed_here : (items : List Item) → placed_after [] items ≡ reverse (placed_behind (reverse items))
   placed_here items = sym (placed_is items []) ∙ ap (λ (l : List Item). reverse (placed_behind l)) (reversed items)
 
-  all_within : (items before : List Item) → behind items [] ≡ before → (known_behind before).fault ≡ None → (closing (known_behind before)).end ≤ bound
-      → IsWithin (so_far (known_behind before).control at_start)
-      (standing_from (whole_known (known_behind before)) statements none_in_use (filter_map stated_in (placed_after [] items))) (closing (known_behind before)).end
+  all_within : (items before : List Item) → behind items [] ≡ before → (state_after before).fault ≡ None → (last_pool_extent (state_after before)).end ≤ bound
+      → IsWithin (so_far (state_after before).control at_start)
+      (standing_from (whole_known (state_after before)) statements none_in_use (filter_map stated_in (placed_after [] items))) (last_pool_extent (state_after before)).end
   all_within items before e =
-      subst (λ (l : List Item). (known_behind l).fault ≡ None → (closing (known_behind l)).end ≤ bound → IsWithin (so_far (known_behind l).control at_start)
-      (standing_from (whole_known (known_behind l)) statements none_in_use (filter_map stated_in (placed_after [] items))) (closing (known_behind l)).end)
+      subst (λ (l : List Item). (state_after l).fault ≡ None → (last_pool_extent (state_after l)).end ≤ bound → IsWithin (so_far (state_after l).control at_start)
+      (standing_from (whole_known (state_after l)) statements none_in_use (filter_map stated_in (placed_after [] items))) (last_pool_extent (state_after l)).end)
       e (along items [] none_in_use refl)
 
-  all_stand : (source : Source) → (known_of source).fault ≡ None → (closing (known_of source)).end ≤ bound
-      → IsWithin 0 (standing_from (whole_of source) statements none_in_use (statements_of source)) (closing (known_of source)).end
+  all_stand : (source : Source) → (known_of source).fault ≡ None → (last_pool_extent (known_of source)).end ≤ bound
+      → IsWithin 0 (standing_from (whole_of source) statements none_in_use (statements_of source)) (last_pool_extent (known_of source)).end
   unfolding placed_of
   all_stand source sound le =
-      subst (λ from. IsWithin from (standing_from (whole_of source) statements none_in_use (statements_of source)) (closing (known_of source)).end) (start (known_of source).control)
-      (subst (λ (l : List PlacedItem). IsWithin (so_far (known_of source).control at_start) (standing_from (whole_of source) statements none_in_use (filter_map stated_in l)) (closing (known_of source)).end)
+      subst (λ from. IsWithin from (standing_from (whole_of source) statements none_in_use (statements_of source)) (last_pool_extent (known_of source)).end) (start (known_of source).control)
+      (subst (λ (l : List PlacedItem). IsWithin (so_far (known_of source).control at_start) (standing_from (whole_of source) statements none_in_use (filter_map stated_in l)) (last_pool_extent (known_of source)).end)
       (placed_here source.items)
       (all_within source.items (reverse source.items) (reversed source.items) sound le))
 

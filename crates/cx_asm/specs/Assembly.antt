@@ -1,21 +1,24 @@
--- What a source is assembled to, or why it is refused (GC33-4010, "END"; the faults and the limit of 65,536 bytes are own).
-use Rattle.std.specs.Prelude.{◌≡◌, ℕ, ◌-◌, nat_le, if◌then◌else◌, Option, Some, None, unwrap_or, Result, Ok, Err, List, length, reverse, slice_get, map}
+-- What a source is assembled to, or why it is refused (GC33-4010, "END"; the faults and the limit of 65,536 bytes are
+-- own).
+use Rattle.std.specs.Prelude.{◌≡◌, ℕ, ◌-◌, nat_le, if◌then◌else◌, unwrap_or, Result, Ok, Err, List, [], ◌∷◌, length, reverse, slice_get, map}
 use Rattle.std.specs.Option.{option_map_or}
 use Rattle.std.specs.Result.{result_ok}
 use Rattle.cx_source.specs.declared.source.Source.{Source}
-use Rattle.cx_terms.specs.declared.faults.FaultKind.{FaultKind}
-use Rattle.cx_terms.specs.declared.faults.FaultKind.TheVariants as kind
-use Rattle.cx_places.specs.Placed.{control_section, known_of, storage_length}
-use Rattle.cx_places.specs.declared.place.LineFault.{LineFault}
-use Rattle.cx_operands.specs.Bases.{none_in_use}
-use Rattle.cx_operands.specs.Directives.{entry_in}
-use Rattle.cx_image.specs.Assembled.{AssembledParts, assembled}
-use Rattle.cx_image.specs.Storage.{working_storage}
-use Rattle.cx_second.specs.Statements.{Stated, end_of, statements_of, placed_of}
-use Rattle.cx_second.specs.Whole.{Whole, directive_context, whole_of}
-use Rattle.cx_second.specs.SecondFaults.{judged_behind}
+use Rattle.cx_asm_expressions.specs.declared.faults.FaultKind.{FaultKind}
+use Rattle.cx_asm_expressions.specs.declared.faults.FaultKind.TheVariants as kind
+use Rattle.cx_asm_pass1.specs.AllFaults.{place_faults}
+use Rattle.cx_asm_pass1.specs.PassState.{line_fault}
+use Rattle.cx_asm_pass1.specs.Placed.{control_section, known_of, storage_length}
+use Rattle.cx_asm_pass1.specs.declared.place.LineFault.{LineFault}
+use Rattle.cx_asm_operands.specs.Bases.{none_in_use}
+use Rattle.cx_asm_operands.specs.Directives.{entry_in}
+use Rattle.cx_asm_image.specs.Assembled.{AssembledParts, assembled_parts}
+use Rattle.cx_asm_image.specs.Storage.{working_storage}
+use Rattle.cx_asm_pass2.specs.Statements.{PlacedStatement, end_of, statements_of, placed_of}
+use Rattle.cx_asm_pass2.specs.Whole.{Whole, directive_context, whole_of}
+use Rattle.cx_asm_pass2.specs.SecondFaults.{second_faults_after}
 use Rattle.cx_asm.specs.Resolving.{Standing, standing_from}
-use Rattle.cx_asm.specs.Listing.{listed}
+use Rattle.cx_asm.specs.Listing.{item_listing}
 use Rattle.cx_asm.specs.declared.faults.AsmFault.{AsmFault}
 use Rattle.cx_asm.specs.declared.faults.AsmFault.TheVariants as fault
 
@@ -25,7 +28,7 @@ pub record AssemblyParts : Type 0 where
   pub listing : List (List ℕ)
 
 -- ---- the section
--- what stands in the control section
+-- what is in the control section
 unfoldable pub standing_of : Source → Standing
 standing_of source = standing_from (whole_of source) (statements_of source) none_in_use (statements_of source)
 
@@ -33,19 +36,19 @@ standing_of source = standing_from (whole_of source) (statements_of source) none
 abbrev pub size_of : Source → ℕ
 size_of source = option_map_or (λ control. control.length) (control_section (known_of source)) 0
 
--- the entry that the first END writes, and else the section's start
-abbrev pub entry_by : Whole → Stated → ℕ
+-- the entry that the first END writes, or the section's start
+abbrev pub entry_by : Whole → PlacedStatement → ℕ
 entry_by told s = unwrap_or (result_ok (entry_in told.control (directive_context told none_in_use s) s.stmt.operand)) 0
 
 unfoldable pub section_of : Source → AssembledParts
 section_of source =
     let stands = standing_of source in let storage = working_storage (storage_length (known_of source)) in
     let entry = option_map_or (entry_by (whole_of source)) (end_of (statements_of source)) 0 in
-    assembled stands.lines (size_of source) stands.relocs entry storage
+    assembled_parts stands.lines (size_of source) stands.relocs entry storage
 
 abbrev pub made_of : Source → AssemblyParts
 made_of source =
-    let listing = map (listed (whole_of source) (section_of source).image.text) (placed_of source) in
+    let listing = map (item_listing (whole_of source) (section_of source).image.text) (placed_of source) in
     record { section = section_of source; listing = listing }
 
 -- ---- faults
@@ -62,31 +65,37 @@ fault_on line kind.TooLarge = fault.TooLarge line
 abbrev pub fault_at : LineFault → AsmFault
 fault_at first = fault_on first.line first.kind
 
--- The second pass' first fault: of operands and values.
-unfoldable pub second_fault_of : Source → Option LineFault
-second_fault_of source = (judged_behind (whole_of source) (reverse (statements_of source))).fault
+-- those of the second pass: of operands and values
+unfoldable pub second_faults_of : Source → List LineFault
+second_faults_of source = second_faults_after (whole_of source) (reverse (statements_of source))
 
--- END's line, and without an END the last
+-- END's line, or the last without an END
 abbrev pub last_line : Source → ℕ
 last_line source = option_map_or (λ item. item.line) (slice_get source.items (length source.items - 1)) 0
 
 abbrev pub end_line : Source → ℕ
 end_line source = option_map_or (λ s. s.line) (end_of (statements_of source)) (last_line source)
 
+-- that of a text of more than 65,536 bytes
+abbrev pub size_faults : ℕ → ℕ → List LineFault
+size_faults size line = if nat_le size 65536 then [] else line_fault line kind.TooLarge ∷ []
+
+-- the first of two lists that has anything
+abbrev pub first_found : List LineFault → List LineFault → List LineFault
+first_found [] later = later
+first_found (fault ∷ more) later = fault ∷ more
+
+-- All faults for which a source is refused: those of the first pass that has any, and without one that of its size.
+unfoldable pub assembly_faults : Source → List LineFault
+assembly_faults source =
+    let size = size_faults (size_of source) (end_line source) in
+    first_found (place_faults source) (first_found (second_faults_of source) size)
+
 -- ---- the answer
-abbrev pub unless_refused : Option LineFault → Result AssemblyParts AsmFault → Result AssemblyParts AsmFault
-unless_refused None result = result
-unless_refused (Some first) result = Err (fault_at first)
-
--- A text may have 65,536 bytes.
-abbrev pub unless_too_large : ℕ → ℕ → AssemblyParts → Result AssemblyParts AsmFault
-unless_too_large size line made = if nat_le size 65536 then Ok made else Err (fault.TooLarge line)
-
--- What a source is assembled to. The first pass' first fault refuses it, without one the second pass', and without any a text that is too large.
+-- what a source is assembled to, or its first fault
 unfoldable pub assembly_of : Source → Result AssemblyParts AsmFault
 assembly_of source =
-    unless_refused (known_of source).fault
-    (unless_refused (second_fault_of source) (unless_too_large (size_of source) (end_line source) (made_of source)))
+    option_map_or (λ first. Err (fault_at first)) (slice_get (assembly_faults source) 0) (Ok (made_of source))
 
 -- The answer is the one due, unless memory runs out.
 abbrev pub Assembles : Result AssemblyParts AsmFault → Result AssemblyParts AsmFault → Type 0

@@ -2,7 +2,6 @@
 pub mod Resolving
 pub mod Listing
 pub mod Assembly
-pub mod AllFaults
 -- Statements of laws.
 pub mod Laws
 pub mod Facts

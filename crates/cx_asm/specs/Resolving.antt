@@ -1,4 +1,5 @@
--- The resolved lines of a source, in address order (GC33-4010, "DC -- Define Constant", "DS -- Define Storage", "Literal Pool"; that they are lines is own).
+-- The resolved lines of a source, in address order (GC33-4010, "DC -- Define Constant", "DS -- Define Storage",
+-- "Literal Pool"; that they are lines is own).
 use Rattle.std.specs.Prelude.{ℕ, ◌-◌, Bool, true, false, ◌==◌, if◌then◌else◌, Option, option_and_then, unwrap_or, Result, Ok, Err, List, [], ◌∷◌, ◌++◌, length, slice_get}
 use Rattle.std.specs.List.{repeat}
 use Rattle.std.specs.Option.{option_map_or}
@@ -6,27 +7,27 @@ use Rattle.std.specs.Result.{result_ok}
 use Rattle.cx_code.specs.declared.disassembly.Line.{Line}
 use Rattle.cx_code.specs.declared.disassembly.What.{What}
 use Rattle.cx_code.specs.declared.disassembly.What.TheVariants.{Code, Data, Space}
-use Rattle.cx_terms.specs.Items.{Constant, constant_in, size_of}
-use Rattle.cx_terms.specs.Bytes.{Made}
-use Rattle.cx_terms.specs.declared.values.Value.{Value}
-use Rattle.cx_terms.specs.declared.faults.FaultKind.{FaultKind}
-use Rattle.cx_pools.specs.Pools.{Placed}
-use Rattle.cx_places.specs.Given.{location_counter}
-use Rattle.cx_places.specs.Known.{is_control, role_in}
-use Rattle.cx_places.specs.declared.roles.Role.{Role}
-use Rattle.cx_places.specs.declared.roles.Role.TheVariants.{Instruction as Machine, Storage, Pool}
-use Rattle.cx_operations.specs.declared.operations.Operation.{Operation}
-use Rattle.cx_operands.specs.Bases.{Bases}
-use Rattle.cx_operands.specs.Forms.{resolved}
-use Rattle.cx_image.specs.Relocated.{words_at}
-use Rattle.cx_second.specs.Statements.{Stated, operation_of, placed_items}
-use Rattle.cx_second.specs.Whole.{Whole, counter_of, instruction_context, item_made, pool_of}
-use Rattle.cx_second.specs.SecondFaults.{bases_after}
+use Rattle.cx_asm_expressions.specs.Items.{Constant, constant_in, size_of}
+use Rattle.cx_asm_expressions.specs.Bytes.{CopyOfConstant}
+use Rattle.cx_asm_expressions.specs.declared.values.Value.{Value}
+use Rattle.cx_asm_expressions.specs.declared.faults.FaultKind.{FaultKind}
+use Rattle.cx_asm_pools.specs.Pools.{PlacedLiterals}
+use Rattle.cx_asm_pass1.specs.Given.{location_counter}
+use Rattle.cx_asm_pass1.specs.PassState.{is_control, role_in}
+use Rattle.cx_asm_pass1.specs.declared.roles.Role.{Role}
+use Rattle.cx_asm_pass1.specs.declared.roles.Role.TheVariants.{Instruction as Machine, Storage, Pool}
+use Rattle.cx_asm_operations.specs.declared.operations.Operation.{Operation}
+use Rattle.cx_asm_operands.specs.Bases.{Bases}
+use Rattle.cx_asm_operands.specs.Forms.{instruction_or_fault}
+use Rattle.cx_asm_image.specs.Relocated.{words_at}
+use Rattle.cx_asm_pass2.specs.Statements.{PlacedStatement, operation_of, placed_items}
+use Rattle.cx_asm_pass2.specs.Whole.{Whole, counter_of, instruction_context, item_made, pool_of}
+use Rattle.cx_asm_pass2.specs.SecondFaults.{bases_after}
 
 abbrev pub line : ℕ → What → Line
 line at what = record { at = at; what = what }
 
--- What stands in the control section: its resolved lines, and the offsets of its relocated words.
+-- What is in the control section: its resolved lines, and the offsets of its relocated words.
 pub record Standing : Type 0 where
   pub lines : List Line
   pub relocs : List ℕ
@@ -34,11 +35,11 @@ pub record Standing : Type 0 where
 abbrev pub standing : List Line → List ℕ → Standing
 standing lines relocs = record { lines = lines; relocs = relocs }
 
-abbrev pub nothing : Standing
-nothing = standing [] []
+abbrev pub empty_section : Standing
+empty_section = standing [] []
 
-abbrev pub joined : Standing → Standing → Standing
-joined one other = standing (one.lines ++ other.lines) (one.relocs ++ other.relocs)
+abbrev pub join_sections : Standing → Standing → Standing
+join_sections one other = standing (one.lines ++ other.lines) (one.relocs ++ other.relocs)
 
 -- ---- constants
 -- bytes are a line where there are any, and so is a space
@@ -50,14 +51,14 @@ abbrev pub space_line : ℕ → ℕ → List Line
 space_line at size = if size == 0 then [] else line at (Space size) ∷ []
 
 -- Each copy of an address that is relocated is a relocated word.
-abbrev pub relocated : ℕ → ℕ → Bool → List ℕ
-relocated at count is_relocated = if is_relocated then words_at at count else []
+abbrev pub relocated_offsets : ℕ → ℕ → Bool → List ℕ
+relocated_offsets at count is_relocated = if is_relocated then words_at at count else []
 
 -- a constant, by what one copy of it is; at fault it is nothing
-abbrev pub constant_standing : ℕ → Result Constant FaultKind → Result Made FaultKind → Standing
+abbrev pub constant_standing : ℕ → Result Constant FaultKind → Result CopyOfConstant FaultKind → Standing
 constant_standing at (Ok item) (Ok made) =
-    standing (data_line at (repeat item.duplication made.bytes)) (relocated at item.duplication made.is_relocated)
-constant_standing at item made = nothing
+    standing (data_line at (repeat item.duplication made.bytes)) (relocated_offsets at item.duplication made.is_relocated)
+constant_standing at item made = empty_section
 
 -- an item of a DC, or a literal, at an offset
 abbrev pub data_standing : Whole → Option Value → List ℕ → ℕ → Standing
@@ -65,53 +66,53 @@ data_standing told counter text at = constant_standing at (constant_in false tex
 
 abbrev pub space_standing : ℕ → Result Constant FaultKind → Standing
 space_standing at (Ok item) = standing (space_line at (size_of item)) []
-space_standing at (Err fault) = nothing
+space_standing at (Err fault) = empty_section
 
 -- an item of a DS or DC
-abbrev pub item_standing : Whole → Bool → Stated → List ℕ × ℕ → Standing
+abbrev pub item_standing : Whole → Bool → PlacedStatement → List ℕ × ℕ → Standing
 item_standing told true s item = space_standing item.1 (constant_in true item.0)
 item_standing told false s item = data_standing told (location_counter s.place.section item.1 1) item.0 item.1
 
--- items, one behind the other
-abbrev pub items_standing : Whole → Bool → Stated → List (List ℕ × ℕ) → Standing
-items_standing told is_ds s [] = nothing
-items_standing told is_ds s (item ∷ items) = joined (item_standing told is_ds s item) (items_standing told is_ds s items)
+-- items, one after the other
+abbrev pub items_standing : Whole → Bool → PlacedStatement → List (List ℕ × ℕ) → Standing
+items_standing told is_ds s [] = empty_section
+items_standing told is_ds s (item ∷ items) = join_sections (item_standing told is_ds s item) (items_standing told is_ds s items)
 
 -- ---- literals
--- In a literal the location counter stands at the statement that uses it first.
-abbrev pub counter_at : List Stated → ℕ → Option Value
+-- In a literal the location counter is at the statement that uses it first.
+abbrev pub counter_at : List PlacedStatement → ℕ → Option Value
 counter_at statements user = option_and_then counter_of (slice_get statements user)
 
-abbrev pub pool_standing : Whole → List Stated → Placed → Standing
-pool_standing told statements [] = nothing
+abbrev pub pool_standing : Whole → List PlacedStatement → PlacedLiterals → Standing
+pool_standing told statements [] = empty_section
 pool_standing told statements (e ∷ pool) =
-    joined (data_standing told (counter_at statements e.1.user) e.0 e.1.offset) (pool_standing told statements pool)
+    join_sections (data_standing told (counter_at statements e.1.user) e.0 e.1.offset) (pool_standing told statements pool)
 
 -- ---- statements
-abbrev pub instruction_standing : Whole → Bases → Stated → Operation → Standing
+abbrev pub instruction_standing : Whole → Bases → PlacedStatement → Operation → Standing
 instruction_standing told bases s operation =
-    let made = result_ok (resolved operation (instruction_context told bases s) s.stmt.operand) in
+    let made = result_ok (instruction_or_fault operation (instruction_context told bases s) s.stmt.operand) in
     standing (option_map_or (λ instruction. line s.place.offset (Code instruction) ∷ []) made []) []
 
-abbrev pub role_standing : Whole → List Stated → Bases → Stated → Role → Standing
+abbrev pub role_standing : Whole → List PlacedStatement → Bases → PlacedStatement → Role → Standing
 role_standing told statements bases s (Machine size) =
-    option_map_or (instruction_standing told bases s) (operation_of s) nothing
+    option_map_or (instruction_standing told bases s) (operation_of s) empty_section
 role_standing told statements bases s (Storage is_ds) = items_standing told is_ds s (placed_items s)
 role_standing told statements bases s Pool = pool_standing told statements (pool_of told s)
-role_standing told statements bases s role = nothing
+role_standing told statements bases s role = empty_section
 
 -- what a statement makes, where these bases are in use: nothing outside the control section
-unfoldable pub statement_standing : Whole → List Stated → Bases → Stated → Standing
+unfoldable pub statement_standing : Whole → List PlacedStatement → Bases → PlacedStatement → Standing
 statement_standing told statements bases s =
-    if is_control s.place.section told.control then role_standing told statements bases s (role_in s.stmt) else nothing
+    if is_control s.place.section told.control then role_standing told statements bases s (role_in s.stmt) else empty_section
 
 -- ---- the section
--- the literals that no LTORG has placed stand at its end
-abbrev pub last_pool : Whole → Placed
+-- the literals that no LTORG has placed are at its end
+abbrev pub last_pool : Whole → PlacedLiterals
 last_pool told = unwrap_or (slice_get told.pools (length told.pools - 1)) []
 
--- what statements make from one on, and the last pool behind them
-abbrev pub standing_from : Whole → List Stated → Bases → List Stated → Standing
+-- what statements make from one on, and the last pool after them
+abbrev pub standing_from : Whole → List PlacedStatement → Bases → List PlacedStatement → Standing
 standing_from told statements bases [] = pool_standing told statements (last_pool told)
 standing_from told statements bases (s ∷ rest) =
-    joined (statement_standing told statements bases s) (standing_from told statements (bases_after told bases s) rest)
+    join_sections (statement_standing told statements bases s) (standing_from told statements (bases_after told bases s) rest)

@@ -1,33 +1,32 @@
 //! The assembly of a source.
 
-ghost use Rattle.std.specs.Prelude.{◌≡◌, ◌≤◌, IfOk, None, option_map, true};
+ghost use Rattle.std.specs.Prelude.{◌≡◌, ◌≤◌, IfOk, None, option_map, slice_get, true};
 ghost use Rattle.std.specs.Option.{option_map_or};
 ghost use Rattle.cx_source.specs.declared.source.Source.{Source};
-ghost use Rattle.cx_image.specs.Assembled.{IsAssembled};
-ghost use Rattle.cx_places.specs.AllFaults.{place_faults};
-ghost use Rattle.cx_places.specs.Placed.{IsPlaced, known_of};
-ghost use Rattle.cx_second.specs.Whole.{told_by};
-ghost use Rattle.cx_second.specs.Statements.{end_of, placed_of, statements_of};
-ghost use Rattle.cx_asm.specs.AllFaults.{assembly_faults, first_found, second_faults_of, size_faults};
-ghost use Rattle.cx_asm.specs.Assembly.{Assembles, assembly_of, end_line, entry_by, made_of, second_fault_of, section_of, size_of, standing_of, unless_refused, unless_too_large};
+ghost use Rattle.cx_asm_image.specs.Assembled.{IsAssembled};
+ghost use Rattle.cx_asm_pass1.specs.AllFaults.{place_faults};
+ghost use Rattle.cx_asm_pass1.specs.Placed.{IsPlaced, known_of};
+ghost use Rattle.cx_asm_pass2.specs.Whole.{told_by};
+ghost use Rattle.cx_asm_pass2.specs.Statements.{end_of, placed_of, statements_of};
+ghost use Rattle.cx_asm.specs.Assembly.{Assembles, assembly_faults, assembly_of, end_line, entry_by, first_found, made_of, second_faults_of, section_of, size_faults, size_of, standing_of};
 
 use crate::faults::{AsmFault, fault_at};
 use crate::laws::what_stands_stands_apart;
 use crate::listing::listing_of;
 use crate::section::{Found, second_faults, second_pass};
 use crate::standing::Standing;
+use cx_asm_expressions::{FaultKind, TermFault};
+use cx_asm_image::{Assembled, LARGEST_TEXT, working_storage};
+use cx_asm_pass1::{LineFault, Places, place_all, place_with_faults};
+use cx_asm_pass2::{PlacedItem, Statement, entry_of, placed_lines, stated};
+use cx_base_lists::List;
 use cx_code::{Image, Line, Offsets, Span};
-use cx_image::{Assembled, LARGEST_TEXT, working_storage};
-use cx_places::{LineFault, Places, place_all, place_with_faults};
-use cx_second::{PlacedItem, Statement, entry_of, placed_lines, stated};
 use cx_source::{Source, Text};
-use cx_tables::List;
-use cx_terms::{FaultKind, TermFault};
 use std::alloc::{AllocError, Global};
 use std::marker::Model;
 
-/// What a source is assembled to: its image, its listing, its spans and its resolved lines. `assemble` alone makes one, so text
-/// and spans give the resolved lines again.
+/// What a source is assembled to: its image, its listing, its spans and its resolved lines. `assemble` alone makes one,
+/// so text and spans give the resolved lines again.
 #[derive(Debug, Drop)]
 pub struct Assembly {
     section: Assembled,
@@ -35,7 +34,7 @@ pub struct Assembly {
 }
 
 impl Model for Assembly {
-    ghost use Rattle.cx_image.specs.Assembled.{IsAssembled};
+    ghost use Rattle.cx_asm_image.specs.Assembled.{IsAssembled};
     ghost use Rattle.cx_asm.specs.Assembly.{AssemblyParts};
 
     ghost Value = { AssemblyParts };
@@ -54,7 +53,7 @@ impl Assembly {
         self.section.image()
     }
 
-    /// The listing, a line for each of the source's, an EXEC statement's made lines in its place. It takes no memory.
+    /// The listing, one line for each of the source's, an EXEC statement's made lines in its place. It takes no memory.
     pub fn listing(&self) -> &[Text]
         ensures { result.now ≡ self.now.listing }
     {
@@ -86,7 +85,7 @@ impl Assembly {
 
 /// The disassembly of an assembly's text by its spans: the source's resolved lines.
 ///
-/// An error comes only where a growth was refused.
+/// An error comes only where an allocation failed.
 pub fn disassembly(alloc: Global, assembly: &Assembly) -> Result<Vec<Line>, AllocError>
     ensures { IfOk result (λ found. found.items ≡ assembly.now.section.resolved) }
 {
@@ -110,7 +109,7 @@ fn end_of<'a, 'b>(statements: &'b [Statement<'a>]) -> Option<&'b Statement<'a>>
     statements.iter().find(|statement| statement.is_end())
 }
 
-/// The entry that the first END writes, and else 0.
+/// The entry that the first END writes, or 0.
 fn entry(
     alloc: Global,
     places: &Places<'_>,
@@ -128,7 +127,7 @@ fn entry(
     }
 }
 
-/// END's line, and without an END the last.
+/// END's line, or the last without an END.
 fn end_line(source: &Source, statements: &[Statement<'_>]) -> usize
     requires { statements.now ≡ statements_of source.now }
     ensures { result ≡ end_line source.now }
@@ -200,8 +199,9 @@ fn made_of(
     Ok(Assembly { section, listing })
 }
 
-/// What the second pass over a source's statements finds; what they make is kept only where it fits in the largest text.
-#[tactic(auto, using(crate::proofs::TellingLemmas::told_is), unfolding(crate::specs::Assembly::second_fault_of, crate::specs::Assembly::standing_of))]
+/// What the second pass over a source's statements finds; what they make is kept only where it fits in the largest
+/// text.
+#[tactic(auto, using(crate::proofs::TellingLemmas::told_is), unfolding(crate::specs::Assembly::second_faults_of, crate::specs::Assembly::standing_of))]
 fn found_in(
     alloc: Global,
     source: &Source,
@@ -213,7 +213,7 @@ fn found_in(
     requires placed { IsPlaced (known_of source.now) places.now }
     requires statements { statements.now ≡ statements_of source.now }
     requires fits { fits ≡ true → size_of source.now ≤ 65536 }
-    ensures first { IfOk result (λ found. found.first ≡ second_fault_of source.now) }
+    ensures first { IfOk result (λ found. found.first ≡ slice_get (second_faults_of source.now) 0) }
     ensures standing { IfOk result (λ found. fits ≡ true → found.standing ≡ standing_of source.now) }
 {
     what_stands_stands_apart();
@@ -221,6 +221,7 @@ fn found_in(
 }
 
 /// The assembly of a source whose statements are placed.
+#[tactic(auto, using(crate::proofs::TellingLemmas::second_refused, crate::proofs::TellingLemmas::large_refused, crate::proofs::TellingLemmas::made_answered))]
 fn assemble_placed(
     alloc: Global,
     source: &Source,
@@ -228,8 +229,7 @@ fn assemble_placed(
 ) -> Result<Assembly, AsmFault>
     requires sound { (known_of source.now).fault ≡ None }
     requires placed { IsPlaced (known_of source.now) places.now }
-    ensures { Assembles (unless_refused (second_fault_of source.now)
-        (unless_too_large (size_of source.now) (end_line source.now) (made_of source.now))) result }
+    ensures { Assembles (assembly_of source.now) result }
 {
     let placed = placed_lines(alloc, source, places.statements.as_slice())?;
     let statements = stated(alloc, placed.as_slice())?;
@@ -255,11 +255,12 @@ fn assemble_placed(
 
 /// Assembles a source (GC33-4010).
 ///
-/// A fault comes with the line of the first statement that has one, and is the lowest of all statements of that line: of the
-/// first pass (operation, name, section, lengths of items and literals, the value of EQU), and where that finds none of the
-/// second (operands and values). TooLarge comes only where there is no other fault, for a control section of more than
-/// 65,536 bytes. A source without a fault is assembled, or meets Memory, which comes only where a growth was refused.
-#[tactic(auto, unfolding(crate::specs::Assembly::assembly_of))]
+/// A fault comes with the line of the first statement that has one, and is the lowest of all statements of that line:
+/// of the first pass (operation, name, section, lengths of items and literals, the value of EQU), and where that finds
+/// none of the second (operands and values). TooLarge comes only where there is no other fault, for a control section
+/// of more than 65,536 bytes. A source without a fault is assembled, or meets Memory, which comes only where an
+/// allocation failed.
+#[tactic(auto, using(crate::proofs::TellingLemmas::first_refused))]
 pub fn assemble(alloc: Global, source: &Source) -> Result<Assembly, AsmFault>
     ensures { Assembles (assembly_of source.now) result }
 {
@@ -282,7 +283,7 @@ fn size_faults(alloc: Global, size: u128, line: usize) -> Result<List<LineFault>
 }
 
 /// The faults of the second pass over a source whose statements are placed, or without one that of its size.
-#[tactic(auto, using(crate::proofs::TellingLemmas::told_is), unfolding(crate::specs::AllFaults::second_faults_of))]
+#[tactic(auto, using(crate::proofs::TellingLemmas::told_is), unfolding(crate::specs::Assembly::second_faults_of))]
 fn placed_faults(
     alloc: Global,
     source: &Source,
@@ -307,10 +308,10 @@ fn placed_faults(
 
 /// All faults for which `assemble` refuses a source; none where it is assembled.
 ///
-/// They are those of the first pass; where that finds none those of the second, and where that finds none TooLarge, if the
-/// control section is. Of each line with a faulty statement the lowest fault of all its statements comes, in the order in which
-/// the lines' first faults are met. An error comes only where a growth was refused.
-#[tactic(auto, unfolding(crate::specs::AllFaults::assembly_faults))]
+/// They are those of the first pass; where that finds none those of the second, and where that finds none TooLarge, if
+/// the control section is. Of each line with a faulty statement the lowest fault of all its statements comes, in the
+/// order in which the lines' first faults are met. An error comes only where an allocation failed.
+#[tactic(auto, unfolding(crate::specs::Assembly::assembly_faults))]
 pub fn assembly_faults(alloc: Global, source: &Source) -> Result<List<LineFault>, AllocError>
     ensures { IfOk result (λ faults. faults ≡ assembly_faults source.now) }
 {

@@ -2,21 +2,21 @@
 
 ghost use Rattle.std.specs.Prelude.{◌≡◌, IfOk, Ok, OnOk, false, map, option_map, true};
 ghost use Rattle.std.specs.Result.{result_err};
-ghost use Rattle.cx_terms.specs.Faults.{lowest};
-ghost use Rattle.cx_terms.specs.Items.{constant_in};
-ghost use Rattle.cx_pools.specs.Pools.{Placed};
-ghost use Rattle.cx_second.specs.SecondFaults.{item_fault};
-ghost use Rattle.cx_second.specs.Whole.{item_made, told_by};
+ghost use Rattle.cx_asm_expressions.specs.Faults.{lowest};
+ghost use Rattle.cx_asm_expressions.specs.Items.{constant_in};
+ghost use Rattle.cx_asm_pools.specs.Pools.{PlacedLiterals};
+ghost use Rattle.cx_asm_pass2.specs.SecondFaults.{item_fault};
+ghost use Rattle.cx_asm_pass2.specs.Whole.{item_made, told_by};
 ghost use Rattle.cx_asm.specs.Laws.Standing.{IsWithin};
 ghost use Rattle.cx_asm.specs.Parts.Kept.{Fits, kept};
 ghost use Rattle.cx_asm.specs.Parts.Passing.{literal_standing};
 ghost use Rattle.cx_asm.specs.Resolving.{constant_standing, counter_at, data_standing, item_standing, items_standing, pool_standing, space_standing};
 
 use crate::standing::Standing;
-use cx_places::{Places, location_counter};
-use cx_pools::{Literal, Pool};
-use cx_second::{Statement, StatementItem, counter_of, item_made, made_fault};
-use cx_terms::{Constant, ConstantBytes, FaultKind, TermFault, Value, lower};
+use cx_asm_expressions::{Constant, ConstantBytes, FaultKind, TermFault, Value, lower};
+use cx_asm_pass1::{Places, location_counter};
+use cx_asm_pass2::{Statement, StatementItem, counter_of, item_made, made_fault};
+use cx_asm_pools::{Literal, Pool};
 use std::alloc::{AllocError, Global};
 
 /// Appends the copies of a constant, by what one of them is, if they are kept.
@@ -128,7 +128,7 @@ pub(crate) fn push_items(
     Ok(fault)
 }
 
-/// What the location counter stands at for the statement of a number.
+/// Where the location counter is for the statement of a number.
 fn counter_at(statements: &[Statement<'_>], user: usize) -> Option<Value>
     ensures { result ≡ counter_at statements.now user }
 {

@@ -3,13 +3,13 @@
 ghost use Rattle.std.specs.Prelude.{◌≡◌};
 ghost use Rattle.cx_asm.specs.Assembly.{fault_at};
 
-use cx_places::LineFault;
-use cx_terms::FaultKind;
+use cx_asm_expressions::FaultKind;
+use cx_asm_pass1::LineFault;
 use std::alloc::{AllocError, AllocFailed};
 use thiserror::Error;
 
-/// Why a source isn't assembled. The number is the line's, from 1: of the first faulty statement's line the lowest fault of
-/// all its statements.
+/// Why a source isn't assembled. The number is the line's, from 1: of the first faulty statement's line the lowest
+/// fault of all its statements.
 #[derive(Clone, Copy, Debug, PartialEq, Eq, Error)]
 pub enum AsmFault {
     /// No such operation.
@@ -24,7 +24,7 @@ pub enum AsmFault {
     /// An address that no base register reaches.
     #[error("line {0}: NoAddressability")]
     NoAddressability(usize),
-    /// An operand that can't be read, or a statement where it mustn't stand.
+    /// An operand that can't be read, or a statement where it isn't allowed.
     #[error("line {0}: BadOperand")]
     BadOperand(usize),
     /// A value outside its limits.
@@ -36,7 +36,7 @@ pub enum AsmFault {
     /// A control section of more than 65,536 bytes; the line is END's.
     #[error("line {0}: TooLarge")]
     TooLarge(usize),
-    /// A growth was refused.
+    /// An allocation failed.
     #[error("out of memory")]
     Memory,
 }

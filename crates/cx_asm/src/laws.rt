@@ -1,48 +1,48 @@
 //! What follows from the definitions of assembling.
 
-ghost use Rattle.std.specs.Prelude.{◌≡◌, ◌≢◌, ◌≤◌, Err, List, None, Ok, Option, Result, false, length, true, ℕ};
-ghost use Rattle.cx_image.specs.Resolved.{AreApart};
-ghost use Rattle.cx_terms.specs.Bytes.{Made};
-ghost use Rattle.cx_terms.specs.Items.{Constant, constant_in, length_of};
-ghost use Rattle.cx_terms.specs.declared.values.Value.{Value};
-ghost use Rattle.cx_places.specs.Laws.FirstFaults.{IsFirstOf};
-ghost use Rattle.cx_places.specs.Placed.{known_of};
+ghost use Rattle.std.specs.Prelude.{◌≡◌, ◌≢◌, ◌≤◌, Err, List, None, Ok, Option, Result, false, length, slice_get, true, ℕ};
+ghost use Rattle.cx_asm_image.specs.Resolved.{AreApart};
+ghost use Rattle.cx_asm_expressions.specs.Bytes.{CopyOfConstant};
+ghost use Rattle.cx_asm_expressions.specs.Items.{Constant, constant_in, length_of};
+ghost use Rattle.cx_asm_expressions.specs.declared.values.Value.{Value};
+ghost use Rattle.cx_asm_pass1.specs.Laws.FirstFaults.{IsFirstOf};
+ghost use Rattle.cx_asm_pass1.specs.Placed.{known_of};
 ghost use Rattle.cx_source.specs.declared.source.Source.{Source};
-ghost use Rattle.cx_second.specs.SecondFaults.{judged_behind};
-ghost use Rattle.cx_second.specs.Statements.{Stated};
-ghost use Rattle.cx_second.specs.Whole.{Whole, item_made};
+ghost use Rattle.cx_asm_pass2.specs.SecondFaults.{second_faults_after};
+ghost use Rattle.cx_asm_pass2.specs.Statements.{PlacedStatement};
+ghost use Rattle.cx_asm_pass2.specs.Whole.{Whole, item_made};
 ghost use Rattle.cx_asm.specs.Assembly.{Assembles, AssemblyParts, assembly_of, size_of, standing_of};
 ghost use Rattle.cx_asm.specs.Laws.SecondFirst.{second_faults_behind};
 ghost use Rattle.cx_asm.specs.Laws.Standing.{IsWithin, WordsApart};
 ghost use Rattle.cx_asm.specs.declared.faults.AsmFault.{AsmFault};
 ghost use Rattle.cx_asm.specs.declared.faults.AsmFault.TheVariants.{Memory};
 
-/// A copy of an item of a DC, or of a literal, has no more bytes than its length, which is a word's at least where it is
-/// relocated.
+/// A copy of an item of a DC, or of a literal, has no more bytes than its length, which is at least a word's where it
+/// is relocated.
 pub fn a_constant_has_its_length()
-    ensures short { (told : Whole) (counter : Option Value) (text : List ℕ) (item : Constant) (made : Made)
+    ensures short { (told : Whole) (counter : Option Value) (text : List ℕ) (item : Constant) (made : CopyOfConstant)
         → constant_in false text ≡ Ok item → item_made told false counter text ≡ Ok made
         → length made.bytes ≤ length_of item }
-    ensures word { (told : Whole) (counter : Option Value) (text : List ℕ) (item : Constant) (made : Made)
+    ensures word { (told : Whole) (counter : Option Value) (text : List ℕ) (item : Constant) (made : CopyOfConstant)
         → constant_in false text ≡ Ok item → item_made told false counter text ≡ Ok made
         → made.is_relocated ≡ true → 4 ≤ length_of item }
 {}
 
-/// In an accepted source whose control section is no longer than a text may be, the resolved lines ascend, share no byte, and
-/// end inside the control section; and so do the relocated words.
+/// In an accepted source whose control section is no longer than a text may be, the resolved lines ascend, share no
+/// byte, and end inside the control section; and so do the relocated words.
 pub fn what_stands_stands_apart()
     ensures { (source : Source) → (known_of source).fault ≡ None → size_of source ≤ 65536
         → IsWithin 0 (standing_of source) (size_of source) }
 {
-    cx_operands::laws::what_is_resolved_is_well_formed();
+    cx_asm_operands::laws::what_is_resolved_is_well_formed();
     cx_code::laws::every_spelling();
 }
 
-/// The second pass' first fault is the fault of a statement on its line; the first statement that has such a fault is on that
-/// line; and no statement of that line has one with a lower number. Where there is none no statement has one.
+/// The second pass' first fault is the fault of a statement on its line; the first statement that has such a fault is
+/// on that line; and no statement of that line has one with a lower number. Where there is none no statement has one.
 pub fn the_second_pass_tells_its_first_fault()
-    ensures { (told : Whole) (statements : List Stated)
-        → IsFirstOf (second_faults_behind told statements) (judged_behind told statements).fault }
+    ensures { (told : Whole) (statements : List PlacedStatement)
+        → IsFirstOf (second_faults_behind told statements) (slice_get (second_faults_after told statements) 0) }
 {}
 
 /// There is one assembly of a source: two answers to one source, neither of them Memory, are one answer.
@@ -51,8 +51,8 @@ pub fn an_assembly_is_one()
         → one ≢ Err Memory → other ≢ Err Memory → one ≡ other }
 {}
 
-/// The text of an accepted source is as long as its control section, 65,536 bytes at most. Its resolved lines ascend, share no
-/// byte and end in it, and so do its relocated words.
+/// The text of an accepted source is as long as its control section, 65,536 bytes at most. Its resolved lines ascend,
+/// share no byte and end in it, and so do its relocated words.
 pub fn an_assembly_stands_apart()
     ensures size { (source : Source) (made : AssemblyParts) → assembly_of source ≡ Ok made
         → length made.section.image.text ≡ size_of source }
@@ -63,5 +63,5 @@ pub fn an_assembly_stands_apart()
         → WordsApart 0 made.section.image.relocs (length made.section.image.text) }
 {
     what_stands_stands_apart();
-    cx_image::laws::the_text_is_told_by_its_bytes();
+    cx_asm_image::laws::the_text_is_told_by_its_bytes();
 }

@@ -1,19 +1,19 @@
 //! The listing.
 
 ghost use Rattle.std.specs.Prelude.{◌≡◌, ◌+◌, IfOk, drop, map, take, None, [], option_map};
-ghost use Rattle.cx_pools.specs.Pools.{capped, literal_size};
-ghost use Rattle.cx_places.specs.Known.{role_in};
-ghost use Rattle.cx_image.specs.Listing.{listing_line};
-ghost use Rattle.cx_second.specs.Whole.{told_by};
-ghost use Rattle.cx_asm.specs.Listing.{end_behind, line_with, listed, object_length, object_of, offset_shown};
+ghost use Rattle.cx_asm_pools.specs.Pools.{cap, literal_size};
+ghost use Rattle.cx_asm_pass1.specs.PassState.{role_in};
+ghost use Rattle.cx_asm_image.specs.Listing.{listing_line};
+ghost use Rattle.cx_asm_pass2.specs.Whole.{told_by};
+ghost use Rattle.cx_asm.specs.Listing.{end_behind, line_with, item_listing, object_length, object_of, offset_shown};
 
 use crate::section::is_control;
-use cx_image::listing_line;
-use cx_places::{Places, Role};
-use cx_pools::capped;
-use cx_second::{PlacedItem, Statement, StatementItem, control_name, placed_items};
+use cx_asm_expressions::Constant;
+use cx_asm_image::listing_line;
+use cx_asm_pass1::{Places, Role};
+use cx_asm_pass2::{PlacedItem, Statement, StatementItem, control_name, placed_items};
+use cx_asm_pools::capped;
 use cx_source::Text;
-use cx_terms::Constant;
 use std::alloc::{AllocError, Global};
 
 /// The offset that a statement of a role is listed with.
@@ -36,14 +36,14 @@ fn constant_size(text: &[u8]) -> u128
     }
 }
 
-/// The offset behind an item of a DC.
+/// The offset after an item of a DC.
 fn item_end(item: &StatementItem<'_>) -> u128
-    ensures { result ≡ capped item.now.1 + capped (literal_size item.now.0) }
+    ensures { result ≡ cap item.now.1 + cap (literal_size item.now.0) }
 {
     capped(item.offset()) + capped(constant_size(item.text()))
 }
 
-/// The offset behind a DC's items.
+/// The offset after a DC's items.
 fn end_behind(at: u128, items: &[StatementItem<'_>]) -> u128
     ensures { result ≡ end_behind at items.now }
 {
@@ -53,9 +53,10 @@ fn end_behind(at: u128, items: &[StatementItem<'_>]) -> u128
     }
 }
 
-/// How many bytes a statement of a role is listed with: an instruction's or a DC's, items and the bytes before them; none of others.
+/// How many bytes a statement of a role is listed with: an instruction's or a DC's, items and the bytes before them;
+/// none of others.
 ///
-/// An error comes only where memory for a DC's items was refused.
+/// An error comes only where an allocation for a DC's items failed.
 pub fn object_length(
     alloc: Global,
     statement: &Statement<'_>,
@@ -74,7 +75,7 @@ pub fn object_length(
     }
 }
 
-/// The bytes of a text from an offset on, at most so many.
+/// The bytes of a text from an offset on, at most `len` of them.
 fn bytes_at(text: &[u8], at: u128, count: u128) -> &[u8]
     ensures { result.now ≡ take count (drop at text.now) }
 {
@@ -119,14 +120,14 @@ fn line_with(
 }
 
 /// A line of the listing.
-#[tactic(auto, unfolding(crate::specs::Listing::listed))]
+#[tactic(auto, unfolding(crate::specs::Listing::item_listing))]
 fn listed(
     alloc: Global,
     places: &Places<'_>,
     text: &[u8],
     placed: &PlacedItem<'_>,
 ) -> Result<Text, AllocError>
-    ensures { IfOk result (λ line. line ≡ listed (told_by places.now) text.now placed.now) }
+    ensures { IfOk result (λ line. line ≡ item_listing (told_by places.now) text.now placed.now) }
 {
     let item = placed.item();
     line_with(
@@ -146,7 +147,7 @@ pub(crate) fn listing_of(
     text: &[u8],
     placed: &[PlacedItem<'_>],
 ) -> Result<Vec<Text>, AllocError>
-    ensures { IfOk result (λ lines. lines.items ≡ map (listed (told_by places.now) text.now) placed.now) }
+    ensures { IfOk result (λ lines. lines.items ≡ map (item_listing (told_by places.now) text.now) placed.now) }
 {
     let mut lines = Vec::with_capacity(alloc, placed.len())?;
     for line in placed {

@@ -1,36 +1,35 @@
 //! The second pass over the statements of a source: their first fault, and what they make in the control section.
 
-ghost use Rattle.std.specs.Prelude.{◌≡◌, false, IfOk, OnOk, reverse, Some, true, ℕ};
+ghost use Rattle.std.specs.Prelude.{◌≡◌, false, IfOk, OnOk, reverse, slice_get, Some, true, ℕ};
 ghost use Rattle.std.specs.Result.{result_err};
-ghost use Rattle.cx_terms.specs.Faults.{lower};
-ghost use Rattle.cx_operands.specs.Bases.{Bases, none_in_use};
-ghost use Rattle.cx_operands.specs.Forms.{resolved};
-ghost use Rattle.cx_operations.specs.declared.operations.Operation.TheVariants as operation;
-ghost use Rattle.cx_operations.specs.declared.operations.Directive.TheVariants as directive;
-ghost use Rattle.cx_places.specs.Known.{is_control, role_in};
-ghost use Rattle.cx_places.specs.Roles.{directive_role};
-ghost use Rattle.cx_second.specs.SecondFaults.{bases_after, items_fault, judged_after, judged_behind, literals_fault, operand_fault, second_fault, second_faults_after};
-ghost use Rattle.cx_second.specs.Statements.{operation_of, placed_items};
-ghost use Rattle.cx_second.specs.Whole.{instruction_context, pool_of, told_by};
+ghost use Rattle.cx_asm_expressions.specs.Faults.{lower};
+ghost use Rattle.cx_asm_operands.specs.Bases.{Bases, none_in_use};
+ghost use Rattle.cx_asm_operands.specs.Forms.{instruction_or_fault};
+ghost use Rattle.cx_asm_operations.specs.declared.operations.Operation.TheVariants as operation;
+ghost use Rattle.cx_asm_operations.specs.declared.operations.Directive.TheVariants as directive;
+ghost use Rattle.cx_asm_pass1.specs.PassState.{is_control, role_in};
+ghost use Rattle.cx_asm_pass1.specs.Roles.{directive_role};
+ghost use Rattle.cx_asm_pass2.specs.SecondFaults.{bases_after, items_fault, literals_fault, operand_fault, second_fault, second_faults_after};
+ghost use Rattle.cx_asm_pass2.specs.Statements.{operation_of, placed_items};
+ghost use Rattle.cx_asm_pass2.specs.Whole.{instruction_context, pool_of, told_by};
 ghost use Rattle.cx_asm.specs.Laws.Standing.{IsWithin};
 ghost use Rattle.cx_asm.specs.Parts.Kept.{Fits, kept};
 ghost use Rattle.cx_asm.specs.Parts.Passing.{WithUsing};
-ghost use Rattle.cx_asm.specs.Resolving.{instruction_standing, items_standing, joined, last_pool, pool_standing, role_standing, standing_from, statement_standing};
+ghost use Rattle.cx_asm.specs.Resolving.{instruction_standing, items_standing, join_sections, last_pool, pool_standing, role_standing, standing_from, statement_standing};
 
 use crate::constants::{push_items, push_pool};
 use crate::standing::Standing;
-use cx_ebcdic::Name8;
-use cx_operands::{Bases, copy_fault};
-use cx_operations::{Directive, Operation};
-use cx_places::{LineFault, LineFaults, Places, first_fault_behind};
-use cx_second::{
+use cx_asm_expressions::{FaultKind, TermFault, lower};
+use cx_asm_operands::{Bases, copy_fault};
+use cx_asm_operations::{Directive, Operation};
+use cx_asm_pass1::{LineFault, LineFaults, Places, first_fault_behind};
+use cx_asm_pass2::{
     Statement, control_name, entry_of, instruction_of, literals_fault, pass_bases, placed_items,
     pool_of,
 };
-use cx_tables::List;
-use cx_terms::{FaultKind, TermFault, lower};
+use cx_base_lists::List;
+use cx_ebcdic::Name8;
 use std::alloc::{AllocError, Global};
-use std::marker::Model;
 
 /// Whether a section is the control section.
 pub(crate) fn is_control(section: Option<Name8>, control: Option<Name8>) -> bool
@@ -42,8 +41,8 @@ pub(crate) fn is_control(section: Option<Name8>, control: Option<Name8>) -> bool
     }
 }
 
-/// Appends the instruction of a statement, if it is kept. The lowest fault of it and of the literals that it uses first is
-/// answered, if they have one.
+/// Appends the instruction of a statement, if it is kept. The lowest fault of it and of the literals that it uses first
+/// is answered, if they have one.
 #[tactic(auto, using(crate::proofs::JoinLemmas::kept_nothing))]
 fn pass_instruction(
     alloc: Global,
@@ -61,7 +60,7 @@ fn pass_instruction(
         let made = instruction_standing told bases.now statement.now operation in
         OnOk result (standing.new ≡ kept keeps standing.old made) }
     ensures fault { let told = told_by places.now in
-        let made = resolved operation (instruction_context told bases.now statement.now) statement.now.stmt.operand in
+        let made = instruction_or_fault operation (instruction_context told bases.now statement.now) statement.now.stmt.operand in
         IfOk result (λ fault. fault ≡ lower (result_err made) (literals_fault told number statement.now)) }
 {
     let literals = literals_fault(alloc, places, number, statement)?;
@@ -142,8 +141,8 @@ fn end_fault(
     }
 }
 
-/// Appends what a directive makes, if it is kept. Its fault is answered, if it has one, USING and DROP apart.
-#[tactic(auto, using(crate::proofs::JoinLemmas::kept_nothing, crate::proofs::FaultLemmas::lower_nothing), unfolding(cx_operands::specs::Directives::bases_in))]
+/// Appends what a directive makes, if it is kept. Its fault is answered, if it has one, except that of USING or DROP.
+#[tactic(auto, using(crate::proofs::JoinLemmas::kept_nothing, crate::proofs::FaultLemmas::lower_nothing), unfolding(cx_asm_operands::specs::Directives::bases_in))]
 fn pass_directive(
     alloc: Global,
     places: &Places<'_>,
@@ -175,9 +174,9 @@ fn pass_directive(
     }
 }
 
-/// Appends what a statement of a number, from 0, makes, if it is kept. Its fault is answered, if it has one, those of USING and
-/// DROP apart.
-#[tactic(auto, using(crate::proofs::JoinLemmas::kept_nothing, crate::proofs::RoleLemmas::by_directive, crate::proofs::FaultLemmas::lower_nothing), unfolding(cx_operands::specs::Directives::bases_in))]
+/// Appends what a statement of a number, from 0, makes, if it is kept. Its fault is answered, if it has one, except
+/// that of USING or DROP.
+#[tactic(auto, using(crate::proofs::JoinLemmas::kept_nothing, crate::proofs::RoleLemmas::by_directive, crate::proofs::FaultLemmas::lower_nothing), unfolding(cx_asm_operands::specs::Directives::bases_in))]
 fn pass_operands(
     alloc: Global,
     places: &Places<'_>,
@@ -212,8 +211,8 @@ fn pass_operands(
     }
 }
 
-/// Appends what a statement of a number, from 0, makes, if it is kept and the statement stands in the control section. Its fault
-/// is answered, if it has one, those of USING and DROP apart.
+/// Appends what a statement of a number, from 0, makes, if it is kept and the statement is in the control section. Its
+/// fault is answered, if it has one, except that of USING or DROP.
 #[tactic(auto, using(crate::proofs::JoinLemmas::kept_nothing), unfolding(crate::specs::Resolving::statement_standing))]
 fn pass_statement(
     alloc: Global,
@@ -263,24 +262,9 @@ fn push_last_pool(
     }
 }
 
-/// What statements tell of the one behind them.
-#[derive(Drop)]
-struct Judging {
-    bases: Bases,
-    fault: Option<LineFault>,
-}
-
-impl Model for Judging {
-    ghost use Rattle.cx_second.specs.SecondFaults.{Judged, judged};
-
-    ghost Value = { Judged };
-
-    ghost view = { λ s. judged s.bases s.fault };
-}
-
-/// Goes past the statement of a number, from 0, and appends what it makes, if it is kept. Its lowest fault is answered, if it has
-/// one.
-#[tactic(auto, unfolding(cx_second::specs::SecondFaults::second_fault))]
+/// Goes past the statement of a number, from 0, and appends what it makes, if it is kept. Its lowest fault is answered,
+/// if it has one.
+#[tactic(auto, unfolding(cx_asm_pass2::specs::SecondFaults::second_fault))]
 fn judge(
     alloc: Global,
     places: &Places<'_>,
@@ -307,46 +291,12 @@ fn judge(
     Ok(lower(operands, using))
 }
 
-/// Goes past the statement of a number, from 0, and appends what it makes, if it is kept.
-#[tactic(auto, unfolding(cx_second::specs::SecondFaults::judged_after))]
-fn pass(
-    alloc: Global,
-    places: &Places<'_>,
-    statements: &[Statement<'_>],
-    number: usize,
-    statement: &Statement<'_>,
-    keeps: bool,
-    judging: &mut Judging,
-    standing: &mut Standing,
-) -> Result<(), AllocError>
-    requires { let told = told_by places.now in
-        Fits keeps standing.old (statement_standing told statements.now judging.old.bases statement.now) }
-    ensures judged { let told = told_by places.now in
-        OnOk result (judging.new ≡ judged_after told number statement.now judging.old) }
-    ensures standing { let told = told_by places.now in
-        let made = statement_standing told statements.now judging.old.bases statement.now in
-        OnOk result (standing.new ≡ kept keeps standing.old made) }
-{
-    let fault = judge(
-        alloc,
-        places,
-        statements,
-        number,
-        statement,
-        keeps,
-        &mut judging.bases,
-        standing,
-    )?;
-    judging.fault = first_fault_behind(statement.line(), fault, judging.fault);
-    Ok(())
-}
-
 /// What the second pass over statements finds.
 #[derive(Drop)]
 pub(crate) struct Found {
     /// The first fault: that of the first faulty statement's line with the lowest number, if there is any.
     pub(crate) first: Option<LineFault>,
-    /// What they make in the control section, with the literals behind them, where it is kept.
+    /// What they make in the control section, with the literals after them, where it is kept.
     pub(crate) standing: Standing,
 }
 
@@ -360,33 +310,29 @@ pub(crate) fn second_pass(
     requires { let told = told_by places.now in
         keeps ≡ true → IsWithin 0 (standing_from told statements.now none_in_use statements.now) 65536 }
     ensures first { let told = told_by places.now in
-        IfOk result (λ found. found.first ≡ (judged_behind told (reverse statements.now)).fault) }
+        IfOk result (λ found. found.first ≡ slice_get (second_faults_after told (reverse statements.now)) 0) }
     ensures standing { let told = told_by places.now in
         let all = standing_from told statements.now none_in_use statements.now in
         IfOk result (λ found. keeps ≡ true → found.standing ≡ all) }
 {
     let mut standing = Standing::new(alloc);
-    let mut judging = Judging {
-        bases: Bases::new(),
-        fault: None,
-    };
+    let mut bases = Bases::new();
+    let mut first = None;
     for (number, statement) in statements.iter().enumerate() {
-        pass(
+        let fault = judge(
             alloc,
             places,
             statements,
             number,
             statement,
             keeps,
-            &mut judging,
+            &mut bases,
             &mut standing,
         )?;
+        first = first_fault_behind(statement.line(), fault, first);
     }
     push_last_pool(alloc, places, statements, keeps, &mut standing)?;
-    Ok(Found {
-        first: judging.fault,
-        standing,
-    })
+    Ok(Found { first, standing })
 }
 
 /// The faults of all lines in the second pass: of each the lowest, in order.

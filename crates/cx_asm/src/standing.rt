@@ -1,15 +1,15 @@
-//! What stands in the control section, in the making.
+//! What is in the control section, in the making.
 
 ghost use Rattle.std.specs.Prelude.{◌≡◌, ◌++◌, ◌∷◌, [], IfOk, OnOk, true};
 ghost use Rattle.std.specs.List.{repeat};
 ghost use Rattle.cx_asm.specs.Laws.Standing.{IsWithin, WordsApart};
 ghost use Rattle.cx_asm.specs.Parts.Kept.{Fits, kept};
-ghost use Rattle.cx_asm.specs.Resolving.{data_line, joined, line as resolved_line, nothing, relocated, space_line, standing};
+ghost use Rattle.cx_asm.specs.Resolving.{data_line, join_sections, line as resolved_line, empty_section, relocated_offsets, space_line, standing};
 ghost use Rattle.cx_code.specs.declared.disassembly.What.TheVariants.{Code};
 
+use cx_asm_expressions::ConstantBytes;
+use cx_asm_image::{ResolvedLines, push_words};
 use cx_code::{Bytes, Inst, Line, What};
-use cx_image::{ResolvedLines, push_words};
-use cx_terms::ConstantBytes;
 use std::alloc::{AllocError, Global};
 use std::marker::Model;
 
@@ -28,7 +28,7 @@ impl Model for Standing {
     ghost view = { λ s. standing s.lines s.relocs.items };
 }
 
-/// So many copies of bytes.
+/// `copies` copies of bytes.
 #[tactic(auto, using(crate::proofs::JoinLemmas::copies_more, crate::proofs::JoinLemmas::copies_empty))]
 fn copies(alloc: Global, bytes: &[u8], count: u32) -> Result<Vec<u8>, AllocError>
     ensures { IfOk result (λ found. found.items ≡ repeat count bytes.now) }
@@ -51,8 +51,8 @@ fn push_relocated(
     count: u32,
     is_relocated: bool,
 ) -> Result<(), AllocError>
-    requires { WordsApart 0 (relocated at count is_relocated) 65536 }
-    ensures { OnOk result (relocs.new.items ≡ relocs.old.items ++ relocated at count is_relocated) }
+    requires { WordsApart 0 (relocated_offsets at count is_relocated) 65536 }
+    ensures { OnOk result (relocs.new.items ≡ relocs.old.items ++ relocated_offsets at count is_relocated) }
 {
     if !is_relocated || count == 0 {
         return Ok(());
@@ -63,7 +63,7 @@ fn push_relocated(
 impl Standing {
     /// Nothing yet. It takes no memory.
     pub(crate) fn new(alloc: Global) -> Standing
-        ensures { result ≡ nothing }
+        ensures { result ≡ empty_section }
     {
         Standing {
             lines: ResolvedLines::new(alloc),
@@ -71,10 +71,10 @@ impl Standing {
         }
     }
 
-    /// Appends a line, which stands behind those before it.
+    /// Appends a line, which begins at or past the end of those before it.
     fn push(&mut self, line: Line) -> Result<(), AllocError>
-        requires { IsWithin 0 (joined self.old (standing (line ∷ []) [])) 65536 }
-        ensures { OnOk result (self.new ≡ joined self.old (standing (line ∷ []) [])) }
+        requires { IsWithin 0 (join_sections self.old (standing (line ∷ []) [])) 65536 }
+        ensures { OnOk result (self.new ≡ join_sections self.old (standing (line ∷ []) [])) }
     {
         self.lines.push(line)
     }
@@ -88,9 +88,9 @@ impl Standing {
         made: &ConstantBytes,
         keeps: bool,
     ) -> Result<(), AllocError>
-        requires { let words = relocated at count made.now.is_relocated in
+        requires { let words = relocated_offsets at count made.now.is_relocated in
             Fits keeps self.old (standing (data_line at (repeat count made.now.bytes)) words) }
-        ensures { let words = relocated at count made.now.is_relocated in
+        ensures { let words = relocated_offsets at count made.now.is_relocated in
             OnOk result (self.new ≡ kept keeps self.old (standing (data_line at (repeat count made.now.bytes)) words)) }
     {
         if !keeps {

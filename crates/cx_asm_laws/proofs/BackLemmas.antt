@@ -9,36 +9,36 @@ use Rattle.cx_code.specs.declared.disassembly.What.TheVariants.{Code, Space}
 use Rattle.cx_code.specs.Lines.{lines}
 use Rattle.cx_code.specs.Spelling.{Instruction as Made_instruction, IsWellFormed}
 use Rattle.cx_source.specs.declared.source.Source.{Source}
-use Rattle.cx_terms.specs.Bytes.{Made}
-use Rattle.cx_terms.specs.Items.{Constant, constant_in, size_of as constant_size}
-use Rattle.cx_terms.specs.declared.faults.FaultKind.{FaultKind}
-use Rattle.cx_pools.specs.Pools.{Placed}
-use Rattle.cx_places.specs.Given.{location_counter}
-use Rattle.cx_places.specs.Known.{is_control, role_in}
-use Rattle.cx_places.specs.Placed.{known_of}
-use Rattle.cx_places.specs.declared.roles.Role.{Role}
-use Rattle.cx_places.specs.declared.roles.Role.TheVariants.{Unknown, Instruction, Control, Dummy, Equate, Storage, Pool, Registers, Member, Nothing}
-use Rattle.cx_operations.specs.Operations.{base_row}
-use Rattle.cx_operations.specs.declared.operations.Operation.{Operation}
-use Rattle.cx_operands.specs.Bases.{Bases, none_in_use}
-use Rattle.cx_operands.specs.Context.{Context}
-use Rattle.cx_operands.specs.Forms.{resolved}
-use Rattle.cx_image.specs.Laws.Cover.{AreWellFormed}
-use Rattle.cx_image.specs.Resolved.{AreApart}
-use Rattle.cx_image.specs.Spans.{span_of}
-use Rattle.cx_image.specs.Text.{text_of}
-use Rattle.cx_second.specs.SecondFaults.{bases_after}
-use Rattle.cx_second.specs.Statements.{Stated, operation_of, placed_items, statements_of}
-use Rattle.cx_second.specs.Whole.{Whole, instruction_context, item_made, pool_of, whole_of}
+use Rattle.cx_asm_expressions.specs.Bytes.{CopyOfConstant}
+use Rattle.cx_asm_expressions.specs.Items.{Constant, constant_in, size_of as constant_size}
+use Rattle.cx_asm_expressions.specs.declared.faults.FaultKind.{FaultKind}
+use Rattle.cx_asm_pools.specs.Pools.{PlacedLiterals}
+use Rattle.cx_asm_pass1.specs.Given.{location_counter}
+use Rattle.cx_asm_pass1.specs.PassState.{is_control, role_in}
+use Rattle.cx_asm_pass1.specs.Placed.{known_of}
+use Rattle.cx_asm_pass1.specs.declared.roles.Role.{Role}
+use Rattle.cx_asm_pass1.specs.declared.roles.Role.TheVariants.{Unknown, Instruction, Control, Dummy, Equate, Storage, Pool, Registers, Member, Nothing}
+use Rattle.cx_asm_operations.specs.Operations.{base_row}
+use Rattle.cx_asm_operations.specs.declared.operations.Operation.{Operation}
+use Rattle.cx_asm_operands.specs.Bases.{Bases, none_in_use}
+use Rattle.cx_asm_operands.specs.Context.{Context}
+use Rattle.cx_asm_operands.specs.Forms.{instruction_or_fault}
+use Rattle.cx_asm_image.specs.Laws.Cover.{AreWellFormed}
+use Rattle.cx_asm_image.specs.Resolved.{AreApart}
+use Rattle.cx_asm_image.specs.Spans.{span_of}
+use Rattle.cx_asm_image.specs.Text.{text_of}
+use Rattle.cx_asm_pass2.specs.SecondFaults.{bases_after}
+use Rattle.cx_asm_pass2.specs.Statements.{PlacedStatement, operation_of, placed_items, statements_of}
+use Rattle.cx_asm_pass2.specs.Whole.{Whole, instruction_context, item_made, pool_of, whole_of}
 use Rattle.cx_asm.specs.Assembly.{AssemblyParts, assembly_of, section_of, size_of, standing_of}
 use Rattle.cx_asm.specs.Facts.Accepted.{accepted}
 use Rattle.cx_asm.specs.Facts.Bases.{after_sixteen}
 use Rattle.cx_asm.specs.Laws.Standing.{IsWithin}
-use Rattle.cx_asm.specs.Resolving.{constant_standing, counter_at, data_line, data_standing, instruction_standing, item_standing, items_standing, last_pool, line, nothing, pool_standing, role_standing, space_standing, standing_from, statement_standing}
+use Rattle.cx_asm.specs.Resolving.{constant_standing, counter_at, data_line, data_standing, instruction_standing, item_standing, items_standing, last_pool, line, empty_section, pool_standing, role_standing, space_standing, standing_from, statement_standing}
 use Rattle.cx_asm_laws.specs.Laws.Back.{ComesBack}
 
 abbrev pub Resolves : Type 0
-Resolves = (o : Operation) (c : Context) (operand : List ℕ) (made : Made_instruction) → length c.bases ≡ 16 → resolved o c operand ≡ Ok made
+Resolves = (o : Operation) (c : Context) (operand : List ℕ) (made : Made_instruction) → length c.bases ≡ 16 → instruction_or_fault o c operand ≡ Ok made
     → (base_row o ≡ Some made.op) × IsWellFormed made
 
 joined_sound : (one other : List Line) → AreWellFormed one → AreWellFormed other → AreWellFormed (one ++ other)
@@ -49,7 +49,7 @@ data_sound : (at : ℕ) (bytes : List ℕ) → AreWellFormed (data_line at bytes
 data_sound at [] = tt
 data_sound at (byte ∷ bytes) = (tt, tt)
 
-constant_sound : (at : ℕ) (item : Result Constant FaultKind) (made : Result Made FaultKind) → AreWellFormed (constant_standing at item made).lines
+constant_sound : (at : ℕ) (item : Result Constant FaultKind) (made : Result CopyOfConstant FaultKind) → AreWellFormed (constant_standing at item made).lines
 constant_sound at (Ok item) (Ok made) = data_sound at (repeat item.duplication made.bytes)
 constant_sound at (Ok item) (Err fault) = tt
 constant_sound at (Err fault) made = tt
@@ -62,34 +62,34 @@ space_sound : (at : ℕ) (item : Result Constant FaultKind) → AreWellFormed (s
 space_sound at (Ok item) = spaced_sound (constant_size item == 0) at (constant_size item)
 space_sound at (Err fault) = tt
 
-item_sound : (told : Whole) (is_ds : Bool) (s : Stated) (item : List ℕ × ℕ) → AreWellFormed (item_standing told is_ds s item).lines
+item_sound : (told : Whole) (is_ds : Bool) (s : PlacedStatement) (item : List ℕ × ℕ) → AreWellFormed (item_standing told is_ds s item).lines
 item_sound told true s item = space_sound item.1 (constant_in true item.0)
 item_sound told false s item = constant_sound item.1 (constant_in false item.0) (item_made told false (location_counter s.place.section item.1 1) item.0)
 
-items_sound : (told : Whole) (is_ds : Bool) (s : Stated) (items : List (List ℕ × ℕ)) → AreWellFormed (items_standing told is_ds s items).lines
+items_sound : (told : Whole) (is_ds : Bool) (s : PlacedStatement) (items : List (List ℕ × ℕ)) → AreWellFormed (items_standing told is_ds s items).lines
 items_sound told is_ds s [] = tt
 items_sound told is_ds s (item ∷ items) =
     joined_sound (item_standing told is_ds s item).lines (items_standing told is_ds s items).lines (item_sound told is_ds s item) (items_sound told is_ds s items)
 
-pool_sound : (told : Whole) (statements : List Stated) (pool : Placed) → AreWellFormed (pool_standing told statements pool).lines
+pool_sound : (told : Whole) (statements : List PlacedStatement) (pool : PlacedLiterals) → AreWellFormed (pool_standing told statements pool).lines
 pool_sound told statements [] = tt
 pool_sound told statements (e ∷ pool) =
     joined_sound (data_standing told (counter_at statements e.1.user) e.0 e.1.offset).lines (pool_standing told statements pool).lines
     (constant_sound e.1.offset (constant_in false e.0) (item_made told false (counter_at statements e.1.user) e.0)) (pool_sound told statements pool)
 
-module _ (resolves : Resolves) (told : Whole) (statements : List Stated) where
+module _ (resolves : Resolves) (told : Whole) (statements : List PlacedStatement) where
   instruction_sound : (at : ℕ) (result : Result Made_instruction FaultKind) → ((made : Made_instruction) → result ≡ Ok made → IsWellFormed made)
       → AreWellFormed (option_map_or (λ made. line at (Code made) ∷ []) (result_ok result) [])
   instruction_sound at (Ok made) h = (h made refl, tt)
   instruction_sound at (Err fault) h = tt
 
-  operation_sound : (bases : Bases) → length bases ≡ 16 → (s : Stated) (o : Option Operation) → AreWellFormed (option_map_or (instruction_standing told bases s) o nothing).lines
+  operation_sound : (bases : Bases) → length bases ≡ 16 → (s : PlacedStatement) (o : Option Operation) → AreWellFormed (option_map_or (instruction_standing told bases s) o empty_section).lines
   operation_sound bases sixteen s None = tt
   operation_sound bases sixteen s (Some o) =
-      instruction_sound s.place.offset (resolved o (instruction_context told bases s) s.stmt.operand)
+      instruction_sound s.place.offset (instruction_or_fault o (instruction_context told bases s) s.stmt.operand)
       (λ made e. (resolves o (instruction_context told bases s) s.stmt.operand made sixteen e).1)
 
-  role_sound : (bases : Bases) → length bases ≡ 16 → (s : Stated) (role : Role) → AreWellFormed (role_standing told statements bases s role).lines
+  role_sound : (bases : Bases) → length bases ≡ 16 → (s : PlacedStatement) (role : Role) → AreWellFormed (role_standing told statements bases s role).lines
   role_sound bases sixteen s (Instruction size) = operation_sound bases sixteen s (operation_of s)
   role_sound bases sixteen s (Storage is_ds) = items_sound told is_ds s (placed_items s)
   role_sound bases sixteen s Pool = pool_sound told statements (pool_of told s)
@@ -101,15 +101,15 @@ module _ (resolves : Resolves) (told : Whole) (statements : List Stated) where
   role_sound bases sixteen s Member = tt
   role_sound bases sixteen s Nothing = tt
 
-  statement_sound : (bases : Bases) → length bases ≡ 16 → (s : Stated) → AreWellFormed (statement_standing told statements bases s).lines
+  statement_sound : (bases : Bases) → length bases ≡ 16 → (s : PlacedStatement) → AreWellFormed (statement_standing told statements bases s).lines
   unfolding statement_standing
   statement_sound bases sixteen s = within (is_control s.place.section told.control)
     where
-      within : (is : Bool) → AreWellFormed (cond is (role_standing told statements bases s (role_in s.stmt)) nothing).lines
+      within : (is : Bool) → AreWellFormed (cond is (role_standing told statements bases s (role_in s.stmt)) empty_section).lines
       within true = role_sound bases sixteen s (role_in s.stmt)
       within false = tt
 
-  from_sound : (bases : Bases) → length bases ≡ 16 → (rest : List Stated) → AreWellFormed (standing_from told statements bases rest).lines
+  from_sound : (bases : Bases) → length bases ≡ 16 → (rest : List PlacedStatement) → AreWellFormed (standing_from told statements bases rest).lines
   from_sound bases sixteen [] = pool_sound told statements (last_pool told)
   from_sound bases sixteen (s ∷ rest) =
       joined_sound (statement_standing told statements bases s).lines (standing_from told statements (bases_after told bases s) rest).lines
@@ -119,7 +119,7 @@ source_sound : Resolves → (source : Source) → AreWellFormed (standing_of sou
 unfolding standing_of
 source_sound resolves source = from_sound resolves (whole_of source) (statements_of source) none_in_use refl (statements_of source)
 
--- an accepted source's resolved lines are those that stand in its control section
+-- an accepted source's resolved lines are those in its control section
 pub resolved_is : (source : Source) (made : AssemblyParts) → assembly_of source ≡ Ok made → (standing_of source).lines ≡ made.section.resolved
 unfolding section_of
 resolved_is source made e = subst (λ (m : AssemblyParts). (standing_of source).lines ≡ m.section.resolved) (accepted source made e).made_is refl

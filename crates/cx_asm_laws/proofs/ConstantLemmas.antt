@@ -1,5 +1,5 @@
--- The constants of an accepted source stand among its resolved lines.
-use Rattle.std.specs.Prelude.{Result, Ok, Err, Contains, ◌==◌, map, reverse}
+-- The constants of an accepted source are among its resolved lines.
+use Rattle.std.specs.Prelude.{Result, Ok, Err, Contains, ◌==◌, map, reverse, slice_get}
 use Rattle.std.specs.List.{AllByRecursion, repeat}
 use Rattle.std.specs.Result.{result_err}
 use Rattle.std.proofs.Common.{◌≡◌, ℕ, Bool, true, false, cond, Option, Some, None, List, [], ◌∷◌, ◌++◌, length, refl, sym, ap, subst, arith}
@@ -9,32 +9,32 @@ use Rattle.std.proofs.lemmas.List.Elements.{Contains-append_left, Contains-appen
 use Rattle.cx_code.specs.declared.disassembly.Line.{Line}
 use Rattle.cx_code.specs.declared.disassembly.What.TheVariants.{Space}
 use Rattle.cx_source.specs.declared.source.Source.{Source}
-use Rattle.cx_terms.specs.Bytes.{Made}
-use Rattle.cx_terms.specs.Faults.{lowest}
-use Rattle.cx_terms.specs.Items.{Constant, constant_in, size_of as constant_size}
-use Rattle.cx_terms.specs.declared.faults.FaultKind.{FaultKind}
-use Rattle.cx_terms.specs.declared.values.Value.{Value}
-use Rattle.cx_pools.specs.Pools.{Placed}
-use Rattle.cx_places.specs.Facts.Laid.{lower_none}
-use Rattle.cx_places.specs.Given.{location_counter}
-use Rattle.cx_places.specs.Known.{role_in}
-use Rattle.cx_places.specs.Laws.FirstFaults.{AreSound, IsFirstOf}
-use Rattle.cx_places.specs.Roles.{role_of}
-use Rattle.cx_places.specs.declared.roles.Role.{Role}
-use Rattle.cx_places.specs.declared.roles.Role.TheVariants.{Unknown, Instruction, Control, Dummy, Equate, Storage, Pool, Registers, Member, Nothing}
-use Rattle.cx_operations.specs.declared.operations.Directive.{Directive}
-use Rattle.cx_operations.specs.declared.operations.Directive.TheVariants as directive
-use Rattle.cx_operations.specs.declared.operations.Operation.{Operation}
-use Rattle.cx_operations.specs.declared.operations.Operation.TheVariants as operation
-use Rattle.cx_operands.specs.Bases.{Bases, none_in_use}
-use Rattle.cx_operands.specs.Values.{item_in}
-use Rattle.cx_second.specs.SecondFaults.{bases_after, item_fault, items_fault, judged_behind, operand_fault, second_fault}
-use Rattle.cx_second.specs.Statements.{Stated, operation_of, placed_items, statements_of}
-use Rattle.cx_second.specs.Whole.{Whole, item_made, pool_of, whole_of}
-use Rattle.cx_asm.specs.Assembly.{second_fault_of, standing_of}
+use Rattle.cx_asm_expressions.specs.Bytes.{CopyOfConstant}
+use Rattle.cx_asm_expressions.specs.Faults.{lowest}
+use Rattle.cx_asm_expressions.specs.Items.{Constant, constant_in, size_of as constant_size}
+use Rattle.cx_asm_expressions.specs.declared.faults.FaultKind.{FaultKind}
+use Rattle.cx_asm_expressions.specs.declared.values.Value.{Value}
+use Rattle.cx_asm_pools.specs.Pools.{PlacedLiterals}
+use Rattle.cx_asm_pass1.specs.Facts.Laid.{lower_none}
+use Rattle.cx_asm_pass1.specs.Given.{location_counter}
+use Rattle.cx_asm_pass1.specs.PassState.{role_in}
+use Rattle.cx_asm_pass1.specs.Laws.FirstFaults.{AreSound, IsFirstOf}
+use Rattle.cx_asm_pass1.specs.Roles.{role_of}
+use Rattle.cx_asm_pass1.specs.declared.place.LineFault.{LineFault}
+use Rattle.cx_asm_pass1.specs.declared.roles.Role.{Role}
+use Rattle.cx_asm_pass1.specs.declared.roles.Role.TheVariants.{Unknown, Instruction, Control, Dummy, Equate, Storage, Pool, Registers, Member, Nothing}
+use Rattle.cx_asm_operations.specs.declared.operations.Directive.{Directive}
+use Rattle.cx_asm_operations.specs.declared.operations.Directive.TheVariants as directive
+use Rattle.cx_asm_operations.specs.declared.operations.Operation.{Operation}
+use Rattle.cx_asm_operations.specs.declared.operations.Operation.TheVariants as operation
+use Rattle.cx_asm_operands.specs.Bases.{Bases, none_in_use}
+use Rattle.cx_asm_pass2.specs.SecondFaults.{bases_after, bases_behind, item_fault, items_fault, operand_fault, second_fault, second_faults_after}
+use Rattle.cx_asm_pass2.specs.Statements.{PlacedStatement, operation_of, placed_items, statements_of}
+use Rattle.cx_asm_pass2.specs.Whole.{Whole, item_made, pool_of, whole_of}
+use Rattle.cx_asm.specs.Assembly.{second_faults_of, standing_of}
 use Rattle.cx_asm.specs.Facts.Accepted.{accepted}
 use Rattle.cx_asm.specs.Laws.SecondFirst.{second_faults_behind}
-use Rattle.cx_asm.specs.Resolving.{constant_standing, counter_at, data_line, data_standing, item_standing, items_standing, last_pool, line, nothing, pool_standing, role_standing, space_standing, standing_from, statement_standing}
+use Rattle.cx_asm.specs.Resolving.{constant_standing, counter_at, data_line, data_standing, item_standing, items_standing, last_pool, line, empty_section, pool_standing, role_standing, space_standing, standing_from, statement_standing}
 use Rattle.cx_asm_laws.specs.Laws.Constants.{AcceptedStand, AreAmong, ConstantsStand, IsData, IsSpace, ItemStands, PoolStands, RoleStands, StatementStands}
 use Rattle.cx_asm_laws.proofs.BackLemmas.{resolved_is}
 
@@ -70,14 +70,13 @@ spaced_among resolved at size false h = (h _ (here _), tt)
 -- ---- items
 made_written : (told : Whole) (is_ds : Bool) (counter : Option Value) (text : List ℕ) (fault : FaultKind) → constant_in is_ds text ≡ Err fault
     → item_made told is_ds counter text ≡ Err fault
-unfolding item_in
 made_written told is_ds counter text fault e = rw e refl
 
-no_value : (one : Result Made FaultKind) (fault : FaultKind) → one ≡ Err fault → result_err one ≡ None → ⊥
+no_value : (one : Result CopyOfConstant FaultKind) (fault : FaultKind) → one ≡ Err fault → result_err one ≡ None → ⊥
 no_value (Ok made) fault e f = cc
 no_value (Err other) fault e f = cc
 
-record HasNoFault (told : Whole) (s : Stated) : Type 0 where
+record HasNoFault (told : Whole) (s : PlacedStatement) : Type 0 where
   bases : Bases
   number : ℕ
   none : second_fault told bases number s ≡ None
@@ -99,7 +98,7 @@ module _ (told : Whole) (resolved : List Line) where
       → Has resolved (data_standing told counter item.0 item.1).lines → IsData told resolved counter item
   data_stands counter item sound h = go (constant_in false item.0) (item_made told false counter item.0) refl refl sound h
     where
-      go : (found : Result Constant FaultKind) (made : Result Made FaultKind) → constant_in false item.0 ≡ found → item_made told false counter item.0 ≡ made
+      go : (found : Result Constant FaultKind) (made : Result CopyOfConstant FaultKind) → constant_in false item.0 ≡ found → item_made told false counter item.0 ≡ made
           → result_err made ≡ None → Has resolved (constant_standing item.1 found made).lines → IsData told resolved counter item
       go (Ok constant) (Ok made) e f sound h = record {
         constant = constant;
@@ -111,12 +110,12 @@ module _ (told : Whole) (resolved : List Line) where
       go (Err fault) (Ok made) e f sound h = absurd (no_value (item_made told false counter item.0) fault (made_written told false counter item.0 fault e) (ap result_err f))
       go found (Err fault) e f sound h = absurd (no_value (Err fault) fault refl sound)
 
-  item_stands : (is_ds : Bool) (s : Stated) (item : List ℕ × ℕ) → item_fault told is_ds s item ≡ None → Has resolved (item_standing told is_ds s item).lines
+  item_stands : (is_ds : Bool) (s : PlacedStatement) (item : List ℕ × ℕ) → item_fault told is_ds s item ≡ None → Has resolved (item_standing told is_ds s item).lines
       → ItemStands told resolved is_ds s item
   item_stands true s item sound h = space_stands (location_counter s.place.section item.1 1) item sound h
   item_stands false s item sound h = data_stands (location_counter s.place.section item.1 1) item sound h
 
-  items_stand : (is_ds : Bool) (s : Stated) (items : List (List ℕ × ℕ)) → lowest (map (item_fault told is_ds s) items) ≡ None
+  items_stand : (is_ds : Bool) (s : PlacedStatement) (items : List (List ℕ × ℕ)) → lowest (map (item_fault told is_ds s) items) ≡ None
       → Has resolved (items_standing told is_ds s items).lines → AllByRecursion (ItemStands told resolved is_ds s) items
   items_stand is_ds s [] sound h = tt
   items_stand is_ds s (item ∷ items) sound h =
@@ -126,18 +125,18 @@ module _ (told : Whole) (resolved : List Line) where
       )
 
   -- ---- literals
-  pool_stands : (statements : List Stated) (pool : Placed) → Has resolved (pool_standing told statements pool).lines → PoolStands told statements resolved pool
+  pool_stands : (statements : List PlacedStatement) (pool : PlacedLiterals) → Has resolved (pool_standing told statements pool).lines → PoolStands told statements resolved pool
   pool_stands statements [] h = tt
   pool_stands statements (e ∷ pool) h = (
     λ constant once written value.
         let there = has_left resolved (data_standing told (counter_at statements e.1.user) e.0 e.1.offset).lines (pool_standing told statements pool).lines h in
         data_among resolved e.1.offset (repeat constant.duplication once.bytes)
-        (has_same resolved (data_standing told (counter_at statements e.1.user) e.0 e.1.offset).lines (data_line e.1.offset (repeat constant.duplication once.bytes)) (rw (written, value) refl) there),
+        (has_same resolved (data_standing told (counter_at statements e.1.user) e.0 e.1.offset).lines (data_line e.1.offset (repeat constant.duplication once.bytes)) (rw (value, written) refl) there),
     pool_stands statements pool (has_right resolved (data_standing told (counter_at statements e.1.user) e.0 e.1.offset).lines (pool_standing told statements pool).lines h),
   )
 
   -- ---- a statement
-  directive_items : (bases : Bases) (number : ℕ) (s : Stated) (d : Directive) (is_ds : Bool) → role_of (Some (operation.Directive d)) ≡ Storage is_ds
+  directive_items : (bases : Bases) (number : ℕ) (s : PlacedStatement) (d : Directive) (is_ds : Bool) → role_of (Some (operation.Directive d)) ≡ Storage is_ds
       → operand_fault told bases number s (Some (operation.Directive d)) ≡ None → items_fault told is_ds s ≡ None
   directive_items bases number s directive.Dc true e f = absurd (cc)
   directive_items bases number s directive.Dc false e f = f
@@ -158,7 +157,7 @@ module _ (told : Whole) (resolved : List Line) where
   directive_items bases number s directive.Eject is_ds e f = absurd (cc)
   directive_items bases number s directive.Space is_ds e f = absurd (cc)
 
-  operation_items : (bases : Bases) (number : ℕ) (s : Stated) (o : Option Operation) (is_ds : Bool) → role_of o ≡ Storage is_ds
+  operation_items : (bases : Bases) (number : ℕ) (s : PlacedStatement) (o : Option Operation) (is_ds : Bool) → role_of o ≡ Storage is_ds
       → operand_fault told bases number s o ≡ None → items_fault told is_ds s ≡ None
   operation_items bases number s None is_ds e f = absurd (cc)
   operation_items bases number s (Some (operation.Machine op)) is_ds e f = absurd (cc)
@@ -166,11 +165,11 @@ module _ (told : Whole) (resolved : List Line) where
   operation_items bases number s (Some (operation.RegisterBranch branch)) is_ds e f = absurd (cc)
   operation_items bases number s (Some (operation.Directive d)) is_ds e f = directive_items bases number s d is_ds e f
 
-  no_operand_fault : (bases : Bases) (number : ℕ) (s : Stated) → second_fault told bases number s ≡ None → operand_fault told bases number s (operation_of s) ≡ None
+  no_operand_fault : (bases : Bases) (number : ℕ) (s : PlacedStatement) → second_fault told bases number s ≡ None → operand_fault told bases number s (operation_of s) ≡ None
   unfolding second_fault
   no_operand_fault bases number s e = e
 
-  role_stands : (statements : List Stated) (bases : Bases) (s : Stated) (role : Role) → role_in s.stmt ≡ role → HasNoFault told s
+  role_stands : (statements : List PlacedStatement) (bases : Bases) (s : PlacedStatement) (role : Role) → role_in s.stmt ≡ role → HasNoFault told s
       → Has resolved (role_standing told statements bases s role).lines → RoleStands told statements resolved s role
   role_stands statements bases s (Storage is_ds) e sound h =
       items_stand is_ds s (placed_items s) (operation_items sound.bases sound.number s (operation_of s) is_ds e (no_operand_fault sound.bases sound.number s sound.none)) h
@@ -184,15 +183,15 @@ module _ (told : Whole) (resolved : List Line) where
   role_stands statements bases s Member e sound h = tt
   role_stands statements bases s Nothing e sound h = tt
 
-  statement_stands : (statements : List Stated) (bases : Bases) (s : Stated) → HasNoFault told s → Has resolved (statement_standing told statements bases s).lines
+  statement_stands : (statements : List PlacedStatement) (bases : Bases) (s : PlacedStatement) → HasNoFault told s → Has resolved (statement_standing told statements bases s).lines
       → StatementStands told statements resolved s
   unfolding statement_standing
   statement_stands statements bases s sound h within =
       role_stands statements bases s (role_in s.stmt) refl sound
-      (subst (λ is. Has resolved (cond is (role_standing told statements bases s (role_in s.stmt)) nothing).lines) within h)
+      (subst (λ is. Has resolved (cond is (role_standing told statements bases s (role_in s.stmt)) empty_section).lines) within h)
 
   -- ---- all of them
-  all_stand : (statements : List Stated) (bases : Bases) (rest : List Stated) → AllByRecursion (HasNoFault told) rest → Has resolved (standing_from told statements bases rest).lines
+  all_stand : (statements : List PlacedStatement) (bases : Bases) (rest : List PlacedStatement) → AllByRecursion (HasNoFault told) rest → Has resolved (standing_from told statements bases rest).lines
       → AllByRecursion (StatementStands told statements resolved) rest
   all_stand statements bases [] sound h = tt
   all_stand statements bases (s ∷ rest) sound h = (
@@ -202,7 +201,7 @@ module _ (told : Whole) (resolved : List Line) where
         (has_right resolved (statement_standing told statements bases s).lines (standing_from told statements (bases_after told bases s) rest).lines h),
   )
 
-  last_stands : (statements : List Stated) (bases : Bases) (rest : List Stated) → Has resolved (standing_from told statements bases rest).lines
+  last_stands : (statements : List PlacedStatement) (bases : Bases) (rest : List PlacedStatement) → Has resolved (standing_from told statements bases rest).lines
       → PoolStands told statements resolved (last_pool told)
   last_stands statements bases [] h = pool_stands statements (last_pool told) h
   last_stands statements bases (s ∷ rest) h =
@@ -210,23 +209,23 @@ module _ (told : Whole) (resolved : List Line) where
       (has_right resolved (statement_standing told statements bases s).lines (standing_from told statements (bases_after told bases s) rest).lines h)
 
   -- ---- none of them has a fault
-  each_sound : (behind : List Stated) → AreSound (second_faults_behind told behind) → AllByRecursion (HasNoFault told) behind
+  each_sound : (behind : List PlacedStatement) → AreSound (second_faults_behind told behind) → AllByRecursion (HasNoFault told) behind
   each_sound [] h = tt
-  each_sound (s ∷ before) h = (record { bases = (judged_behind told before).bases; number = length before; none = h.0 }, each_sound before h.1)
+  each_sound (s ∷ before) h = (record { bases = bases_behind told before; number = length before; none = h.0 }, each_sound before h.1)
 
-  onto : (some : List Stated) (more : List Stated) → AllByRecursion (HasNoFault told) some → AllByRecursion (HasNoFault told) more → AllByRecursion (HasNoFault told) (some ++ more)
+  onto : (some : List PlacedStatement) (more : List PlacedStatement) → AllByRecursion (HasNoFault told) some → AllByRecursion (HasNoFault told) more → AllByRecursion (HasNoFault told) (some ++ more)
   onto [] more h k = k
   onto (s ∷ some) more h k = (h.0, onto some more h.1 k)
 
-  turned : (some : List Stated) → AllByRecursion (HasNoFault told) some → AllByRecursion (HasNoFault told) (reverse some)
+  turned : (some : List PlacedStatement) → AllByRecursion (HasNoFault told) some → AllByRecursion (HasNoFault told) (reverse some)
   turned [] h = tt
   turned (s ∷ some) h = subst (AllByRecursion (HasNoFault told)) (sym (reverse_onto some s [])) (onto (reverse some) (s ∷ []) (turned some h.1) (h.0, tt))
 
-no_faults : ((told : Whole) (statements : List Stated) → IsFirstOf (second_faults_behind told statements) (judged_behind told statements).fault)
-    → (source : Source) → second_fault_of source ≡ None → AreSound (second_faults_behind (whole_of source) (reverse (statements_of source)))
-unfolding second_fault_of
+no_faults : ((told : Whole) (statements : List PlacedStatement) → IsFirstOf (second_faults_behind told statements) (slice_get (second_faults_after told statements) 0))
+    → (source : Source) → second_faults_of source ≡ [] → AreSound (second_faults_behind (whole_of source) (reverse (statements_of source)))
+unfolding second_faults_of
 no_faults first source e =
-    subst (λ f. IsFirstOf (second_faults_behind (whole_of source) (reverse (statements_of source))) f) e (first (whole_of source) (reverse (statements_of source)))
+    subst (λ f. IsFirstOf (second_faults_behind (whole_of source) (reverse (statements_of source))) f) (ap (λ (l : List LineFault). slice_get l 0) e) (first (whole_of source) (reverse (statements_of source)))
 
 standing_stands : (source : Source) → AreSound (second_faults_behind (whole_of source) (reverse (statements_of source))) → ConstantsStand source (standing_of source).lines
 unfolding standing_of Has
@@ -241,6 +240,6 @@ standing_stands source sound =
       last = last_stands told resolved (statements_of source) none_in_use (statements_of source) (λ l k. k);
     }
 
-pub constants_stand : ((told : Whole) (statements : List Stated) → IsFirstOf (second_faults_behind told statements) (judged_behind told statements).fault) → AcceptedStand
+pub constants_stand : ((told : Whole) (statements : List PlacedStatement) → IsFirstOf (second_faults_behind told statements) (slice_get (second_faults_after told statements) 0)) → AcceptedStand
 constants_stand first source made e =
     subst (ConstantsStand source) (resolved_is source made e) (standing_stands source (no_faults first source (accepted source made e).second))

@@ -1,4 +1,4 @@
--- Words that stand apart are no fault of an image.
+-- Words that share no byte are no fault of an image.
 use Rattle.std.specs.Prelude.{IsTrue, ◌&&◌, nat_le, not}
 use Rattle.std.proofs.Common.{◌≡◌, ◌≤◌, ℕ, ◌+◌, Bool, true, false, List, [], ◌∷◌, length, refl, arith}
 use Rattle.std.proofs.lemmas.Bool.Decides.{nat_tests}

@@ -14,28 +14,31 @@ ghost use Rattle.cx_asm_laws.specs.Laws.Constants.{AcceptedStand};
 pub fn an_assembled_image_is_refused_for_little()
     ensures inside { (source : Source) (made : AssemblyParts) → assembly_of source ≡ Ok made
         → IsTrue (are_inside (length made.section.image.text) made.section.image.relocs) }
-    ensures apart { (source : Source) (made : AssemblyParts) → assembly_of source ≡ Ok made → IsTrue (all_apart made.section.image.relocs) }
+    ensures apart { (source : Source) (made : AssemblyParts) → assembly_of source ≡ Ok made
+        → IsTrue (all_apart made.section.image.relocs) }
     ensures refused { (source : Source) (made : AssemblyParts) (fault : ImageFault) → assembly_of source ≡ Ok made
         → IsLowestFault made.section.image fault → (fault ≢ RelocOutside) × (fault ≢ Overlap) }
-    ensures length { (source : Source) (made : AssemblyParts) → assembly_of source ≡ Ok made → IsLowestFault made.section.image BadLength
+    ensures length { (source : Source) (made : AssemblyParts) → assembly_of source ≡ Ok made
+        → IsLowestFault made.section.image BadLength
         → size_of source ≡ 0 }
 {
     cx_asm::laws::an_assembly_stands_apart();
     cx_load::laws::words_in_order();
 }
 
-/// What was assembled comes back: the disassembly of an accepted source's text by its spans is what stands in its control
+/// What was assembled comes back: the disassembly of an accepted source's text by its spans is what is in its control
 /// section.
 pub fn what_was_assembled_comes_back()
     ensures { ComesBack }
 {
     cx_asm::laws::what_stands_stands_apart();
-    cx_image::laws::lines_come_back();
-    cx_operands::laws::what_is_resolved_is_well_formed();
+    cx_asm_image::laws::lines_come_back();
+    cx_asm_operands::laws::what_is_resolved_is_well_formed();
 }
 
-/// In an accepted source each item of a DC or DS in the control section is a constant, a DC's with a value, and stands among the
-/// resolved lines at its offset: with the bytes of all its copies, a DS's as a space. So does each literal with a value.
+/// In an accepted source each item of a DC or DS in the control section is a constant, a DC's with a value, and is
+/// among the resolved lines at its offset: with the bytes of all its copies, a DS's as a space. So is each literal
+/// with a value.
 pub fn constants_stand_at_their_places()
     ensures { AcceptedStand }
 {

@@ -1,4 +1,4 @@
-//! What comes back of what was assembled, where its constants stand, and what the loader finds in it.
+//! What comes back of what was assembled, where its constants are, and what the loader finds in it.
 #![tactic(auto)]
 
 pub mod laws;

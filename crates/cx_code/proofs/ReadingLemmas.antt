@@ -25,7 +25,7 @@ shift_format Sla h = refl
 shift_format Srda h = refl
 shift_format _ h = cc
 
--- the fields stand in the bytes that they make
+-- the fields are in the bytes that they make
 pub fields_in-bytes : (c : ℕ) (fields : Fields) (rest : List ℕ) → AreInRange fields → fields_in (format_with fields) (bytes_with c fields ++ rest) ≡ fields
 unfolding fields_in
 fields_in-bytes c (Rr r1 r2) rest h =
@@ -180,7 +180,7 @@ length-Reads i bytes h =
     ∙ length_of_fields (code_of i.op) i.fields
     ∙ ap length_of_format h.0.0
 
--- the fields that stand in bytes
+-- the fields that are in bytes
 format_with-fields_in : (f : Format) (b : List ℕ) → format_with (fields_in f b) ≡ f
 unfolding fields_in
 format_with-fields_in form.Rr b = refl
@@ -223,7 +223,7 @@ range_in form.Ss2 b h =
     let five = h.at 5 in
     (omega arith, (omega arith, (omega arith, (omega arith, (omega arith, (omega arith, tt))))))
 
--- the bytes are made of the fields that stand in them
+-- the bytes are made of the fields that are in them
 bytes_with-fields_in : (f : Format) (b : List ℕ) → AreBytes b → length_of_format f ≤ length b → bytes_with (slice_index b 0) (fields_in f b) ≡ take (length_of_format f) b
 unfolding fields_in
 bytes_with-fields_in form.Rr (a ∷ s ∷ rest) h long =
@@ -304,7 +304,7 @@ plain_formed : (op : Op) (b : List ℕ) → AreBytes b → is_shift op ≡ false
 unfolding IsWellFormed
 plain_formed op b h e = (format_with-fields_in (format_of op) b, range_in (format_of op) b h, λ s. cc)
 
--- what is read spells the bytes, a shift's R3 field apart
+-- what is read spells the bytes, apart from a shift's R3 field
 sound_either : (op : Op) (b : List ℕ) (s : Bool) → is_shift op ≡ s → AreBytes b → code_of op ≡ slice_index b 0 → length_of op ≤ length b → Reads (take (length_of op) b) (instruction op (fields_at op b))
 unfolding Reads Spells
 sound_either op b true e h code long =
@@ -352,7 +352,7 @@ reading_first b i e =
     let P : Instruction → Type 0 = λ j. (slice_index b 0 ≡ code_of j.op) × (length_of j.op ≤ length b) in
     subst P parts.whole (sym (code_of-op_at _ _ parts.row), parts.long)
 
--- what is read stands at the front, a shift's R3 field apart
+-- what is read is at the front, apart from a shift's R3 field
 pub reading-sound : (b : List ℕ) (i : Instruction) → AreBytes b → reading b ≡ Some i → (length_of i.op ≤ length b) × Reads (take (length_of i.op) b) i
 unfolding reading
 reading-sound b i h e =

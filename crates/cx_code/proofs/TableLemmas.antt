@@ -1,4 +1,4 @@
--- Each row stands in the list of all rows, under its code and under its mnemonic.
+-- Each row is in the list of all rows, under its code and under its mnemonic.
 use Rattle.std.proofs.Common.{◌≡◌, ℕ, Bool, true, false, cond, List, [], ◌∷◌, Option, Some, refl, eqb, find, eqb-true}
 use Rattle.std.specs.List.{list_all}
 use Rattle.std.specs.Str.{bytes_eq}

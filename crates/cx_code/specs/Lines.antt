@@ -9,7 +9,7 @@ use Rattle.cx_code.specs.declared.disassembly.What.TheVariants.{Code, Data, Spac
 use Rattle.cx_code.specs.Spelling.{Instruction}
 use Rattle.cx_code.specs.Reading.{canonical}
 
--- the bytes of a span that stand in the text; those past its end are left out
+-- the bytes of a span that lie in the text; those past its end are left out
 abbrev pub bytes_in : List ℕ → Span → List ℕ
 bytes_in text span = take span.len (drop span.start text)
 

@@ -26,7 +26,7 @@ pub record Field : Type 0 where
 abbrev pub field : ℕ → ℕ → Field
 field bits value = record { bits = bits; value = value }
 
--- the fields of each format from left to right, behind the operation code: a register, a mask or
+-- the fields of each format from left to right, after the operation code: a register, a mask or
 -- one of two lengths has 4 bits, an immediate byte or a length 8, a displacement 12
 abbrev pub fields_of : Fields → List Field
 fields_of (Rr r1 r2) = field 4 r1 ∷ field 4 r2 ∷ []
@@ -65,13 +65,13 @@ abbrev pub layout : Instruction → List Field
 layout i = field 8 (code_of i.op) ∷ fields_of i.fields
 
 -- the number that fields make side by side, the leftmost highest
-abbrev pub joined : ℕ → List Field → ℕ
-joined left [] = left
-joined left (f ∷ fs) = joined (left * 2 ^ f.bits + f.value) fs
+abbrev pub join_fields : ℕ → List Field → ℕ
+join_fields left [] = left
+join_fields left (f ∷ fs) = join_fields (left * 2 ^ f.bits + f.value) fs
 
 -- the fields side by side, as bytes
 unfoldable pub spelling : Instruction → List ℕ
-spelling i = big_bytes (sum_by (λ f. f.bits) (layout i) / 8) (joined 0 (layout i))
+spelling i = big_bytes (sum_by (λ f. f.bits) (layout i) / 8) (join_fields 0 (layout i))
 
 -- the bytes are the canonical spelling of the instruction
 unfoldable pub Spells : Instruction → List ℕ → Type 0
@@ -87,6 +87,6 @@ with_r3_zero [] = []
 with_r3_zero (code ∷ []) = code ∷ []
 with_r3_zero (code ∷ second ∷ rest) = code ∷ 16 * (second / 16) ∷ rest
 
--- the bytes spell the instruction, a shift's R3 field apart
+-- the bytes spell the instruction, apart from a shift's R3 field
 unfoldable pub Reads : List ℕ → Instruction → Type 0
 Reads bytes i = Spells i (if is_shift i.op then with_r3_zero bytes else bytes)

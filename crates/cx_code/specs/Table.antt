@@ -70,66 +70,66 @@ pub record Row : Type 0 where
   pub code : ℕ
   pub format : Format
 
-abbrev pub of : List ℕ → ℕ → Format → Row
-of name code format = record { name = name; code = code; format = format }
+abbrev pub table_row : List ℕ → ℕ → Format → Row
+table_row name code format = record { name = name; code = code; format = format }
 
 unfoldable pub row_of : Op → Row
-row_of Balr = of (codes "BALR") 0x05 form.Rr
-row_of Bctr = of (codes "BCTR") 0x06 form.Rr
-row_of Bcr = of (codes "BCR") 0x07 form.Rr
-row_of Ltr = of (codes "LTR") 0x12 form.Rr
-row_of Lcr = of (codes "LCR") 0x13 form.Rr
-row_of Clr = of (codes "CLR") 0x15 form.Rr
-row_of Xr = of (codes "XR") 0x17 form.Rr
-row_of Lr = of (codes "LR") 0x18 form.Rr
-row_of Cr = of (codes "CR") 0x19 form.Rr
-row_of Ar = of (codes "AR") 0x1A form.Rr
-row_of Sr = of (codes "SR") 0x1B form.Rr
-row_of Mr = of (codes "MR") 0x1C form.Rr
-row_of Dr = of (codes "DR") 0x1D form.Rr
-row_of Sth = of (codes "STH") 0x40 form.Rx
-row_of La = of (codes "LA") 0x41 form.Rx
-row_of Stc = of (codes "STC") 0x42 form.Rx
-row_of Ic = of (codes "IC") 0x43 form.Rx
-row_of Ex = of (codes "EX") 0x44 form.Rx
-row_of Bal = of (codes "BAL") 0x45 form.Rx
-row_of Bct = of (codes "BCT") 0x46 form.Rx
-row_of Bc = of (codes "BC") 0x47 form.Rx
-row_of Lh = of (codes "LH") 0x48 form.Rx
-row_of Ch = of (codes "CH") 0x49 form.Rx
-row_of Ah = of (codes "AH") 0x4A form.Rx
-row_of Sh = of (codes "SH") 0x4B form.Rx
-row_of Cvd = of (codes "CVD") 0x4E form.Rx
-row_of Cvb = of (codes "CVB") 0x4F form.Rx
-row_of St = of (codes "ST") 0x50 form.Rx
-row_of Cl = of (codes "CL") 0x55 form.Rx
-row_of L = of (codes "L") 0x58 form.Rx
-row_of C = of (codes "C") 0x59 form.Rx
-row_of A = of (codes "A") 0x5A form.Rx
-row_of S = of (codes "S") 0x5B form.Rx
-row_of M = of (codes "M") 0x5C form.Rx
-row_of D = of (codes "D") 0x5D form.Rx
-row_of Srl = of (codes "SRL") 0x88 form.Rs
-row_of Sll = of (codes "SLL") 0x89 form.Rs
-row_of Sra = of (codes "SRA") 0x8A form.Rs
-row_of Sla = of (codes "SLA") 0x8B form.Rs
-row_of Srda = of (codes "SRDA") 0x8E form.Rs
-row_of Stm = of (codes "STM") 0x90 form.Rs
-row_of Tm = of (codes "TM") 0x91 form.Si
-row_of Mvi = of (codes "MVI") 0x92 form.Si
-row_of Ni = of (codes "NI") 0x94 form.Si
-row_of Cli = of (codes "CLI") 0x95 form.Si
-row_of Oi = of (codes "OI") 0x96 form.Si
-row_of Lm = of (codes "LM") 0x98 form.Rs
-row_of Stcm = of (codes "STCM") 0xBE form.Rs
-row_of Icm = of (codes "ICM") 0xBF form.Rs
-row_of Mvc = of (codes "MVC") 0xD2 form.Ss
-row_of Clc = of (codes "CLC") 0xD5 form.Ss
-row_of Xc = of (codes "XC") 0xD7 form.Ss
-row_of Tr = of (codes "TR") 0xDC form.Ss
-row_of Trt = of (codes "TRT") 0xDD form.Ss
-row_of Pack = of (codes "PACK") 0xF2 form.Ss2
-row_of Unpk = of (codes "UNPK") 0xF3 form.Ss2
+row_of Balr = table_row (codes "BALR") 0x05 form.Rr
+row_of Bctr = table_row (codes "BCTR") 0x06 form.Rr
+row_of Bcr = table_row (codes "BCR") 0x07 form.Rr
+row_of Ltr = table_row (codes "LTR") 0x12 form.Rr
+row_of Lcr = table_row (codes "LCR") 0x13 form.Rr
+row_of Clr = table_row (codes "CLR") 0x15 form.Rr
+row_of Xr = table_row (codes "XR") 0x17 form.Rr
+row_of Lr = table_row (codes "LR") 0x18 form.Rr
+row_of Cr = table_row (codes "CR") 0x19 form.Rr
+row_of Ar = table_row (codes "AR") 0x1A form.Rr
+row_of Sr = table_row (codes "SR") 0x1B form.Rr
+row_of Mr = table_row (codes "MR") 0x1C form.Rr
+row_of Dr = table_row (codes "DR") 0x1D form.Rr
+row_of Sth = table_row (codes "STH") 0x40 form.Rx
+row_of La = table_row (codes "LA") 0x41 form.Rx
+row_of Stc = table_row (codes "STC") 0x42 form.Rx
+row_of Ic = table_row (codes "IC") 0x43 form.Rx
+row_of Ex = table_row (codes "EX") 0x44 form.Rx
+row_of Bal = table_row (codes "BAL") 0x45 form.Rx
+row_of Bct = table_row (codes "BCT") 0x46 form.Rx
+row_of Bc = table_row (codes "BC") 0x47 form.Rx
+row_of Lh = table_row (codes "LH") 0x48 form.Rx
+row_of Ch = table_row (codes "CH") 0x49 form.Rx
+row_of Ah = table_row (codes "AH") 0x4A form.Rx
+row_of Sh = table_row (codes "SH") 0x4B form.Rx
+row_of Cvd = table_row (codes "CVD") 0x4E form.Rx
+row_of Cvb = table_row (codes "CVB") 0x4F form.Rx
+row_of St = table_row (codes "ST") 0x50 form.Rx
+row_of Cl = table_row (codes "CL") 0x55 form.Rx
+row_of L = table_row (codes "L") 0x58 form.Rx
+row_of C = table_row (codes "C") 0x59 form.Rx
+row_of A = table_row (codes "A") 0x5A form.Rx
+row_of S = table_row (codes "S") 0x5B form.Rx
+row_of M = table_row (codes "M") 0x5C form.Rx
+row_of D = table_row (codes "D") 0x5D form.Rx
+row_of Srl = table_row (codes "SRL") 0x88 form.Rs
+row_of Sll = table_row (codes "SLL") 0x89 form.Rs
+row_of Sra = table_row (codes "SRA") 0x8A form.Rs
+row_of Sla = table_row (codes "SLA") 0x8B form.Rs
+row_of Srda = table_row (codes "SRDA") 0x8E form.Rs
+row_of Stm = table_row (codes "STM") 0x90 form.Rs
+row_of Tm = table_row (codes "TM") 0x91 form.Si
+row_of Mvi = table_row (codes "MVI") 0x92 form.Si
+row_of Ni = table_row (codes "NI") 0x94 form.Si
+row_of Cli = table_row (codes "CLI") 0x95 form.Si
+row_of Oi = table_row (codes "OI") 0x96 form.Si
+row_of Lm = table_row (codes "LM") 0x98 form.Rs
+row_of Stcm = table_row (codes "STCM") 0xBE form.Rs
+row_of Icm = table_row (codes "ICM") 0xBF form.Rs
+row_of Mvc = table_row (codes "MVC") 0xD2 form.Ss
+row_of Clc = table_row (codes "CLC") 0xD5 form.Ss
+row_of Xc = table_row (codes "XC") 0xD7 form.Ss
+row_of Tr = table_row (codes "TR") 0xDC form.Ss
+row_of Trt = table_row (codes "TRT") 0xDD form.Ss
+row_of Pack = table_row (codes "PACK") 0xF2 form.Ss2
+row_of Unpk = table_row (codes "UNPK") 0xF3 form.Ss2
 
 abbrev pub name_of : Op → List ℕ
 name_of op = (row_of op).name

@@ -10,13 +10,13 @@ use Rattle.cx_code.specs.Table.{name_of, is_shift}
 use Rattle.cx_code.specs.Spelling.{Instruction}
 
 -- a storage operand with a base, `D(B)`, and with an index or a length before it, `D(X,B)`
-abbrev pub based : ℕ → ℕ → List ℕ
-based d b = decimal d ++ codes "(" ++ decimal b ++ codes ")"
+abbrev pub base_text : ℕ → ℕ → List ℕ
+base_text d b = decimal d ++ codes "(" ++ decimal b ++ codes ")"
 
-abbrev pub indexed : ℕ → ℕ → ℕ → List ℕ
-indexed d x b = decimal d ++ codes "(" ++ decimal x ++ codes "," ++ decimal b ++ codes ")"
+abbrev pub index_text : ℕ → ℕ → ℕ → List ℕ
+index_text d x b = decimal d ++ codes "(" ++ decimal x ++ codes "," ++ decimal b ++ codes ")"
 
--- an RS instruction has its R3 field, or mask, but for a shift
+-- an RS instruction has its R3 field, or mask, except a shift
 abbrev pub third : Bool → ℕ → List ℕ
 third true r3 = []
 third false r3 = decimal r3 ++ codes ","
@@ -25,12 +25,12 @@ third false r3 = decimal r3 ++ codes ","
 -- one more than its field
 unfoldable pub operands : Bool → Fields → List ℕ
 operands shift (Rr r1 r2) = decimal r1 ++ codes "," ++ decimal r2
-operands shift (Rx r1 x2 b2 d2) = decimal r1 ++ codes "," ++ indexed d2 x2 b2
-operands shift (Rs r1 r3 b2 d2) = decimal r1 ++ codes "," ++ third shift r3 ++ based d2 b2
-operands shift (Si i2 b1 d1) = based d1 b1 ++ codes "," ++ decimal i2
-operands shift (Ss l b1 d1 b2 d2) = indexed d1 (l + 1) b1 ++ codes "," ++ based d2 b2
+operands shift (Rx r1 x2 b2 d2) = decimal r1 ++ codes "," ++ index_text d2 x2 b2
+operands shift (Rs r1 r3 b2 d2) = decimal r1 ++ codes "," ++ third shift r3 ++ base_text d2 b2
+operands shift (Si i2 b1 d1) = base_text d1 b1 ++ codes "," ++ decimal i2
+operands shift (Ss l b1 d1 b2 d2) = index_text d1 (l + 1) b1 ++ codes "," ++ base_text d2 b2
 operands shift (Ss2 l1 l2 b1 d1 b2 d2) =
-    indexed d1 (l1 + 1) b1 ++ codes "," ++ indexed d2 (l2 + 1) b2
+    index_text d1 (l1 + 1) b1 ++ codes "," ++ index_text d2 (l2 + 1) b2
 
 -- an instruction is its mnemonic, a blank and its operands
 unfoldable pub instruction_text : Instruction → List ℕ

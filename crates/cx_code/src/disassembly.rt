@@ -16,7 +16,7 @@ pub enum What {
     Code(Inst),
     /// Bytes, perhaps none.
     Data(Bytes),
-    /// So many bytes that nothing was written to.
+    /// This many bytes that nothing was written to.
     Space(u32),
 }
 
@@ -25,7 +25,7 @@ pub enum What {
 pub struct Line {
     /// The offset in the text, in bytes.
     pub at: u32,
-    /// What stands there.
+    /// What is there.
     pub what: What,
 }
 
@@ -38,7 +38,7 @@ fn canonical(bytes: &[u8]) -> Option<Inst>
     (encode(&inst).as_slice() == bytes).then_some(inst)
 }
 
-/// The bytes of a span that stand in the text.
+/// The bytes of a span that lie in the text.
 fn bytes_in<'a>(text: &'a [u8], span: Span) -> &'a [u8]
     ensures { result.now ≡ bytes_in text.now span }
 {
@@ -73,7 +73,7 @@ fn line_of(alloc: Global, text: &[u8], span: Span) -> Result<Line, AllocError>
 /// the text's end are left out of code and data spans, also before a code span is judged; with none
 /// left the line is data without bytes. A space span keeps its length.
 ///
-/// Memory comes only where a growth was refused; without spans it takes none.
+/// Memory comes only where an allocation failed; without spans it takes none.
 pub fn disassemble(alloc: Global, text: &[u8], spans: &[Span]) -> Result<Vec<Line>, AllocError>
     ensures lines { IfOk result (λ found. found.items ≡ lines text.now spans.now) }
     ensures empty { length spans.now ≡ 0 → IsOk result }

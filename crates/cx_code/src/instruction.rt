@@ -123,8 +123,8 @@ impl Model for Inst {
 }
 
 impl Inst {
-    /// The instruction of this row with these fields. `None` where the fields are of another
-    /// format than the row's, one is out of its range, or a shift's third register isn't zero.
+    /// The instruction of this row with these fields. `None` where the fields aren't of the row's
+    /// format, one is out of its range, or a shift's third register isn't zero.
     #[tactic(auto, unfolding(crate::specs::Spelling::IsWellFormed))]
     pub fn new(op: Op, fields: Fields) -> Option<Inst>
         ensures formed { IsSome result ↔ IsWellFormed (instruction op fields) }

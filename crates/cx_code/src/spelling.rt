@@ -27,7 +27,7 @@ impl Model for CodeBytes {
 }
 
 impl CodeBytes {
-    /// The operation code and the byte behind it.
+    /// The operation code and the byte after it.
     fn start(code: u8, second: u8) -> CodeBytes
         ensures { result ≡ code ∷ second ∷ [] }
     {
@@ -37,7 +37,7 @@ impl CodeBytes {
         CodeBytes { bytes }
     }
 
-    /// The bytes with a storage operand's halfword behind them: base and displacement.
+    /// The bytes with a storage operand's halfword after them: base and displacement.
     fn with_address(mut self, base: u8, displacement: u16) -> CodeBytes
         requires room { length self ≤ 4 }
         requires base { base < 16 }
@@ -69,7 +69,7 @@ fn halves(left: u8, right: u8) -> u8
     left << 4 | right
 }
 
-/// The bytes of an operation code and the fields behind it.
+/// The bytes of an operation code and the fields after it.
 fn bytes_of(code: u8, fields: Fields) -> CodeBytes
     requires { AreInRange fields }
     ensures { result ≡ bytes_with code fields }

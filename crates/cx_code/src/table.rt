@@ -1,7 +1,7 @@
 //! The table of instructions.
 
 ghost use Rattle.std.specs.Prelude.{◌≡◌};
-ghost use Rattle.cx_code.specs.Table.{of, row_of, code_of, name_of, format_of, length_of, op_at, op_named, is_shift, length_of_code, length_of_format};
+ghost use Rattle.cx_code.specs.Table.{table_row, row_of, code_of, name_of, format_of, length_of, op_at, op_named, is_shift, length_of_code, length_of_format};
 
 use Op::{
     A, Ah, Ar, Bal, Balr, Bc, Bcr, Bct, Bctr, C, Ch, Cl, Clc, Cli, Clr, Cr, Cvb, Cvd, D, Dr, Ex,
@@ -493,7 +493,7 @@ impl Op {
     /// The row of the table: mnemonic, operation code, format.
     #[tactic(auto, unfolding(crate::specs::Table::row_of))]
     fn row(self) -> (&'static str, u8, Format)
-        ensures { of result.0.now result.1 result.2 ≡ row_of self }
+        ensures { table_row result.0.now result.1 result.2 ≡ row_of self }
     {
         match self {
             Op::Balr => ("BALR", 0x05, Format::Rr),

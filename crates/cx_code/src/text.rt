@@ -1,7 +1,7 @@
 //! The text of a disassembled line.
 
 ghost use Rattle.std.specs.Prelude.{◌≡◌, ◌+◌, ◌++◌, IfOk, OnOk, codes, string_bytes};
-ghost use Rattle.cx_code.specs.Text.{indexed, instruction_text, operands, hex_pair, hex_text, line_text};
+ghost use Rattle.cx_code.specs.Text.{index_text, instruction_text, operands, hex_pair, hex_text, line_text};
 
 use crate::disassembly::{Line, What};
 use crate::instruction::{Fields, Inst};
@@ -11,7 +11,7 @@ use std::fmt::Write;
 /// Writes a storage operand whose length field is `l` at the end of a text: `D(L,B)`, where L is the
 /// count of bytes.
 fn push_counted(text: &mut String, d: u16, l: u8, b: u8) -> Result<(), AllocError>
-    ensures { OnOk result (string_bytes text.new ≡ string_bytes text.old ++ indexed d (l + 1) b) }
+    ensures { OnOk result (string_bytes text.new ≡ string_bytes text.old ++ index_text d (l + 1) b) }
 {
     let count = u16::from(l) + 1;
     write!(text, "{d}({count},{b})")

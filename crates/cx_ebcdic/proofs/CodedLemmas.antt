@@ -51,7 +51,7 @@ none_at : (b : Bool) (k n : ℕ) → cond (nat_lt (cond (not b) (1 + k) 0) (suc 
 none_at true k n h = absurd (grind (arith, nat_tests))
 none_at false k n h = (refl, none_later k n h)
 
--- no place is found behind the first character either
+-- no place is found after the first character either
 none_behind : (p : ℕ → Bool) (x : ℕ) (xs : List ℕ) → position p (x ∷ xs) ≡ None → (p x ≡ false) × (position p xs ≡ None)
 none_behind p x xs h = none_at (p x) (position_or_len p xs) (length xs) h
 
@@ -66,7 +66,7 @@ all_coded f (x ∷ xs) h =
     let parts = none_behind (λ x. is_none (f x)) x xs h in
     present f x (f x) xs refl parts.0 (all_coded f xs parts.1)
 
--- the blanks behind one more code
+-- the blanks after one more code
 pub blanks_more : (bytes : List ℕ) (i code width : ℕ) → i < length bytes → drop i bytes ≡ replicate (width - i) 64 → drop (i + 1) (set bytes i code) ≡ replicate (width - (i + 1)) 64
 blanks_more bytes i code width in_bytes so_far =
     let behind : drop (i + 1) (set bytes i code) ≡ drop (i + 1) bytes = drop-set-lt (i + 1) bytes i code (omega arith) in

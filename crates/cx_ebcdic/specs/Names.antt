@@ -15,13 +15,13 @@ unfoldable pub name_code : ℕ → Option ℕ
 name_code c = if is_name_character c then code_of c else None
 
 -- bytes filled with blanks on the right
-abbrev pub padded : ℕ → List ℕ → List ℕ
-padded width bytes = bytes ++ replicate (width - length bytes) 0x40
+abbrev pub pad : ℕ → List ℕ → List ℕ
+pad width bytes = bytes ++ replicate (width - length bytes) 0x40
 
--- the name of so many bytes that a text spells: 1 to so many name characters
+-- the name of n bytes that a text spells: 1 to n name characters
 unfoldable pub name_of : ℕ → List ℕ → Option (List ℕ)
 name_of width text =
-    if nat_le 1 (length text) && nat_le (length text) width then option_map (padded width) (each_some (map name_code text)) else None
+    if nat_le 1 (length text) && nat_le (length text) width then option_map (pad width) (each_some (map name_code text)) else None
 
 -- whether two names, as their bytes, are the same: tables are searched by it
 abbrev pub is_name : List ℕ → List ℕ → Bool

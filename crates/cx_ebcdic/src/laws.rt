@@ -26,7 +26,7 @@ pub fn names_are_their_bytes()
     ensures { (one other : List ℕ) → (is_name one other ≡ true) ↔ (one ≡ other) }
 {}
 
-/// `==` of two names tells whether they are the same.
+/// `==` of two names says whether they are the same.
 pub fn names_are_compared_by_their_bytes<const WIDTH: usize>(
     one: &Name<WIDTH>,
     other: &Name<WIDTH>,

@@ -21,7 +21,7 @@ pub enum TextFault {
 /// The EBCDIC codes of a text's characters, in order.
 ///
 /// BadCharacter(place) comes where a character has no code: place is the index of the first such,
-/// counted from 0. Memory comes only where a growth was refused, and never for such a text.
+/// counted from 0. Memory comes only where an allocation failed, and never for such a text.
 pub fn encode_line(alloc: Global, text: &str) -> Result<Vec<u8>, TextFault>
     ensures codes { IfOk result (λ bytes. map code_of (chars text.now) ≡ map Some bytes.items) }
     ensures place { (place : _) → IsErrOf result (TextFault.BadCharacter place)

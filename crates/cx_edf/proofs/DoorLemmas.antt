@@ -1,4 +1,4 @@
--- What EDF does with each event, told once for all that follows from it.
+-- What EDF does with each event, said once for all that follows from it.
 use Rattle.std.proofs.Common.{◌≡◌, ℕ, Bool, true, false, List, Some, None, refl, is_some}
 use Rattle.std.specs.Prelude.{◌&&◌, if◌then◌else◌, not}
 use Rattle.cx_region.specs.Tables.{task_of, terminal_of}
@@ -12,7 +12,7 @@ use Rattle.cx_edf.specs.declared.answers.Answer.{Answer}
 use Rattle.cx_edf.specs.declared.answers.Answer.TheVariants as answer
 use Rattle.cx_edf.specs.Sessions.{after_key, fresh_session, with_session}
 use Rattle.cx_edf.specs.State.{EdfState, ends_by_key, holds, session_at, stopped_at}
-use Rattle.cx_edf.specs.Steps.{Door, Keeps, Passes, changed, door_of}
+use Rattle.cx_edf.specs.Steps.{Door, Keeps, Passes, with_session_changed, door_of}
 use Rattle.cx_edf.specs.Laws.Edf.{ends_task, is_edfs}
 use Rattle.cx_edf.proofs.EndLemmas.{ends_live}
 
@@ -51,7 +51,7 @@ fits old (edf_event.Off name) =
     (λ _. (refl, refl)) (λ _ _. (refl, refl)) (λ _ _. (refl, refl))
 fits old (edf_event.Plain (event.Key name aid bytes)) =
     by_tests (Fits old (edf_event.Plain (event.Key name aid bytes))) (ends_by_key old name aid) (stopped_at old name)
-    (Passes (event.Alter name change.Abend) (Some answer.ToEdf)) (Keeps answer.ToEdf (changed old.sessions name (λ session. after_key session aid bytes))) (Passes (event.Key name aid bytes) None)
+    (Passes (event.Alter name change.Abend) (Some answer.ToEdf)) (Keeps answer.ToEdf (with_session_changed old.sessions name (λ session. after_key session aid bytes))) (Passes (event.Key name aid bytes) None)
     (λ ends. (ends, record { name = name; abend = refl; live = ends_live old name aid ends; own_answer = refl })) (λ ends _. (refl, ends)) (λ ends _. (refl, ends))
 fits old (edf_event.Plain (event.Turn name)) =
     by_test (Fits old (edf_event.Plain (event.Turn name))) (holds old name) (Keeps answer.Held old.sessions) (Passes (event.Turn name) None) (λ _. (refl, refl)) (λ _. (refl, refl))

@@ -12,11 +12,11 @@ use Rattle.cx_region.specs.declared.replies.Reply.TheVariants as reply
 use Rattle.cx_region.specs.State.{RegionState}
 use Rattle.cx_region.specs.Tables.{task_of}
 use Rattle.cx_region.specs.Alter.{Alters}
-use Rattle.cx_region.specs.Events.{Happens}
+use Rattle.cx_region.specs.Events.{Applies}
 use Rattle.cx_region_laws.specs.Facts.Alterations.{abends_are_done, alter_reply}
 use Rattle.cx_edf.specs.declared.answers.Answer.TheVariants as answer
 use Rattle.cx_edf.specs.State.{EdfState, ends_by_key, holds, stopped_at}
-use Rattle.cx_edf.specs.Steps.{Passed, sessions_after}
+use Rattle.cx_edf.specs.Steps.{PassesOn, sessions_after}
 
 -- it is met in Stopped with a live task
 ends_held : (old : EdfState) (name : List ℕ) (a : Aid) → ends_by_key old name a ≡ true → holds old name ≡ true
@@ -30,7 +30,7 @@ pub ends_live : (old : EdfState) (name : List ℕ) (a : Aid) → ends_by_key old
 ends_live old name a ends = (and_parts (stopped_at old name) (is_some (task_of old.region name)) (ends_held old name a ends)).1
 
 -- and its alteration is done
-pub ended_reply : (old : RegionState) (name : List ℕ) (r : Reply) (new : RegionState) → is_some (task_of old name) ≡ true → Happens old (event.Alter name change.Abend) r new
+pub ended_reply : (old : RegionState) (name : List ℕ) (r : Reply) (new : RegionState) → is_some (task_of old name) ≡ true → Applies old (event.Alter name change.Abend) r new
     → r ≡ reply.Alter alter.Altered
 ended_reply old name r new live happens =
     let told = alter_reply old name change.Abend r new happens in
@@ -39,8 +39,8 @@ ended_reply old name r new live happens =
 -- so the event is passed
 pub ended_passed : (old v new : EdfState) (name : List ℕ) (given : AlterReply) → old ≡ v → Alters old.region name change.Abend given new.region
     → new.sessions ≡ sessions_after old.sessions (event.Alter name change.Abend) (reply.Alter given) new.region
-    → Passed v (event.Alter name change.Abend) (Some answer.ToEdf) answer.ToEdf new
-unfolding Happens
+    → PassesOn v (event.Alter name change.Abend) (Some answer.ToEdf) answer.ToEdf new
+unfolding Applies
 ended_passed old v new name given same alters table =
-    subst (λ (s : EdfState). Passed s (event.Alter name change.Abend) (Some answer.ToEdf) answer.ToEdf new) same
+    subst (λ (s : EdfState). PassesOn s (event.Alter name change.Abend) (Some answer.ToEdf) answer.ToEdf new) same
     (record { reply = reply.Alter given; happens = alters; table = table; answers = refl })

@@ -7,9 +7,9 @@ use Rattle.std.specs.Option.{option_and_then, option_map_or}
 use Rattle.std.proofs.lemmas.List.{append-nil}
 use Rattle.std.proofs.lemmas.Option.{none-some}
 use Rattle.circular_buffer.specs.Buffer.{keep_last}
-use Rattle.cx_display.specs.declared.displays.Display.{Display}
-use Rattle.cx_display.specs.declared.stops.Kind.{Kind}
-use Rattle.cx_display.specs.Displays.{display_of}
+use Rattle.cx_edf_display.specs.declared.displays.Display.{Display}
+use Rattle.cx_edf_display.specs.declared.stops.StopPoint.{StopPoint}
+use Rattle.cx_edf_display.specs.Displays.{display_of}
 use Rattle.cx_ebcdic.specs.declared.aids.Aid.{Aid}
 use Rattle.cx_ebcdic.specs.declared.aids.Aid.TheVariants as aid
 use Rattle.cx_region.specs.State.{RegionState}
@@ -22,7 +22,7 @@ use Rattle.cx_region.specs.declared.replies.Event.{Event}
 use Rattle.cx_region.specs.declared.replies.Event.TheVariants as event
 use Rattle.cx_region.specs.declared.replies.Reply.{Reply}
 use Rattle.cx_region.specs.declared.replies.Reply.TheVariants as reply
-use Rattle.cx_state.specs.declared.replies.TurnReply.{TurnReply}
+use Rattle.cx_region_state.specs.declared.replies.TurnReply.{TurnReply}
 use Rattle.cx_edf.specs.declared.answers.EdfEvent.{EdfEvent}
 use Rattle.cx_edf.specs.declared.answers.EdfEvent.TheVariants as edf_event
 use Rattle.cx_edf.specs.declared.answers.EdfReply.TheVariants as edf
@@ -30,10 +30,10 @@ use Rattle.cx_edf.specs.declared.answers.Answer.{Answer}
 use Rattle.cx_edf.specs.declared.answers.Answer.TheVariants as answer
 use Rattle.cx_edf.specs.declared.modes.Mode.TheVariants as mode
 use Rattle.cx_edf.specs.declared.modes.PageName.TheVariants as page
-use Rattle.cx_edf.specs.Sessions.{SessionState, Sessions, after_change, after_key, after_reply, fresh_session, older, operators_end, session_in, stop_of_turn, stopped, turned_to, with_session}
+use Rattle.cx_edf.specs.Sessions.{SessionState, Sessions, after_change, after_key, after_reply, fresh_session, older, operators_end, session_in, stop_of_turn, stop_session, turned_to, with_session}
 use Rattle.cx_edf.specs.Stops.{stops_named}
 use Rattle.cx_edf.specs.State.{EdfState, ends_by_key, holds, session_at, stopped_at}
-use Rattle.cx_edf.specs.Steps.{Done, Door, EdfHappens, Keeps, Passes, changed, door_of, sessions_after}
+use Rattle.cx_edf.specs.Steps.{DoorAnswers, Door, EdfApplies, Keeps, Passes, with_session_changed, door_of, sessions_after}
 use Rattle.cx_edf.specs.Erasure.{is_refused, left_in, left_of}
 use Rattle.cx_edf.specs.Runs.{IsKept, displays_after, stop_taken}
 use Rattle.cx_edf.proofs.DoorLemmas.{Fits, by_test, by_tests, fits}
@@ -67,7 +67,7 @@ had_set old name q to all here there = go (is_name name q) refl
 -- one session changed
 had_changed : (old : Sessions) (name q : List ℕ) (to : SessionState → Option SessionState) (all : List Display)
     → ((s : SessionState) → is_name name q ≡ true → session_in old q ≡ Some s → Had (to s) all) → (is_name name q ≡ false → Had (session_in old q) all)
-    → Had (session_in (changed old name to) q) all
+    → Had (session_in (with_session_changed old name to) q) all
 had_changed old name q to all here there = by_session (session_in old name) refl
   where
     found : (o : Option SessionState) → session_in old name ≡ o → is_name name q ≡ true → session_in old q ≡ o
@@ -129,7 +129,7 @@ keeping old (edf_event.Off name) q all kept =
     (λ _ _. had (session_at old q) all kept)
 keeping old (edf_event.Plain (event.Key name a bytes)) q all kept =
     by_tests (Keeping old q all) (ends_by_key old name a) (stopped_at old name)
-    (Passes (event.Alter name change.Abend) (Some answer.ToEdf)) (Keeps answer.ToEdf (changed old.sessions name (λ session. after_key session a bytes))) (Passes (event.Key name a bytes) None)
+    (Passes (event.Alter name change.Abend) (Some answer.ToEdf)) (Keeps answer.ToEdf (with_session_changed old.sessions name (λ session. after_key session a bytes))) (Passes (event.Key name a bytes) None)
     (λ _. tt)
     (λ _ _. had_changed old.sessions name q (λ s. after_key s a bytes) all
     (λ s _ there. had_alike s (after_key s a bytes) all (key_alike s a bytes) (had (session_at old q) all kept s there)) (λ _. had (session_at old q) all kept))
@@ -148,9 +148,9 @@ taken : EdfState → RegionState → List ℕ → List (Event × Reply) → List
 taken old region q left = map (display_of region q) (filter_map (λ (p : Event × Reply). stop_taken old q p.0 p.1) left)
 
 -- a session stopped
-had_stopped : (s : SessionState) (stop : Kind) (display : Display) (all : List Display) → s.displays ≡ keep_last 10 all → Had (Some (stopped s stop display)) (all ++ display ∷ [])
+had_stopped : (s : SessionState) (stop : StopPoint) (display : Display) (all : List Display) → s.displays ≡ keep_last 10 all → Had (Some (stop_session s stop display)) (all ++ display ∷ [])
 had_stopped s stop display all kept t is =
-    subst (λ (x : SessionState). x.displays ≡ keep_last 10 (all ++ display ∷ [])) (let e : stopped s stop display ≡ t = cc in e)
+    subst (λ (x : SessionState). x.displays ≡ keep_last 10 (all ++ display ∷ [])) (let e : stop_session s stop display ≡ t = cc in e)
     (ap (λ ds. keep_last 10 (ds ++ display ∷ [])) kept ∙ keep_one_more 10 all display)
 
 none_more : (o : Option SessionState) (all : List Display) → Had o all → Had o (all ++ [])
@@ -161,7 +161,7 @@ had_replied : (s : SessionState) (r : TurnReply) (region : RegionState) (name q 
 unfolding after_reply
 had_replied s r region name q all same kept = subst (λ (x : List ℕ). Had (Some (after_reply s r (display_of region x))) (all ++ map (display_of region q) (cons_option (stop_of_turn s r) []))) (sym same) (go (stop_of_turn s r))
   where
-    go : (o : Option Kind) → Had (Some (option_map_or (λ stop. stopped s stop (display_of region q stop)) o s)) (all ++ map (display_of region q) (cons_option o []))
+    go : (o : Option StopPoint) → Had (Some (option_map_or (λ stop. stop_session s stop (display_of region q stop)) o s)) (all ++ map (display_of region q) (cons_option o []))
     go None = none_more (Some s) all (had (Some s) all kept)
     go (Some stop) = had_stopped s stop (display_of region q stop) all kept
 
@@ -183,8 +183,8 @@ had_altered : (s : SessionState) (c : Change) (region : RegionState) (name q : L
     → Had (Some (after_change s c (display_of region name))) (all ++ map (display_of region q) (cons_option (stop_taken old q (event.Alter name c) (reply.Alter alter.Altered)) []))
 unfolding after_change
 had_altered s change.Abend region name q all same kept old is =
-    subst (λ (ks : List Kind). Had (Some (stopped s operators_end (display_of region name operators_end))) (all ++ map (display_of region q) ks)) (sym (end_stops (is_name name q) true is))
-    (subst (λ (x : List ℕ). Had (Some (stopped s operators_end (display_of region x operators_end))) (all ++ display_of region q operators_end ∷ [])) (sym same)
+    subst (λ (ks : List StopPoint). Had (Some (stop_session s operators_end (display_of region name operators_end))) (all ++ map (display_of region q) ks)) (sym (end_stops (is_name name q) true is))
+    (subst (λ (x : List ℕ). Had (Some (stop_session s operators_end (display_of region x operators_end))) (all ++ display_of region q operators_end ∷ [])) (sym same)
     (had_stopped s operators_end (display_of region q operators_end) all kept))
 had_altered s change.Nop region name q all same kept old is =
     none_more (Some (record s { mode = mode.Free })) all (λ t e. alike (record s { mode = mode.Free }) t e ∙ kept)
@@ -202,21 +202,21 @@ passing : (old : EdfState) (x : Event) (r : Reply) (region : RegionState) (q : L
 unfolding taken
 passing old (event.Turn name) (reply.Turn r) region q all kept =
     had_changed old.sessions name q (λ s. Some (after_reply s r (display_of region name))) (all ++ map (display_of region q) (cons_option (stop_taken old q (event.Turn name) (reply.Turn r)) []))
-    (λ s is there. subst (λ (ks : List Kind). Had (Some (after_reply s r (display_of region name))) (all ++ map (display_of region q) ks)) (sym (turn_stops old name q r s is there))
+    (λ s is there. subst (λ (ks : List StopPoint). Had (Some (after_reply s r (display_of region name))) (all ++ map (display_of region q) ks)) (sym (turn_stops old name q r s is there))
     (had_replied s r region name q all (same_name name q is) (had (session_at old q) all kept s there)))
-    (λ is. subst (λ (ks : List Kind). Had (session_at old q) (all ++ map (display_of region q) ks)) (sym (turn_elsewhere old name q r is)) (none_more (session_at old q) all (had (session_at old q) all kept)))
+    (λ is. subst (λ (ks : List StopPoint). Had (session_at old q) (all ++ map (display_of region q) ks)) (sym (turn_elsewhere old name q r is)) (none_more (session_at old q) all (had (session_at old q) all kept)))
 passing old (event.Turn name) _ region q all kept = none_more (session_at old q) all (had (session_at old q) all kept)
 passing old (event.Alter name c) (reply.Alter alter.Altered) region q all kept =
     had_changed old.sessions name q (λ s. Some (after_change s c (display_of region name)))
     (all ++ map (display_of region q) (cons_option (stop_taken old q (event.Alter name c) (reply.Alter alter.Altered)) []))
     (λ s is there. had_altered s c region name q all (same_name name q is) (had (session_at old q) all kept s there) old is)
-    (λ is. subst (λ (ks : List Kind). Had (session_at old q) (all ++ map (display_of region q) ks)) (sym (alter_elsewhere c old name q is)) (none_more (session_at old q) all (had (session_at old q) all kept)))
+    (λ is. subst (λ (ks : List StopPoint). Had (session_at old q) (all ++ map (display_of region q) ks)) (sym (alter_elsewhere c old name q is)) (none_more (session_at old q) all (had (session_at old q) all kept)))
 passing old (event.Alter name c) (reply.Alter _) region q all kept = none_more (session_at old q) all (had (session_at old q) all kept)
 passing old (event.Alter name c) _ region q all kept = none_more (session_at old q) all (had (session_at old q) all kept)
 passing old _ r region q all kept = none_more (session_at old q) all (had (session_at old q) all kept)
 
 -- ---- both
-after_door : (old : EdfState) (e : EdfEvent) (door : Door) (given : Answer) (new : EdfState) (q : List ℕ) (all : List Display) → Fits old e door → Keeping old q all door → Done old door given new
+after_door : (old : EdfState) (e : EdfEvent) (door : Door) (given : Answer) (new : EdfState) (q : List ℕ) (all : List Display) → Fits old e door → Keeping old q all door → DoorAnswers old door given new
     → IsKept (session_at old q) all → Had (session_at new q) (all ++ taken old new.region q (left_in door given))
 unfolding Keeping taken
 after_door old e (Keeps own sessions) given new q all fit keeps row kept =
@@ -226,9 +226,9 @@ after_door old e (Passes x own) given new q all fit keeps row kept =
     (subst (λ (s : Sessions). Had (session_in s q) (all ++ taken old new.region q (if is_refused x row.reply then [] else (x, row.reply) ∷ []))) (sym row.table)
     (passing old x row.reply new.region q all kept))
 
-pub kept_after : (old : EdfState) (e : EdfEvent) (given : Answer) (new : EdfState) (q : List ℕ) (all : List Display) → EdfHappens old e given new → IsKept (session_at old q) all
+pub kept_after : (old : EdfState) (e : EdfEvent) (given : Answer) (new : EdfState) (q : List ℕ) (all : List Display) → EdfApplies old e given new → IsKept (session_at old q) all
     → IsKept (session_at new q) (displays_after old e given new q all)
-unfolding EdfHappens displays_after left_of taken
+unfolding EdfApplies displays_after left_of taken
 kept_after old e given new q all row kept =
     had_kept (session_at new q) (all ++ taken old new.region q (left_in (door_of old e) given))
     (after_door old e (door_of old e) given new q all (fits old e) (keeping old e q all kept) row kept)

@@ -5,11 +5,11 @@ use Rattle.std.specs.List.{AllByRecursion}
 use Rattle.std.specs.Option.{option_and_then, option_map_or}
 use Rattle.std.proofs.lemmas.Bool.{true≢false}
 use Rattle.std.proofs.lemmas.Option.{none-some}
-use Rattle.cx_display.specs.declared.stops.Kind.{Kind}
+use Rattle.cx_edf_display.specs.declared.stops.StopPoint.{StopPoint}
 use Rattle.cx_region.specs.State.{RegionState, TerminalState}
 use Rattle.cx_region.specs.Tables.{task_of, terminal_of}
-use Rattle.cx_region.specs.Events.{Happens, Run}
-use Rattle.cx_region.specs.Turn.{TaskTurned, Turned}
+use Rattle.cx_region.specs.Events.{Applies, Run}
+use Rattle.cx_region.specs.Turn.{TaskTakesTurn, TakesTurn}
 use Rattle.cx_region_laws.specs.Laws.Regions.{EventsDecide, RunsDecide}
 use Rattle.cx_region.specs.declared.changes.AlterReply.TheVariants as alter
 use Rattle.cx_region.specs.declared.changes.Change.TheVariants as change
@@ -17,9 +17,9 @@ use Rattle.cx_region.specs.declared.replies.Event.{Event}
 use Rattle.cx_region.specs.declared.replies.Event.TheVariants as event
 use Rattle.cx_region.specs.declared.replies.Reply.{Reply}
 use Rattle.cx_region.specs.declared.replies.Reply.TheVariants as reply
-use Rattle.cx_state.specs.declared.replies.TurnReply.{TurnReply}
-use Rattle.cx_state.specs.declared.replies.TurnReply.TheVariants as turn
-use Rattle.cx_state.specs.State.{TaskState}
+use Rattle.cx_region_state.specs.declared.replies.TurnReply.{TurnReply}
+use Rattle.cx_region_state.specs.declared.replies.TurnReply.TheVariants as turn
+use Rattle.cx_region_state.specs.State.{TaskState}
 use Rattle.cx_edf.specs.declared.answers.EdfEvent.{EdfEvent}
 use Rattle.cx_edf.specs.declared.answers.EdfEvent.TheVariants as edf_event
 use Rattle.cx_edf.specs.declared.answers.Answer.{Answer}
@@ -28,8 +28,8 @@ use Rattle.cx_edf.specs.declared.modes.Mode.{Mode}
 use Rattle.cx_edf.specs.declared.modes.Mode.TheVariants as mode
 use Rattle.cx_edf.specs.Sessions.{Sessions, after_key, is_stopped, session_in, stop_of, takes_in}
 use Rattle.cx_edf.specs.State.{EdfState, ends_by_key, holds, stopped_at}
-use Rattle.cx_edf.specs.Steps.{Done, Door, EdfHappens, Keeps, Passed, Passes, changed, door_of, sessions_after}
-use Rattle.cx_edf.specs.Erasure.{answers_itself, is_own, is_refused, left_in, left_of, told}
+use Rattle.cx_edf.specs.Steps.{DoorAnswers, Door, EdfApplies, Keeps, PassesOn, Passes, with_session_changed, door_of, sessions_after}
+use Rattle.cx_edf.specs.Erasure.{answers_itself, is_own, is_refused, left_in, left_of, region_replies}
 use Rattle.cx_edf.specs.Runs.{Trace, last_state}
 use Rattle.cx_edf.specs.Laws.Edf.{EdfEventsDecide, EdfRunsDecide, ErasedEvents, ErasedEventsLeaveTheRegion, OffIsTheRegion, OtherEventsArePassed, OwnEventsHaveOwnAnswers, PlainRunsAgree, StopsAreMissedUnderSuppression, ToldAreThoseGiven, ends_task, given_by, given_in, is_alteration, is_edfs, is_refusal}
 use Rattle.cx_edf.proofs.EndLemmas.{ends_stopped}
@@ -41,7 +41,7 @@ same_state : (a b : EdfState) → a.region ≡ b.region → a.sessions ≡ b.ses
 same_state a b regions sessions = λ i. record { region = regions i; sessions = sessions i }
 
 done_decides : EventsDecide → (old : EdfState) (door : Door) (given other : Answer) (new later : EdfState)
-    → Done old door given new → Done old door other later → (given ≡ other) × (new ≡ later)
+    → DoorAnswers old door given new → DoorAnswers old door other later → (given ≡ other) × (new ≡ later)
 done_decides decide old (Keeps own sessions) given other new later h k = (h.0 ∙ sym k.0, h.1 ∙ sym k.1)
 done_decides decide old (Passes e own) given other new later h k =
     let same = decide old.region e h.reply k.reply new.region later.region h.happens k.happens in (
@@ -50,7 +50,7 @@ done_decides decide old (Passes e own) given other new later h k =
     )
 
 pub edf_events_decide : EventsDecide → EdfEventsDecide
-unfolding EdfHappens
+unfolding EdfApplies
 edf_events_decide decide old e given other new later h k = done_decides decide old (door_of old e) given other new later h k
 
 traces_decide : EdfEventsDecide → (old : EdfState) (events : List EdfEvent) (answers others : List Answer) (states more : List EdfState)
@@ -79,14 +79,14 @@ edf_runs_decide decide old events answers others new later h k =
 pub a_plain_run_agrees : RunsDecide → PlainRunsAgree
 a_plain_run_agrees decide old events answers new run replies after plain = decide old.region _ replies _ after new.region plain run.left
 
-own_answer : (old : EdfState) (e : EdfEvent) (door : Door) (given : Answer) (new : EdfState) → Fits old e door → Done old door given new → answers_itself door ≡ is_edfs given
+own_answer : (old : EdfState) (e : EdfEvent) (door : Door) (given : Answer) (new : EdfState) → Fits old e door → DoorAnswers old door given new → answers_itself door ≡ is_edfs given
 unfolding Fits
 own_answer old e (Keeps own sessions) given new fit row = sym fit.0 ∙ ap is_edfs (sym row.0)
 own_answer old e (Passes x None) given new fit row = ap is_edfs (sym row.answers)
 own_answer old e (Passes x (Some own)) given new fit row = ap is_edfs (sym (row.answers ∙ fit.1.own_answer))
 
 pub own_answers : OwnEventsHaveOwnAnswers
-unfolding EdfHappens is_own
+unfolding EdfApplies is_own
 own_answers old e given new row = own_answer old e (door_of old e) given new (fits old e) row
 
 -- EDF's own answer refuses no alteration of the region's
@@ -96,7 +96,7 @@ never_refused (edf_event.Plain e) _ own = refl
 never_refused (edf_event.On name) given own = refl
 never_refused (edf_event.Off name) given own = refl
 
--- what is told, and whether anything is left
+-- what is replied, and whether anything is left
 record IsLeft (old : EdfState) (e : EdfEvent) (given : Answer) (left : List (Event × Reply)) : Type 0 where
   pub told : map (λ (p : Event × Reply). p.1) left ≡ given_by old e given
   pub none : (length left == 0) ≡ ((is_edfs given && not (ends_task old e)) || is_refusal e given)
@@ -115,7 +115,7 @@ passed old x r ends = go (is_refused x r) refl
     go true is = record { told = rw (ends, is) refl; none = rw is refl }
     go false is = record { told = rw (ends, is) refl; none = rw is refl }
 
-left_by : (old : EdfState) (e : EdfEvent) (door : Door) (given : Answer) (new : EdfState) → Fits old e door → Done old door given new → IsLeft old e given (left_in door given)
+left_by : (old : EdfState) (e : EdfEvent) (door : Door) (given : Answer) (new : EdfState) → Fits old e door → DoorAnswers old door given new → IsLeft old e given (left_in door given)
 unfolding Fits
 left_by old e (Keeps own sessions) given new fit row = kept old e given (ap is_edfs row.0 ∙ fit.0) fit.1
 left_by old e (Passes x None) given new fit row =
@@ -128,13 +128,13 @@ left_by old e (Passes x (Some own)) given new fit row =
     (subst (λ (y : Event). IsLeft old e answer.ToEdf (left_in (Passes y (Some own)) answer.ToEdf)) (sym fit.1.abend)
     (ended old e answer.ToEdf (event.Alter fit.1.name change.Abend) refl fit.0))
 
-left_is : (old : EdfState) (e : EdfEvent) (given : Answer) (new : EdfState) → EdfHappens old e given new → IsLeft old e given (left_of old e given)
-unfolding EdfHappens left_of
+left_is : (old : EdfState) (e : EdfEvent) (given : Answer) (new : EdfState) → EdfApplies old e given new → IsLeft old e given (left_of old e given)
+unfolding EdfApplies left_of
 left_is old e given new row = left_by old e (door_of old e) given new (fits old e) row
 
 told_trace : (old : EdfState) (events : List EdfEvent) (answers : List Answer) (states : List EdfState) → Trace old events answers states
-    → told old events answers states ≡ given_in old events answers states
-unfolding Trace told given_in
+    → region_replies old events answers states ≡ given_in old events answers states
+unfolding Trace region_replies given_in
 told_trace old [] [] [] trace = refl
 told_trace old [] [] (s ∷ ss) trace = absurd trace
 told_trace old [] (g ∷ gs) ss trace = absurd trace
@@ -160,34 +160,34 @@ erased_leave old e given new row none =
     (subst (λ (ps : List (Event × Reply)). Run old.region (map (λ (p : Event × Reply). p.0) ps) (map (λ (p : Event × Reply). p.1) (left_of old e given)) new.region) none (left_runs old e given new row))
 
 -- ---- no stop is missed
-turn_without_task : (r : RegionState) (name : List ℕ) (given : TurnReply) (new : RegionState) (stop : Kind) → Turned r name given new → is_some (task_of r name) ≡ false → stop_of given ≡ Some stop → ⊥
-unfolding Turned
+turn_without_task : (r : RegionState) (name : List ℕ) (given : TurnReply) (new : RegionState) (stop : StopPoint) → TakesTurn r name given new → is_some (task_of r name) ≡ false → stop_of given ≡ Some stop → ⊥
+unfolding TakesTurn
 turn_without_task r name given new stop h idle stops = by_terminal (terminal_of r name) h idle
   where
     never : (due : TurnReply) → stop_of due ≡ None → given ≡ due → ⊥
     never due none is = none-some stop (sym none ∙ ap stop_of (sym is) ∙ stops)
 
-    by_task : (t : TerminalState) (o : Option TaskState) → MatchOption o ((given ≡ turn.Idle) × (new ≡ r)) (λ task. TaskTurned r name t task given new) → is_some o ≡ false → ⊥
+    by_task : (t : TerminalState) (o : Option TaskState) → MatchOption o ((given ≡ turn.Idle) × (new ≡ r)) (λ task. TaskTakesTurn r name t task given new) → is_some o ≡ false → ⊥
     by_task t None h idle = never turn.Idle refl h.0
     by_task t (Some task) h idle = true≢false idle
 
-    by_terminal : (o : Option TerminalState) → MatchOption o ((given ≡ turn.NoSuchTerminal) × (new ≡ r)) (λ t. MatchOption t.task ((given ≡ turn.Idle) × (new ≡ r)) (λ task. TaskTurned r name t task given new)) → is_some (option_and_then (λ t. t.task) o) ≡ false → ⊥
+    by_terminal : (o : Option TerminalState) → MatchOption o ((given ≡ turn.NoSuchTerminal) × (new ≡ r)) (λ t. MatchOption t.task ((given ≡ turn.Idle) × (new ≡ r)) (λ task. TaskTakesTurn r name t task given new)) → is_some (option_and_then (λ t. t.task) o) ≡ false → ⊥
     by_terminal None h idle = never turn.NoSuchTerminal refl h.0
     by_terminal (Some t) h idle = by_task t t.task h idle
 
 pub stops_are_missed : StopsAreMissedUnderSuppression
-unfolding EdfHappens door_of Happens
+unfolding EdfApplies door_of Applies
 stops_are_missed old name r new session stop row there stops missed = by_mode session.mode refl missed
   where
-    of_region : (x : Reply) → answer.Region (reply.Turn r) ≡ answer.Region x → Happens old.region (event.Turn name) x new.region → Turned old.region name r new.region
-    of_region x same happens = subst (λ (y : Reply). Happens old.region (event.Turn name) y new.region) (sym (let e : reply.Turn r ≡ x = cc in e)) happens
+    of_region : (x : Reply) → answer.Region (reply.Turn r) ≡ answer.Region x → Applies old.region (event.Turn name) x new.region → TakesTurn old.region name r new.region
+    of_region x same happens = subst (λ (y : Reply). Applies old.region (event.Turn name) y new.region) (sym (let e : reply.Turn r ≡ x = cc in e)) happens
 
     held : (live : Bool) → is_some (task_of old.region name) ≡ live
-        → Done old (if live then Keeps answer.Held old.sessions else Passes (event.Turn name) None) (answer.Region (reply.Turn r)) new → ⊥
+        → DoorAnswers old (if live then Keeps answer.Held old.sessions else Passes (event.Turn name) None) (answer.Region (reply.Turn r)) new → ⊥
     held true is row = let never : answer.Region (reply.Turn r) ≡ answer.Held = row.0 in cc
     held false is row = turn_without_task old.region name r new.region stop (of_region row.reply row.answers row.happens) is stops
 
-    stopped : (k : Kind) → session.mode ≡ mode.Stopped k → stopped_at old name ≡ true
+    stopped : (k : StopPoint) → session.mode ≡ mode.Stopped k → stopped_at old name ≡ true
     stopped k is = ap (λ o. option_map_or (λ s. is_stopped s.mode) o false) there ∙ ap is_stopped is
 
     by_mode : (m : Mode) → session.mode ≡ m → takes_in m session.stops stop ≡ false → m ≡ mode.Suppressed
@@ -211,7 +211,7 @@ others_are_passed old e none = passed_as_it_is old e (door_of old (edf_event.Pla
 -- ---- Off everywhere
 record Plainly (old : EdfState) (e : Event) (given : Answer) (new : EdfState) : Type 0 where
   pub reply : Reply
-  pub happens : Happens old.region e reply new.region
+  pub happens : Applies old.region e reply new.region
   pub off : new.sessions ≡ []
   pub answers : given ≡ answer.Region reply
 
@@ -227,22 +227,22 @@ not_stopped old name off = ap (λ (s : Sessions). option_map_or (λ session. is_
 not_held : (old : EdfState) (name : List ℕ) → old.sessions ≡ [] → holds old name ≡ false
 not_held old name off = ap (λ b. b && is_some (task_of old.region name)) (not_stopped old name off)
 
--- no event of the region is EDF's own then, but an alteration
+-- no event of the region is EDF's own then, except an alteration
 none_own : (old : EdfState) (e : Event) → old.sessions ≡ [] → is_alteration e ≡ false → is_own old (edf_event.Plain e) ≡ false
 unfolding is_own door_of
 none_own old (event.Key name aid bytes) off plain =
     by_tests (λ door. answers_itself door ≡ false) (ends_by_key old name aid) (stopped_at old name)
-    (Passes (event.Alter name change.Abend) (Some answer.ToEdf)) (Keeps answer.ToEdf (changed old.sessions name (λ session. after_key session aid bytes))) (Passes (event.Key name aid bytes) None)
+    (Passes (event.Alter name change.Abend) (Some answer.ToEdf)) (Keeps answer.ToEdf (with_session_changed old.sessions name (λ session. after_key session aid bytes))) (Passes (event.Key name aid bytes) None)
     (λ ends. absurd (true≢false (sym (ends_stopped old name aid ends) ∙ not_stopped old name off))) (λ _ stopped. absurd (true≢false (sym stopped ∙ not_stopped old name off))) (λ _ _. refl)
 none_own old (event.Turn name) off plain =
     by_test (λ door. answers_itself door ≡ false) (holds old name) (Keeps answer.Held old.sessions) (Passes (event.Turn name) None) (λ held. absurd (true≢false (sym held ∙ not_held old name off))) (λ _. refl)
 none_own old (event.Alter name c) off plain = absurd (true≢false plain)
 none_own old _ off plain = refl
 
-plainly : (old : EdfState) (e : Event) (given : Answer) (new : EdfState) → old.sessions ≡ [] → is_alteration e ≡ false → EdfHappens old (edf_event.Plain e) given new → Plainly old e given new
-unfolding EdfHappens
+plainly : (old : EdfState) (e : Event) (given : Answer) (new : EdfState) → old.sessions ≡ [] → is_alteration e ≡ false → EdfApplies old (edf_event.Plain e) given new → Plainly old e given new
+unfolding EdfApplies
 plainly old e given new off plain row =
-    let passed : Passed old e None given new = subst (λ (door : Door). Done old door given new) (others_are_passed old e (none_own old e off plain)) row in
+    let passed : PassesOn old e None given new = subst (λ (door : Door). DoorAnswers old door given new) (others_are_passed old e (none_own old e off plain)) row in
     record { reply = passed.reply; happens = passed.happens; off = passed.table ∙ none_after old.sessions e passed.reply new.region off plain; answers = passed.answers }
 
 off_trace : (old : EdfState) (events : List Event) (answers : List Answer) (states : List EdfState) → old.sessions ≡ [] → AllByRecursion (λ e. is_alteration e ≡ false) events

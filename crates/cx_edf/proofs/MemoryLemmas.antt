@@ -10,7 +10,7 @@ use Rattle.cx_region_laws.specs.Laws.Sound.{ArePartsSound, IsChecked, SoundIsKep
 use Rattle.cx_edf.specs.declared.answers.EdfEvent.{EdfEvent}
 use Rattle.cx_edf.specs.declared.answers.Answer.{Answer}
 use Rattle.cx_edf.specs.State.{EdfState}
-use Rattle.cx_edf.specs.Steps.{Done, Door, EdfHappens, Keeps, Passes, door_of}
+use Rattle.cx_edf.specs.Steps.{DoorAnswers, Door, EdfApplies, Keeps, Passes, door_of}
 use Rattle.cx_edf.specs.Runs.{EdfRun, IsAllowedEdf, IsDoneEdf, Trace, last_state}
 use Rattle.cx_edf.specs.Laws.Edf.{EdfEventsDecide}
 use Rattle.cx_edf.specs.Laws.Memory.{EdfSoundIsKept, IsCheckedEdf, RefusedEdfEventsAreNone, StoppedEdfRunsGoOn}
@@ -31,19 +31,19 @@ allows old e (Passes x None) fit allowed checked =
 allows old e (Passes x (Some own)) fit allowed checked =
     subst (λ (y : Event). IsAllowed y × IsChecked y) (sym fit.1.abend) (tt, tt)
 
-kept_by : SoundIsKept → (old new : EdfState) (door : Door) (given : Answer) → IsSound old.region → Allows door → ArePartsSound new.region → Done old door given new → IsSound new.region
+kept_by : SoundIsKept → (old new : EdfState) (door : Door) (given : Answer) → IsSound old.region → Allows door → ArePartsSound new.region → DoorAnswers old door given new → IsSound new.region
 unfolding Allows
 kept_by law old new (Keeps own sessions) given ok allowed parts h = subst (λ (s : EdfState). IsSound s.region) (sym h.1) ok
 kept_by law old new (Passes x own) given ok allowed parts h = law old.region new.region x h.reply ok allowed.0 allowed.1 h.happens parts
 
 pub sound_is_kept : SoundIsKept → EdfSoundIsKept
-unfolding EdfHappens
+unfolding EdfApplies
 sound_is_kept law old new e given ok allowed checked h parts =
     kept_by law old new (door_of old e) given ok (allows old e (door_of old e) (fits old e) allowed checked) parts h
 
 -- ---- one event
-same_answer : EdfEventsDecide → (old new after : EdfState) (e : EdfEvent) (result : Result Answer AllocError) (other : Answer) → IfOk result (λ given. EdfHappens old e given new)
-    → EdfHappens old e other after → IfOk result (λ given. (given ≡ other) × (new ≡ after))
+same_answer : EdfEventsDecide → (old new after : EdfState) (e : EdfEvent) (result : Result Answer AllocError) (other : Answer) → IfOk result (λ given. EdfApplies old e given new)
+    → EdfApplies old e other after → IfOk result (λ given. (given ≡ other) × (new ≡ after))
 same_answer decide old new after e (Ok given) other h k = decide old e given other new after h k
 same_answer decide old new after e (Err fault) other h k = tt
 

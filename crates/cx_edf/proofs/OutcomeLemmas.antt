@@ -10,17 +10,17 @@ use Rattle.cx_edf.specs.declared.answers.EdfEvent.{EdfEvent}
 use Rattle.cx_edf.specs.declared.answers.Answer.{Answer}
 use Rattle.cx_edf.specs.declared.answers.Answer.TheVariants as answer
 use Rattle.cx_edf.specs.State.{EdfState}
-use Rattle.cx_edf.specs.Steps.{Done, Door, EdfHappens, Keeps, Passes, door_of, sessions_after}
+use Rattle.cx_edf.specs.Steps.{DoorAnswers, Door, EdfApplies, Keeps, Passes, door_of, sessions_after}
 use Rattle.cx_edf.specs.Runs.{MayTake, MayTakeEdf}
 use Rattle.cx_edf.specs.Laws.Memory.{IsCheckedEdf}
 use Rattle.cx_edf.specs.Laws.Outcomes.{EdfEventsHaveOutcomes, HasOutcomeEdf}
 use Rattle.cx_edf.proofs.DoorLemmas.{Fits, fits}
 
--- an answer, and a state behind it
+-- an answer, and a state after it
 record HasEnd (old : EdfState) (door : Door) : Type 0 where
   pub given : Answer
   pub new : EdfState
-  pub done : Done old door given new
+  pub done : DoorAnswers old door given new
 
 -- an event of the region that was refused memory
 passed : EventsHaveOutcomes → (old : EdfState) (x : Event) (own : Option Answer) → AllocError → IsChecked x → MayTakeMemory old.region x → HasEnd old (Passes x own)
@@ -40,7 +40,7 @@ ends outcomes old e (Passes x (Some own)) fault fit checked due =
     passed outcomes old x (Some own) fault (subst IsChecked (sym fit.1.abend) tt) due
 
 may_take_outcome : EventsHaveOutcomes → (old : EdfState) (e : EdfEvent) → AllocError → IsCheckedEdf e → MayTakeEdf old e → HasOutcomeEdf old e
-unfolding MayTakeEdf EdfHappens
+unfolding MayTakeEdf EdfApplies
 may_take_outcome outcomes old e fault checked due =
     let found : HasEnd old (door_of old e) = ends outcomes old e (door_of old e) fault (fits old e) checked due in
     record { given = found.given; new = found.new; happens = found.done }

@@ -5,7 +5,7 @@ use Rattle.std.proofs.lemmas.Option.{slice_get-get_or}
 use Rattle.cx_edf.specs.declared.answers.EdfEvent.{EdfEvent}
 use Rattle.cx_edf.specs.declared.answers.Answer.{Answer}
 use Rattle.cx_edf.specs.State.{EdfState}
-use Rattle.cx_edf.specs.Steps.{EdfHappens}
+use Rattle.cx_edf.specs.Steps.{EdfApplies}
 use Rattle.cx_edf.specs.Runs.{EdfRun, EdfRunStopped, MayTakeEdf}
 use Rattle.cx_edf.proofs.TraceLemmas.{run_empty, run_last}
 
@@ -20,7 +20,7 @@ take_last (e ∷ events) zero d below = refl
 take_last (e ∷ events) (suc k) d below = let more : suc k + 1 ≡ suc (k + 1) = omega arith in rw (more, take_last events k d (omega arith)) refl
 
 pub run_more : (old mid new : EdfState) (events : List EdfEvent) (k : ℕ) (event : EdfEvent) (answers : List Answer) (given : Answer) → k < length events → event ≡ get_or events k event
-    → EdfRun old (take k events) answers mid → EdfHappens mid event given new → EdfRun old (take (k + 1) events) (answers ++ given ∷ []) new
+    → EdfRun old (take k events) answers mid → EdfApplies mid event given new → EdfRun old (take (k + 1) events) (answers ++ given ∷ []) new
 run_more old mid new events k event answers given below is run happens =
     let last = run_last old mid new (take k events) event answers given run happens in
     rw (take_last events k event below, ← is) last

@@ -4,7 +4,7 @@ use Rattle.std.specs.Prelude.{if◌then◌else◌}
 use Rattle.std.proofs.lemmas.Bool.{true≢false}
 use Rattle.cx_region.specs.State.{RegionState}
 use Rattle.cx_region_laws.specs.Facts.Alterations.{alter_reply, refused_alterations_leave}
-use Rattle.cx_region.specs.Events.{Happens, Run}
+use Rattle.cx_region.specs.Events.{Applies, Run}
 use Rattle.cx_region.specs.declared.replies.Event.{Event}
 use Rattle.cx_region.specs.declared.replies.Event.TheVariants as event
 use Rattle.cx_region.specs.declared.replies.Reply.{Reply}
@@ -12,7 +12,7 @@ use Rattle.cx_region.specs.declared.replies.Reply.TheVariants as reply
 use Rattle.cx_edf.specs.declared.answers.EdfEvent.{EdfEvent}
 use Rattle.cx_edf.specs.declared.answers.Answer.{Answer}
 use Rattle.cx_edf.specs.State.{EdfState}
-use Rattle.cx_edf.specs.Steps.{Done, Door, EdfHappens, Keeps, Passed, Passes, door_of}
+use Rattle.cx_edf.specs.Steps.{DoorAnswers, Door, EdfApplies, Keeps, PassesOn, Passes, door_of}
 use Rattle.cx_edf.specs.Erasure.{is_refused, left_in, left_of, reply_in}
 use Rattle.cx_edf.proofs.DoorLemmas.{Fits, fits}
 use Rattle.cx_edf.proofs.EndLemmas.{ended_reply}
@@ -23,20 +23,20 @@ unfolding Run
 none old new same = same
 
 -- one event of the region
-one : (old : RegionState) (e : Event) (r : Reply) (new : RegionState) → Happens old e r new → Run old (e ∷ []) (r ∷ []) new
+one : (old : RegionState) (e : Event) (r : Reply) (new : RegionState) → Applies old e r new → Run old (e ∷ []) (r ∷ []) new
 unfolding Run
 one old e r new happens = (new, happens, refl)
 
 -- a refused alteration leaves the region
-refused_stays : (old : RegionState) (e : Event) (r : Reply) (new : RegionState) → is_refused e r ≡ true → Happens old e r new → new ≡ old
+refused_stays : (old : RegionState) (e : Event) (r : Reply) (new : RegionState) → is_refused e r ≡ true → Applies old e r new → new ≡ old
 refused_stays old (event.Alter name c) r new is h =
     let told = alter_reply old name c r new h in
     refused_alterations_leave old name c told.0 new told.2
     (λ done. true≢false (sym is ∙ ap (is_refused (event.Alter name c)) (told.1 ∙ ap (λ x. reply.Alter x) done)))
 refused_stays old _ r new is h = absurd (true≢false (sym is))
 
--- what was passed, but for a refused alteration
-left_runs_in : (old : RegionState) (e : Event) (r : Reply) (new : RegionState) → Happens old e r new
+-- what was passed, except a refused alteration
+left_runs_in : (old : RegionState) (e : Event) (r : Reply) (new : RegionState) → Applies old e r new
     → Run old (map (λ (p : Event × Reply). p.0) (if is_refused e r then [] else (e, r) ∷ [])) (map (λ (p : Event × Reply). p.1) (if is_refused e r then [] else (e, r) ∷ [])) new
 left_runs_in old e r new h = go (is_refused e r) refl
   where
@@ -45,16 +45,16 @@ left_runs_in old e r new h = go (is_refused e r) refl
     go true is = none old new (refused_stays old e r new is h)
     go false is = one old e r new h
 
--- the answer tells the region's reply
-pub told_reply : (old : EdfState) (e : EdfEvent) (x : Event) (own : Option Answer) (given : Answer) (new : EdfState) → Fits old e (Passes x own) → (row : Passed old x own given new)
+-- the answer has the region's reply
+pub told_reply : (old : EdfState) (e : EdfEvent) (x : Event) (own : Option Answer) (given : Answer) (new : EdfState) → Fits old e (Passes x own) → (row : PassesOn old x own given new)
     → reply_in given ≡ row.reply
 unfolding Fits
 told_reply old e x None given new fit row = ap reply_in row.answers
 told_reply old e x (Some own) given new fit row =
     ap reply_in (row.answers ∙ fit.1.own_answer)
-    ∙ sym (ended_reply old.region fit.1.name row.reply new.region fit.1.live (subst (λ (y : Event). Happens old.region y row.reply new.region) fit.1.abend row.happens))
+    ∙ sym (ended_reply old.region fit.1.name row.reply new.region fit.1.live (subst (λ (y : Event). Applies old.region y row.reply new.region) fit.1.abend row.happens))
 
-left_at : (old : EdfState) (e : EdfEvent) (door : Door) (given : Answer) (new : EdfState) → Fits old e door → Done old door given new
+left_at : (old : EdfState) (e : EdfEvent) (door : Door) (given : Answer) (new : EdfState) → Fits old e door → DoorAnswers old door given new
     → Run old.region (map (λ (p : Event × Reply). p.0) (left_in door given)) (map (λ (p : Event × Reply). p.1) (left_in door given)) new.region
 left_at old e (Keeps own sessions) given new fit row = none old.region new.region (ap (λ (s : EdfState). s.region) row.1)
 left_at old e (Passes x own) given new fit row =
@@ -62,7 +62,7 @@ left_at old e (Passes x own) given new fit row =
     (sym (told_reply old e x own given new fit row)) (left_runs_in old.region x row.reply new.region row.happens)
 
 -- what is left of one event is a run of the region
-pub left_runs : (old : EdfState) (e : EdfEvent) (given : Answer) (new : EdfState) → EdfHappens old e given new
+pub left_runs : (old : EdfState) (e : EdfEvent) (given : Answer) (new : EdfState) → EdfApplies old e given new
     → Run old.region (map (λ (p : Event × Reply). p.0) (left_of old e given)) (map (λ (p : Event × Reply). p.1) (left_of old e given)) new.region
-unfolding EdfHappens left_of
+unfolding EdfApplies left_of
 left_runs old e given new row = left_at old e (door_of old e) given new (fits old e) row

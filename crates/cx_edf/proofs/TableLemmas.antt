@@ -4,7 +4,7 @@ use Rattle.std.specs.Map.{set_value}
 use Rattle.std.specs.Option.{option_map_or}
 use Rattle.std.proofs.lemmas.Bool.{true≢false}
 use Rattle.cx_ebcdic.specs.declared.aids.Aid.TheVariants as aid
-use Rattle.cx_tables.specs.Facts.Tables.{insert_entry_present}
+use Rattle.cx_base_lists.specs.Facts.Tables.{insert_entry_present}
 use Rattle.cx_region.specs.State.{RegionState}
 use Rattle.cx_ebcdic.specs.Names.{is_name}
 use Rattle.cx_region.specs.declared.changes.AlterReply.{AlterReply}
@@ -13,7 +13,7 @@ use Rattle.cx_region.specs.declared.changes.Change.{Change}
 use Rattle.cx_region.specs.declared.replies.Event.TheVariants as event
 use Rattle.cx_region.specs.declared.replies.Reply.TheVariants as reply
 use Rattle.cx_edf.specs.Sessions.{SessionState, Sessions, after_key, is_stopped, session_in, with_session}
-use Rattle.cx_edf.specs.Steps.{changed, sessions_after}
+use Rattle.cx_edf.specs.Steps.{with_session_changed, sessions_after}
 
 -- a session set under the name of one is that session put there
 pub put_present : (sessions : Sessions) (name : List ℕ) (old new : SessionState) → session_in sessions name ≡ Some old
@@ -22,18 +22,18 @@ put_present sessions name old new there = sym (insert_entry_present is_name sess
 
 -- a session changed, where it is there
 pub changed_there : (sessions : Sessions) (name : List ℕ) (to : SessionState → Option SessionState) (old : SessionState) → session_in sessions name ≡ Some old
-    → with_session sessions name (to old) ≡ changed sessions name to
+    → with_session sessions name (to old) ≡ with_session_changed sessions name to
 changed_there sessions name to old there = sym (ap (λ o. option_map_or (λ s. with_session sessions name (to s)) o sessions) there)
 
 -- and the session put in place of it
 pub changed_in_place : (sessions : Sessions) (name : List ℕ) (to : SessionState → Option SessionState) (old new : SessionState) → session_in sessions name ≡ Some old → to old ≡ Some new
-    → set_value (is_name name) sessions new ≡ changed sessions name to
+    → set_value (is_name name) sessions new ≡ with_session_changed sessions name to
 changed_in_place sessions name to old new there done =
     put_present sessions name old new there ∙ ap (with_session sessions name) (sym done) ∙ changed_there sessions name to old there
 
 -- PF3 ends a session that is there
 pub ended_there : (sessions : Sessions) (name bytes : List ℕ) → option_map_or (λ session. is_stopped session.mode) (session_in sessions name) false ≡ true
-    → with_session sessions name None ≡ changed sessions name (λ session. after_key session aid.Pf3 bytes)
+    → with_session sessions name None ≡ with_session_changed sessions name (λ session. after_key session aid.Pf3 bytes)
 unfolding after_key
 ended_there sessions name bytes stopped = go (session_in sessions name) stopped
   where

@@ -4,12 +4,12 @@ use Rattle.cx_region.specs.State.{RegionState}
 use Rattle.cx_region.specs.declared.replies.Event.{Event}
 use Rattle.cx_region.specs.declared.replies.Reply.{Reply}
 use Rattle.cx_region.specs.Events.{Run}
-use Rattle.cx_display.specs.declared.displays.Display.{Display}
+use Rattle.cx_edf_display.specs.declared.displays.Display.{Display}
 use Rattle.cx_edf.specs.declared.answers.EdfEvent.{EdfEvent}
 use Rattle.cx_edf.specs.declared.answers.Answer.{Answer}
 use Rattle.cx_edf.specs.State.{EdfState, session_at}
-use Rattle.cx_edf.specs.Steps.{EdfHappens}
-use Rattle.cx_edf.specs.Erasure.{erased, told}
+use Rattle.cx_edf.specs.Steps.{EdfApplies}
+use Rattle.cx_edf.specs.Erasure.{erasure, region_replies}
 use Rattle.cx_edf.specs.Runs.{EdfRun, IsKept, Trace, displays_after, history, last_state}
 use Rattle.cx_edf.specs.Laws.Edf.{EventsAreSteps, TracesAreRuns}
 use Rattle.cx_edf.proofs.StepLemmas.{left_runs}
@@ -30,8 +30,8 @@ nothing r = refl
 
 -- what is left of a trace is a run
 pub left_of_trace : (old : EdfState) (events : List EdfEvent) (answers : List Answer) (states : List EdfState) → Trace old events answers states
-    → Run old.region (erased old events answers states) (told old events answers states) (last_state old states).region
-unfolding Trace erased told last_state
+    → Run old.region (erasure old events answers states) (region_replies old events answers states) (last_state old states).region
+unfolding Trace erasure region_replies last_state
 left_of_trace old [] [] [] trace = nothing old.region
 left_of_trace old [] [] (s ∷ ss) trace = absurd trace
 left_of_trace old [] (a ∷ gs) ss trace = absurd trace
@@ -67,7 +67,7 @@ kept_of_trace old (e ∷ es) (a ∷ gs) (s ∷ ss) q all trace kept =
 
 -- one more event
 pub trace_more : (old : EdfState) (events : List EdfEvent) (answers : List Answer) (states : List EdfState) (e : EdfEvent) (given : Answer) (new : EdfState)
-    → Trace old events answers states → EdfHappens (last_state old states) e given new
+    → Trace old events answers states → EdfApplies (last_state old states) e given new
     → Trace old (events ++ e ∷ []) (answers ++ given ∷ []) (states ++ new ∷ [])
 unfolding Trace last_state
 trace_more old [] [] [] e given new trace row = (row, tt)
@@ -90,7 +90,7 @@ run_of_trace old events answers states new trace ends =
       states = states;
       trace = trace;
       ends = ends;
-      left = subst (λ (s : EdfState). Run old.region (erased old events answers states) (told old events answers states) s.region) ends (left_of_trace old events answers states trace);
+      left = subst (λ (s : EdfState). Run old.region (erasure old events answers states) (region_replies old events answers states) s.region) ends (left_of_trace old events answers states trace);
       left_so_far = λ n. left_of_trace old (take n events) (take n answers) (take n states) (front_of_trace old events answers states n trace);
       displays = λ q all kept. subst (λ (s : EdfState). IsKept (session_at s q) (history old events answers states q all)) ends (kept_of_trace old events answers states q all trace kept);
     }
@@ -106,9 +106,9 @@ pub run_empty : (old : EdfState) → EdfRun old [] [] old
 unfolding Trace last_state
 run_empty old = run_of_trace old [] [] [] old tt refl
 
-pub run_last : (old mid new : EdfState) (events : List EdfEvent) (e : EdfEvent) (answers : List Answer) (given : Answer) → EdfRun old events answers mid → EdfHappens mid e given new
+pub run_last : (old mid new : EdfState) (events : List EdfEvent) (e : EdfEvent) (answers : List Answer) (given : Answer) → EdfRun old events answers mid → EdfApplies mid e given new
     → EdfRun old (events ++ e ∷ []) (answers ++ given ∷ []) new
 run_last old mid new events e answers given run row =
     run_of_trace old (events ++ e ∷ []) (answers ++ given ∷ []) (run.states ++ new ∷ []) new
-    (trace_more old events answers run.states e given new run.trace (subst (λ (s : EdfState). EdfHappens s e given new) (sym run.ends) row))
+    (trace_more old events answers run.states e given new run.trace (subst (λ (s : EdfState). EdfApplies s e given new) (sym run.ends) row))
     (last_more old run.states new)

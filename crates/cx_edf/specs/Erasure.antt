@@ -1,4 +1,4 @@
--- The events that are left for the region without EDF, and what it tells (own).
+-- The events that are left for the region without EDF, and what it replies (own).
 use Rattle.std.specs.Prelude.{Bool, true, false, is_some, List, [], ◌∷◌, ◌++◌, map, if◌then◌else◌}
 use Rattle.cx_region.specs.declared.changes.AlterReply.TheVariants as alter
 use Rattle.cx_region.specs.declared.replies.Event.{Event}
@@ -11,7 +11,7 @@ use Rattle.cx_edf.specs.declared.answers.Answer.TheVariants as answer
 use Rattle.cx_edf.specs.State.{EdfState}
 use Rattle.cx_edf.specs.Steps.{Door, Keeps, Passes, door_of}
 
--- EDF's own events: those that it answers itself, which it keeps, but for PF12 that ends a task
+-- EDF's own events: those that it answers itself, which it keeps, except PF12 that ends a task
 abbrev pub answers_itself : Door → Bool
 answers_itself (Keeps own sessions) = true
 answers_itself (Passes event own) = is_some own
@@ -30,7 +30,7 @@ is_refused (event.Alter name change) (reply.Alter alter.Altered) = false
 is_refused (event.Alter name change) r = true
 is_refused e r = false
 
--- What is left of an event for the region, with the region's reply: what was passed, but no refused alteration.
+-- What is left of an event for the region, with the region's reply: what was passed, except a refused alteration.
 abbrev pub left_in : Door → Answer → List (Event × Reply)
 left_in (Keeps own sessions) given = []
 left_in (Passes event own) given = if is_refused event (reply_in given) then [] else (event, reply_in given) ∷ []
@@ -38,13 +38,14 @@ left_in (Passes event own) given = if is_refused event (reply_in given) then [] 
 unfoldable pub left_of : EdfState → EdfEvent → Answer → List (Event × Reply)
 left_of old e given = left_in (door_of old e) given
 
--- Events with their answers, from a state on, and the state after each: what is left of them, and what the region tells.
-unfoldable pub erased : EdfState → List EdfEvent → List Answer → List EdfState → List Event
-erased old (e ∷ events) (given ∷ answers) (new ∷ states) =
-    map (λ p. p.0) (left_of old e given) ++ erased new events answers states
-erased old _ _ _ = []
+-- Events with their answers, from a state on, and the state after each: what is left of them, and what the region
+-- replies.
+unfoldable pub erasure : EdfState → List EdfEvent → List Answer → List EdfState → List Event
+erasure old (e ∷ events) (given ∷ answers) (new ∷ states) =
+    map (λ p. p.0) (left_of old e given) ++ erasure new events answers states
+erasure old _ _ _ = []
 
-unfoldable pub told : EdfState → List EdfEvent → List Answer → List EdfState → List Reply
-told old (e ∷ events) (given ∷ answers) (new ∷ states) =
-    map (λ p. p.1) (left_of old e given) ++ told new events answers states
-told old _ _ _ = []
+unfoldable pub region_replies : EdfState → List EdfEvent → List Answer → List EdfState → List Reply
+region_replies old (e ∷ events) (given ∷ answers) (new ∷ states) =
+    map (λ p. p.1) (left_of old e given) ++ region_replies new events answers states
+region_replies old _ _ _ = []

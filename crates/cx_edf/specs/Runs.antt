@@ -4,9 +4,9 @@ use Rattle.std.specs.List.{filter_map}
 use Rattle.std.specs.Option.{option_and_then}
 use Rattle.std.specs.declared.alloc.AllocError.{AllocError}
 use Rattle.circular_buffer.specs.Buffer.{keep_last}
-use Rattle.cx_display.specs.declared.displays.Display.{Display}
-use Rattle.cx_display.specs.declared.stops.Kind.{Kind}
-use Rattle.cx_display.specs.Displays.{display_of}
+use Rattle.cx_edf_display.specs.declared.displays.Display.{Display}
+use Rattle.cx_edf_display.specs.declared.stops.StopPoint.{StopPoint}
+use Rattle.cx_edf_display.specs.Displays.{display_of}
 use Rattle.cx_ebcdic.specs.Names.{is_name}
 use Rattle.cx_region.specs.State.{RegionState}
 use Rattle.cx_region.specs.Events.{IsAllowed, MayTakeMemory, Run}
@@ -23,14 +23,14 @@ use Rattle.cx_edf.specs.declared.answers.Answer.{Answer}
 use Rattle.cx_edf.specs.declared.answers.Answer.TheVariants as answer
 use Rattle.cx_edf.specs.Sessions.{SessionState, operators_end, stop_of_turn}
 use Rattle.cx_edf.specs.State.{EdfState, session_at}
-use Rattle.cx_edf.specs.Steps.{Door, EdfHappens, Keeps, Passes, door_of}
-use Rattle.cx_edf.specs.Erasure.{erased, left_of, told}
+use Rattle.cx_edf.specs.Steps.{Door, EdfApplies, Keeps, Passes, door_of}
+use Rattle.cx_edf.specs.Erasure.{erasure, left_of, region_replies}
 
 -- ---- states
 -- events one after another, with their answers and the state after each
 unfoldable pub Trace : EdfState → List EdfEvent → List Answer → List EdfState → Type 0
 Trace old [] [] [] = ⊤
-Trace old (e ∷ events) (given ∷ answers) (new ∷ states) = EdfHappens old e given new × Trace new events answers states
+Trace old (e ∷ events) (given ∷ answers) (new ∷ states) = EdfApplies old e given new × Trace new events answers states
 Trace old _ _ _ = ⊥
 
 -- the last of the states, or the first one where there are none
@@ -41,7 +41,7 @@ last_state old (new ∷ states) = last_state new states
 -- ---- displays
 -- the stop at which a terminal's session takes a display of what the region did and replied: that of a turn where its mode
 -- takes it, and the end by an alteration whatever its mode is
-abbrev pub stop_taken : EdfState → List ℕ → Event → Reply → Option Kind
+abbrev pub stop_taken : EdfState → List ℕ → Event → Reply → Option StopPoint
 stop_taken old q (event.Turn name) (reply.Turn r) =
     if is_name name q then option_and_then (λ session. stop_of_turn session r) (session_at old q) else None
 stop_taken old q (event.Alter name change.Abend) (reply.Alter alter.Altered) = if is_name name q then Some operators_end else None
@@ -71,8 +71,8 @@ pub record EdfRun (old : EdfState) (events : List EdfEvent) (answers : List Answ
   pub states : List EdfState
   pub trace : Trace old events answers states
   pub ends : last_state old states ≡ new
-  pub left : Run old.region (erased old events answers states) (told old events answers states) new.region
-  pub left_so_far : (n : ℕ) → Run old.region (erased old (take n events) (take n answers) (take n states)) (told old (take n events) (take n answers) (take n states)) (last_state old (take n states)).region
+  pub left : Run old.region (erasure old events answers states) (region_replies old events answers states) new.region
+  pub left_so_far : (n : ℕ) → Run old.region (erasure old (take n events) (take n answers) (take n states)) (region_replies old (take n events) (take n answers) (take n states)) (last_state old (take n states)).region
   pub displays : (q : List ℕ) (all : List Display) → IsKept (session_at old q) all → IsKept (session_at new q) (history old events answers states q all)
 
 -- EDF ON may take memory where it begins a session, and what is passed to the region as the region may.
@@ -86,11 +86,11 @@ MayTakeEdf old e = MayTake old.region (door_of old e)
 
 -- What the one door for events promises: it is answered; or it was refused memory that it may take, and all is as before.
 pub record IsDoneEdf (old : EdfState) (e : EdfEvent) (result : Result Answer AllocError) (new : EdfState) : Type 0 where
-  pub happens : IfOk result (λ given. EdfHappens old e given new)
+  pub happens : IfOk result (λ given. EdfApplies old e given new)
   pub memory : OnErr result (MayTakeEdf old e)
   pub err : OnErr result (new ≡ old)
 
--- A run that stopped after so many events, and left the state as these did: in front of all of them, or at an event that
+-- A run that stopped after `done` events, and left the state as these did: in front of all of them, or at an event that
 -- may take memory.
 pub record EdfRunStopped (old : EdfState) (events : List EdfEvent) (done : ℕ) (new : EdfState) : Type 0 where
   pub within : done < length events

@@ -8,18 +8,18 @@ use Rattle.indexmap.specs.IndexMap.{insert_entry}
 use Rattle.circular_buffer.specs.Buffer.{keep_last}
 use Rattle.cx_ebcdic.specs.declared.aids.Aid.{Aid}
 use Rattle.cx_ebcdic.specs.declared.aids.Aid.TheVariants as aid
-use Rattle.cx_command.specs.declared.abends.Abend.TheVariants.{Xedf}
-use Rattle.cx_command.specs.declared.conditions.Condition.TheVariants as condition
-use Rattle.cx_command.specs.Abends.{abend_code}
-use Rattle.cx_display.specs.declared.displays.Display.{Display}
-use Rattle.cx_display.specs.declared.stops.Kind.{Kind}
-use Rattle.cx_display.specs.declared.stops.Kind.TheVariants as kind
-use Rattle.cx_display.specs.declared.stops.Ending.TheVariants as ending
+use Rattle.cx_base_commands.specs.declared.abends.Abend.TheVariants.{Xedf}
+use Rattle.cx_base_commands.specs.declared.conditions.Condition.TheVariants as condition
+use Rattle.cx_base_commands.specs.Abends.{abend_code}
+use Rattle.cx_edf_display.specs.declared.displays.Display.{Display}
+use Rattle.cx_edf_display.specs.declared.stops.StopPoint.{StopPoint}
+use Rattle.cx_edf_display.specs.declared.stops.StopPoint.TheVariants as kind
+use Rattle.cx_edf_display.specs.declared.stops.Ending.TheVariants as ending
 use Rattle.cx_region.specs.declared.changes.Change.{Change}
 use Rattle.cx_region.specs.declared.changes.Change.TheVariants as change
 use Rattle.cx_ebcdic.specs.Names.{is_name}
-use Rattle.cx_state.specs.declared.replies.TurnReply.{TurnReply}
-use Rattle.cx_state.specs.declared.replies.TurnReply.TheVariants as turn
+use Rattle.cx_region_state.specs.declared.replies.TurnReply.{TurnReply}
+use Rattle.cx_region_state.specs.declared.replies.TurnReply.TheVariants as turn
 use Rattle.cx_edf.specs.declared.modes.Mode.{Mode}
 use Rattle.cx_edf.specs.declared.modes.Mode.TheVariants as mode
 use Rattle.cx_edf.specs.declared.modes.PageName.{PageName}
@@ -58,7 +58,7 @@ fresh_session = record { mode = mode.Free; stops = record no_stops { abend = tru
 
 -- ---- stops
 -- where a turn's reply stops the task: nowhere for a terminal without a task, or a command that waits
-abbrev pub stop_of : TurnReply → Option Kind
+abbrev pub stop_of : TurnReply → Option StopPoint
 stop_of turn.AtCommand = Some kind.Before
 stop_of (turn.Performed c) = Some (kind.After c)
 stop_of (turn.TookLabel c) = Some (kind.After c)
@@ -70,36 +70,36 @@ stop_of (turn.Abended code) = Some (kind.Over (ending.Abended code))
 stop_of _ = None
 
 -- whether a mode takes a stop
-abbrev pub takes_in : Mode → Stops → Kind → Bool
+abbrev pub takes_in : Mode → Stops → StopPoint → Bool
 takes_in mode.Free stops stop = true
 takes_in (mode.Stopped other) stops stop = false
 takes_in mode.Suppressed stops stop = takes stops stop
 
 -- a session that is stopped, with the display taken there: it is the newest of at most ten, and its main page is shown
-abbrev pub stopped : SessionState → Kind → Display → SessionState
-stopped session stop display =
+abbrev pub stop_session : SessionState → StopPoint → Display → SessionState
+stop_session session stop display =
     record session { mode = mode.Stopped stop; view = newest; displays = keep_last 10 (session.displays ++ display ∷ []) }
 
 -- where a session stops at a turn's reply: at a stop that its mode takes
-abbrev pub stop_of_turn : SessionState → TurnReply → Option Kind
+abbrev pub stop_of_turn : SessionState → TurnReply → Option StopPoint
 stop_of_turn session reply =
     option_and_then (λ stop. if takes_in session.mode session.stops stop then Some stop else None) (stop_of reply)
 
 -- a session after a turn's reply, where this is the display that a stop of each kind takes
-unfoldable pub after_reply : SessionState → TurnReply → (Kind → Display) → SessionState
+unfoldable pub after_reply : SessionState → TurnReply → (StopPoint → Display) → SessionState
 after_reply session reply display_at =
-    option_map_or (λ stop. stopped session stop (display_at stop)) (stop_of_turn session reply) session
+    option_map_or (λ stop. stop_session session stop (display_at stop)) (stop_of_turn session reply) session
 
 -- ---- alterations
 -- the stop of a task that the operator ended
-abbrev pub operators_end : Kind
+abbrev pub operators_end : StopPoint
 operators_end = kind.Over (ending.Abended (abend_code Xedf))
 
 -- A stopped session whose task was altered, where this is the display that a stop of each kind takes: after Nop the task
 -- goes on, and after Abend it is stopped over, whatever its stop conditions are.
-unfoldable pub after_change : SessionState → Change → (Kind → Display) → SessionState
+unfoldable pub after_change : SessionState → Change → (StopPoint → Display) → SessionState
 after_change session change.Nop display_at = record session { mode = mode.Free }
-after_change session change.Abend display_at = stopped session operators_end (display_at operators_end)
+after_change session change.Abend display_at = stop_session session operators_end (display_at operators_end)
 after_change session other display_at = session
 
 -- ---- keys
@@ -129,7 +129,7 @@ after_key session aid.Pf10 bytes = Some (record session { view = older session.v
 after_key session other bytes = Some session
 
 -- ---- what is shown
--- the display that is so many before the newest; None past the oldest
+-- the display a given number before the newest; None past the oldest
 abbrev pub nth_back : List Display → ℕ → Option Display
 nth_back displays k = if nat_lt k (length displays) then slice_get displays (length displays - k - 1) else None
 

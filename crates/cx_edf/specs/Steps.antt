@@ -1,10 +1,10 @@
 -- One event under EDF (own).
 use Rattle.std.specs.Prelude.{◌≡◌, ℕ, List, Option, Some, None, is_some, ◌&&◌, not, unwrap_or, if◌then◌else◌}
 use Rattle.std.specs.Option.{option_map_or}
-use Rattle.cx_display.specs.Displays.{display_of}
+use Rattle.cx_edf_display.specs.Displays.{display_of}
 use Rattle.cx_region.specs.State.{RegionState}
 use Rattle.cx_region.specs.Tables.{terminal_of}
-use Rattle.cx_region.specs.Events.{Happens}
+use Rattle.cx_region.specs.Events.{Applies}
 use Rattle.cx_region.specs.declared.changes.AlterReply.TheVariants as alter
 use Rattle.cx_region.specs.declared.changes.Change.TheVariants as change
 use Rattle.cx_region.specs.declared.replies.Event.{Event}
@@ -26,12 +26,12 @@ pub data Door : Type 0 where
   Passes : Event → Option Answer → Door
 
 -- the sessions with a terminal's changed so, or ended, where it has one
-abbrev pub changed : Sessions → List ℕ → (SessionState → Option SessionState) → Sessions
-changed sessions name change = option_map_or (λ session. with_session sessions name (change session)) (session_in sessions name) sessions
+abbrev pub with_session_changed : Sessions → List ℕ → (SessionState → Option SessionState) → Sessions
+with_session_changed sessions name change = option_map_or (λ session. with_session sessions name (change session)) (session_in sessions name) sessions
 
 -- What EDF does with each event. It keeps EDF ON and EDF OFF, a key met in Stopped, a turn met in Stopped with a live task,
--- and an alteration met in another mode, but for one of an unknown terminal, which is the region's to refuse. PF12 that ends
--- a task is passed as the alteration that does so.
+-- and an alteration met in another mode, except one of an unknown terminal, which is the region's to refuse. PF12 that
+-- ends a task is passed as the alteration that does so.
 unfoldable pub door_of : EdfState → EdfEvent → Door
 door_of old (edf_event.On name) =
     if not (is_some (terminal_of old.region name)) then Keeps (answer.Edf edf.NoSuchTerminal) old.sessions
@@ -43,7 +43,7 @@ door_of old (edf_event.Off name) =
     else Keeps (answer.Edf edf.NotOn) old.sessions
 door_of old (edf_event.Plain (event.Key name aid bytes)) =
     if ends_by_key old name aid then Passes (event.Alter name change.Abend) (Some answer.ToEdf)
-    else if stopped_at old name then Keeps answer.ToEdf (changed old.sessions name (λ session. after_key session aid bytes))
+    else if stopped_at old name then Keeps answer.ToEdf (with_session_changed old.sessions name (λ session. after_key session aid bytes))
     else Passes (event.Key name aid bytes) None
 door_of old (edf_event.Plain (event.Turn name)) =
     if holds old name then Keeps answer.Held old.sessions else Passes (event.Turn name) None
@@ -55,22 +55,22 @@ door_of old (edf_event.Plain e) = Passes e None
 -- the sessions after what the region did and replied, with displays of the region right after it
 abbrev pub sessions_after : Sessions → Event → Reply → RegionState → Sessions
 sessions_after sessions (event.Turn name) (reply.Turn r) region =
-    changed sessions name (λ session. Some (after_reply session r (display_of region name)))
+    with_session_changed sessions name (λ session. Some (after_reply session r (display_of region name)))
 sessions_after sessions (event.Alter name change) (reply.Alter alter.Altered) region =
-    changed sessions name (λ session. Some (after_change session change (display_of region name)))
+    with_session_changed sessions name (λ session. Some (after_change session change (display_of region name)))
 sessions_after sessions _ _ region = sessions
 
 -- the region's event, an answer of EDF's own or the region's reply, and the sessions after it
-pub record Passed (old : EdfState) (event : Event) (own : Option Answer) (given : Answer) (new : EdfState) : Type 0 where
+pub record PassesOn (old : EdfState) (event : Event) (own : Option Answer) (given : Answer) (new : EdfState) : Type 0 where
   pub reply : Reply
-  pub happens : Happens old.region event reply new.region
+  pub happens : Applies old.region event reply new.region
   pub table : new.sessions ≡ sessions_after old.sessions event reply new.region
   pub answers : given ≡ unwrap_or own (answer.Region reply)
 
-abbrev pub Done : EdfState → Door → Answer → EdfState → Type 0
-Done old (Keeps own sessions) given new = (given ≡ own) × (new ≡ record old { sessions = sessions })
-Done old (Passes event own) given new = Passed old event own given new
+abbrev pub DoorAnswers : EdfState → Door → Answer → EdfState → Type 0
+DoorAnswers old (Keeps own sessions) given new = (given ≡ own) × (new ≡ record old { sessions = sessions })
+DoorAnswers old (Passes event own) given new = PassesOn old event own given new
 
 -- one event: its answer, and the state after it
-unfoldable pub EdfHappens : EdfState → EdfEvent → Answer → EdfState → Type 0
-EdfHappens old e given new = Done old (door_of old e) given new
+unfoldable pub EdfApplies : EdfState → EdfEvent → Answer → EdfState → Type 0
+EdfApplies old e given new = DoorAnswers old (door_of old e) given new

@@ -3,12 +3,12 @@ use Rattle.std.specs.Prelude.{ℕ, Bool, true, false, ◌||◌, ◌&&◌, ◌==�
 use Rattle.std.specs.List.{find, list_all, slice_split, zip}
 use Rattle.std.specs.Option.{option_map}
 use Rattle.cx_ebcdic.specs.Characters.{shown_as}
-use Rattle.cx_command.specs.Conditions.{entry_of, handled, place_of}
-use Rattle.cx_command.specs.declared.conditions.Condition.{Condition}
-use Rattle.cx_command.specs.declared.conditions.Condition.TheVariants as condition
-use Rattle.cx_display.specs.declared.stops.Kind.{Kind}
-use Rattle.cx_display.specs.declared.stops.Kind.TheVariants as kind
-use Rattle.cx_display.specs.declared.stops.Ending.TheVariants as ending
+use Rattle.cx_base_commands.specs.Conditions.{entry_of, handled_conditions, place_of}
+use Rattle.cx_base_commands.specs.declared.conditions.Condition.{Condition}
+use Rattle.cx_base_commands.specs.declared.conditions.Condition.TheVariants as condition
+use Rattle.cx_edf_display.specs.declared.stops.StopPoint.{StopPoint}
+use Rattle.cx_edf_display.specs.declared.stops.StopPoint.TheVariants as kind
+use Rattle.cx_edf_display.specs.declared.stops.Ending.TheVariants as ending
 use Rattle.cx_edf.specs.declared.stop_words.StopWord.{StopWord}
 use Rattle.cx_edf.specs.declared.stop_words.StopWord.TheVariants as word
 use Rattle.cx_edf.specs.declared.stop_words.Stops.{Stops}
@@ -25,11 +25,11 @@ is_shown_as text bytes = (length bytes == length text) && list_all (λ p. shown_
 
 -- the stop condition that bytes spell
 unfoldable pub stop_word_of : List ℕ → Option StopWord
-stop_word_of bytes = find (λ w. is_shown_as (stop_word_name w) bytes) (word.Abend ∷ word.End ∷ map word.Met handled)
+stop_word_of bytes = find (λ w. is_shown_as (stop_word_name w) bytes) (word.Abend ∷ word.End ∷ map word.Met handled_conditions)
 
 -- no stop condition
 abbrev pub no_stops : Stops
-no_stops = record { abend = false; end = false; met = replicate (length (condition.Normal ∷ handled)) false }
+no_stops = record { abend = false; end = false; met = replicate (length (condition.Normal ∷ handled_conditions)) false }
 
 -- these and one more
 abbrev pub with_stop : Stops → StopWord → Stops
@@ -42,7 +42,7 @@ abbrev pub names : Stops → Condition → Bool
 names stops condition = get_or stops.met (place_of condition) false
 
 -- What is taken under suppression: after NORMAL nothing, after another condition what is named, or all where ERROR is.
-unfoldable pub takes : Stops → Kind → Bool
+unfoldable pub takes : Stops → StopPoint → Bool
 takes stops kind.Before = false
 takes stops (kind.After condition.Normal) = false
 takes stops (kind.After c) = names stops condition.Error || names stops c

@@ -1,13 +1,13 @@
-//! Events under EDF that tell why they lead to an abend.
+//! Events under EDF that report why they lead to an abend.
 ghost use Rattle.std.specs.Prelude.{◌≡◌, true, None, IfOk, IsOk, OnErr};
 ghost use Rattle.cx_region.specs.Events.{IsAllowed};
 ghost use Rattle.cx_region.specs.Sound.{IsSound};
 ghost use Rattle.cx_region.specs.declared.replies.Event.TheVariants as event;
 ghost use Rattle.cx_edf.specs.Answers.{turn_answer};
-ghost use Rattle.cx_edf.specs.Causes.{EdfTroubled};
+ghost use Rattle.cx_edf.specs.Causes.{EdfHasTrouble};
 ghost use Rattle.cx_edf.specs.Runs.{IsAllowedEdf, MayTakeEdf};
 ghost use Rattle.cx_edf.specs.State.{holds};
-ghost use Rattle.cx_edf.specs.Steps.{EdfHappens};
+ghost use Rattle.cx_edf.specs.Steps.{EdfApplies};
 ghost use Rattle.cx_edf.specs.declared.answers.EdfEvent.TheVariants as edf_event;
 
 use crate::answers::{Answer, EdfEvent, TurnAnswer};
@@ -20,17 +20,17 @@ use cx_storage::Store;
 use std::alloc::AllocError;
 
 impl<S: Store + Drop> Debugged<S> {
-    /// A turn of a terminal, as `turn`, that tells why it leads to an abend, where it does.
+    /// A turn of a terminal, as `turn`, that reports why it leads to an abend, where it does.
     ///
-    /// An error comes only where the region's turn was refused a growth. Then all is as before.
-    #[tactic(auto, unfolding(crate::specs::Steps::EdfHappens, crate::specs::Steps::door_of, crate::specs::Causes::EdfTroubled, crate::specs::Runs::MayTakeEdf, cx_region::specs::Events::Happens, cx_region::specs::Events::MayTakeMemory))]
+    /// An error comes only where an allocation failed in the region's turn. Then all is as before.
+    #[tactic(auto, unfolding(crate::specs::Steps::EdfApplies, crate::specs::Steps::door_of, crate::specs::Causes::EdfHasTrouble, crate::specs::Runs::MayTakeEdf, cx_region::specs::Events::Applies, cx_region::specs::Events::MayTakeMemory))]
     pub fn turn_with_cause(
         &mut self,
         name: Name4,
     ) -> Result<(TurnAnswer, Option<Trouble>), AllocError>
         ensures happens { let turn = edf_event.Plain (event.Turn name) in
-            IfOk result (λ told. EdfHappens self.old turn (turn_answer told.0) self.new) }
-        ensures troubled { IfOk result (λ told. EdfTroubled self.old (edf_event.Plain (event.Turn name)) told.1) }
+            IfOk result (λ told. EdfApplies self.old turn (turn_answer told.0) self.new) }
+        ensures troubled { IfOk result (λ told. EdfHasTrouble self.old (edf_event.Plain (event.Turn name)) told.1) }
         ensures memory { OnErr result (MayTakeEdf self.old (edf_event.Plain (event.Turn name))) }
         ensures held { holds self.old name ≡ true → IsOk result }
         ensures err { OnErr result (self.new ≡ self.old) }
@@ -47,7 +47,7 @@ impl<S: Store + Drop> Debugged<S> {
     /// An event of the region that isn't a turn.
     fn without_cause(&mut self, event: &Event) -> Result<(Answer, Option<Trouble>), AllocError>
         requires { IsAllowed event.now }
-        ensures happens { IfOk result (λ told. EdfHappens self.old (edf_event.Plain event.now) told.0 self.new) }
+        ensures happens { IfOk result (λ told. EdfApplies self.old (edf_event.Plain event.now) told.0 self.new) }
         ensures none { IfOk result (λ told. told.1 ≡ None) }
         ensures memory { OnErr result (MayTakeEdf self.old (edf_event.Plain event.now)) }
         ensures err { OnErr result (self.new ≡ self.old) }
@@ -58,11 +58,11 @@ impl<S: Store + Drop> Debugged<S> {
     }
 
     /// An event of the region.
-    #[tactic(auto, unfolding(crate::specs::Causes::EdfTroubled))]
+    #[tactic(auto, unfolding(crate::specs::Causes::EdfHasTrouble))]
     fn plain_with_cause(&mut self, event: &Event) -> Result<(Answer, Option<Trouble>), AllocError>
         requires { IsAllowed event.now }
-        ensures happens { IfOk result (λ told. EdfHappens self.old (edf_event.Plain event.now) told.0 self.new) }
-        ensures troubled { IfOk result (λ told. EdfTroubled self.old (edf_event.Plain event.now) told.1) }
+        ensures happens { IfOk result (λ told. EdfApplies self.old (edf_event.Plain event.now) told.0 self.new) }
+        ensures troubled { IfOk result (λ told. EdfHasTrouble self.old (edf_event.Plain event.now) told.1) }
         ensures memory { OnErr result (MayTakeEdf self.old (edf_event.Plain event.now)) }
         ensures err { OnErr result (self.new ≡ self.old) }
         ensures sound { IsSound self.new.region }
@@ -81,19 +81,19 @@ impl<S: Store + Drop> Debugged<S> {
         }
     }
 
-    /// Does one event, as `happen`, and tells why it leads to an abend, where it is a turn that does. An abend by an operator's
-    /// ALTER or PF12 has no cause.
+    /// Does one event, as `apply`, and reports why it leads to an abend, where it is a turn that does. An abend by an
+    /// operator's ALTER or PF12 has no cause.
     ///
-    /// An error comes only where a growth was refused, no refusal is due, and the event may take memory. Then all is as
+    /// An error comes only where an allocation failed, no refusal is due, and the event may take memory. Then all is as
     /// before.
-    #[tactic(auto, unfolding(crate::specs::Causes::EdfTroubled))]
+    #[tactic(auto, unfolding(crate::specs::Causes::EdfHasTrouble))]
     pub fn happen_with_cause(
         &mut self,
         event: &EdfEvent,
     ) -> Result<(Answer, Option<Trouble>), AllocError>
         requires { IsAllowedEdf event.now }
-        ensures happens { IfOk result (λ told. EdfHappens self.old event.now told.0 self.new) }
-        ensures troubled { IfOk result (λ told. EdfTroubled self.old event.now told.1) }
+        ensures happens { IfOk result (λ told. EdfApplies self.old event.now told.0 self.new) }
+        ensures troubled { IfOk result (λ told. EdfHasTrouble self.old event.now told.1) }
         ensures memory { OnErr result (MayTakeEdf self.old event.now) }
         ensures err { OnErr result (self.new ≡ self.old) }
         ensures sound { IsSound self.new.region }
@@ -101,11 +101,11 @@ impl<S: Store + Drop> Debugged<S> {
         match event {
             EdfEvent::Plain(plain) => self.plain_with_cause(plain),
             EdfEvent::On(_) => {
-                let answer = self.happen(event)?;
+                let answer = self.apply(event)?;
                 Ok((answer, None))
             }
             EdfEvent::Off(_) => {
-                let answer = self.happen(event)?;
+                let answer = self.apply(event)?;
                 Ok((answer, None))
             }
         }

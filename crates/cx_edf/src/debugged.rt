@@ -3,7 +3,7 @@ ghost use Rattle.std.specs.Prelude.{◌≡◌, ◌≢◌, ◌≤◌, [], false, 
 ghost use Rattle.std.specs.Option.{option_and_then, option_copied};
 ghost use Rattle.cx_storage.specs.Storage.{byte_at};
 ghost use Rattle.cx_region.specs.Alter.{IsAllowedChange};
-ghost use Rattle.cx_region.specs.Events.{Happens, IsAllowed, MayTakeMemory};
+ghost use Rattle.cx_region.specs.Events.{Applies, IsAllowed, MayTakeMemory};
 ghost use Rattle.cx_region.specs.Looking.{Shows};
 ghost use Rattle.cx_region.specs.Sound.{IsSound};
 ghost use Rattle.cx_region.specs.Tables.{task_of, terminal_of};
@@ -15,7 +15,7 @@ ghost use Rattle.cx_edf.specs.Erasure.{reply_in};
 ghost use Rattle.cx_edf.specs.Runs.{MayTakeEdf};
 ghost use Rattle.cx_edf.specs.Sessions.{nth_back, shown_of};
 ghost use Rattle.cx_edf.specs.State.{ends_by_key, holds, session_at, stopped_at};
-ghost use Rattle.cx_edf.specs.Steps.{EdfHappens, Passed};
+ghost use Rattle.cx_edf.specs.Steps.{EdfApplies, PassesOn};
 ghost use Rattle.cx_edf.specs.declared.answers.EdfEvent.TheVariants as edf_event;
 ghost use Rattle.cx_edf.specs.declared.answers.Answer.TheVariants as answer;
 
@@ -23,8 +23,8 @@ use crate::answers::{AlterAnswer, Answer, EdfReply, KeyAnswer, TurnAnswer};
 use crate::modes::View;
 use crate::sessions::Session;
 use crate::table;
-use cx_display::Display;
 use cx_ebcdic::{Aid, Name4, Name8};
+use cx_edf_display::Display;
 use cx_load::{CheckedImage, Loaded};
 use cx_region::{Change, DefineFault, Event, Region, TaskInfo};
 use cx_service::Screen;
@@ -73,12 +73,12 @@ impl<S: Store + Drop> Debugged<S> {
     /// sent as stop conditions: ABEND, END, or a condition. PF12 ends the task by an abend, as `alter` does with
     /// `Change::Abend`; without a task it has no effect, and neither has any other key.
     ///
-    /// An error comes only where the region's key was refused a growth. Then all is as before.
-    #[tactic(auto, unfolding(crate::specs::Steps::EdfHappens, crate::specs::Steps::door_of, crate::specs::Runs::MayTakeEdf, cx_region::specs::Events::Happens, cx_region::specs::Events::MayTakeMemory))]
+    /// An error comes only where an allocation failed in the region's key. Then all is as before.
+    #[tactic(auto, unfolding(crate::specs::Steps::EdfApplies, crate::specs::Steps::door_of, crate::specs::Runs::MayTakeEdf, cx_region::specs::Events::Applies, cx_region::specs::Events::MayTakeMemory))]
     pub fn key(&mut self, name: Name4, aid: Aid, bytes: &[u8]) -> Result<KeyAnswer, AllocError>
         requires { length bytes.now ≤ 1920 }
         ensures happens { let key = edf_event.Plain (event.Key name aid bytes.now) in
-            IfOk result (λ given. EdfHappens self.old key (key_answer given) self.new) }
+            IfOk result (λ given. EdfApplies self.old key (key_answer given) self.new) }
         ensures memory { OnErr result (MayTakeEdf self.old (edf_event.Plain (event.Key name aid bytes.now))) }
         ensures succeeds { stopped_at self.old name ≡ true → IsOk result }
         ensures err { OnErr result (self.new ≡ self.old) }
@@ -115,7 +115,7 @@ impl<S: Store + Drop> Debugged<S> {
 
     /// Ends the task of a terminal by an abend that no exit takes.
     fn end_task(&mut self, name: Name4)
-        ensures ended { Passed self.old (event.Alter name change.Abend) (Some answer.ToEdf) answer.ToEdf self.new }
+        ensures ended { PassesOn self.old (event.Alter name change.Abend) (Some answer.ToEdf) answer.ToEdf self.new }
         ensures sound { IsSound self.new.region }
     {
         let reply = self.region.alter(name, Change::Abend);
@@ -123,17 +123,17 @@ impl<S: Store + Drop> Debugged<S> {
     }
 
     /// Alters the task of a terminal in Stopped: a register (0 to 15), a byte of storage, the command that is due, or that
-    /// there is a task at all, as `Change` tells. `Change::Register` and `Change::Byte` leave the terminal stopped and its
-    /// displays as they are. After `Change::Nop` the task goes on; after `Change::Abend` the terminal is stopped over, with a
-    /// display of it whatever its stop conditions are.
+    /// there is a task at all, as `Change` says. `Change::Register` and `Change::Byte` leave the terminal stopped and
+    /// its displays as they are. After `Change::Nop` the task goes on; after `Change::Abend` the terminal is stopped
+    /// over, with a display of it whatever its stop conditions are.
     ///
     /// It is refused by the first that applies of: no such terminal, not stopped, no task, no command due for `Change::Nop`,
     /// no byte at the address for `Change::Byte` (from 2^24 on there is none). Then all is as before. It takes no memory.
-    #[tactic(auto, unfolding(crate::specs::Steps::EdfHappens, crate::specs::Steps::door_of, cx_region::specs::Events::Happens))]
+    #[tactic(auto, unfolding(crate::specs::Steps::EdfApplies, crate::specs::Steps::door_of, cx_region::specs::Events::Applies))]
     pub fn alter(&mut self, name: Name4, change: Change) -> AlterAnswer
         requires { IsAllowedChange change }
         ensures happens { let alter = edf_event.Plain (event.Alter name change) in
-            EdfHappens self.old alter (alter_answer result) self.new }
+            EdfApplies self.old alter (alter_answer result) self.new }
         ensures sound { IsSound self.new.region }
     {
         if self.region.screen(name).is_some() && !table::is_stopped(&self.sessions, name) {
@@ -147,11 +147,11 @@ impl<S: Store + Drop> Debugged<S> {
     /// A turn of a terminal. In Stopped with a live task it is Held, and nothing is done; else it is the region's, and where
     /// its reply is a stop that the mode takes, the terminal is stopped, with a display of the region as it is then.
     ///
-    /// An error comes only where the region's turn was refused a growth. Then all is as before.
-    #[tactic(auto, unfolding(crate::specs::Steps::EdfHappens, crate::specs::Steps::door_of, crate::specs::Runs::MayTakeEdf, cx_region::specs::Events::Happens, cx_region::specs::Events::MayTakeMemory))]
+    /// An error comes only where an allocation failed in the region's turn. Then all is as before.
+    #[tactic(auto, unfolding(crate::specs::Steps::EdfApplies, crate::specs::Steps::door_of, crate::specs::Runs::MayTakeEdf, cx_region::specs::Events::Applies, cx_region::specs::Events::MayTakeMemory))]
     pub fn turn(&mut self, name: Name4) -> Result<TurnAnswer, AllocError>
         ensures happens { let turn = edf_event.Plain (event.Turn name) in
-            IfOk result (λ given. EdfHappens self.old turn (turn_answer given) self.new) }
+            IfOk result (λ given. EdfApplies self.old turn (turn_answer given) self.new) }
         ensures memory { OnErr result (MayTakeEdf self.old (edf_event.Plain (event.Turn name))) }
         ensures held { holds self.old name ≡ true → IsOk result }
         ensures err { OnErr result (self.new ≡ self.old) }
@@ -169,9 +169,9 @@ impl<S: Store + Drop> Debugged<S> {
     /// Else it is answered NoSuchTerminal or AlreadyOn.
     ///
     /// An error comes only where memory for the session was refused. Then all is as before.
-    #[tactic(auto, unfolding(crate::specs::Steps::EdfHappens, crate::specs::Steps::door_of, crate::specs::Runs::MayTakeEdf))]
+    #[tactic(auto, unfolding(crate::specs::Steps::EdfApplies, crate::specs::Steps::door_of, crate::specs::Runs::MayTakeEdf))]
     pub fn edf_on(&mut self, name: Name4) -> Result<EdfReply, AllocError>
-        ensures happens { IfOk result (λ given. EdfHappens self.old (edf_event.On name) (answer.Edf given) self.new) }
+        ensures happens { IfOk result (λ given. EdfApplies self.old (edf_event.On name) (answer.Edf given) self.new) }
         ensures memory { OnErr result (MayTakeEdf self.old (edf_event.On name)) }
         ensures err { OnErr result (self.new ≡ self.old) }
         ensures sound { IsSound self.new.region }
@@ -188,9 +188,9 @@ impl<S: Store + Drop> Debugged<S> {
 
     /// Ends the session of a terminal, in any mode, and drops its displays. Where there is none it is answered
     /// NoSuchTerminal or NotOn. It takes no memory.
-    #[tactic(auto, unfolding(crate::specs::Steps::EdfHappens, crate::specs::Steps::door_of))]
+    #[tactic(auto, unfolding(crate::specs::Steps::EdfApplies, crate::specs::Steps::door_of))]
     pub fn edf_off(&mut self, name: Name4) -> EdfReply
-        ensures happens { EdfHappens self.old (edf_event.Off name) (answer.Edf result) self.new }
+        ensures happens { EdfApplies self.old (edf_event.Off name) (answer.Edf result) self.new }
         ensures sound { IsSound self.new.region }
     {
         if self.region.screen(name).is_none() {
@@ -206,31 +206,31 @@ impl<S: Store + Drop> Debugged<S> {
     /// Does an event of the region that EDF never takes: a definition, or the clock.
     pub(crate) fn pass(&mut self, event: &Event) -> Result<Answer, AllocError>
         requires { IsAllowed event.now }
-        ensures happens { IfOk result (λ given. Happens self.old.region event.now (reply_in given) self.new.region) }
+        ensures happens { IfOk result (λ given. Applies self.old.region event.now (reply_in given) self.new.region) }
         ensures answers { IfOk result (λ given. given ≡ answer.Region (reply_in given)) }
         ensures sessions { self.new.sessions ≡ self.old.sessions }
         ensures memory { OnErr result (MayTakeMemory self.old.region event.now) }
         ensures err { OnErr result (self.new ≡ self.old) }
         ensures sound { IsSound self.new.region }
     {
-        let reply = self.region.happen(event)?;
+        let reply = self.region.apply(event)?;
         Ok(Answer::Region(reply))
     }
 
     /// Loads a program and defines it by its name, as the region does.
     ///
     /// The faults are the region's, and so is when each comes. Then all is as before.
-    #[tactic(auto, unfolding(crate::specs::Steps::EdfHappens, crate::specs::Steps::door_of, cx_region::specs::Events::Happens, cx_region::specs::Events::MayTakeMemory))]
+    #[tactic(auto, unfolding(crate::specs::Steps::EdfApplies, crate::specs::Steps::door_of, cx_region::specs::Events::Applies, cx_region::specs::Events::MayTakeMemory))]
     pub fn define_program(
         &mut self,
         name: Name8,
         image: &CheckedImage,
     ) -> Result<Loaded, DefineFault>
         ensures defined { let define = edf_event.Plain (event.Program name image.now) in
-            IfOk result (λ loaded. EdfHappens self.old define (answer.Region (reply.Program (Ok loaded))) self.new) }
+            IfOk result (λ loaded. EdfApplies self.old define (answer.Region (reply.Program (Ok loaded))) self.new) }
         ensures refused { let define = edf_event.Plain (event.Program name image.now) in
             IfErr result (λ fault. let refusal = answer.Region (reply.Program (Err fault)) in
-            fault ≢ DefineFault.Memory → EdfHappens self.old define refusal self.new) }
+            fault ≢ DefineFault.Memory → EdfApplies self.old define refusal self.new) }
         ensures memory { let defined = event.Program name image.now in
             IsErrOf result DefineFault.Memory → MayTakeMemory self.old.region defined }
         ensures err { OnErr result (self.new ≡ self.old) }
@@ -242,13 +242,13 @@ impl<S: Store + Drop> Debugged<S> {
     /// Defines a transaction by its name and that of its program, as the region does.
     ///
     /// The faults are the region's, and so is when each comes. Then all is as before.
-    #[tactic(auto, unfolding(crate::specs::Steps::EdfHappens, crate::specs::Steps::door_of, cx_region::specs::Events::Happens, cx_region::specs::Events::MayTakeMemory, cx_region::specs::Defining::DefinesTransaction, cx_region::specs::Defining::transaction_fault))]
+    #[tactic(auto, unfolding(crate::specs::Steps::EdfApplies, crate::specs::Steps::door_of, cx_region::specs::Events::Applies, cx_region::specs::Events::MayTakeMemory, cx_region::specs::Defining::DefinesTransaction, cx_region::specs::Defining::transaction_fault))]
     pub fn define_transaction(&mut self, name: Name4, program: Name8) -> Result<(), DefineFault>
         ensures defined { let define = edf_event.Plain (event.Transaction name program) in
-            IfOk result (λ done. EdfHappens self.old define (answer.Region (reply.Transaction (Ok done))) self.new) }
+            IfOk result (λ done. EdfApplies self.old define (answer.Region (reply.Transaction (Ok done))) self.new) }
         ensures refused { let define = edf_event.Plain (event.Transaction name program) in
             IfErr result (λ fault. let refusal = answer.Region (reply.Transaction (Err fault)) in
-            fault ≢ DefineFault.Memory → EdfHappens self.old define refusal self.new) }
+            fault ≢ DefineFault.Memory → EdfApplies self.old define refusal self.new) }
         ensures memory { let defined = event.Transaction name program in
             IsErrOf result DefineFault.Memory → MayTakeMemory self.old.region defined }
         ensures err { OnErr result (self.new ≡ self.old) }
@@ -260,13 +260,13 @@ impl<S: Store + Drop> Debugged<S> {
     /// Defines a terminal by its name, as the region does: EDF is Off there.
     ///
     /// The faults are the region's, and so is when each comes. Then all is as before.
-    #[tactic(auto, unfolding(crate::specs::Steps::EdfHappens, crate::specs::Steps::door_of, cx_region::specs::Events::Happens, cx_region::specs::Events::MayTakeMemory, cx_region::specs::Defining::DefinesTerminal, cx_region::specs::Defining::terminal_fault))]
+    #[tactic(auto, unfolding(crate::specs::Steps::EdfApplies, crate::specs::Steps::door_of, cx_region::specs::Events::Applies, cx_region::specs::Events::MayTakeMemory, cx_region::specs::Defining::DefinesTerminal, cx_region::specs::Defining::terminal_fault))]
     pub fn define_terminal(&mut self, name: Name4) -> Result<(), DefineFault>
         ensures defined { let define = edf_event.Plain (event.Terminal name) in
-            IfOk result (λ done. EdfHappens self.old define (answer.Region (reply.Terminal (Ok done))) self.new) }
+            IfOk result (λ done. EdfApplies self.old define (answer.Region (reply.Terminal (Ok done))) self.new) }
         ensures refused { let define = edf_event.Plain (event.Terminal name) in
             IfErr result (λ fault. let refusal = answer.Region (reply.Terminal (Err fault)) in
-            fault ≢ DefineFault.Memory → EdfHappens self.old define refusal self.new) }
+            fault ≢ DefineFault.Memory → EdfApplies self.old define refusal self.new) }
         ensures memory { IsErrOf result DefineFault.Memory → MayTakeMemory self.old.region (event.Terminal name) }
         ensures err { OnErr result (self.new ≡ self.old) }
         ensures sound { IsSound self.new.region }
@@ -276,12 +276,12 @@ impl<S: Store + Drop> Debugged<S> {
 
     /// Sets the clock, for the tasks attached later: the time as hhmmss (at most 999,999) and the date as yyddd (at most
     /// 99,999). It takes no memory.
-    #[tactic(auto, unfolding(crate::specs::Steps::EdfHappens, crate::specs::Steps::door_of, cx_region::specs::Events::Happens))]
+    #[tactic(auto, unfolding(crate::specs::Steps::EdfApplies, crate::specs::Steps::door_of, cx_region::specs::Events::Applies))]
     pub fn set_clock(&mut self, time: u32, date: u32)
         requires time { time ≤ 999999 }
         requires date { date ≤ 99999 }
         ensures happens { let clock_set = edf_event.Plain (event.Clock time date) in
-            EdfHappens self.old clock_set (answer.Region reply.Clock) self.new }
+            EdfApplies self.old clock_set (answer.Region reply.Clock) self.new }
         ensures sound { IsSound self.new.region }
     {
         self.region.set_clock(time, date);
@@ -325,8 +325,8 @@ impl<S: Store + Drop> Debugged<S> {
         session.shown()
     }
 
-    /// The display that is so many before the newest one of a terminal's session, 0 being the newest; None past the oldest,
-    /// and where EDF is Off. It takes no memory.
+    /// The display `back` displays before the newest one of a terminal's session, 0 being the newest; None past the
+    /// oldest, and where EDF is Off. It takes no memory.
     pub fn previous(&self, name: Name4, back: usize) -> Option<&Display>
         ensures { let session = session_at self.now name in
             option_copied result ≡ option_and_then (λ it. nth_back it.displays back) session }

@@ -4,7 +4,7 @@
 mod answers;
 mod causing;
 mod debugged;
-pub mod edf_laws;
+pub mod laws;
 mod modes;
 mod run;
 mod sessions;
@@ -12,7 +12,7 @@ mod stop_words;
 mod table;
 
 pub use answers::{AlterAnswer, Answer, EdfEvent, EdfReply, KeyAnswer, TurnAnswer};
-pub use cx_display::{Display, Ending, Kind};
+pub use cx_edf_display::{Display, Ending, StopPoint};
 pub use debugged::Debugged;
 pub use modes::{Mode, PageName, View};
 #[doc(hidden)]

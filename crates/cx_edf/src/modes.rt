@@ -1,6 +1,6 @@
 //! Modes of a terminal under EDF, and what its operator sees.
 
-use cx_display::Kind;
+use cx_edf_display::StopPoint;
 
 /// The mode of a terminal under EDF.
 #[derive(Clone, Copy, Debug, PartialEq, Eq)]
@@ -8,7 +8,7 @@ pub enum Mode {
     /// Its task runs, and stops at each command.
     Free,
     /// It is stopped.
-    Stopped(Kind),
+    Stopped(StopPoint),
     /// Its task runs, and stops at the stop conditions alone.
     Suppressed,
 }

@@ -4,7 +4,7 @@ ghost use Rattle.std.specs.List.{AllByRecursion};
 ghost use Rattle.cx_region.specs.Events.{IsAllowed};
 ghost use Rattle.cx_region.specs.Sound.{IsSound};
 ghost use Rattle.cx_edf.specs.Answers.{alter_answer, key_answer, turn_answer};
-ghost use Rattle.cx_edf.specs.Steps.{EdfHappens};
+ghost use Rattle.cx_edf.specs.Steps.{EdfApplies};
 ghost use Rattle.cx_edf.specs.Runs.{EdfRun, EdfRunStopped, IsAllowedEdf, IsDoneEdf, MayTakeEdf};
 ghost use Rattle.cx_edf.specs.declared.answers.EdfEvent.TheVariants as edf_event;
 
@@ -48,9 +48,9 @@ impl<S: Store + Drop> Debugged<S> {
     /// Does one event: the call that it names. What that call takes is asked of it: a clock as for `set_clock`, at most
     /// 1,920 bytes of a key, a register as for `alter`. A refusal of the call is its answer.
     ///
-    /// An error comes only where a growth was refused, no refusal is due, and the event may take memory. Then all is as
+    /// An error comes only where an allocation failed, no refusal is due, and the event may take memory. Then all is as
     /// before.
-    pub fn happen(&mut self, event: &EdfEvent) -> Result<Answer, AllocError>
+    pub fn apply(&mut self, event: &EdfEvent) -> Result<Answer, AllocError>
         requires { IsAllowedEdf event.now }
         ensures done { IsDoneEdf self.old event.now result self.new }
         ensures sound { IsSound self.new.region }
@@ -69,10 +69,10 @@ impl<S: Store + Drop> Debugged<S> {
     }
 
     /// Does one event of the region.
-    #[tactic(auto, unfolding(crate::specs::Steps::EdfHappens, crate::specs::Steps::door_of, crate::specs::Runs::MayTakeEdf))]
+    #[tactic(auto, unfolding(crate::specs::Steps::EdfApplies, crate::specs::Steps::door_of, crate::specs::Runs::MayTakeEdf))]
     pub(crate) fn plain(&mut self, event: &Event) -> Result<Answer, AllocError>
         requires { IsAllowed event.now }
-        ensures happens { IfOk result (λ given. EdfHappens self.old (edf_event.Plain event.now) given self.new) }
+        ensures happens { IfOk result (λ given. EdfApplies self.old (edf_event.Plain event.now) given self.new) }
         ensures memory { OnErr result (MayTakeEdf self.old (edf_event.Plain event.now)) }
         ensures err { OnErr result (self.new ≡ self.old) }
         ensures sound { IsSound self.new.region }
@@ -102,8 +102,8 @@ impl<S: Store + Drop> Debugged<S> {
     /// are kept of each terminal are the last ten of its session, each of the region as it was right after its own half-turn
     /// or its task's end by an alteration.
     ///
-    /// It stops where a growth was refused: in front of the first event, where there is no memory for the answers, else at
-    /// an event that may take memory. The state is as the events done left it.
+    /// It stops where an allocation failed: in front of the first event, where there is no memory for the answers, else
+    /// at an event that may take memory. The state is as the events done left it.
     pub fn run(&mut self, events: &[EdfEvent]) -> Result<Vec<Answer>, RunStop>
         requires { AllByRecursion IsAllowedEdf events.now }
         ensures ok { IfOk result (λ answers. EdfRun self.old events.now answers.items self.new) }
@@ -115,7 +115,7 @@ impl<S: Store + Drop> Debugged<S> {
             return Err(RunStop { done: 0 });
         };
         for (i, event) in events.iter().enumerate() {
-            let Ok(given) = self.happen(event) else {
+            let Ok(given) = self.apply(event) else {
                 return Err(RunStop { done: i });
             };
             answers.push_reserved(given);

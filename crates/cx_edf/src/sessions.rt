@@ -1,15 +1,15 @@
 //! Sessions.
 ghost use Rattle.std.specs.Prelude.{◌≡◌, ◌≢◌, ◌<◌, ◌^◌, None, Some, IfOk, IsTrue, is_some, length};
 ghost use Rattle.std.specs.Option.{option_copied, option_map};
-ghost use Rattle.cx_display.specs.Displays.{display_of};
-ghost use Rattle.cx_edf.specs.Sessions.{after_change, after_key, after_reply, fresh_session, is_stopped, nth_back, older, shown_of, stop_of, stopped, takes_in, turned_to};
+ghost use Rattle.cx_edf_display.specs.Displays.{display_of};
+ghost use Rattle.cx_edf.specs.Sessions.{after_change, after_key, after_reply, fresh_session, is_stopped, nth_back, older, shown_of, stop_of, stop_session, takes_in, turned_to};
 
 use crate::modes::{Mode, PageName, View};
 use crate::stop_words::Stops;
 use circular_buffer::HeapCircularBuffer;
-use cx_command::{Abend, Condition};
-use cx_display::{Display, Ending, Kind};
+use cx_base_commands::{Abend, Condition};
 use cx_ebcdic::{Aid, Name4};
+use cx_edf_display::{Display, Ending, StopPoint};
 use cx_region::{Change, Region, TurnReply};
 use cx_storage::Store;
 use std::alloc::{AllocError, Global};
@@ -63,7 +63,7 @@ impl Session {
     }
 
     /// Whether it takes a stop.
-    pub(crate) fn takes(&self, kind: &Kind) -> bool
+    pub(crate) fn takes(&self, kind: &StopPoint) -> bool
         ensures { result ≡ takes_in self.now.mode self.now.stops kind.now }
     {
         match self.mode {
@@ -73,7 +73,7 @@ impl Session {
         }
     }
 
-    /// The display that is so many before the newest; None past the oldest.
+    /// The display `back` displays before the newest; None past the oldest.
     pub(crate) fn previous(&self, back: usize) -> Option<&Display>
         ensures { option_copied result ≡ nth_back self.now.displays back }
     {
@@ -93,8 +93,8 @@ impl Session {
     }
 
     /// Stops it, with the display taken there.
-    pub(crate) fn stop(&mut self, kind: Kind, display: Display)
-        ensures { self.new ≡ stopped self.old kind display }
+    pub(crate) fn stop(&mut self, kind: StopPoint, display: Display)
+        ensures { self.new ≡ stop_session self.old kind display }
     {
         self.displays.push_back(display);
         self.mode = Mode::Stopped(kind);
@@ -130,7 +130,7 @@ impl Session {
         match change {
             Change::Nop => self.mode = Mode::Free,
             Change::Abend => {
-                let kind = Kind::Over(Ending::Abended(Abend::Xedf.code()));
+                let kind = StopPoint::Over(Ending::Abended(Abend::Xedf.code()));
                 let display = Display::take(region, name, &kind);
                 self.stop(kind, display);
             }
@@ -178,7 +178,7 @@ fn turned_to(asked: PageName, shown: PageName) -> PageName
     }
 }
 
-/// The display before the shown one of so many; at the oldest no change.
+/// The display before the shown one of `kept`; at the oldest no change.
 fn older(view: View, kept: usize) -> View
     requires { kept < 2 ^ 63 }
     ensures { result ≡ older view kept }
@@ -193,18 +193,18 @@ fn older(view: View, kept: usize) -> View
 }
 
 /// Where a turn's reply stops the task.
-pub(crate) fn stop_of(reply: &TurnReply) -> Option<Kind>
+pub(crate) fn stop_of(reply: &TurnReply) -> Option<StopPoint>
     ensures { result ≡ stop_of reply.now }
 {
     match reply {
-        TurnReply::AtCommand => Some(Kind::Before),
-        TurnReply::Performed(condition) => Some(Kind::After(*condition)),
-        TurnReply::TookLabel(condition) => Some(Kind::After(*condition)),
-        TurnReply::Entered => Some(Kind::After(Condition::Normal)),
-        TurnReply::Returned => Some(Kind::After(Condition::Normal)),
-        TurnReply::TookExit(code) => Some(Kind::Exit(*code)),
-        TurnReply::Ended => Some(Kind::Over(Ending::Ended)),
-        TurnReply::Abended(code) => Some(Kind::Over(Ending::Abended(*code))),
+        TurnReply::AtCommand => Some(StopPoint::Before),
+        TurnReply::Performed(condition) => Some(StopPoint::After(*condition)),
+        TurnReply::TookLabel(condition) => Some(StopPoint::After(*condition)),
+        TurnReply::Entered => Some(StopPoint::After(Condition::Normal)),
+        TurnReply::Returned => Some(StopPoint::After(Condition::Normal)),
+        TurnReply::TookExit(code) => Some(StopPoint::Exit(*code)),
+        TurnReply::Ended => Some(StopPoint::Over(Ending::Ended)),
+        TurnReply::Abended(code) => Some(StopPoint::Over(Ending::Abended(*code))),
         TurnReply::Waiting => None,
         TurnReply::Idle => None,
         TurnReply::NoSuchTerminal => None,

@@ -3,12 +3,12 @@ ghost use Rattle.std.specs.Prelude.{◌≡◌, ◌==◌, false, true, map};
 ghost use Rattle.std.specs.List.{find, list_all, zip};
 ghost use Rattle.std.specs.Str.{bytes_eq};
 ghost use Rattle.cx_ebcdic.specs.Characters.{shown_as};
-ghost use Rattle.cx_command.specs.Conditions.{entry_of};
+ghost use Rattle.cx_base_commands.specs.Conditions.{entry_of};
 ghost use Rattle.cx_edf.specs.Stops.{is_shown_as, names, no_stops, stop_word_name, stop_word_of, stops_named, takes, with_part, with_stop};
 
-use cx_command::{CONDITIONS, Condition};
-use cx_display::{Ending, Kind};
-use cx_text::shown_byte;
+use cx_base_commands::{CONDITIONS, Condition};
+use cx_base_text::shown_byte;
+use cx_edf_display::{Ending, StopPoint};
 
 /// A stop condition: what a task stops at under suppression.
 #[derive(Clone, Copy, Debug, PartialEq, Eq)]
@@ -82,18 +82,18 @@ impl Stops {
     }
 
     /// Whether a task stops there under suppression: after a condition that is named, or any but NORMAL where ERROR is;
-    /// where an exit took an abend, or the task ended by one, where ABEND is named; where it ended else, for END.
+    /// where an exit took an abend, or the task ended by one, where ABEND is named; where it ended otherwise, for END.
     #[tactic(auto, unfolding(crate::specs::Stops::takes))]
-    pub fn takes(self, kind: &Kind) -> bool
+    pub fn takes(self, kind: &StopPoint) -> bool
         ensures { result ≡ takes self kind.now }
     {
         match kind {
-            Kind::Before => false,
-            Kind::After(Condition::Normal) => false,
-            Kind::After(condition) => self.names(Condition::Error) || self.names(*condition),
-            Kind::Exit(_) => self.abend,
-            Kind::Over(Ending::Abended(_)) => self.abend,
-            Kind::Over(Ending::Ended) => self.end,
+            StopPoint::Before => false,
+            StopPoint::After(Condition::Normal) => false,
+            StopPoint::After(condition) => self.names(Condition::Error) || self.names(*condition),
+            StopPoint::Exit(_) => self.abend,
+            StopPoint::Over(Ending::Abended(_)) => self.abend,
+            StopPoint::Over(Ending::Ended) => self.end,
         }
     }
 

@@ -4,10 +4,10 @@ ghost use Rattle.std.specs.Option.{option_copied, option_and_then, option_map_or
 ghost use Rattle.std.specs.List.{IsDistinct};
 ghost use Rattle.std.specs.Map.{keys_of};
 ghost use Rattle.indexmap.specs.IndexMap.{insert_entry};
-ghost use Rattle.cx_display.specs.Displays.{display_of};
+ghost use Rattle.cx_edf_display.specs.Displays.{display_of};
 ghost use Rattle.cx_ebcdic.specs.Names.{is_name};
 ghost use Rattle.cx_edf.specs.Sessions.{SessionState, after_change, after_key, fresh_session, is_stopped, session_in, with_session};
-ghost use Rattle.cx_edf.specs.Steps.{changed, sessions_after};
+ghost use Rattle.cx_edf.specs.Steps.{with_session_changed, sessions_after};
 ghost use Rattle.cx_region.specs.declared.replies.Event.TheVariants as event;
 ghost use Rattle.cx_region.specs.declared.replies.Reply.TheVariants as reply;
 
@@ -47,7 +47,7 @@ pub(crate) fn end(sessions: &mut IndexMap<Name4, Session>, name: Name4)
 fn press(sessions: &mut IndexMap<Name4, Session>, name: Name4, aid: Aid, bytes: &[u8])
     requires { (it : SessionState) → session_in sessions.old.entries name ≡ Some it → IsTrue (is_stopped it.mode) }
     ensures { aid ≢ Aid.Pf3 → (session : SessionState) → session_in sessions.old.entries name ≡ Some session
-        → sessions.new.entries ≡ changed sessions.old.entries name (λ session. after_key session aid bytes.now) }
+        → sessions.new.entries ≡ with_session_changed sessions.old.entries name (λ session. after_key session aid bytes.now) }
 {
     let Some(session) = sessions.get_mut(&name) else {
         return;
@@ -69,7 +69,8 @@ pub(crate) fn is_stopped(sessions: &IndexMap<Name4, Session>, name: Name4) -> bo
 #[tactic(auto, using(crate::proofs::TableLemmas::ended_there), unfolding(crate::specs::Sessions::after_key))]
 pub(crate) fn key(sessions: &mut IndexMap<Name4, Session>, name: Name4, aid: Aid, bytes: &[u8])
     requires { IsTrue (option_map_or (λ s. is_stopped s.mode) (session_in sessions.old.entries name) false) }
-    ensures { sessions.new.entries ≡ changed sessions.old.entries name (λ session. after_key session aid bytes.now) }
+    ensures { sessions.new.entries
+        ≡ with_session_changed sessions.old.entries name (λ session. after_key session aid bytes.now) }
 {
     match aid {
         Aid::Pf3 => end(sessions, name),
@@ -119,7 +120,7 @@ fn altered<S: Store + Drop>(
     change: Change,
 )
     ensures { let display = display_of region.now name in
-        sessions.new.entries ≡ changed sessions.old.entries name (λ it. Some (after_change it change display)) }
+        sessions.new.entries ≡ with_session_changed sessions.old.entries name (λ it. Some (after_change it change display)) }
 {
     let Some(session) = sessions.get_mut(&name) else {
         return;

@@ -5,10 +5,10 @@ use Rattle.std.proofs.lemmas.Int.{ints, quot-rem, unsigned_abs-mul, rem_below}
 use borrow.Author.Differences.{false_is_lt}
 use lib.IntN.{suc_ℤ-*ℤ, pred_ℤ-*ℤ, zero-*ℤ, *ℤ_comm}
 use Rattle.std.specs.Int.{w32}
-use Rattle.cx_exec.specs.Division.{Divides, IsDivision, Divided}
+use Rattle.cx_exec.specs.Division.{Divides, IsDivision, DividesRegisters}
 use Rattle.cx_exec.specs.declared.machine.Updated.{Updated}
 use Rattle.cx_exec.specs.Machine.{Machine}
-use Rattle.cx_exec.specs.Numbers.{signed, signed_double, word_of}
+use Rattle.cx_exec.specs.Numbers.{signed_word, signed_double, word_of}
 use Rattle.cx_exec.specs.Results.{pair}
 
 -- a factor once more, and once less
@@ -117,13 +117,13 @@ abbrev written : Machine → ℕ → Updated → ℕ → ℕ → Machine
 written m r updated high low = record m { regs = slice_set (slice_set m.regs r high) (r + 1) low; next = updated.address }
 
 -- a pair with a remainder and a quotient is a pair divided
-pub divided_written : (r divisor high low : ℕ) (updated : Updated) (m : Machine) (n d q rem : ℤ) → n ≡ signed_double (pair m.regs r) → d ≡ signed divisor
+pub divided_written : (r divisor high low : ℕ) (updated : Updated) (m : Machine) (n d q rem : ℤ) → n ≡ signed_double (pair m.regs r) → d ≡ signed_word divisor
     → IsDivision n d q rem → high ≡ word_of rem → low ≡ word_of q
-    → Divided r divisor updated m (Ok tt) (record m { regs = slice_set (slice_set m.regs r high) (r + 1) low; next = updated.address })
-unfolding Divided
+    → DividesRegisters r divisor updated m (Ok tt) (record m { regs = slice_set (slice_set m.regs r high) (r + 1) low; next = updated.address })
+unfolding DividesRegisters
 divided_written r divisor high low updated m n d q rem dividend by found first second = (
   q,
   rem,
-  subst (λ (x : ℤ). IsDivision x (signed divisor) q rem) dividend (subst (λ (x : ℤ). IsDivision n x q rem) by found),
+  subst (λ (x : ℤ). IsDivision x (signed_word divisor) q rem) dividend (subst (λ (x : ℤ). IsDivision n x q rem) by found),
   ap (λ (x : ℕ). written m r updated x low) first ∙ ap (λ (x : ℕ). written m r updated (word_of rem) x) second,
 )

@@ -4,7 +4,7 @@ use Rattle.std.specs.Option.{option_map, option_and_then}
 use Rattle.std.proofs.lemmas.Bool.{ne_eqb}
 use Rattle.std.proofs.lemmas.List.{length-take-le, get_or-take}
 use Rattle.cx_storage.specs.Storage.{Storage, byte_at, span}
-use Rattle.cx_storage.specs.Address.{along}
+use Rattle.cx_storage.specs.Address.{address_after}
 use Rattle.cx_storage.specs.Facts.Spans.{span_at, span_from, span_length}
 use Rattle.cx_code.specs.declared.table.Op.{Op}
 use Rattle.cx_code.specs.declared.table.Format.{Format}
@@ -14,9 +14,9 @@ use Rattle.cx_code.specs.Spelling.{Instruction, format_with, IsWellFormed}
 use Rattle.cx_code.specs.Reading.{reading}
 use Rattle.cx_exec.specs.Fetch.{code_bytes, code_at, read_as}
 use Rattle.cx_exec.specs.Machine.{Machine, effective}
-use Rattle.cx_exec.specs.Step.{due, updated_by, then_result, target_at, performed_of, performed, Runs}
+use Rattle.cx_exec.specs.Step.{pending_instruction, updated_by, then_result, target_at, performed_of, instruction_to_perform, Runs}
 use Rattle.cx_exec.specs.Rows.{Effect}
-use Rattle.cx_exec.specs.Outcome.{Outcome, Suppressed}
+use Rattle.cx_exec.specs.Outcome.{Outcome, IsSuppressed}
 use Rattle.cx_exec.specs.declared.machine.Interruption.{Interruption}
 use Rattle.cx_code.specs.declared.table.Op.TheVariants as op
 use Rattle.cx_code.specs.declared.instruction.Fields.TheVariants.{Rx}
@@ -25,7 +25,7 @@ use Rattle.cx_code.specs.declared.instruction.Fields.TheVariants.{Rx}
 first_byte : (s : Storage) (a n : ℕ) (bytes : List ℕ) → span s a n ≡ Some bytes → 0 < n → byte_at s a ≡ Some (slice_index bytes 0)
 unfolding span
 first_byte s a zero bytes e h = absurd (omega arith)
-first_byte s a (suc n) bytes e h = go (byte_at s a) (span s (along a 1) n) e
+first_byte s a (suc n) bytes e h = go (byte_at s a) (span s (address_after a 1) n) e
   where
     go : (o : Option ℕ) (r : Option (List ℕ)) → option_and_then (λ b. option_map (λ bs. b ∷ bs) r) o ≡ Some bytes → o ≡ Some (slice_index bytes 0)
     go None r e = cc
@@ -66,7 +66,7 @@ decoded (Some j) i n e =
     let same : i ≡ j = ap (λ p. p.0) pair in
     (ap Some (sym same), ap (λ p. p.1) pair ∙ rw same refl)
 
--- an instruction that eight bytes begin with is fetched and read where they stand
+-- an instruction that eight bytes begin with is fetched and read where they lie
 pub found_is_read : (s : Storage) (a : ℕ) (bytes : List ℕ) (i : Instruction) → a < 2 ^ 24 → a % 2 ≡ 0 → span s a 8 ≡ Some bytes
     → length_of_code (slice_index bytes 0) ≡ length_of i.op → length_of i.op ≤ 8 → reading (take (length_of i.op) bytes) ≡ Some i
     → (code_at s a ≡ Ok (take (length_of i.op) bytes)) × (read_as (take (length_of i.op) bytes) ≡ Ok i)
@@ -81,8 +81,8 @@ found_is_read s a bytes i low even there long short reads =
 pub lent_is_performed : (m : Machine) (bytes : List ℕ) (i : Instruction) → m.next < 2 ^ 24 → m.next % 2 ≡ 0 → span m.storage m.next 8 ≡ Some bytes
     → length_of_code (slice_index bytes 0) ≡ length_of i.op → length_of i.op ≤ 8 → reading (take (length_of i.op) bytes) ≡ Some i
     → length (take (length_of i.op) bytes) ≡ length_of i.op
-    → performed m ≡ performed_of m i (updated_by m.next (length_of i.op))
-unfolding performed
+    → instruction_to_perform m ≡ performed_of m i (updated_by m.next (length_of i.op))
+unfolding instruction_to_perform
 lent_is_performed m bytes i low even there long short reads size =
     let found = found_is_read m.storage m.next bytes i low even there long short reads in
     rw (found.0, found.1, size) refl
@@ -94,18 +94,18 @@ length_with i formed = ap length_of_format (sym formed.0)
 
 -- an EX is performed by the effect of its target
 pub executed_at : (m : Machine) (i : Instruction) (r1 x2 b2 d2 : ℕ) (outcome : Outcome) (after : Machine)
-    → performed m ≡ performed_of m i (updated_by m.next (length_of i.op)) → length_of i.op ≡ 4 → i.op ≡ op.Ex → i.fields ≡ Rx r1 x2 b2 d2
-    → MatchResult (target_at m r1 (effective m.regs x2 b2 d2)) (λ target. Effect target (record { length_code = 2; address = along m.next 4 }) m outcome after) (λ cause. Suppressed cause m outcome after)
+    → instruction_to_perform m ≡ performed_of m i (updated_by m.next (length_of i.op)) → length_of i.op ≡ 4 → i.op ≡ op.Ex → i.fields ≡ Rx r1 x2 b2 d2
+    → MatchResult (target_at m r1 (effective m.regs x2 b2 d2)) (λ target. Effect target (record { length_code = 2; address = address_after m.next 4 }) m outcome after) (λ cause. IsSuppressed cause m outcome after)
     → Runs m outcome after
 unfolding Runs
 executed_at m i r1 x2 b2 d2 outcome after is long ex fields effect =
-    let step : performed m ≡ then_result (target_at m r1 (effective m.regs x2 b2 d2)) (λ target. Ok (due target (record { length_code = 2; address = along m.next 4 })))
+    let step : instruction_to_perform m ≡ then_result (target_at m r1 (effective m.regs x2 b2 d2)) (λ target. Ok (pending_instruction target (record { length_code = 2; address = address_after m.next 4 })))
     = is ∙ ap (λ n. performed_of m i (updated_by m.next n)) long ∙ rw (ex, fields) refl in
     rw step (run (target_at m r1 (effective m.regs x2 b2 d2)) effect)
   where
     run : (target : Result Instruction Interruption)
-        → MatchResult target (λ t. Effect t (record { length_code = 2; address = along m.next 4 }) m outcome after) (λ cause. Suppressed cause m outcome after)
-        → MatchResult (then_result target (λ t. Ok (due t (record { length_code = 2; address = along m.next 4 })))) (λ d. Effect d.inst d.updated m outcome after) (λ cause. Suppressed cause m outcome after)
+        → MatchResult target (λ t. Effect t (record { length_code = 2; address = address_after m.next 4 }) m outcome after) (λ cause. IsSuppressed cause m outcome after)
+        → MatchResult (then_result target (λ t. Ok (pending_instruction t (record { length_code = 2; address = address_after m.next 4 })))) (λ d. Effect d.inst d.updated m outcome after) (λ cause. IsSuppressed cause m outcome after)
     run (Ok t) e = e
     run (Err cause) e = e
 

@@ -1,4 +1,4 @@
--- Instructions that stand in bytes that are lent: what is fetched, and their fields in the front that is kept of them.
+-- Instructions in bytes that are lent: what is fetched, and their fields in the front that is kept of them.
 use Rattle.std.proofs.Common.{◌≡◌, ℕ, ◌+◌, ◌*◌, ◌%◌, ◌^◌, ◌<◌, ◌≤◌, ◌==◌, ◌++◌, zero, suc, Bool, true, false, List, [], ◌∷◌, length, take, slice_index, slice_range, Option, Some, None, Ok, MatchResult, refl, sym, ap, ◌∙◌, arith, if◌then◌else◌}
 use Rattle.std.specs.Option.{option_map}
 use Rattle.std.proofs.lemmas.List.{length-take-le, get_or-take}
@@ -6,7 +6,7 @@ use Rattle.std.specs.Int.{byte_at}
 use Rattle.byteorder.specs.Endian.{big_from, big_bytes, big_number}
 use Rattle.byteorder.specs.Numbers.{big_from-take}
 use Rattle.cx_storage.specs.Storage.{span}
-use Rattle.cx_storage.specs.Address.{along}
+use Rattle.cx_storage.specs.Address.{address_after}
 use Rattle.cx_storage.specs.Facts.Spans.{span_length}
 use Rattle.cx_code.specs.declared.table.Op.{Op}
 use Rattle.cx_code.specs.declared.table.Op.TheVariants as op
@@ -20,9 +20,9 @@ use Rattle.cx_code.specs.Reading.{left_half, right_half, base_at, displacement_a
 use Rattle.cx_exec.specs.Fetch.{read_as}
 use Rattle.cx_exec.specs.declared.machine.Updated.{Updated}
 use Rattle.cx_exec.specs.Machine.{Machine, reg, effective}
-use Rattle.cx_exec.specs.Outcome.{Outcome, Suppressed}
+use Rattle.cx_exec.specs.Outcome.{Outcome, IsSuppressed}
 use Rattle.cx_exec.specs.Rows.{Effect}
-use Rattle.cx_exec.specs.Step.{is_execute, updated_by, joined_second, changed_copy, not_execute, then_result, target_at, performed_of, performed, Runs}
+use Rattle.cx_exec.specs.Step.{is_execute, updated_by, joined_second, changed_copy, not_execute, then_result, target_at, performed_of, instruction_to_perform, Runs}
 use Rattle.cx_exec.proofs.FetchLemmas.{found_is_read, lent_is_performed, reads_as, executed_at}
 
 -- the two bytes of a number, each of them given
@@ -88,16 +88,16 @@ row_is_read op b known h first =
     known (take (length_of op) b) op code (omega (arith, size)) ∙ ap (λ (f : Fields). Some (instruction op f)) same
 
 -- the eight bytes that a front is of
-spanned : (o : Option (List ℕ)) (front : List ℕ) → option_map (take 6) o ≡ Some front → (b : List ℕ) × (o ≡ Some b) × (front ≡ take 6 b)
-spanned None front e = cc
-spanned (Some b) front e = let same : take 6 b ≡ front = cc in (b, refl, sym same)
+spanned : (o : Option (List ℕ)) (prefix : List ℕ) → option_map (take 6) o ≡ Some prefix → (b : List ℕ) × (o ≡ Some b) × (prefix ≡ take 6 b)
+spanned None prefix e = cc
+spanned (Some b) prefix e = let same : take 6 b ≡ prefix = cc in (b, refl, sym same)
 
 -- and performed so at the next address
-pub lent_performed : (m : Machine) (op : Op) (front : List ℕ) → KnownByCode → LongByCode → m.next < 2 ^ 24 → m.next % 2 ≡ 0
-    → option_map (take 6) (span m.storage m.next 8) ≡ Some front → slice_index front 0 ≡ code_of op
-    → performed m ≡ performed_of m (instruction op (fields_at op front)) (updated_by m.next (length_of op))
-lent_performed m op front known long low even lent code =
-    let got = spanned (span m.storage m.next 8) front lent in
+pub lent_performed : (m : Machine) (op : Op) (prefix : List ℕ) → KnownByCode → LongByCode → m.next < 2 ^ 24 → m.next % 2 ≡ 0
+    → option_map (take 6) (span m.storage m.next 8) ≡ Some prefix → slice_index prefix 0 ≡ code_of op
+    → instruction_to_perform m ≡ performed_of m (instruction op (fields_at op prefix)) (updated_by m.next (length_of op))
+lent_performed m op prefix known long low even lent code =
+    let got = spanned (span m.storage m.next 8) prefix lent in
     let b = got.0 in
     let there = got.1 in
     let same = got.2 in
@@ -108,7 +108,7 @@ lent_performed m op front known long low even lent code =
     (lent_is_performed m b (instruction op (fields_at op (take 6 b))) low even there (ap length_of_code first ∙ long op) (omega (arith, few)) (row_is_read op b known h first)
     (length-take-le (length_of op) b (omega (arith, h, few))))
 
--- a joined byte stands in the front as in the bytes
+-- a joined byte is in the front as in the bytes
 joined_front : (low n : ℕ) (b : List ℕ) → joined_second low (take n b) ≡ take n (joined_second low b)
 joined_front low zero b = refl
 joined_front low (suc zero) [] = refl
@@ -153,34 +153,34 @@ copied_front m r1 n b = go (r1 == 0)
     go false = joined_front (reg m r1 % 256) n b
 
 -- the target of an EX that eight lent bytes begin with, from its changed copy
-pub lent_target : (m : Machine) (r1 a : ℕ) (op : Op) (plain front : List ℕ) → KnownByCode → LongByCode → a < 2 ^ 24 → a % 2 ≡ 0
-    → option_map (take 6) (span m.storage a 8) ≡ Some plain → front ≡ changed_copy m r1 plain → slice_index front 0 ≡ code_of op → is_execute op ≡ false
-    → target_at m r1 a ≡ Ok (instruction op (fields_at op front))
+pub lent_target : (m : Machine) (r1 a : ℕ) (op : Op) (plain prefix : List ℕ) → KnownByCode → LongByCode → a < 2 ^ 24 → a % 2 ≡ 0
+    → option_map (take 6) (span m.storage a 8) ≡ Some plain → prefix ≡ changed_copy m r1 plain → slice_index prefix 0 ≡ code_of op → is_execute op ≡ false
+    → target_at m r1 a ≡ Ok (instruction op (fields_at op prefix))
 unfolding target_at
-lent_target m r1 a op plain front known long low even lent changed code execute =
+lent_target m r1 a op plain prefix known long low even lent changed code execute =
     let got = spanned (span m.storage a 8) plain lent in
     let b = got.0 in
     let there = got.1 in
-    let same : front ≡ changed_copy m r1 (take 6 b) = changed ∙ ap (changed_copy m r1) got.2 in
+    let same : prefix ≡ changed_copy m r1 (take 6 b) = changed ∙ ap (changed_copy m r1) got.2 in
     let h = span_length m.storage a 8 b there in
     let few = (some_few (format_of op)).1 in
     let first : slice_index b 0 ≡ code_of op = sym (copied_first m r1 (take 6 b) ∙ get_or-take 6 b 0 0 (omega arith)) ∙ rw (← same) code in
     let found = found_is_read m.storage a b (instruction op (fields_at op (take 6 b))) low even there (ap length_of_code first ∙ long op) (omega (arith, few)) (row_is_read op b known h first) in
     let is : reading (take (length_of op) (changed_copy m r1 b)) ≡ Some (instruction op (fields_at op (take 6 (changed_copy m r1 b))))
     = row_is_read op (changed_copy m r1 b) known (copied_length m r1 b ∙ h) (copied_first m r1 b ∙ first) in
-    let whole : reading (changed_copy m r1 (take (length_of op) b)) ≡ Some (instruction op (fields_at op front))
+    let whole : reading (changed_copy m r1 (take (length_of op) b)) ≡ Some (instruction op (fields_at op prefix))
     = ap reading (copied_front m r1 (length_of op) b) ∙ is ∙ ap (λ (x : List ℕ). Some (instruction op (fields_at op x))) (sym (same ∙ copied_front m r1 6 b)) in
-    rw found.0 (copy_read (instruction op (fields_at op front)) (changed_copy m r1 (take (length_of op) b)) execute whole)
+    rw found.0 (copy_read (instruction op (fields_at op prefix)) (changed_copy m r1 (take (length_of op) b)) execute whole)
 
 -- an EX at the next address is performed by the effect of its target
-pub lent_executes : (m after : Machine) (front : List ℕ) (outcome : Outcome) (r1 a : ℕ)
-    → performed m ≡ performed_of m (instruction op.Ex (fields_at op.Ex front)) (updated_by m.next (length_of op.Ex))
-    → r1 ≡ left_half front → a ≡ effective m.regs (right_half front) (base_at 2 front) (displacement_at 2 front)
-    → MatchResult (target_at m r1 a) (λ target. Effect target (record { length_code = 2; address = along m.next 4 }) m outcome after) (λ cause. Suppressed cause m outcome after)
+pub lent_executes : (m after : Machine) (prefix : List ℕ) (outcome : Outcome) (r1 a : ℕ)
+    → instruction_to_perform m ≡ performed_of m (instruction op.Ex (fields_at op.Ex prefix)) (updated_by m.next (length_of op.Ex))
+    → r1 ≡ left_half prefix → a ≡ effective m.regs (right_half prefix) (base_at 2 prefix) (displacement_at 2 prefix)
+    → MatchResult (target_at m r1 a) (λ target. Effect target (record { length_code = 2; address = address_after m.next 4 }) m outcome after) (λ cause. IsSuppressed cause m outcome after)
     → Runs m outcome after
 unfolding fields_at fields_in row_of is_shift
-lent_executes m after front outcome r1 a is left operand effect =
-    executed_at m (instruction op.Ex (fields_at op.Ex front)) (left_half front) (right_half front) (base_at 2 front) (displacement_at 2 front) outcome after is refl refl refl
+lent_executes m after prefix outcome r1 a is left operand effect =
+    executed_at m (instruction op.Ex (fields_at op.Ex prefix)) (left_half prefix) (right_half prefix) (base_at 2 prefix) (displacement_at 2 prefix) outcome after is refl refl refl
     (rw (← left, ← operand) effect)
 
 no_r3 : (f : Fields) → r3_of f ≡ 0 → without_r3 f ≡ f

@@ -15,7 +15,7 @@ product_some b p h some =
     let least : 1 * p ≤ b * p = mul-le-mul_right p (omega (arith, h)) in
     omega (arith, least, some)
 
--- a list of bytes that are all zero is zero, and one with another byte isn't
+-- a list of bytes that are all zero is zero, and one with any other byte isn't
 pub each_zero : (bytes : List ℕ) → ((j : ℕ) → j < length bytes → slice_index bytes j ≡ 0) → number_of bytes ≡ 0
 each_zero [] each = refl
 each_zero (b ∷ bs) each =

@@ -7,7 +7,7 @@ use Rattle.cx_exec.specs.declared.machine.Halt.TheVariants as halt
 use Rattle.cx_exec.specs.Machine.{Machine}
 use Rattle.cx_exec.specs.Outcome.{Outcome}
 use Rattle.cx_exec.specs.Rows.{Effect}
-use Rattle.cx_exec.specs.Step.{entry, updated_by, is_execute, performed_of, performed, Runs, Steps}
+use Rattle.cx_exec.specs.Step.{entry, updated_by, is_execute, performed_of, instruction_to_perform, Runs, Steps}
 use Rattle.cx_code.specs.declared.table.Op.{Op}
 use Rattle.cx_code.specs.Table.{length_of}
 use Rattle.cx_code.specs.Spelling.{instruction}
@@ -32,7 +32,7 @@ unfolding Advances Steps
 at_entry limit n m now after below so_far step =
     (n, below, subst (λ (s : Machine). Passes n m s) (sym step.1) so_far, ap (λ (s : Machine). s.next) step.1 ∙ step.0)
 
--- runs one behind the other
+-- runs one after the other
 pub steps_join : (n k : ℕ) (m mid after : Machine) → Passes n m mid → Passes k mid after → Passes (n + k) m after
 unfolding Passes
 steps_join zero k m mid after first second =
@@ -57,7 +57,7 @@ runs_within n limit m after halt.AtEntry within ended (j, small, run, e) = (j, o
 runs_within n limit m after (halt.Interrupt cause place) within ended (j, small, before, run, last, e) = (j, omega (arith, small), before, run, last, e)
 runs_within n limit m after halt.Limit within ended run = absurd (ended refl)
 
--- a round that ended, behind rounds that were done
+-- a round that ended, after rounds that were done
 pub round_ends : (limit left n : ℕ) (m mid after : Machine) (end : Halt) → left ≤ limit → n ≤ left → Passes (limit - left) m mid → (Some end ≢ Some halt.Limit) → Advances n mid end after → Advances limit m end after
 round_ends limit left n m mid after end within fits first ended run =
     let all : limit - left + n ≤ limit = omega arith in
@@ -99,23 +99,23 @@ pub run_interrupt : (steps left place : ℕ) (cause : Interruption) (m now after
 unfolding Steps
 run_interrupt steps left place cause m now after within some so_far apart run is = interrupt_left steps left place cause m now after within some so_far (apart, run) is
 
--- an instruction but EX runs by the effect of its row
-row_runs : (now : Machine) (op : Op) (front : List ℕ) (outcome : Outcome) (after : Machine)
-    → performed now ≡ performed_of now (instruction op (fields_at op front)) (updated_by now.next (length_of op)) → is_execute op ≡ false
-    → Effect (instruction op (fields_at op front)) (updated_by now.next (length_of op)) now outcome after → Runs now outcome after
+-- an instruction except EX runs by the effect of its row
+row_runs : (now : Machine) (op : Op) (prefix : List ℕ) (outcome : Outcome) (after : Machine)
+    → instruction_to_perform now ≡ performed_of now (instruction op (fields_at op prefix)) (updated_by now.next (length_of op)) → is_execute op ≡ false
+    → Effect (instruction op (fields_at op prefix)) (updated_by now.next (length_of op)) now outcome after → Runs now outcome after
 unfolding Runs
-row_runs now op front outcome after is plain effect = rw (is, plain) effect
+row_runs now op prefix outcome after is plain effect = rw (is, plain) effect
 
-pub row_more : (steps left : ℕ) (m now after : Machine) (op : Op) (front : List ℕ) → left ≤ steps → 0 < left → Passes (steps - left) m now
-    → Effect (instruction op (fields_at op front)) (updated_by now.next (length_of op)) now (Ok tt) after
-    → performed now ≡ performed_of now (instruction op (fields_at op front)) (updated_by now.next (length_of op)) → is_execute op ≡ false
+pub row_more : (steps left : ℕ) (m now after : Machine) (op : Op) (prefix : List ℕ) → left ≤ steps → 0 < left → Passes (steps - left) m now
+    → Effect (instruction op (fields_at op prefix)) (updated_by now.next (length_of op)) now (Ok tt) after
+    → instruction_to_perform now ≡ performed_of now (instruction op (fields_at op prefix)) (updated_by now.next (length_of op)) → is_execute op ≡ false
     → now.next ≢ entry → Passes (steps - (left - 1)) m after
-row_more steps left m now after op front within some so_far effect is plain apart =
-    run_more steps left m now after within some so_far apart (row_runs now op front (Ok tt) after is plain effect)
+row_more steps left m now after op prefix within some so_far effect is plain apart =
+    run_more steps left m now after within some so_far apart (row_runs now op prefix (Ok tt) after is plain effect)
 
-pub row_interrupt : (steps left : ℕ) (cause : Interruption) (m now after : Machine) (op : Op) (front : List ℕ) → left ≤ steps → 0 < left → Passes (steps - left) m now
-    → Effect (instruction op (fields_at op front)) (updated_by now.next (length_of op)) now (Err cause) after
-    → performed now ≡ performed_of now (instruction op (fields_at op front)) (updated_by now.next (length_of op)) → is_execute op ≡ false
+pub row_interrupt : (steps left : ℕ) (cause : Interruption) (m now after : Machine) (op : Op) (prefix : List ℕ) → left ≤ steps → 0 < left → Passes (steps - left) m now
+    → Effect (instruction op (fields_at op prefix)) (updated_by now.next (length_of op)) now (Err cause) after
+    → instruction_to_perform now ≡ performed_of now (instruction op (fields_at op prefix)) (updated_by now.next (length_of op)) → is_execute op ≡ false
     → now.next ≢ entry → Advances steps m (halt.Interrupt cause after.next) after
-row_interrupt steps left cause m now after op front within some so_far effect is plain apart =
-    run_interrupt steps left after.next cause m now after within some so_far apart (row_runs now op front (Err cause) after is plain effect) refl
+row_interrupt steps left cause m now after op prefix within some so_far effect is plain apart =
+    run_interrupt steps left after.next cause m now after within some so_far apart (row_runs now op prefix (Err cause) after is plain effect) refl

@@ -22,17 +22,17 @@ each_stored : (rule : List ℕ → ℕ → ℕ) (n k : ℕ) → k < n → slice_
 unfolding stored_by
 each_stored rule zero k h = absurd (omega arith)
 each_stored rule (suc n) k h =
-    let front : List ℕ = stored_by rule n in
-    let back : List ℕ = rule front n ∷ [] in
-    let long : length front ≡ n = stored_length rule n in
+    let prefix : List ℕ = stored_by rule n in
+    let back : List ℕ = rule prefix n ∷ [] in
+    let long : length prefix ≡ n = stored_length rule n in
     elim (cases_lt k n) [
       | inl lt ↦
-          get_or_append_left front back 0 k (omega (arith, long, lt)) ∙ each_stored rule n k lt
-          ∙ ap (λ (x : List ℕ). rule x k) (sym (take-append-le k front back (omega (arith, long, lt))))
+          get_or_append_left prefix back 0 k (omega (arith, long, lt)) ∙ each_stored rule n k lt
+          ∙ ap (λ (x : List ℕ). rule x k) (sym (take-append-le k prefix back (omega (arith, long, lt))))
       | inr ge ↦
           let same : n ≡ k = omega (arith, h, ge) in
-          let here : slice_index (front ++ back) n ≡ rule front n = rw long at (get_or-append_seam front (rule front n) [] 0) in
-          let whole : take n (front ++ back) ≡ front = take_at front back n long in
+          let here : slice_index (prefix ++ back) n ≡ rule prefix n = rw long at (get_or-append_seam prefix (rule prefix n) [] 0) in
+          let whole : take n (prefix ++ back) ≡ prefix = take_at prefix back n long in
           rw (← same, here, whole) refl
     ]
 

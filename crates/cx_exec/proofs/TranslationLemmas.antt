@@ -2,15 +2,15 @@
 use Rattle.std.proofs.Common.{◌≡◌, ◌≢◌, ◌⊎◌, ℕ, zero, suc, ◌+◌, ◌^◌, ◌<◌, ◌≤◌, nat_lt, Bool, true, false, ◌==◌, List, length, slice_index, take, Option, Some, None, find, refl, sym, ◌∙◌, ap, inl, inr, arith}
 use Rattle.std.proofs.lemmas.Grind.{same_number_lists}
 use Rattle.std.proofs.lemmas.List.{get_or-take, length-take-le}
-use Rattle.cx_storage.specs.Address.{along, distance}
+use Rattle.cx_storage.specs.Address.{address_after, distance}
 use Rattle.cx_storage.specs.Facts.Spans.{span_at, span_length}
 use Rattle.std.specs.Prelude.{IfSome, unwrap_or}
-use Rattle.cx_exec.specs.Sequence.{content, seen, stored_by}
+use Rattle.cx_exec.specs.Sequence.{content, byte_seen, stored_by}
 use Rattle.cx_exec.proofs.SequenceLemmas.{each_is_stored, stored_length}
 use Rattle.std.specs.List.{range_with_len}
 use Rattle.std.proofs.lemmas.Bool.{le-ltb, ne_eqb}
 use Rattle.cx_storage.specs.Storage.{Storage, byte_at, span}
-use Rattle.cx_exec.specs.Translation.{HasTable, table_byte, ends_search, first_found, translated}
+use Rattle.cx_exec.specs.Translation.{HasTable, table_byte, ends_search, first_found, translated_byte}
 
 nothing_found : (test : ℕ → Bool) (a n : ℕ) → ((j : ℕ) → j < n → test (a + j) ≡ false) → find test (range_with_len a n) ≡ None
 nothing_found test a zero all = refl
@@ -56,7 +56,7 @@ found_first s n a1 a2 k h all e =
     found ∙ ap Some here
 
 -- ---- TR of an argument and a table that are lent, and apart
-argument_is : (s : Storage) (a1 n k : ℕ) (argument : List ℕ) → a1 < 2 ^ 24 → span s a1 n ≡ Some argument → k < n → byte_at s (along a1 k) ≡ Some (slice_index argument k)
+argument_is : (s : Storage) (a1 n k : ℕ) (argument : List ℕ) → a1 < 2 ^ 24 → span s a1 n ≡ Some argument → k < n → byte_at s (address_after a1 k) ≡ Some (slice_index argument k)
 argument_is s a1 n k argument low e h = span_at s a1 n argument k low e h
 
 table_is : (s : Storage) (a1 a2 n k : ℕ) (argument table : List ℕ) → a1 < 2 ^ 24 → a2 < 2 ^ 24 → span s a1 n ≡ Some argument → span s a2 256 ≡ Some table
@@ -66,38 +66,38 @@ table_is s a1 a2 n k argument table low1 low2 e f h small =
 
 -- a table's byte isn't among those that were stored before
 unstored : (a1 a2 n x k : ℕ) → a1 < 2 ^ 24 → a2 < 2 ^ 24 → a1 + n ≤ 2 ^ 24 → a2 + 256 ≤ 2 ^ 24 → (a1 + n ≤ a2) ⊎ (a2 + 256 ≤ a1) → x < 256 → k ≤ n
-    → k ≤ distance a1 (along a2 x)
-unstored a1 a2 n x k low1 low2 fits1 fits2 (inl front) small few = omega (arith, low1, low2, fits1, fits2, front, small, few)
+    → k ≤ distance a1 (address_after a2 x)
+unstored a1 a2 n x k low1 low2 fits1 fits2 (inl prefix) small few = omega (arith, low1, low2, fits1, fits2, prefix, small, few)
 unstored a1 a2 n x k low1 low2 fits1 fits2 (inr back) small few = omega (arith, low1, low2, fits1, fits2, back, small, few)
 
 one_translated : (s : Storage) (a1 a2 n k : ℕ) (argument table stored : List ℕ) → a1 < 2 ^ 24 → a2 < 2 ^ 24 → a1 + n ≤ 2 ^ 24 → a2 + 256 ≤ 2 ^ 24
     → (a1 + n ≤ a2) ⊎ (a2 + 256 ≤ a1) → span s a1 n ≡ Some argument → span s a2 256 ≡ Some table → k < n → slice_index argument k < 256 → length stored ≡ k
-    → translated s a1 a2 stored k ≡ slice_index table (slice_index argument k)
-unfolding translated seen
+    → translated_byte s a1 a2 stored k ≡ slice_index table (slice_index argument k)
+unfolding translated_byte byte_seen
 one_translated s a1 a2 n k argument table stored low1 low2 fits1 fits2 apart e f h small long =
     let x : ℕ = slice_index argument k in
-    let own : content s (along a1 k) ≡ x = rw (span_at s a1 n argument k low1 e h) refl in
-    let past : nat_lt (distance a1 (along a2 x)) (length stored) ≡ false = le-ltb (distance a1 (along a2 x)) (length stored) (omega (arith, long, unstored a1 a2 n x k low1 low2 fits1 fits2 apart small (omega (arith, h)))) in
+    let own : content s (address_after a1 k) ≡ x = rw (span_at s a1 n argument k low1 e h) refl in
+    let past : nat_lt (distance a1 (address_after a2 x)) (length stored) ≡ false = le-ltb (distance a1 (address_after a2 x)) (length stored) (omega (arith, long, unstored a1 a2 n x k low1 low2 fits1 fits2 apart small (omega (arith, h)))) in
     rw (own, past, span_at s a2 256 table x low2 f small) refl
 
 pub lent_translated : (s : Storage) (a1 a2 n : ℕ) (argument table new : List ℕ) → a1 < 2 ^ 24 → a2 < 2 ^ 24 → a1 + n ≤ 2 ^ 24 → a2 + 256 ≤ 2 ^ 24
     → (a1 + n ≤ a2) ⊎ (a2 + 256 ≤ a1) → span s a1 n ≡ Some argument → span s a2 256 ≡ Some table → length new ≡ 256 → n ≤ 256
     → ((k : ℕ) → k < length argument → (slice_index argument k < 256) × (slice_index new k ≡ slice_index table (slice_index argument k)))
-    → HasTable s n a1 a2 × (take n new ≡ stored_by (translated s a1 a2) n)
+    → HasTable s n a1 a2 × (take n new ≡ stored_by (translated_byte s a1 a2) n)
 unfolding HasTable
 lent_translated s a1 a2 n argument table new low1 low2 fits1 fits2 apart e f whole few each =
     let size : length argument ≡ n = span_length s a1 n argument e in
     let long : length (take n new) ≡ n = length-take-le n new (omega (arith, whole, few)) in (
       λ k h. let byte = table_is s a1 a2 n k argument table low1 low2 e f h (each k (omega (arith, h, size))).0 in rw byte refl,
-      same_number_lists (take n new) (stored_by (translated s a1 a2) n) (long ∙ sym (stored_length (translated s a1 a2) n)) (λ k less.
+      same_number_lists (take n new) (stored_by (translated_byte s a1 a2) n) (long ∙ sym (stored_length (translated_byte s a1 a2) n)) (λ k less.
           let within : k < n = omega (arith, less, long) in
           let looked = each k (omega (arith, within, size)) in
-          let stored : List ℕ = take k (stored_by (translated s a1 a2) n) in
+          let stored : List ℕ = take k (stored_by (translated_byte s a1 a2) n) in
           get_or-take n new k 0 within ∙ looked.1
           ∙ sym
-          ((each_is_stored (translated s a1 a2) n k within).1
+          ((each_is_stored (translated_byte s a1 a2) n k within).1
           ∙ one_translated s a1 a2 n k argument table stored low1 low2 fits1 fits2 apart e f within looked.0
-          (length-take-le k (stored_by (translated s a1 a2) n) (omega (arith, within, stored_length (translated s a1 a2) n))))),
+          (length-take-le k (stored_by (translated_byte s a1 a2) n) (omega (arith, within, stored_length (translated_byte s a1 a2) n))))),
     )
 
 -- ---- TRT of an argument and a table that are lent

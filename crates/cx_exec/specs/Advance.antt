@@ -6,7 +6,7 @@ use Rattle.cx_exec.specs.declared.machine.Halt.TheVariants as halt
 use Rattle.cx_exec.specs.Machine.{Machine}
 use Rattle.cx_exec.specs.Step.{Steps, entry}
 
--- so many steps, each of them done; none begins at the entry, and none is interrupted
+-- n steps, each of them done; none begins at the entry, and none is interrupted
 unfoldable pub Passes : ℕ → Machine → Machine → Type 0
 Passes zero m after = after ≡ m
 Passes (suc n) m after = (mid : Machine) × Steps m Done mid × Passes n mid after

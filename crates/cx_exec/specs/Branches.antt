@@ -1,4 +1,5 @@
--- Branches (GA22-7000, "Branch and Link", "Branch on Condition", "Branch on Count"). Nothing interrupts them; the code stays.
+-- Branches (GA22-7000, "Branch and Link", "Branch on Condition", "Branch on Count"). Nothing interrupts them; the code
+-- stays.
 -- 05 BALR [RR], 45 BAL [RX]: R1 gets the link word. 07 BCR [RR], 47 BC [RX]: where the mask has the code's bit.
 -- 06 BCTR [RR], 46 BCT [RX]: R1 less one, modulo 2^32, where it isn't zero then.
 use Rattle.std.specs.Prelude.{ℕ, ◌+◌, ◌-◌, ◌*◌, ◌%◌, ◌^◌, List, Bool, ◌==◌, not, bit_and, slice_set, slice_index, if◌then◌else◌}
@@ -19,24 +20,24 @@ unfoldable pub link_word : Updated → ℕ → ℕ
 link_word updated cc = updated.length_code * 2 ^ 30 + cc * 2 ^ 28 + updated.address
 
 -- a register gets the link word, and the machine goes on elsewhere
-abbrev pub linked : ℕ → ℕ → Updated → Machine → Machine
-linked r to updated m = record m { regs = slice_set m.regs r (link_word updated m.cc); next = to }
+abbrev pub branch_with_link : ℕ → ℕ → Updated → Machine → Machine
+branch_with_link r to updated m = record m { regs = slice_set m.regs r (link_word updated m.cc); next = to }
 
 -- where a branch to a register's address goes: register 0 is no branch
 abbrev pub branch_address : List ℕ → ℕ → Updated → ℕ
 branch_address regs r updated = if r == 0 then updated.address else address_in (slice_index regs r)
 
 -- the machine goes on elsewhere where the mask selects its condition code
-abbrev pub branched : ℕ → ℕ → Updated → Machine → Machine
-branched mask to updated m = record m { next = if selects mask m.cc then to else updated.address }
+abbrev pub branch_on_condition : ℕ → ℕ → Updated → Machine → Machine
+branch_on_condition mask to updated m = record m { next = if selects mask m.cc then to else updated.address }
 
 -- a word less one, modulo 2^32
 abbrev pub less_one : ℕ → ℕ
 less_one word = (word + (2 ^ 32 - 1)) % 2 ^ 32
 
 -- a register is counted down by one, with a branch where it isn't zero then
-abbrev pub counted : ℕ → ℕ → Updated → Machine → Machine
-counted r to updated m = record m {
+abbrev pub branch_on_count : ℕ → ℕ → Updated → Machine → Machine
+branch_on_count r to updated m = record m {
   regs = slice_set m.regs r (less_one (reg m r));
   next = if less_one (reg m r) == 0 then updated.address else to;
 }

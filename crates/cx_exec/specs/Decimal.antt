@@ -1,13 +1,13 @@
--- 4F CVB  Convert to Binary, 4E CVD  Convert to Decimal [RX] (GA22-7000): 8 bytes with 15 decimal digits and a sign, a half byte
--- each. A byte absent 5; CVB: an invalid digit or sign 7, a number that no word holds 9. The code stays.
+-- 4F CVB  Convert to Binary, 4E CVD  Convert to Decimal [RX] (GA22-7000): 8 bytes with 15 decimal digits and a sign, a
+-- half byte each. A byte absent 5; CVB: an invalid digit or sign 7, a number that no word holds 9. The code stays.
 use Rattle.std.specs.Prelude.{◌≡◌, ℕ, zero, suc, ◌+◌, ◌*◌, ◌/◌, ◌%◌, ◌^◌, ◌<◌, ◌≤◌, Bool, ◌||◌, ◌==◌, List, [], ◌∷◌, Err, Option, Some, None, slice_index, slice_set, ℤ, pos, neg_ℤ, int_lt, unsigned_abs, MatchBool, MatchOption, if◌then◌else◌}
 use Rattle.cx_storage.specs.Storage.{span}
 use Rattle.cx_exec.specs.declared.machine.Interruption.TheVariants as interruption
 use Rattle.cx_exec.specs.declared.machine.Updated.{Updated}
 use Rattle.cx_exec.specs.Machine.{Machine, reg}
-use Rattle.cx_exec.specs.Outcome.{Outcome, Completes, Suppressed}
+use Rattle.cx_exec.specs.Outcome.{Outcome, Completes, IsSuppressed}
 use Rattle.cx_exec.specs.Operands.{IfPresent, Stores}
-use Rattle.cx_exec.specs.Numbers.{signed, word_of, fits_word}
+use Rattle.cx_exec.specs.Numbers.{signed_word, word_of, fits_word}
 
 -- the i-th half byte from the left
 abbrev pub half : List ℕ → ℕ → ℕ
@@ -52,7 +52,7 @@ CvbEffect r1 a updated m outcome after =
     IfPresent (span m.storage a 8) m outcome after
     (λ bytes.
     (number : Option ℤ) × IsReadAs bytes number
-    × MatchOption number (Suppressed interruption.Data m outcome after) (λ z. Converts r1 z updated m outcome after))
+    × MatchOption number (IsSuppressed interruption.Data m outcome after) (λ z. Converts r1 z updated m outcome after))
 
 -- the digit of a number that counts powers 10^j, and the byte of two digits
 abbrev pub digit : ℕ → ℕ → ℕ
@@ -70,4 +70,4 @@ decimal_bytes z =
 
 -- CVD: the register as a signed number
 unfoldable pub CvdEffect : ℕ → ℕ → Updated → Machine → Outcome → Machine → Type 0
-CvdEffect r1 a updated m outcome after = Stores a (decimal_bytes (signed (reg m r1))) m.cc updated m outcome after
+CvdEffect r1 a updated m outcome after = Stores a (decimal_bytes (signed_word (reg m r1))) m.cc updated m outcome after

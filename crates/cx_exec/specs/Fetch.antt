@@ -1,6 +1,6 @@
--- The instruction at an address, and what interrupts its fetch (GA22-7000, "Instruction Fetch", "Program Interruption").
--- Of several causes the first in this order is taken (own): an odd address, a byte of its length absent, a code
--- that is in no row.
+-- The instruction at an address, and what interrupts its fetch (GA22-7000, "Instruction Fetch", "Program
+-- Interruption"). Of several causes the first in this order is taken (own): an odd address, a byte of its length
+-- absent, a code that is in no row.
 use Rattle.std.specs.Prelude.{ℕ, ◌%◌, List, ◌==◌, Option, Result, Err, if◌then◌else◌}
 use Rattle.std.specs.Option.{option_and_then, ok_or}
 use Rattle.cx_storage.specs.Storage.{Storage, byte_at, span}

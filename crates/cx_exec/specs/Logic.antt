@@ -1,4 +1,5 @@
--- Logic (GA22-7000, "And", "Or", "Exclusive Or", "Test under Mask"). A byte of the operand absent 5. XC stands with the strings.
+-- Logic (GA22-7000, "And", "Or", "Exclusive Or", "Test under Mask"). A byte of the operand absent 5. XC is with the
+-- strings.
 -- 17 XR [RR], 94 NI, 96 OI [SI]: R1, or the byte, joined with the second operand; code 0 zero, 1 not zero.
 -- 91 TM [SI]  Test under Mask: code 0 all selected bits zero or none selected, 1 mixed, 3 all one.
 use Rattle.std.specs.Prelude.{ℕ, [], ◌∷◌, ◌==◌, bit_and, bit_or, bit_xor, if◌then◌else◌}
@@ -7,7 +8,7 @@ use Rattle.cx_exec.specs.declared.machine.Updated.{Updated}
 use Rattle.cx_exec.specs.Machine.{Machine, reg}
 use Rattle.cx_exec.specs.Outcome.{Outcome, Completes}
 use Rattle.cx_exec.specs.Operands.{IfPresent, Stores}
-use Rattle.cx_exec.specs.Results.{coded, loaded_coded}
+use Rattle.cx_exec.specs.Results.{set_code, loaded_coded}
 
 -- the code of a logical result
 abbrev pub logical_code : ℕ → ℕ
@@ -32,4 +33,4 @@ test_code mask byte = if bit_and byte mask == 0 then 0 else (if bit_and byte mas
 
 abbrev pub TestsByte : ℕ → ℕ → Updated → Machine → Outcome → Machine → Type 0
 TestsByte mask a updated m outcome after =
-    IfPresent (byte_at m.storage a) m outcome after (λ byte. Completes outcome after (coded (test_code mask byte) updated m))
+    IfPresent (byte_at m.storage a) m outcome after (λ byte. Completes outcome after (set_code (test_code mask byte) updated m))

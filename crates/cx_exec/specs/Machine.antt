@@ -22,12 +22,12 @@ abbrev pub reg : Machine → ℕ → ℕ
 reg m r = slice_index m.regs r
 
 -- what a register gives to an address: register 0 gives zero
-abbrev pub given : List ℕ → ℕ → ℕ
-given regs r = if r == 0 then 0 else slice_index regs r
+abbrev pub address_part : List ℕ → ℕ → ℕ
+address_part regs r = if r == 0 then 0 else slice_index regs r
 
 -- the effective address: base, index and displacement
 unfoldable pub effective : List ℕ → ℕ → ℕ → ℕ → ℕ
-effective regs index base displacement = address_in (given regs base + given regs index + displacement)
+effective regs index base displacement = address_in (address_part regs base + address_part regs index + displacement)
 
 -- the codes of the interruptions (GA22-7000, "Program-Interruption Conditions")
 abbrev pub interruption_code : Interruption → ℕ

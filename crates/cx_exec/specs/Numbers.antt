@@ -9,16 +9,16 @@ number_of [] = 0
 number_of (b ∷ bs) = b * 256 ^ length bs + number_of bs
 
 -- a word as a signed number, in two's complement
-abbrev pub signed : ℕ → ℤ
-signed word = cast_signed w32 word
+abbrev pub signed_word : ℕ → ℤ
+signed_word word = cast_signed w32 word
 
 -- the word that a number leaves: the number modulo 2^32
 abbrev pub word_of : ℤ → ℕ
 word_of x = unsigned_abs (int_rem_euclid x (pos (2 ^ 32)))
 
 -- a halfword, extended to a word by its sign
-abbrev pub extended : ℕ → ℕ
-extended halfword = word_of (cast_signed w16 halfword)
+abbrev pub extend_sign : ℕ → ℕ
+extend_sign halfword = word_of (cast_signed w16 halfword)
 
 -- a doubleword as a signed number, and the doubleword that a number leaves
 abbrev pub signed_double : ℕ → ℤ

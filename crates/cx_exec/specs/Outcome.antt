@@ -1,4 +1,5 @@
--- How an instruction ends (GA22-7000, "Types of Instruction Ending"): it is completed, or suppressed by an interruption.
+-- How an instruction ends (GA22-7000, "Types of Instruction Ending"): it is completed, or suppressed by an
+-- interruption.
 use Rattle.std.specs.Prelude.{◌≡◌, Result, Ok, Err}
 use Rattle.cx_exec.specs.declared.machine.Interruption.{Interruption}
 use Rattle.cx_exec.specs.Machine.{Machine}
@@ -11,5 +12,5 @@ abbrev pub Completes : Outcome → Machine → Machine → Type 0
 Completes outcome after written = (outcome ≡ Ok tt) × (after ≡ written)
 
 -- the instruction is suppressed, and nothing has changed
-abbrev pub Suppressed : Interruption → Machine → Outcome → Machine → Type 0
-Suppressed cause m outcome after = (outcome ≡ Err cause) × (after ≡ m)
+abbrev pub IsSuppressed : Interruption → Machine → Outcome → Machine → Type 0
+IsSuppressed cause m outcome after = (outcome ≡ Err cause) × (after ≡ m)

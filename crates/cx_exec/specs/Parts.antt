@@ -1,7 +1,23 @@
--- Rows whose code stands together: vocabulary of private functions.
-use Rattle.std.specs.Prelude.{Bool, true, false}
+-- Vocabulary of private functions: what is performed, an operand that is there or not, and rows whose code is kept
+-- together.
+use Rattle.std.specs.Prelude.{◌≡◌, ℕ, List, Option, Some, None, Result, MatchResult, Bool, true, false}
 use Rattle.cx_code.specs.declared.table.Op.{Op}
 use Rattle.cx_code.specs.declared.table.Op.TheVariants as op
+use Rattle.cx_code.specs.Table.{length_of}
+use Rattle.cx_code.specs.Spelling.{instruction}
+use Rattle.cx_code.specs.Reading.{fields_at}
+use Rattle.cx_exec.specs.Machine.{Machine}
+use Rattle.cx_exec.specs.Step.{updated_by, performed_of, instruction_to_perform}
+use Rattle.cx_exec.specs.declared.machine.Interruption.{Interruption}
+use Rattle.cx_exec.specs.declared.machine.Interruption.TheVariants as interruption
+
+-- it is what is performed at the next address, for EX its target
+abbrev pub IsPerformed : Machine → Op → List ℕ → Type 0
+IsPerformed m op prefix = instruction_to_perform m ≡ performed_of m (instruction op (fields_at op prefix)) (updated_by m.next (length_of op))
+
+-- an operand is given where its bytes are present; else addressing is the interruption
+abbrev pub IsThere : Option ℕ → Result ℕ Interruption → Type 0
+IsThere operand result = MatchResult result (λ x. operand ≡ Some x) (λ cause. (operand ≡ None) × (cause ≡ interruption.Addressing))
 
 -- the rows of formats RR and RS
 abbrev pub has_registers : Op → Bool
@@ -52,7 +68,7 @@ has_half op.Ah = true
 has_half op.Sh = true
 has_half _ = false
 
--- the other rows of format RX but EX
+-- the other rows of format RX except EX
 abbrev pub has_address : Op → Bool
 has_address op.Sth = true
 has_address op.La = true

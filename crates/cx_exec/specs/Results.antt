@@ -1,16 +1,16 @@
--- What completed instructions leave that go on at the updated address (GA22-7000, "General Instructions"): each definition
--- says all that changes.
+-- What completed instructions leave that go on at the updated address (GA22-7000, "General Instructions"): each
+-- definition says all that changes.
 use Rattle.std.specs.Prelude.{ℕ, ◌+◌, ◌*◌, ◌/◌, ◌%◌, ◌^◌, List, slice_index, slice_set}
 use Rattle.cx_exec.specs.declared.machine.Updated.{Updated}
 use Rattle.cx_exec.specs.Machine.{Machine}
 
 -- a register is changed, and the condition code stays
-abbrev pub loaded : ℕ → ℕ → Updated → Machine → Machine
-loaded r word updated m = record m { regs = slice_set m.regs r word; next = updated.address }
+abbrev pub load_register : ℕ → ℕ → Updated → Machine → Machine
+load_register r word updated m = record m { regs = slice_set m.regs r word; next = updated.address }
 
 -- a condition code is set, and no register is changed
-abbrev pub coded : ℕ → Updated → Machine → Machine
-coded cc updated m = record m { cc = cc; next = updated.address }
+abbrev pub set_code : ℕ → Updated → Machine → Machine
+set_code cc updated m = record m { cc = cc; next = updated.address }
 
 -- a register is changed, and a condition code is set
 abbrev pub loaded_coded : ℕ → ℕ → ℕ → Updated → Machine → Machine

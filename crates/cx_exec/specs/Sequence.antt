@@ -8,8 +8,8 @@ abbrev pub content : Storage → ℕ → ℕ
 content s x = unwrap_or (byte_at s x) 0
 
 -- the byte seen at x, the address of the number-th byte to be stored, once some are stored: theirs, else storage's
-unfoldable pub seen : Storage → List ℕ → ℕ → ℕ → ℕ
-seen s stored number x = if nat_lt number (length stored) then slice_index stored number else content s x
+unfoldable pub byte_seen : Storage → List ℕ → ℕ → ℕ → ℕ
+byte_seen s stored number x = if nat_lt number (length stored) then slice_index stored number else content s x
 
 -- n bytes, each made by a rule from those stored before it and their number
 unfoldable pub stored_by : (List ℕ → ℕ → ℕ) → ℕ → List ℕ

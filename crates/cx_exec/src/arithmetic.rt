@@ -1,7 +1,7 @@
 //! Addition and subtraction.
 
 ghost use Rattle.std.specs.Prelude.{◌≡◌, ◌<◌, ◌^◌, ◌+ℤ◌, ◌-ℤ◌, neg_ℤ, Ok, slice_set};
-ghost use Rattle.cx_exec.specs.Numbers.{signed, word_of, sum_code};
+ghost use Rattle.cx_exec.specs.Numbers.{signed_word, word_of, sum_code};
 
 use crate::machine::{Cpu, Interruption, Updated};
 use crate::numbers::{sum_code, word_of};
@@ -9,21 +9,21 @@ use crate::results::load_coded;
 
 /// The exact sum of two words.
 pub(crate) fn sum(first: u32, second: u32) -> i64
-    ensures { result ≡ signed first +ℤ signed second }
+    ensures { result ≡ signed_word first +ℤ signed_word second }
 {
     i64::from(first.cast_signed()) + i64::from(second.cast_signed())
 }
 
 /// The exact difference of two words.
 pub(crate) fn difference(first: u32, second: u32) -> i64
-    ensures { result ≡ signed first -ℤ signed second }
+    ensures { result ≡ signed_word first -ℤ signed_word second }
 {
     i64::from(first.cast_signed()) - i64::from(second.cast_signed())
 }
 
 /// The exact complement of a word.
 pub(crate) fn complement(word: u32) -> i64
-    ensures { result ≡ neg_ℤ (signed word) }
+    ensures { result ≡ neg_ℤ (signed_word word) }
 {
     -i64::from(word.cast_signed())
 }

@@ -66,7 +66,7 @@ pub(crate) fn link(cpu: &mut Cpu, r: u8, to: u32, updated: Updated) -> Result<()
     Ok(())
 }
 
-/// Completes on elsewhere where the mask selects the condition code.
+/// Goes on elsewhere where the mask selects the condition code.
 pub(crate) fn branch(cpu: &mut Cpu, mask: u8, to: u32, updated: Updated) -> Result<(), Interruption>
     requires to { to < 2 ^ 24 }
     requires address { updated.address < 2 ^ 24 }

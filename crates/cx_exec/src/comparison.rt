@@ -3,7 +3,7 @@
 ghost use Rattle.std.specs.Prelude.{◌≡◌, ℕ, ◌+◌, ◌<◌, ◌≤◌, ◌^◌, true, length, pos, slice_index};
 ghost use Rattle.cx_exec.specs.Numbers.{number_of};
 ghost use Rattle.cx_exec.specs.Machine.{machine};
-ghost use Rattle.cx_exec.specs.Numbers.{signed, order_code};
+ghost use Rattle.cx_exec.specs.Numbers.{signed_word, order_code};
 ghost use Rattle.cx_exec.specs.Comparison.{ComparesStrings};
 
 use crate::machine::{Cpu, Interruption, Updated};
@@ -13,7 +13,7 @@ use cx_storage::Store;
 
 /// The code of two words compared as signed numbers.
 pub(crate) fn signed_order(first: u32, second: u32) -> u8
-    ensures value { result ≡ order_code (signed first) (signed second) }
+    ensures value { result ≡ order_code (signed_word first) (signed_word second) }
     ensures short { result ≤ 3 }
 {
     order_code(
@@ -43,8 +43,10 @@ pub(crate) fn byte_order(first: u8, second: u8) -> u8
 fn are_alike(first: &[u8], second: &[u8], at: usize) -> bool
     requires long { at + 32 ≤ length first.now }
     requires size { length first.now ≡ length second.now }
-    ensures alike { result ≡ true → (j : ℕ) → at ≤ j → j < at + 32 → slice_index first.now j ≡ slice_index second.now j }
-    ensures gap { ((j : ℕ) → at ≤ j → j < at + 32 → slice_index first.now j ≡ slice_index second.now j) → result ≡ true }
+    ensures alike { result ≡ true → (j : ℕ) → at ≤ j → j < at + 32
+        → slice_index first.now j ≡ slice_index second.now j }
+    ensures gap { ((j : ℕ) → at ≤ j → j < at + 32 → slice_index first.now j ≡ slice_index second.now j)
+        → result ≡ true }
 {
     let mut same = true;
     for k in 0..32 {
@@ -53,7 +55,8 @@ fn are_alike(first: &[u8], second: &[u8], at: usize) -> bool
     same
 }
 
-/// A number of first bytes in which two strings of one length are alike: those of equal pieces of 32 bytes, then of eight.
+/// A number of first bytes in which two strings of one length are alike: those of equal pieces of 32 bytes, then of
+/// eight.
 fn alike_front(first: &[u8], second: &[u8]) -> usize
     requires { length first.now ≡ length second.now }
     ensures { (j : ℕ) → j < result → slice_index first.now j ≡ slice_index second.now j }
@@ -97,7 +100,8 @@ fn clc_copies<S: Store>(
     requires second { a2 < 2 ^ 24 }
     requires count { n ≤ 256 }
     requires address { updated.address < 2 ^ 24 }
-    ensures { ComparesStrings n a1 a2 updated (machine cpu.old (S.storage store.now)) result (machine cpu.new (S.storage store.now)) }
+    ensures { let before = machine cpu.old (S.storage store.now) in let after = machine cpu.new (S.storage store.now) in
+        ComparesStrings n a1 a2 updated before result after }
 {
     let mut left = [0; 256];
     let mut right = [0; 256];
@@ -128,7 +132,8 @@ pub(crate) fn clc<S: Store>(
     requires second { a2 < 2 ^ 24 }
     requires count { n ≤ 256 }
     requires address { updated.address < 2 ^ 24 }
-    ensures { ComparesStrings n a1 a2 updated (machine cpu.old (S.storage store.now)) result (machine cpu.new (S.storage store.now)) }
+    ensures { let before = machine cpu.old (S.storage store.now) in let after = machine cpu.new (S.storage store.now) in
+        ComparesStrings n a1 a2 updated before result after }
 {
     if let Some(first) = store.slice(a1, n as usize) {
         if let Some(second) = store.slice(a2, n as usize) {

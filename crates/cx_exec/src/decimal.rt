@@ -3,7 +3,7 @@
 ghost use Rattle.std.specs.Prelude.{◌≡◌, ℕ, ◌+◌, ◌*◌, ◌/◌, ◌%◌, ◌<◌, ◌≤◌, ◌^◌, length, MatchOption, pos, ◌<ℤ◌, ⊤};
 ghost use Rattle.cx_storage.specs.Storage.{Storage};
 ghost use Rattle.cx_exec.specs.Machine.{machine};
-ghost use Rattle.cx_exec.specs.Numbers.{signed, fits_word};
+ghost use Rattle.cx_exec.specs.Numbers.{signed_word, fits_word};
 ghost use Rattle.cx_exec.specs.Decimal.{half, AreDigits, IsDecimal, first_digits, is_minus, decimal_number, IsReadAs, Converts, CvbEffect, decimal_bytes, CvdEffect};
 
 use crate::machine::{Cpu, Interruption, Updated};
@@ -24,7 +24,8 @@ fn half(bytes: &[u8; 8], i: usize) -> u8
 /// The number that the 15 digits make, or None where one of them is not valid.
 #[tactic(auto, unfolding(crate::specs::Decimal::first_digits))]
 fn digits(bytes: &[u8; 8]) -> Option<i64>
-    ensures value { MatchOption result (AreDigits bytes.now → ⊥) (λ n. AreDigits bytes.now × (n ≡ pos (first_digits bytes.now 15))) }
+    ensures value { MatchOption result (AreDigits bytes.now → ⊥)
+        (λ n. AreDigits bytes.now × (n ≡ pos (first_digits bytes.now 15))) }
     ensures short { MatchOption result ⊤ (λ n. n <ℤ pos (10 ^ 15)) }
 {
     let mut number: u64 = 0;
@@ -64,7 +65,8 @@ fn fits_word(number: i64) -> bool
 fn convert(cpu: &mut Cpu, r1: u8, number: i64, updated: Updated) -> Result<(), Interruption>
     requires first { r1 < 16 }
     requires address { updated.address < 2 ^ 24 }
-    ensures { (storage : Storage) → Converts r1 number updated (machine cpu.old storage) result (machine cpu.new storage) }
+    ensures { (storage : Storage) → let before = machine cpu.old storage in let after = machine cpu.new storage in
+        Converts r1 number updated before result after }
 {
     cpu.regs[r1 as usize] = word_of(number);
     if !fits_word(number) {
@@ -88,7 +90,8 @@ pub(crate) fn cvb<S: Store>(
     requires first { r1 < 16 }
     requires operand { a < 2 ^ 24 }
     requires address { updated.address < 2 ^ 24 }
-    ensures { CvbEffect r1 a updated (machine cpu.old (S.storage store.now)) result (machine cpu.new (S.storage store.now)) }
+    ensures { let before = machine cpu.old (S.storage store.now) in let after = machine cpu.new (S.storage store.now) in
+        CvbEffect r1 a updated before result after }
 {
     let mut bytes = [0; 8];
     if !store.read(a, &mut bytes) {
@@ -112,7 +115,7 @@ fn digit_pair(n: u64, power: u64) -> u8
 /// The 15 digits of a word's signed number, and its sign.
 #[tactic(auto, unfolding(crate::specs::Decimal::decimal_bytes))]
 fn decimal_bytes(word: u32) -> [u8; 8]
-    ensures { result ≡ decimal_bytes (signed word) }
+    ensures { result ≡ decimal_bytes (signed_word word) }
 {
     let number = word.cast_signed();
     let n = u64::from(number.unsigned_abs());
@@ -142,7 +145,8 @@ pub(crate) fn cvd<S: Store>(
     requires first { r1 < 16 }
     requires operand { a < 2 ^ 24 }
     requires address { updated.address < 2 ^ 24 }
-    ensures { CvdEffect r1 a updated (machine cpu.old (S.storage store.old)) result (machine cpu.new (S.storage store.new)) }
+    ensures { let before = machine cpu.old (S.storage store.old) in let after = machine cpu.new (S.storage store.new) in
+        CvdEffect r1 a updated before result after }
 {
     let bytes = decimal_bytes(cpu.regs[r1 as usize]);
     put_bytes(cpu, store, a, &bytes, updated)

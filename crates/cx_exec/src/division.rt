@@ -3,7 +3,7 @@
 ghost use Rattle.std.specs.Prelude.{ℤ, ◌<◌, ◌^◌, IfSome, IfNone};
 ghost use Rattle.cx_storage.specs.Storage.{Storage};
 ghost use Rattle.cx_exec.specs.Machine.{machine};
-ghost use Rattle.cx_exec.specs.Division.{IsDivision, Divided};
+ghost use Rattle.cx_exec.specs.Division.{IsDivision, DividesRegisters};
 
 use crate::machine::{Cpu, Interruption, Updated};
 use crate::numbers::{signed, signed_double, word_of};
@@ -27,12 +27,13 @@ pub(crate) fn division(dividend: i64, divisor: i64) -> Option<(i64, i64)>
 
 /// Divides the pair by a word: the remainder into its first register, the quotient into its second.
 /// Interruption 9, and no change, where no word holds the quotient or the divisor is zero.
-#[tactic(auto, unfolding(crate::specs::Division::Divided))]
+#[tactic(auto, unfolding(crate::specs::Division::DividesRegisters))]
 #[inline(never)]
 pub(crate) fn divide(cpu: &mut Cpu, r: u8, word: u32, updated: Updated) -> Result<(), Interruption>
     requires register { r < 15 }
     requires address { updated.address < 2 ^ 24 }
-    ensures { (storage : Storage) → Divided r word updated (machine cpu.old storage) result (machine cpu.new storage) }
+    ensures { (storage : Storage)
+        → DividesRegisters r word updated (machine cpu.old storage) result (machine cpu.new storage) }
 {
     let dividend = signed_double(pair(&cpu.regs, r));
     let Some(found) = division(dividend, signed(word)) else {

@@ -1,5 +1,5 @@
-//! Laws of execution that the crate's own proofs hold: runs join; what is fetched; a dividend has one quotient; and what strings
-//! and masks come to.
+//! Laws of execution that the crate's own proofs hold: runs join; what is fetched; a dividend has one quotient; and
+//! what strings and masks come to.
 
 ghost use Rattle.cx_exec.specs.Laws.Fetch.{SpelledIsFetched};
 ghost use Rattle.cx_exec.specs.Laws.Runs.{RunsJoin, StepsJoin};
@@ -29,8 +29,8 @@ pub fn division_is_one()
     ensures { DivisionIsOne }
 {}
 
-/// MVC and XC: where the first operand doesn't begin inside the second behind its first byte, the second's bytes are
-/// those that stood there before.
+/// MVC and XC: where the first operand doesn't begin inside the second after its first byte, the second's bytes are
+/// those that were there before.
 #[tactic(auto, using(crate::proofs::BlockLemmas::outside_is_moved, crate::proofs::BlockLemmas::outside_is_joined))]
 pub fn outside_is_before()
     ensures moved { OutsideIsMoved }
@@ -45,7 +45,7 @@ pub fn each_is_stored()
 {}
 
 /// STCM: a mask of four ones takes the whole word.
-#[tactic(auto, unfolding(crate::specs::Masks::chosen))]
+#[tactic(auto, unfolding(crate::specs::Masks::selected_bytes))]
 pub fn all_is_taken()
     ensures { AllIsTaken }
 {}

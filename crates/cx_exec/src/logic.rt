@@ -43,7 +43,8 @@ pub(crate) fn put_logical<S: Store>(
 ) -> Result<(), Interruption>
     requires operand { a < 2 ^ 24 }
     requires address { updated.address < 2 ^ 24 }
-    ensures { StoresLogical a byte updated (machine cpu.old (S.storage store.old)) result (machine cpu.new (S.storage store.new)) }
+    ensures { let before = machine cpu.old (S.storage store.old) in let after = machine cpu.new (S.storage store.new) in
+        StoresLogical a byte updated before result after }
 {
     let cc = logical_code(u32::from(byte));
     put_coded(cpu, store, a, &[byte], cc, updated)

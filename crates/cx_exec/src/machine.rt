@@ -64,7 +64,7 @@ pub enum Step {
     Done,
     /// The next address is the entry: nothing was fetched, and nothing changed.
     AtEntry,
-    /// The instruction was interrupted, and nothing changed but what its row says.
+    /// The instruction was interrupted, and nothing changed except what its row says.
     Interrupt(Interruption),
 }
 

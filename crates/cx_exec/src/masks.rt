@@ -1,8 +1,8 @@
 //! ICM and STCM: the bytes of a register that a mask takes.
 
-ghost use Rattle.std.specs.Prelude.{◌≡◌, ◌<◌, ◌≤◌, ◌^◌, length, map, take};
+ghost use Rattle.std.specs.Prelude.{◌≡◌, ◌<◌, ◌≤◌, ◌^◌, Ok, length, map, slice_index, slice_set, take};
 ghost use Rattle.cx_exec.specs.Machine.{machine};
-ghost use Rattle.cx_exec.specs.Masks.{byte_of, takes, chosen, inserted_byte, word_inserted, insert_code, IcmEffect, StcmEffect};
+ghost use Rattle.cx_exec.specs.Masks.{byte_of, takes, selected_bytes, inserted_byte, word_inserted, insert_code, IcmEffect, StcmEffect};
 
 use crate::logic::is_zero;
 use crate::machine::{Cpu, Interruption, Updated};
@@ -26,11 +26,12 @@ fn takes(mask: u8, k: u32) -> bool
     (mask >> (3 - k)) % 2 == 1
 }
 
-/// How many places below `k` (at most 4) a mask chooses.
+/// How many places below `k` (at most 4) a mask chooses. For a fixed `k` its loop is unrolled in line.
 #[tactic(auto, using(crate::proofs::MaskLemmas::number_none, crate::proofs::MaskLemmas::number_more))]
+#[inline(always)]
 fn number_chosen(mask: u8, k: u32) -> u32
     requires { k ≤ 4 }
-    ensures value { result ≡ length (chosen mask k) }
+    ensures value { result ≡ length (selected_bytes mask k) }
     ensures short { result ≤ k }
 {
     let mut count = 0;
@@ -42,10 +43,10 @@ fn number_chosen(mask: u8, k: u32) -> u32
     count
 }
 
-/// Puts the bytes at the places that a mask chooses at the front of the buffer, and tells how many they are.
+/// Puts the bytes at the places that a mask chooses at the front of the buffer, and returns how many they are.
 #[tactic(auto, using(crate::proofs::MaskLemmas::bytes_none, crate::proofs::MaskLemmas::bytes_more))]
 fn take_bytes(mask: u8, word: u32, buffer: &mut [u8; 4]) -> usize
-    ensures bytes { take result buffer.new ≡ map (byte_of word) (chosen mask 4) }
+    ensures bytes { take result buffer.new ≡ map (byte_of word) (selected_bytes mask 4) }
     ensures short { result ≤ 4 }
 {
     let mut count = 0;
@@ -72,7 +73,8 @@ pub(crate) fn stcm<S: Store>(
     requires first { r1 < 16 }
     requires operand { a < 2 ^ 24 }
     requires address { updated.address < 2 ^ 24 }
-    ensures { StcmEffect r1 mask a updated (machine cpu.old (S.storage store.old)) result (machine cpu.new (S.storage store.new)) }
+    ensures { let before = machine cpu.old (S.storage store.old) in let after = machine cpu.new (S.storage store.new) in
+        StcmEffect r1 mask a updated before result after }
 {
     let mut buffer = [0; 4];
     let count = take_bytes(mask, cpu.regs[r1 as usize], &mut buffer);
@@ -81,9 +83,10 @@ pub(crate) fn stcm<S: Store>(
 
 /// The `k`-th byte (`k` is below 4) that ICM leaves in a register; there are as many bytes as places chosen.
 #[tactic(auto, using(crate::proofs::MaskLemmas::number_below))]
+#[inline(always)]
 fn inserted_byte(mask: u8, word: u32, bytes: &[u8], k: u32) -> u8
     requires place { k < 4 }
-    requires size { length bytes.now ≡ length (chosen mask 4) }
+    requires size { length bytes.now ≡ length (selected_bytes mask 4) }
     ensures { result ≡ inserted_byte mask word bytes.now k }
 {
     if takes(mask, k) {
@@ -96,7 +99,7 @@ fn inserted_byte(mask: u8, word: u32, bytes: &[u8], k: u32) -> u8
 /// The word that ICM leaves in a register.
 #[tactic(auto, unfolding(crate::specs::Masks::word_inserted))]
 fn word_inserted(mask: u8, word: u32, bytes: &[u8]) -> u32
-    requires { length bytes.now ≡ length (chosen mask 4) }
+    requires { length bytes.now ≡ length (selected_bytes mask 4) }
     ensures { result ≡ word_inserted mask word bytes.now }
 {
     u32::from(inserted_byte(mask, word, bytes, 0)) * 0x100_0000
@@ -120,8 +123,55 @@ fn insert_code(bytes: &[u8]) -> u8
     }
 }
 
-/// ICM. `r1` and the mask are below 16, and the bytes begin at `a`.
+/// Puts bytes, as many as places chosen, into a register, and sets the condition code by them.
+#[inline(always)]
+fn insert(
+    cpu: &mut Cpu,
+    r1: u8,
+    mask: u8,
+    bytes: &[u8],
+    updated: Updated,
+) -> Result<(), Interruption>
+    requires first { r1 < 16 }
+    requires size { length bytes.now ≡ length (selected_bytes mask 4) }
+    requires address { updated.address < 2 ^ 24 }
+    ensures done { result ≡ Ok tt }
+    ensures regs { let word = word_inserted mask (slice_index cpu.old.regs r1) bytes.now in
+        cpu.new.regs ≡ slice_set cpu.old.regs r1 word }
+    ensures code { cpu.new.cc ≡ insert_code bytes.now }
+    ensures next { cpu.new.next ≡ updated.address }
+{
+    let word = word_inserted(mask, cpu.regs[r1 as usize], bytes);
+    load_coded(cpu, r1, word, insert_code(bytes), updated)
+}
+
+/// ICM, wherever its bytes lie.
 #[tactic(auto, unfolding(crate::specs::Masks::IcmEffect))]
+#[inline(never)]
+fn icm_apart<S: Store>(
+    cpu: &mut Cpu,
+    store: &S,
+    r1: u8,
+    mask: u8,
+    a: u32,
+    updated: Updated,
+) -> Result<(), Interruption>
+    requires first { r1 < 16 }
+    requires operand { a < 2 ^ 24 }
+    requires address { updated.address < 2 ^ 24 }
+    ensures { let before = machine cpu.old (S.storage store.now) in let after = machine cpu.new (S.storage store.now) in
+        IcmEffect r1 mask a updated before result after }
+{
+    let mut buffer = [0; 4];
+    let bytes = &mut buffer[..number_chosen(mask, 4) as usize];
+    if !store.read(a, bytes) {
+        return Err(Interruption::Addressing);
+    }
+    insert(cpu, r1, mask, bytes, updated)
+}
+
+/// ICM. `r1` and the mask are below 16, and the bytes begin at `a`.
+#[tactic(auto, using(cx_storage::specs::Facts::Spans::span_length), unfolding(crate::specs::Masks::IcmEffect))]
 #[inline(never)]
 pub(crate) fn icm<S: Store>(
     cpu: &mut Cpu,
@@ -134,13 +184,11 @@ pub(crate) fn icm<S: Store>(
     requires first { r1 < 16 }
     requires operand { a < 2 ^ 24 }
     requires address { updated.address < 2 ^ 24 }
-    ensures { IcmEffect r1 mask a updated (machine cpu.old (S.storage store.now)) result (machine cpu.new (S.storage store.now)) }
+    ensures { let before = machine cpu.old (S.storage store.now) in let after = machine cpu.new (S.storage store.now) in
+        IcmEffect r1 mask a updated before result after }
 {
-    let mut buffer = [0; 4];
-    let bytes = &mut buffer[..number_chosen(mask, 4) as usize];
-    if !store.read(a, bytes) {
-        return Err(Interruption::Addressing);
-    }
-    let word = word_inserted(mask, cpu.regs[r1 as usize], bytes);
-    load_coded(cpu, r1, word, insert_code(bytes), updated)
+    let Some(bytes) = store.slice(a, number_chosen(mask, 4) as usize) else {
+        return icm_apart(cpu, store, r1, mask, a, updated);
+    };
+    insert(cpu, r1, mask, bytes, updated)
 }

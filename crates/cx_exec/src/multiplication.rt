@@ -1,7 +1,7 @@
 //! Multiplication.
 
 ghost use Rattle.std.specs.Prelude.{◌≡◌, ◌<◌, ◌^◌, ◌+◌, ◌*ℤ◌, Ok, slice_index};
-ghost use Rattle.cx_exec.specs.Numbers.{signed, double_of};
+ghost use Rattle.cx_exec.specs.Numbers.{signed_word, double_of};
 ghost use Rattle.cx_exec.specs.Results.{with_pair};
 
 use crate::machine::{Cpu, Interruption, Updated};
@@ -10,7 +10,7 @@ use crate::results::load_pair;
 
 /// The exact product of two words.
 fn product(first: u32, second: u32) -> i64
-    ensures { result ≡ signed first *ℤ signed second }
+    ensures { result ≡ signed_word first *ℤ signed_word second }
 {
     i64::from(first.cast_signed()) * i64::from(second.cast_signed())
 }
@@ -25,7 +25,8 @@ pub(crate) fn multiply(
     requires register { r < 15 }
     requires address { updated.address < 2 ^ 24 }
     ensures done { result ≡ Ok tt }
-    ensures regs { cpu.new.regs ≡ with_pair cpu.old.regs r (double_of (signed (slice_index cpu.old.regs (r + 1)) *ℤ signed word)) }
+    ensures regs { let first = slice_index cpu.old.regs (r + 1) in
+        cpu.new.regs ≡ with_pair cpu.old.regs r (double_of (signed_word first *ℤ signed_word word)) }
     ensures code { cpu.new.cc ≡ cpu.old.cc }
     ensures next { cpu.new.next ≡ updated.address }
 {

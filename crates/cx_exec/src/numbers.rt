@@ -2,7 +2,7 @@
 
 ghost use Rattle.std.specs.Prelude.{◌≡◌, ◌+◌, ◌≤◌, length};
 ghost use Rattle.byteorder.specs.Endian.{big_from};
-ghost use Rattle.cx_exec.specs.Numbers.{signed, word_of, extended, order_code, sum_code, sign_code, signed_double, double_of};
+ghost use Rattle.cx_exec.specs.Numbers.{signed_word, word_of, extend_sign, order_code, sum_code, sign_code, signed_double, double_of};
 
 use byteorder::{BigEndian, ByteOrder};
 
@@ -15,7 +15,7 @@ pub(crate) fn word_of(x: i64) -> u32
 
 /// A halfword extended to a word by its sign.
 pub(crate) fn extended(halfword: u16) -> u32
-    ensures { result ≡ extended halfword }
+    ensures { result ≡ extend_sign halfword }
 {
     word_of(i64::from(halfword.cast_signed()))
 }
@@ -37,7 +37,7 @@ pub(crate) fn order_code(first: i128, second: i128) -> u8
 
 /// The code of a word's sign.
 pub(crate) fn sign_code(word: u32) -> u8
-    ensures value { result ≡ sign_code (signed word) }
+    ensures value { result ≡ sign_code (signed_word word) }
     ensures short { result ≤ 3 }
 {
     order_code(i128::from(word.cast_signed()), 0)
@@ -72,7 +72,7 @@ pub(crate) fn double_of(x: i64) -> u64
 
 /// A word as a signed number.
 pub(crate) fn signed(word: u32) -> i64
-    ensures { result ≡ signed word }
+    ensures { result ≡ signed_word word }
 {
     i64::from(word.cast_signed())
 }

@@ -6,6 +6,7 @@ ghost use Rattle.cx_storage.specs.Word.{halfword_at, word_at};
 ghost use Rattle.cx_exec.specs.declared.machine.Interruption.TheVariants as interruption;
 ghost use Rattle.cx_exec.specs.Machine.{machine};
 ghost use Rattle.cx_exec.specs.Operands.{extended_at, Stores};
+ghost use Rattle.cx_exec.specs.Parts.{IsThere};
 
 use crate::machine::{Cpu, Interruption, Updated};
 use crate::numbers::extended;
@@ -16,7 +17,7 @@ use cx_storage::Store;
 #[inline(always)]
 pub(crate) fn byte_at<S: Store>(store: &S, a: u32) -> Result<u8, Interruption>
     requires { a < 2 ^ 24 }
-    ensures { MatchResult result (λ x. byte_at (S.storage store.now) a ≡ Some x) (λ cause. (byte_at (S.storage store.now) a ≡ None) × (cause ≡ interruption.Addressing)) }
+    ensures { IsThere (byte_at (S.storage store.now) a) result }
 {
     store.byte(a).ok_or(Interruption::Addressing)
 }
@@ -32,12 +33,12 @@ fn lent_halfword<S: Store>(store: &S, a: u32) -> Option<u16>
     Some(BigEndian::read_u16(part))
 }
 
-/// The halfword at an address, extended to a word by its sign, or interruption 5, wherever its bytes stand.
+/// The halfword at an address, extended to a word by its sign, or interruption 5, wherever its bytes lie.
 #[tactic(auto, unfolding(crate::specs::Operands::extended_at))]
 #[inline(never)]
 fn halfword_apart<S: Store>(store: &S, a: u32) -> Result<u32, Interruption>
     requires { a < 2 ^ 24 }
-    ensures { MatchResult result (λ x. extended_at (S.storage store.now) a ≡ Some x) (λ cause. (extended_at (S.storage store.now) a ≡ None) × (cause ≡ interruption.Addressing)) }
+    ensures { IsThere (extended_at (S.storage store.now) a) result }
 {
     match cx_storage::halfword_at(store, a) {
         Some(halfword) => Ok(extended(halfword)),
@@ -50,7 +51,7 @@ fn halfword_apart<S: Store>(store: &S, a: u32) -> Result<u32, Interruption>
 #[inline(always)]
 pub(crate) fn halfword_at<S: Store>(store: &S, a: u32) -> Result<u32, Interruption>
     requires { a < 2 ^ 24 }
-    ensures { MatchResult result (λ x. extended_at (S.storage store.now) a ≡ Some x) (λ cause. (extended_at (S.storage store.now) a ≡ None) × (cause ≡ interruption.Addressing)) }
+    ensures { IsThere (extended_at (S.storage store.now) a) result }
 {
     match lent_halfword(store, a) {
         Some(halfword) => Ok(extended(halfword)),
@@ -69,11 +70,11 @@ fn lent_word<S: Store>(store: &S, a: u32) -> Option<u32>
     Some(BigEndian::read_u32(part))
 }
 
-/// The word at an address, or interruption 5, wherever its bytes stand.
+/// The word at an address, or interruption 5, wherever its bytes lie.
 #[inline(never)]
 fn word_apart<S: Store>(store: &S, a: u32) -> Result<u32, Interruption>
     requires { a < 2 ^ 24 }
-    ensures { MatchResult result (λ x. word_at (S.storage store.now) a ≡ Some x) (λ cause. (word_at (S.storage store.now) a ≡ None) × (cause ≡ interruption.Addressing)) }
+    ensures { IsThere (word_at (S.storage store.now) a) result }
 {
     cx_storage::word_at(store, a).ok_or(Interruption::Addressing)
 }
@@ -82,7 +83,7 @@ fn word_apart<S: Store>(store: &S, a: u32) -> Result<u32, Interruption>
 #[inline(always)]
 pub(crate) fn word_at<S: Store>(store: &S, a: u32) -> Result<u32, Interruption>
     requires { a < 2 ^ 24 }
-    ensures { MatchResult result (λ x. word_at (S.storage store.now) a ≡ Some x) (λ cause. (word_at (S.storage store.now) a ≡ None) × (cause ≡ interruption.Addressing)) }
+    ensures { IsThere (word_at (S.storage store.now) a) result }
 {
     match lent_word(store, a) {
         Some(word) => Ok(word),
@@ -92,7 +93,9 @@ pub(crate) fn word_at<S: Store>(store: &S, a: u32) -> Result<u32, Interruption>
 
 /// The first register of a pair, which is even, or interruption 6.
 pub(crate) fn even(r: u8) -> Result<u8, Interruption>
-    ensures { MatchResult result (λ x. (x ≡ r) × ((r % 2 == 0) ≡ true)) (λ cause. ((r % 2 == 0) ≡ false) × (cause ≡ interruption.Specification)) }
+    ensures { let even = r % 2 == 0 in
+        MatchResult result (λ x. (x ≡ r) × (even ≡ true))
+        (λ cause. (even ≡ false) × (cause ≡ interruption.Specification)) }
 {
     if r % 2 == 0 {
         Ok(r)
@@ -114,7 +117,8 @@ pub(crate) fn put_bytes<S: Store>(
     requires operand { a < 2 ^ 24 }
     requires size { length bytes.now ≤ 65536 }
     requires address { updated.address < 2 ^ 24 }
-    ensures { Stores a bytes.now cpu.old.cc updated (machine cpu.old (S.storage store.old)) result (machine cpu.new (S.storage store.new)) }
+    ensures { let before = machine cpu.old (S.storage store.old) in let after = machine cpu.new (S.storage store.new) in
+        Stores a bytes.now cpu.old.cc updated before result after }
 {
     if !store.write(a, bytes) {
         return Err(Interruption::Addressing);
@@ -138,7 +142,8 @@ pub(crate) fn put_coded<S: Store>(
     requires size { length bytes.now ≤ 65536 }
     requires code { cc ≤ 3 }
     requires address { updated.address < 2 ^ 24 }
-    ensures { Stores a bytes.now cc updated (machine cpu.old (S.storage store.old)) result (machine cpu.new (S.storage store.new)) }
+    ensures { let before = machine cpu.old (S.storage store.old) in let after = machine cpu.new (S.storage store.new) in
+        Stores a bytes.now cc updated before result after }
 {
     put_bytes(cpu, store, a, bytes, updated)?;
     cpu.cc = cc;

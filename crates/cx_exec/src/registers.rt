@@ -12,7 +12,7 @@ use crate::operands::{put_bytes, word_at};
 use byteorder::{BigEndian, ByteOrder};
 use cx_storage::{Store, along};
 
-/// How many registers after the first one another comes, 0 following 15.
+/// How many registers after the first one a given one comes, 0 following 15.
 pub(crate) fn place_after(first: u8, r: u8) -> u8
     requires first { first < 16 }
     requires register { r < 16 }
@@ -22,20 +22,30 @@ pub(crate) fn place_after(first: u8, r: u8) -> u8
     (r + (16 - first)) % 16
 }
 
-/// Loads the registers from the first through the last one, from the words in a row that lent bytes hold.
+/// Loads the registers from the first through the last one, from the words in a row that lent bytes hold: those through
+/// register 15, then those from register 0 on.
 #[inline(always)]
 fn take_registers(part: &[u8], first: u8, last: u8, regs: &mut [u32; 16])
     requires first { first < 16 }
     requires last { last < 16 }
     requires size { length part.now ≡ 4 * register_count first last }
-    ensures { (words : List ℕ) → ((k : ℕ) → k < register_count first last → slice_index words k ≡ big_number 4 (drop (4 * k) part.now)) → regs.new ≡ loaded_registers regs.old first last words }
+    ensures { (words : List ℕ) → let count = register_count first last in
+        ((k : ℕ) → k < count → slice_index words k ≡ big_number 4 (drop (4 * k) part.now))
+        → regs.new ≡ loaded_registers regs.old first last words }
 {
-    for k in 0..part.len() / 4 {
-        regs[(first as usize + k) % 16] = BigEndian::read_u32(&part[4 * k..]);
+    let from = first as usize;
+    let count = part.len() / 4;
+    let high = count.min(16 - from);
+    'high: for k in 0..high {
+        regs[from + k] = BigEndian::read_u32(&part[4 * k..]);
+    }
+    'low: for k in high..count {
+        regs[k - high] = BigEndian::read_u32(&part[4 * k..]);
     }
 }
 
-/// Reads words in a row (at most 16), from `a` on, to the front of the buffer, one by one; interruption 5 where one is absent.
+/// Reads words in a row (at most 16), from `a` on, to the front of the buffer, one by one; interruption 5 where one is
+/// absent.
 #[tactic(auto, using(crate::proofs::RegisterLemmas::words_none, crate::proofs::RegisterLemmas::words_gone))]
 #[inline(never)]
 fn read_apart<S: Store>(
@@ -46,7 +56,9 @@ fn read_apart<S: Store>(
 ) -> Result<(), Interruption>
     requires operand { a < 2 ^ 24 }
     requires count { count ≤ 16 }
-    ensures { MatchResult result (λ _. words_at (S.storage store.now) a count ≡ Some (take count words.new)) (λ cause. (words_at (S.storage store.now) a count ≡ None) × (cause ≡ interruption.Addressing)) }
+    ensures { let read = words_at (S.storage store.now) a count in
+        MatchResult result (λ _. read ≡ Some (take count words.new))
+        (λ cause. (read ≡ None) × (cause ≡ interruption.Addressing)) }
 {
     for k in 0..count {
         let word = word_at(store, along(a, 4 * k as u32))?;
@@ -70,16 +82,22 @@ pub(crate) fn load_registers(regs: &mut [u32; 16], first: u8, last: u8, words: &
     }
 }
 
-/// Writes the words of registers, from the first one on, one after the other.
+/// Writes the words of registers, from the first one on, one after the other: those through register 15, then those
+/// from register 0 on.
 #[tactic(auto, using(crate::proofs::RegisterLemmas::no_bytes, crate::proofs::RegisterLemmas::more_bytes))]
+#[inline(always)]
 pub(crate) fn write_registers(regs: &[u32; 16], first: u8, count: usize, bytes: &mut [u8; 64])
     requires first { first < 16 }
     requires count { count ≤ 16 }
     ensures { take (4 * count) bytes.new ≡ register_bytes regs.now first count }
 {
-    for k in 0..count {
-        let word = regs[(first as usize + k) % 16];
-        BigEndian::write_u32(&mut bytes[4 * k..], word);
+    let from = first as usize;
+    let high = count.min(16 - from);
+    'high: for k in 0..high {
+        BigEndian::write_u32(&mut bytes[4 * k..], regs[from + k]);
+    }
+    'low: for k in high..count {
+        BigEndian::write_u32(&mut bytes[4 * k..], regs[k - high]);
     }
 }
 
@@ -98,7 +116,8 @@ pub(crate) fn store_multiple<S: Store>(
     requires last { last < 16 }
     requires operand { a < 2 ^ 24 }
     requires address { updated.address < 2 ^ 24 }
-    ensures { Stores a (register_bytes cpu.old.regs first (register_count first last)) cpu.old.cc updated (machine cpu.old (S.storage store.old)) result (machine cpu.new (S.storage store.new)) }
+    ensures { let before = machine cpu.old (S.storage store.old) in let after = machine cpu.new (S.storage store.new) in
+        Stores a (register_bytes cpu.old.regs first (register_count first last)) cpu.old.cc updated before result after }
 {
     let count = place_after(first, last) as usize + 1;
     let mut bytes = [0; 64];
@@ -106,7 +125,7 @@ pub(crate) fn store_multiple<S: Store>(
     put_bytes(cpu, store, a, &bytes[..4 * count], updated)
 }
 
-/// Loads the registers from the first through the last one, wherever their words stand: all of them, or none and
+/// Loads the registers from the first through the last one, wherever their words lie: all of them, or none and
 /// interruption 5.
 #[tactic(auto, unfolding(crate::specs::Registers::LoadsRegisters))]
 #[inline(never)]
@@ -122,7 +141,8 @@ fn load_apart<S: Store>(
     requires last { last < 16 }
     requires operand { a < 2 ^ 24 }
     requires address { updated.address < 2 ^ 24 }
-    ensures { LoadsRegisters first last a updated (machine cpu.old (S.storage store.now)) result (machine cpu.new (S.storage store.now)) }
+    ensures { let before = machine cpu.old (S.storage store.now) in let after = machine cpu.new (S.storage store.now) in
+        LoadsRegisters first last a updated before result after }
 {
     let count = place_after(first, last) as usize + 1;
     let mut words = [0; 16];
@@ -149,7 +169,8 @@ pub(crate) fn load_multiple<S: Store>(
     requires last { last < 16 }
     requires operand { a < 2 ^ 24 }
     requires address { updated.address < 2 ^ 24 }
-    ensures { LoadsRegisters first last a updated (machine cpu.old (S.storage store.now)) result (machine cpu.new (S.storage store.now)) }
+    ensures { let before = machine cpu.old (S.storage store.now) in let after = machine cpu.new (S.storage store.now) in
+        LoadsRegisters first last a updated before result after }
 {
     let count = place_after(first, last) as usize + 1;
     let Some(part) = store.slice(a, 4 * count) else {

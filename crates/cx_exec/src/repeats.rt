@@ -1,17 +1,18 @@
-//! A front of a buffer that is repeated behind itself.
+//! A front of a buffer that is repeated after itself.
 
 ghost use Rattle.std.specs.Prelude.{◌≡◌, ℕ, ◌+◌, ◌<◌, ◌≤◌, length, slice_index};
 
-/// Copies the first `filled` bytes of a buffer behind themselves, as far as there is room.
+/// Copies the first `filled` bytes of a buffer after themselves, as far as there is room.
 fn double(new: &mut [u8], filled: usize)
     requires { filled ≤ length new.old }
     ensures size { length new.new ≡ length new.old }
-    ensures front { (k : ℕ) → k < filled → slice_index new.new k ≡ slice_index new.old k }
-    ensures behind { (k : ℕ) → k < filled → filled + k < length new.old → slice_index new.new (filled + k) ≡ slice_index new.old k }
+    ensures prefix { (k : ℕ) → k < filled → slice_index new.new k ≡ slice_index new.old k }
+    ensures behind { (k : ℕ) → k < filled → filled + k < length new.old
+        → slice_index new.new (filled + k) ≡ slice_index new.old k }
 {
-    let (front, rest) = new.split_at_mut(filled);
-    let count = front.len().min(rest.len());
-    rest[..count].copy_from_slice(&front[..count]);
+    let (prefix, rest) = new.split_at_mut(filled);
+    let count = prefix.len().min(rest.len());
+    rest[..count].copy_from_slice(&prefix[..count]);
 }
 
 /// Repeats the first bytes of a buffer, `period` of them, up to its end (at most 256 bytes).
@@ -21,7 +22,7 @@ pub(crate) fn repeat(new: &mut [u8], period: usize)
     requires room { period ≤ length new.old }
     requires size { length new.old ≤ 256 }
     ensures size { length new.new ≡ length new.old }
-    ensures front { (k : ℕ) → k < period → slice_index new.new k ≡ slice_index new.old k }
+    ensures prefix { (k : ℕ) → k < period → slice_index new.new k ≡ slice_index new.old k }
     ensures each { (k : ℕ) → k + period < length new.old → slice_index new.new (k + period) ≡ slice_index new.new k }
 {
     if period == 1 {

@@ -6,7 +6,7 @@ ghost use Rattle.cx_code.specs.Table.{length_of};
 ghost use Rattle.cx_code.specs.Spelling.{instruction};
 ghost use Rattle.cx_code.specs.Reading.{left_half, right_half, base_at, displacement_at, fields_at};
 ghost use Rattle.cx_exec.specs.Machine.{machine};
-ghost use Rattle.cx_exec.specs.Machine.{given, effective};
+ghost use Rattle.cx_exec.specs.Machine.{address_part, effective};
 ghost use Rattle.cx_exec.specs.Step.{is_execute, updated_by};
 ghost use Rattle.cx_exec.specs.Rows.{Effect};
 ghost use Rattle.cx_exec.specs.Parts.{has_registers, has_word, has_word_result, has_half, has_address, has_immediate};
@@ -16,14 +16,14 @@ use crate::branches::{branch, branch_address, count, link};
 use crate::comparison::{byte_order, clc, logical_order, signed_order};
 use crate::decimal::{cvb, cvd};
 use crate::division::divide;
-use crate::front::Front;
-use crate::loads::{half_bytes, inserted, word_bytes};
+use crate::loads::inserted;
 use crate::logic::{logical_code, put_logical, test_code};
 use crate::machine::{Cpu, Interruption, Updated};
 use crate::masks::{icm, stcm};
 use crate::multiplication::multiply;
 use crate::numbers::sign_code;
 use crate::operands::{byte_at, even, halfword_at, put_bytes, word_at};
+use crate::prefix::Front;
 use crate::registers::{load_multiple, store_multiple};
 use crate::results::{load, load_coded, set_code};
 use crate::shifts::{shift_left, shift_pair, shift_right, shifted_left, shifted_right};
@@ -36,7 +36,7 @@ use cx_storage::{Store, along};
 /// What a register gives to an address: register 0 gives zero.
 fn given(regs: &[u32; 16], r: u8) -> u32
     requires { r < 16 }
-    ensures { result ≡ given regs.now r }
+    ensures { result ≡ address_part regs.now r }
 {
     let held = regs[r as usize];
     if r == 0 { 0 } else { held }
@@ -59,7 +59,7 @@ pub(crate) fn effective(regs: &[u32; 16], index: u8, base: u8, displacement: u16
 }
 
 /// What the program-status word is updated to after an instruction of `length` bytes at the next address, unless it is
-/// told.
+/// given.
 #[inline(always)]
 fn updated_at(cpu: &Cpu, told: Option<Updated>, length: u32) -> Updated
     requires { length ≤ 6 }
@@ -96,11 +96,11 @@ pub struct Registers {
 
 /// The operands of format RR.
 #[inline(always)]
-fn registers_of(cpu: &Cpu, front: &Front, told: Option<Updated>) -> Registers
+fn registers_of(cpu: &Cpu, prefix: &Front, told: Option<Updated>) -> Registers
     requires length { IfSome told (λ updated. updated.length_code ≤ 3) }
     requires address { IfSome told (λ updated. updated.address < 2 ^ 24) }
-    ensures r1 { result.r1 ≡ left_half front.now }
-    ensures r2 { result.r2 ≡ right_half front.now }
+    ensures r1 { result.r1 ≡ left_half prefix.now }
+    ensures r2 { result.r2 ≡ right_half prefix.now }
     ensures low1 { result.r1 < 16 }
     ensures low2 { result.r2 < 16 }
     ensures first { result.first ≡ slice_index cpu.now.regs result.r1 }
@@ -109,7 +109,7 @@ fn registers_of(cpu: &Cpu, front: &Front, told: Option<Updated>) -> Registers
     ensures length { result.updated.length_code ≤ 3 }
     ensures address { result.updated.address < 2 ^ 24 }
 {
-    let second = front.second();
+    let second = prefix.second();
     let (r1, r2) = (second >> 4, second & 15);
     Registers {
         r1,
@@ -120,8 +120,8 @@ fn registers_of(cpu: &Cpu, front: &Front, told: Option<Updated>) -> Registers
     }
 }
 
-/// The operands of formats RX, RS and SI: an immediate byte, in whose place stand a register, with what it holds, and another,
-/// each of which may be a mask; and an operand's address.
+/// The operands of formats RX, RS and SI: an immediate byte, in whose place may be a register, with what it holds, and
+/// a second one, each of which may be a mask; and an operand's address.
 #[derive(Clone, Copy)]
 pub struct Operands {
     pub i2: u8,
@@ -134,49 +134,50 @@ pub struct Operands {
 
 /// The operands of formats RX, RS and SI, the address with an index.
 #[inline(always)]
-fn operands_of(cpu: &Cpu, front: &Front, index: u8, told: Option<Updated>) -> Operands
+fn operands_of(cpu: &Cpu, prefix: &Front, index: u8, told: Option<Updated>) -> Operands
     requires index { index < 16 }
     requires length { IfSome told (λ updated. updated.length_code ≤ 3) }
     requires address { IfSome told (λ updated. updated.address < 2 ^ 24) }
-    ensures byte { result.i2 ≡ slice_index front.now 1 }
-    ensures r1 { result.r1 ≡ left_half front.now }
-    ensures r3 { result.r3 ≡ right_half front.now }
+    ensures byte { result.i2 ≡ slice_index prefix.now 1 }
+    ensures r1 { result.r1 ≡ left_half prefix.now }
+    ensures r3 { result.r3 ≡ right_half prefix.now }
     ensures low1 { result.r1 < 16 }
     ensures low3 { result.r3 < 16 }
     ensures first { result.first ≡ slice_index cpu.now.regs result.r1 }
-    ensures operand { result.a ≡ effective cpu.now.regs index (base_at 2 front.now) (displacement_at 2 front.now) }
+    ensures operand { result.a ≡ effective cpu.now.regs index (base_at 2 prefix.now) (displacement_at 2 prefix.now) }
     ensures short { result.a < 2 ^ 24 }
     ensures updated { result.updated ≡ unwrap_or told (updated_by cpu.now.next 4) }
     ensures length { result.updated.length_code ≤ 3 }
     ensures address { result.updated.address < 2 ^ 24 }
 {
-    let i2 = front.second();
+    let i2 = prefix.second();
     let (r1, r3) = (i2 >> 4, i2 & 15);
     Operands {
         i2,
         r1,
         r3,
         first: cpu.regs[r1 as usize],
-        a: address_in(cpu, index, front.first_address()),
+        a: address_in(cpu, index, prefix.first_address()),
         updated: updated_at(cpu, told, 4),
     }
 }
 
 /// The operands of format RX.
 #[inline(always)]
-pub(crate) fn indexed_of(cpu: &Cpu, front: &Front, told: Option<Updated>) -> Operands
+pub(crate) fn indexed_of(cpu: &Cpu, prefix: &Front, told: Option<Updated>) -> Operands
     requires length { IfSome told (λ updated. updated.length_code ≤ 3) }
     requires address { IfSome told (λ updated. updated.address < 2 ^ 24) }
-    ensures r1 { result.r1 ≡ left_half front.now }
+    ensures r1 { result.r1 ≡ left_half prefix.now }
     ensures low1 { result.r1 < 16 }
     ensures first { result.first ≡ slice_index cpu.now.regs result.r1 }
-    ensures operand { result.a ≡ effective cpu.now.regs (right_half front.now) (base_at 2 front.now) (displacement_at 2 front.now) }
+    ensures operand { let bytes = prefix.now in
+        result.a ≡ effective cpu.now.regs (right_half bytes) (base_at 2 bytes) (displacement_at 2 bytes) }
     ensures short { result.a < 2 ^ 24 }
     ensures updated { result.updated ≡ unwrap_or told (updated_by cpu.now.next 4) }
     ensures length { result.updated.length_code ≤ 3 }
     ensures address { result.updated.address < 2 ^ 24 }
 {
-    operands_of(cpu, front, front.second() & 15, told)
+    operands_of(cpu, prefix, prefix.second() & 15, told)
 }
 
 /// The operands of formats SS: the byte that has one length or two, each less one, and two addresses.
@@ -190,12 +191,12 @@ pub struct Strings {
 
 /// The operands of formats SS.
 #[inline(always)]
-fn strings_of(cpu: &Cpu, front: &Front, told: Option<Updated>) -> Strings
+fn strings_of(cpu: &Cpu, prefix: &Front, told: Option<Updated>) -> Strings
     requires length { IfSome told (λ updated. updated.length_code ≤ 3) }
     requires address { IfSome told (λ updated. updated.address < 2 ^ 24) }
-    ensures lengths { result.l ≡ slice_index front.now 1 }
-    ensures first { result.a1 ≡ effective cpu.now.regs 0 (base_at 2 front.now) (displacement_at 2 front.now) }
-    ensures second { result.a2 ≡ effective cpu.now.regs 0 (base_at 4 front.now) (displacement_at 4 front.now) }
+    ensures lengths { result.l ≡ slice_index prefix.now 1 }
+    ensures first { result.a1 ≡ effective cpu.now.regs 0 (base_at 2 prefix.now) (displacement_at 2 prefix.now) }
+    ensures second { result.a2 ≡ effective cpu.now.regs 0 (base_at 4 prefix.now) (displacement_at 4 prefix.now) }
     ensures short1 { result.a1 < 2 ^ 24 }
     ensures short2 { result.a2 < 2 ^ 24 }
     ensures updated { result.updated ≡ unwrap_or told (updated_by cpu.now.next 6) }
@@ -203,9 +204,9 @@ fn strings_of(cpu: &Cpu, front: &Front, told: Option<Updated>) -> Strings
     ensures address { result.updated.address < 2 ^ 24 }
 {
     Strings {
-        l: front.second(),
-        a1: address_in(cpu, 0, front.first_address()),
-        a2: address_in(cpu, 0, front.second_address()),
+        l: prefix.second(),
+        a1: address_in(cpu, 0, prefix.first_address()),
+        a2: address_in(cpu, 0, prefix.second_address()),
         updated: updated_at(cpu, told, 6),
     }
 }
@@ -217,38 +218,39 @@ pub(crate) fn strings_effect<S: Store>(
     cpu: &mut Cpu,
     store: &mut S,
     op: Op,
-    front: &Front,
+    prefix: &Front,
     told: Option<Updated>,
 ) -> Result<(), Interruption>
     requires strings { length_of op ≡ 6 }
     requires length { IfSome told (λ updated. updated.length_code ≤ 3) }
     requires address { IfSome told (λ updated. updated.address < 2 ^ 24) }
-    ensures { Effect (instruction op (fields_at op front.now)) (unwrap_or told (updated_by cpu.old.next (length_of op)))
+    ensures { Effect (instruction op (fields_at op prefix.now))
+        (unwrap_or told (updated_by cpu.old.next (length_of op)))
         (machine cpu.old (S.storage store.old)) result (machine cpu.new (S.storage store.new)) }
 {
     match op {
         Op::Mvc => {
-            let it = strings_of(cpu, front, told);
+            let it = strings_of(cpu, prefix, told);
             mvc(cpu, store, u32::from(it.l) + 1, it.a1, it.a2, it.updated)
         }
         Op::Clc => {
-            let it = strings_of(cpu, front, told);
+            let it = strings_of(cpu, prefix, told);
             clc(cpu, store, u32::from(it.l) + 1, it.a1, it.a2, it.updated)
         }
         Op::Xc => {
-            let it = strings_of(cpu, front, told);
+            let it = strings_of(cpu, prefix, told);
             xc(cpu, store, u32::from(it.l) + 1, it.a1, it.a2, it.updated)
         }
         Op::Tr => {
-            let it = strings_of(cpu, front, told);
+            let it = strings_of(cpu, prefix, told);
             tr(cpu, store, u32::from(it.l) + 1, it.a1, it.a2, it.updated)
         }
         Op::Trt => {
-            let it = strings_of(cpu, front, told);
+            let it = strings_of(cpu, prefix, told);
             trt(cpu, store, u32::from(it.l) + 1, it.a1, it.a2, it.updated)
         }
         Op::Pack => {
-            let it = strings_of(cpu, front, told);
+            let it = strings_of(cpu, prefix, told);
             pack(
                 cpu,
                 store,
@@ -260,7 +262,7 @@ pub(crate) fn strings_effect<S: Store>(
             )
         }
         Op::Unpk => {
-            let it = strings_of(cpu, front, told);
+            let it = strings_of(cpu, prefix, told);
             unpk(
                 cpu,
                 store,
@@ -283,74 +285,75 @@ pub(crate) fn register_rows<S: Store>(
     cpu: &mut Cpu,
     store: &mut S,
     op: Op,
-    front: &Front,
+    prefix: &Front,
     told: Option<Updated>,
 ) -> Result<(), Interruption>
     requires rows { has_registers op ≡ true }
     requires length { IfSome told (λ updated. updated.length_code ≤ 3) }
     requires address { IfSome told (λ updated. updated.address < 2 ^ 24) }
-    ensures { Effect (instruction op (fields_at op front.now)) (unwrap_or told (updated_by cpu.old.next (length_of op)))
+    ensures { Effect (instruction op (fields_at op prefix.now))
+        (unwrap_or told (updated_by cpu.old.next (length_of op)))
         (machine cpu.old (S.storage store.old)) result (machine cpu.new (S.storage store.new)) }
 {
     match op {
         Op::Balr => {
-            let it = registers_of(cpu, front, told);
+            let it = registers_of(cpu, prefix, told);
             let to = branch_address(&cpu.regs, it.r2, it.updated);
             link(cpu, it.r1, to, it.updated)
         }
         Op::Bctr => {
-            let it = registers_of(cpu, front, told);
+            let it = registers_of(cpu, prefix, told);
             let to = branch_address(&cpu.regs, it.r2, it.updated);
             count(cpu, it.r1, to, it.updated)
         }
         Op::Bcr => {
-            let it = registers_of(cpu, front, told);
+            let it = registers_of(cpu, prefix, told);
             let to = branch_address(&cpu.regs, it.r2, it.updated);
             branch(cpu, it.r1, to, it.updated)
         }
         Op::Ltr => {
-            let it = registers_of(cpu, front, told);
+            let it = registers_of(cpu, prefix, told);
             load_coded(cpu, it.r1, it.second, sign_code(it.second), it.updated)
         }
         Op::Lcr => {
-            let it = registers_of(cpu, front, told);
+            let it = registers_of(cpu, prefix, told);
             put_sum(cpu, it.r1, complement(it.second), it.updated)
         }
         Op::Clr => {
-            let it = registers_of(cpu, front, told);
+            let it = registers_of(cpu, prefix, told);
             set_code(cpu, logical_order(it.first, it.second), it.updated)
         }
         Op::Xr => {
-            let it = registers_of(cpu, front, told);
+            let it = registers_of(cpu, prefix, told);
             let word = it.first ^ it.second;
             load_coded(cpu, it.r1, word, logical_code(word), it.updated)
         }
         Op::Lr => {
-            let it = registers_of(cpu, front, told);
+            let it = registers_of(cpu, prefix, told);
             load(cpu, it.r1, it.second, it.updated)
         }
         Op::Cr => {
-            let it = registers_of(cpu, front, told);
+            let it = registers_of(cpu, prefix, told);
             set_code(cpu, signed_order(it.first, it.second), it.updated)
         }
         Op::Ar => {
-            let it = registers_of(cpu, front, told);
+            let it = registers_of(cpu, prefix, told);
             put_sum(cpu, it.r1, sum(it.first, it.second), it.updated)
         }
         Op::Sr => {
-            let it = registers_of(cpu, front, told);
+            let it = registers_of(cpu, prefix, told);
             put_sum(cpu, it.r1, difference(it.first, it.second), it.updated)
         }
         Op::Mr => {
-            let it = registers_of(cpu, front, told);
+            let it = registers_of(cpu, prefix, told);
             multiply(cpu, even(it.r1)?, it.second, it.updated)
         }
         Op::Dr => {
-            let it = registers_of(cpu, front, told);
+            let it = registers_of(cpu, prefix, told);
             divide(cpu, even(it.r1)?, it.second, it.updated)
         }
         Op::Srl => {
-            let it = operands_of(cpu, front, 0, told);
+            let it = operands_of(cpu, prefix, 0, told);
             load(
                 cpu,
                 it.r1,
@@ -359,7 +362,7 @@ pub(crate) fn register_rows<S: Store>(
             )
         }
         Op::Sll => {
-            let it = operands_of(cpu, front, 0, told);
+            let it = operands_of(cpu, prefix, 0, told);
             load(
                 cpu,
                 it.r1,
@@ -368,31 +371,31 @@ pub(crate) fn register_rows<S: Store>(
             )
         }
         Op::Sra => {
-            let it = operands_of(cpu, front, 0, told);
+            let it = operands_of(cpu, prefix, 0, told);
             shift_right(cpu, it.r1, (it.a % 64) as u8, it.updated)
         }
         Op::Sla => {
-            let it = operands_of(cpu, front, 0, told);
+            let it = operands_of(cpu, prefix, 0, told);
             shift_left(cpu, it.r1, (it.a % 64) as u8, it.updated)
         }
         Op::Srda => {
-            let it = operands_of(cpu, front, 0, told);
+            let it = operands_of(cpu, prefix, 0, told);
             shift_pair(cpu, even(it.r1)?, (it.a % 64) as u8, it.updated)
         }
         Op::Stm => {
-            let it = operands_of(cpu, front, 0, told);
+            let it = operands_of(cpu, prefix, 0, told);
             store_multiple(cpu, store, it.r1, it.r3, it.a, it.updated)
         }
         Op::Lm => {
-            let it = operands_of(cpu, front, 0, told);
+            let it = operands_of(cpu, prefix, 0, told);
             load_multiple(cpu, store, it.r1, it.r3, it.a, it.updated)
         }
         Op::Stcm => {
-            let it = operands_of(cpu, front, 0, told);
+            let it = operands_of(cpu, prefix, 0, told);
             stcm(cpu, store, it.r1, it.r3, it.a, it.updated)
         }
         Op::Icm => {
-            let it = operands_of(cpu, front, 0, told);
+            let it = operands_of(cpu, prefix, 0, told);
             icm(cpu, store, it.r1, it.r3, it.a, it.updated)
         }
         // Not reached.
@@ -407,28 +410,29 @@ pub(crate) fn word_rows<S: Store>(
     cpu: &mut Cpu,
     store: &mut S,
     op: Op,
-    front: &Front,
+    prefix: &Front,
     told: Option<Updated>,
 ) -> Result<(), Interruption>
     requires rows { has_word op ≡ true }
     requires length { IfSome told (λ updated. updated.length_code ≤ 3) }
     requires address { IfSome told (λ updated. updated.address < 2 ^ 24) }
-    ensures { Effect (instruction op (fields_at op front.now)) (unwrap_or told (updated_by cpu.old.next (length_of op)))
+    ensures { Effect (instruction op (fields_at op prefix.now))
+        (unwrap_or told (updated_by cpu.old.next (length_of op)))
         (machine cpu.old (S.storage store.old)) result (machine cpu.new (S.storage store.new)) }
 {
     match op {
         Op::L => {
-            let it = indexed_of(cpu, front, told);
+            let it = indexed_of(cpu, prefix, told);
             let second = word_at(store, it.a)?;
             load(cpu, it.r1, second, it.updated)
         }
         Op::Cl => {
-            let it = indexed_of(cpu, front, told);
+            let it = indexed_of(cpu, prefix, told);
             let second = word_at(store, it.a)?;
             set_code(cpu, logical_order(it.first, second), it.updated)
         }
         Op::C => {
-            let it = indexed_of(cpu, front, told);
+            let it = indexed_of(cpu, prefix, told);
             let second = word_at(store, it.a)?;
             set_code(cpu, signed_order(it.first, second), it.updated)
         }
@@ -444,32 +448,33 @@ pub(crate) fn word_result_rows<S: Store>(
     cpu: &mut Cpu,
     store: &mut S,
     op: Op,
-    front: &Front,
+    prefix: &Front,
     told: Option<Updated>,
 ) -> Result<(), Interruption>
     requires rows { has_word_result op ≡ true }
     requires length { IfSome told (λ updated. updated.length_code ≤ 3) }
     requires address { IfSome told (λ updated. updated.address < 2 ^ 24) }
-    ensures { Effect (instruction op (fields_at op front.now)) (unwrap_or told (updated_by cpu.old.next (length_of op)))
+    ensures { Effect (instruction op (fields_at op prefix.now))
+        (unwrap_or told (updated_by cpu.old.next (length_of op)))
         (machine cpu.old (S.storage store.old)) result (machine cpu.new (S.storage store.new)) }
 {
     match op {
         Op::A => {
-            let it = indexed_of(cpu, front, told);
+            let it = indexed_of(cpu, prefix, told);
             let second = word_at(store, it.a)?;
             put_sum(cpu, it.r1, sum(it.first, second), it.updated)
         }
         Op::S => {
-            let it = indexed_of(cpu, front, told);
+            let it = indexed_of(cpu, prefix, told);
             let second = word_at(store, it.a)?;
             put_sum(cpu, it.r1, difference(it.first, second), it.updated)
         }
         Op::M => {
-            let it = indexed_of(cpu, front, told);
+            let it = indexed_of(cpu, prefix, told);
             multiply(cpu, even(it.r1)?, word_at(store, it.a)?, it.updated)
         }
         Op::D => {
-            let it = indexed_of(cpu, front, told);
+            let it = indexed_of(cpu, prefix, told);
             divide(cpu, even(it.r1)?, word_at(store, it.a)?, it.updated)
         }
         // Not reached.
@@ -484,33 +489,34 @@ pub(crate) fn half_rows<S: Store>(
     cpu: &mut Cpu,
     store: &mut S,
     op: Op,
-    front: &Front,
+    prefix: &Front,
     told: Option<Updated>,
 ) -> Result<(), Interruption>
     requires rows { has_half op ≡ true }
     requires length { IfSome told (λ updated. updated.length_code ≤ 3) }
     requires address { IfSome told (λ updated. updated.address < 2 ^ 24) }
-    ensures { Effect (instruction op (fields_at op front.now)) (unwrap_or told (updated_by cpu.old.next (length_of op)))
+    ensures { Effect (instruction op (fields_at op prefix.now))
+        (unwrap_or told (updated_by cpu.old.next (length_of op)))
         (machine cpu.old (S.storage store.old)) result (machine cpu.new (S.storage store.new)) }
 {
     match op {
         Op::Lh => {
-            let it = indexed_of(cpu, front, told);
+            let it = indexed_of(cpu, prefix, told);
             let second = halfword_at(store, it.a)?;
             load(cpu, it.r1, second, it.updated)
         }
         Op::Ch => {
-            let it = indexed_of(cpu, front, told);
+            let it = indexed_of(cpu, prefix, told);
             let second = halfword_at(store, it.a)?;
             set_code(cpu, signed_order(it.first, second), it.updated)
         }
         Op::Ah => {
-            let it = indexed_of(cpu, front, told);
+            let it = indexed_of(cpu, prefix, told);
             let second = halfword_at(store, it.a)?;
             put_sum(cpu, it.r1, sum(it.first, second), it.updated)
         }
         Op::Sh => {
-            let it = indexed_of(cpu, front, told);
+            let it = indexed_of(cpu, prefix, told);
             let second = halfword_at(store, it.a)?;
             put_sum(cpu, it.r1, difference(it.first, second), it.updated)
         }
@@ -519,62 +525,64 @@ pub(crate) fn half_rows<S: Store>(
     }
 }
 
-/// The effect of the other rows of format RX but EX.
+/// The effect of the other rows of format RX except EX.
 #[tactic(auto, unfolding(crate::specs::Rows::Effect, crate::specs::Rows::RxEffect, cx_code::specs::Reading::fields_at, cx_code::specs::Reading::fields_in, cx_code::specs::Table::row_of, cx_code::specs::Table::is_shift))]
 #[inline(always)]
 pub(crate) fn indexed_rows<S: Store>(
     cpu: &mut Cpu,
     store: &mut S,
     op: Op,
-    front: &Front,
+    prefix: &Front,
     told: Option<Updated>,
 ) -> Result<(), Interruption>
     requires rows { has_address op ≡ true }
     requires length { IfSome told (λ updated. updated.length_code ≤ 3) }
     requires address { IfSome told (λ updated. updated.address < 2 ^ 24) }
-    ensures { Effect (instruction op (fields_at op front.now)) (unwrap_or told (updated_by cpu.old.next (length_of op)))
+    ensures { Effect (instruction op (fields_at op prefix.now))
+        (unwrap_or told (updated_by cpu.old.next (length_of op)))
         (machine cpu.old (S.storage store.old)) result (machine cpu.new (S.storage store.new)) }
 {
     match op {
         Op::Sth => {
-            let it = indexed_of(cpu, front, told);
-            put_bytes(cpu, store, it.a, &half_bytes(it.first), it.updated)
+            let it = indexed_of(cpu, prefix, told);
+            let half = (it.first % 0x1_0000) as u16;
+            put_bytes(cpu, store, it.a, &half.to_be_bytes(), it.updated)
         }
         Op::La => {
-            let it = indexed_of(cpu, front, told);
+            let it = indexed_of(cpu, prefix, told);
             load(cpu, it.r1, it.a, it.updated)
         }
         Op::Stc => {
-            let it = indexed_of(cpu, front, told);
+            let it = indexed_of(cpu, prefix, told);
             put_bytes(cpu, store, it.a, &[(it.first % 0x100) as u8], it.updated)
         }
         Op::Bal => {
-            let it = indexed_of(cpu, front, told);
+            let it = indexed_of(cpu, prefix, told);
             link(cpu, it.r1, it.a, it.updated)
         }
         Op::Bct => {
-            let it = indexed_of(cpu, front, told);
+            let it = indexed_of(cpu, prefix, told);
             count(cpu, it.r1, it.a, it.updated)
         }
         Op::Bc => {
-            let it = indexed_of(cpu, front, told);
+            let it = indexed_of(cpu, prefix, told);
             branch(cpu, it.r1, it.a, it.updated)
         }
         Op::St => {
-            let it = indexed_of(cpu, front, told);
-            put_bytes(cpu, store, it.a, &word_bytes(it.first), it.updated)
+            let it = indexed_of(cpu, prefix, told);
+            put_bytes(cpu, store, it.a, &it.first.to_be_bytes(), it.updated)
         }
         Op::Cvd => {
-            let it = indexed_of(cpu, front, told);
+            let it = indexed_of(cpu, prefix, told);
             cvd(cpu, store, it.r1, it.a, it.updated)
         }
         Op::Ic => {
-            let it = indexed_of(cpu, front, told);
+            let it = indexed_of(cpu, prefix, told);
             let byte = byte_at(store, it.a)?;
             load(cpu, it.r1, inserted(it.first, byte), it.updated)
         }
         Op::Cvb => {
-            let it = indexed_of(cpu, front, told);
+            let it = indexed_of(cpu, prefix, told);
             cvb(cpu, store, it.r1, it.a, it.updated)
         }
         // Not reached.
@@ -589,37 +597,38 @@ pub(crate) fn immediate_rows<S: Store>(
     cpu: &mut Cpu,
     store: &mut S,
     op: Op,
-    front: &Front,
+    prefix: &Front,
     told: Option<Updated>,
 ) -> Result<(), Interruption>
     requires rows { has_immediate op ≡ true }
     requires length { IfSome told (λ updated. updated.length_code ≤ 3) }
     requires address { IfSome told (λ updated. updated.address < 2 ^ 24) }
-    ensures { Effect (instruction op (fields_at op front.now)) (unwrap_or told (updated_by cpu.old.next (length_of op)))
+    ensures { Effect (instruction op (fields_at op prefix.now))
+        (unwrap_or told (updated_by cpu.old.next (length_of op)))
         (machine cpu.old (S.storage store.old)) result (machine cpu.new (S.storage store.new)) }
 {
     match op {
         Op::Tm => {
-            let it = operands_of(cpu, front, 0, told);
+            let it = operands_of(cpu, prefix, 0, told);
             let byte = byte_at(store, it.a)?;
             set_code(cpu, test_code(it.i2, byte), it.updated)
         }
         Op::Mvi => {
-            let it = operands_of(cpu, front, 0, told);
+            let it = operands_of(cpu, prefix, 0, told);
             put_bytes(cpu, store, it.a, &[it.i2], it.updated)
         }
         Op::Ni => {
-            let it = operands_of(cpu, front, 0, told);
+            let it = operands_of(cpu, prefix, 0, told);
             let byte = byte_at(store, it.a)?;
             put_logical(cpu, store, it.a, byte & it.i2, it.updated)
         }
         Op::Cli => {
-            let it = operands_of(cpu, front, 0, told);
+            let it = operands_of(cpu, prefix, 0, told);
             let byte = byte_at(store, it.a)?;
             set_code(cpu, byte_order(byte, it.i2), it.updated)
         }
         Op::Oi => {
-            let it = operands_of(cpu, front, 0, told);
+            let it = operands_of(cpu, prefix, 0, told);
             let byte = byte_at(store, it.a)?;
             put_logical(cpu, store, it.a, byte | it.i2, it.updated)
         }
@@ -628,19 +637,20 @@ pub(crate) fn immediate_rows<S: Store>(
     }
 }
 
-/// The effect of the row `op` but EX, whose bytes begin so. It goes on where that is told, else after an instruction of
-/// its length at the next address.
+/// The effect of the row `op` except EX, whose bytes begin so. It goes on where that is given, else after an
+/// instruction of its length at the next address.
 #[tactic(auto, unfolding(crate::specs::Rows::Effect, crate::specs::Rows::RxEffect, cx_code::specs::Reading::fields_at, cx_code::specs::Reading::fields_in, cx_code::specs::Table::row_of, cx_code::specs::Table::is_shift))]
 pub(crate) fn effect<S: Store>(
     cpu: &mut Cpu,
     store: &mut S,
     op: Op,
-    front: &Front,
+    prefix: &Front,
     told: Option<Updated>,
 ) -> Result<(), Interruption>
     requires length { IfSome told (λ updated. updated.length_code ≤ 3) }
     requires address { IfSome told (λ updated. updated.address < 2 ^ 24) }
-    ensures { Effect (instruction op (fields_at op front.now)) (unwrap_or told (updated_by cpu.old.next (length_of op)))
+    ensures { Effect (instruction op (fields_at op prefix.now))
+        (unwrap_or told (updated_by cpu.old.next (length_of op)))
         (machine cpu.old (S.storage store.old)) result (machine cpu.new (S.storage store.new)) }
 {
     match op {
@@ -665,10 +675,10 @@ pub(crate) fn effect<S: Store>(
         | Op::Stm
         | Op::Lm
         | Op::Stcm
-        | Op::Icm => { register_rows(cpu, store, op, front, told) }
-        Op::L | Op::Cl | Op::C => { word_rows(cpu, store, op, front, told) }
-        Op::A | Op::S | Op::M | Op::D => { word_result_rows(cpu, store, op, front, told) }
-        Op::Lh | Op::Ch | Op::Ah | Op::Sh => { half_rows(cpu, store, op, front, told) }
+        | Op::Icm => { register_rows(cpu, store, op, prefix, told) }
+        Op::L | Op::Cl | Op::C => { word_rows(cpu, store, op, prefix, told) }
+        Op::A | Op::S | Op::M | Op::D => { word_result_rows(cpu, store, op, prefix, told) }
+        Op::Lh | Op::Ch | Op::Ah | Op::Sh => { half_rows(cpu, store, op, prefix, told) }
         Op::Sth
         | Op::La
         | Op::Stc
@@ -678,12 +688,12 @@ pub(crate) fn effect<S: Store>(
         | Op::St
         | Op::Cvd
         | Op::Ic
-        | Op::Cvb => { indexed_rows(cpu, store, op, front, told) }
+        | Op::Cvb => { indexed_rows(cpu, store, op, prefix, told) }
         Op::Tm | Op::Mvi | Op::Ni | Op::Cli | Op::Oi => {
-            immediate_rows(cpu, store, op, front, told)
+            immediate_rows(cpu, store, op, prefix, told)
         }
         Op::Mvc | Op::Clc | Op::Xc | Op::Tr | Op::Trt | Op::Pack | Op::Unpk => {
-            strings_effect(cpu, store, op, front, told)
+            strings_effect(cpu, store, op, prefix, told)
         }
         // An EX is performed by its target.
         Op::Ex => Err(Interruption::Operation),

@@ -10,17 +10,19 @@ use crate::rows::{
     half_rows, immediate_rows, indexed_rows, register_rows, strings_effect, word_result_rows,
     word_rows,
 };
-use crate::stepping::{at_hand, execute_found, run_apart};
+use crate::stepping::{execute_found, fetch_fast, step_slow};
 use cx_code::Op;
 use cx_storage::Store;
 
-/// At most so many steps are a round.
+/// The most steps of a round.
 const ROUND: u32 = 256;
 
 /// Performs `steps` instructions, or fewer where the entry is the next address or one is interrupted.
 #[tactic(auto, using(crate::proofs::RunLemmas::run_more, crate::proofs::RunLemmas::run_interrupt, crate::proofs::RunLemmas::stands_at_entry))]
 fn pass<S: Store>(cpu: &mut Cpu, store: &mut S, steps: u32) -> Option<Halt>
-    ensures run { MatchOption result (Passes steps (machine cpu.old (S.storage store.old)) (machine cpu.new (S.storage store.new))) (λ end. Advances steps (machine cpu.old (S.storage store.old)) end (machine cpu.new (S.storage store.new))) }
+    ensures run { let before = machine cpu.old (S.storage store.old) in
+        let after = machine cpu.new (S.storage store.new) in
+        MatchOption result (Passes steps before after) (λ end. Advances steps before end after) }
     ensures ended { result ≢ Some halt.Limit }
 {
     let mut left = steps;
@@ -28,8 +30,8 @@ fn pass<S: Store>(cpu: &mut Cpu, store: &mut S, steps: u32) -> Option<Halt>
         if cpu.next == ENTRY {
             return Some(Halt::AtEntry);
         }
-        let Some(found) = at_hand(cpu, store) else {
-            match run_apart(cpu, store) {
+        let Some(found) = fetch_fast(cpu, store) else {
+            match step_slow(cpu, store) {
                 Ok(()) => left -= 1,
                 Err(cause) => return Some(Halt::Interrupt(cause, cpu.next)),
             }
@@ -57,11 +59,11 @@ fn pass<S: Store>(cpu: &mut Cpu, store: &mut S, steps: u32) -> Option<Halt>
             | Op::Stm
             | Op::Lm
             | Op::Stcm
-            | Op::Icm => match register_rows(cpu, store, found.op, &found.front, None) {
+            | Op::Icm => match register_rows(cpu, store, found.op, &found.prefix, None) {
                 Ok(()) => left -= 1,
                 Err(cause) => return Some(Halt::Interrupt(cause, cpu.next)),
             },
-            Op::L | Op::Cl | Op::C => match word_rows(cpu, store, found.op, &found.front, None) {
+            Op::L | Op::Cl | Op::C => match word_rows(cpu, store, found.op, &found.prefix, None) {
                 Ok(()) => left -= 1,
                 Err(cause) => return Some(Halt::Interrupt(cause, cpu.next)),
             },
@@ -69,7 +71,7 @@ fn pass<S: Store>(cpu: &mut Cpu, store: &mut S, steps: u32) -> Option<Halt>
                 cpu,
                 store,
                 found.op,
-                &found.front,
+                &found.prefix,
                 None,
             ) {
                 Ok(()) => left -= 1,
@@ -79,7 +81,7 @@ fn pass<S: Store>(cpu: &mut Cpu, store: &mut S, steps: u32) -> Option<Halt>
                 cpu,
                 store,
                 found.op,
-                &found.front,
+                &found.prefix,
                 None,
             ) {
                 Ok(()) => left -= 1,
@@ -94,7 +96,7 @@ fn pass<S: Store>(cpu: &mut Cpu, store: &mut S, steps: u32) -> Option<Halt>
             | Op::St
             | Op::Cvd
             | Op::Ic
-            | Op::Cvb => match indexed_rows(cpu, store, found.op, &found.front, None) {
+            | Op::Cvb => match indexed_rows(cpu, store, found.op, &found.prefix, None) {
                 Ok(()) => left -= 1,
                 Err(cause) => return Some(Halt::Interrupt(cause, cpu.next)),
             },
@@ -102,18 +104,18 @@ fn pass<S: Store>(cpu: &mut Cpu, store: &mut S, steps: u32) -> Option<Halt>
                 cpu,
                 store,
                 found.op,
-                &found.front,
+                &found.prefix,
                 None,
             ) {
                 Ok(()) => left -= 1,
                 Err(cause) => return Some(Halt::Interrupt(cause, cpu.next)),
             },
             Op::Mvc | Op::Clc | Op::Xc | Op::Tr | Op::Trt | Op::Pack | Op::Unpk =>
-                match strings_effect(cpu, store, found.op, &found.front, None) {
+                match strings_effect(cpu, store, found.op, &found.prefix, None) {
                     Ok(()) => left -= 1,
                     Err(cause) => return Some(Halt::Interrupt(cause, cpu.next)),
                 },
-            Op::Ex => match execute_found(cpu, store, &found.front) {
+            Op::Ex => match execute_found(cpu, store, &found.prefix) {
                 Ok(()) => left -= 1,
                 Err(cause) => return Some(Halt::Interrupt(cause, cpu.next)),
             },
@@ -124,7 +126,9 @@ fn pass<S: Store>(cpu: &mut Cpu, store: &mut S, steps: u32) -> Option<Halt>
 
 /// A round: the processor is held apart through it, and put back at its end, whichever way it ends.
 fn round<S: Store>(cpu: &mut Cpu, store: &mut S, steps: u32) -> Option<Halt>
-    ensures run { MatchOption result (Passes steps (machine cpu.old (S.storage store.old)) (machine cpu.new (S.storage store.new))) (λ end. Advances steps (machine cpu.old (S.storage store.old)) end (machine cpu.new (S.storage store.new))) }
+    ensures run { let before = machine cpu.old (S.storage store.old) in
+        let after = machine cpu.new (S.storage store.new) in
+        MatchOption result (Passes steps before after) (λ end. Advances steps before end after) }
     ensures ended { result ≢ Some halt.Limit }
 {
     let mut held = Cpu {

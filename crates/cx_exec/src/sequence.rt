@@ -3,7 +3,7 @@
 ghost use Rattle.std.specs.Prelude.{◌≡◌, ◌<◌, ◌≤◌, ◌^◌, is_some};
 ghost use Rattle.cx_storage.specs.Storage.{span};
 ghost use Rattle.cx_storage.specs.Address.{distance};
-ghost use Rattle.cx_exec.specs.Sequence.{content, seen};
+ghost use Rattle.cx_exec.specs.Sequence.{content, byte_seen};
 
 use cx_storage::{Store, address_in};
 
@@ -24,7 +24,8 @@ pub(crate) fn content<S: Store>(store: &S, a: u32) -> u8
     store.byte(a).unwrap_or(0)
 }
 
-/// Whether each of the `n` bytes (at most 65,536) from an address (below 2^24) on is present: at once where they are lent.
+/// Whether each of the `n` bytes (at most 65,536) from an address (below 2^24) on is present: at once where they are
+/// lent.
 #[inline(always)]
 pub(crate) fn is_present<S: Store>(store: &S, a: u32, n: u32) -> bool
     requires address { a < 2 ^ 24 }
@@ -36,10 +37,10 @@ pub(crate) fn is_present<S: Store>(store: &S, a: u32, n: u32) -> bool
 
 /// The byte seen at `x` (below 2^24), the address of the `number`-th byte to be stored, once some are stored: theirs,
 /// else storage's.
-#[tactic(auto, unfolding(crate::specs::Sequence::seen))]
+#[tactic(auto, unfolding(crate::specs::Sequence::byte_seen))]
 pub(crate) fn seen<S: Store>(store: &S, stored: &[u8], number: u32, x: u32) -> u8
     requires { x < 2 ^ 24 }
-    ensures { result ≡ seen (S.storage store.now) stored.now number x }
+    ensures { result ≡ byte_seen (S.storage store.now) stored.now number x }
 {
     let number = number as usize;
     if number < stored.len() {

@@ -1,7 +1,7 @@
 //! Shifts of words and of pairs of registers.
 
 ghost use Rattle.std.specs.Prelude.{◌≡◌, ◌<◌, ◌^◌, Ok, slice_set, slice_index};
-ghost use Rattle.cx_exec.specs.Numbers.{signed, word_of, sign_code, sum_code, signed_double, double_of};
+ghost use Rattle.cx_exec.specs.Numbers.{signed_word, word_of, sign_code, sum_code, signed_double, double_of};
 ghost use Rattle.cx_exec.specs.Results.{pair, with_pair};
 ghost use Rattle.cx_exec.specs.Shifts.{shifted_right, shifted_left, floor_shifted, times_power, shifted_arithmetic};
 
@@ -41,7 +41,7 @@ pub(crate) fn times_power(word: u32, n: u8) -> i128
     i128::from(word.cast_signed()) * i128::from(power(n))
 }
 
-/// A word shifted left by n bits but for its sign bit, which stays.
+/// A word shifted left by n bits except its sign bit, which stays.
 pub(crate) fn shifted_arithmetic(word: u32, n: u8) -> u32
     requires { n < 64 }
     ensures { result ≡ shifted_arithmetic word n }
@@ -55,8 +55,9 @@ pub(crate) fn shift_right(cpu: &mut Cpu, r: u8, n: u8, updated: Updated) -> Resu
     requires amount { n < 64 }
     requires address { updated.address < 2 ^ 24 }
     ensures done { result ≡ Ok tt }
-    ensures regs { cpu.new.regs ≡ slice_set cpu.old.regs r (word_of (floor_shifted (signed (slice_index cpu.old.regs r)) n)) }
-    ensures code { cpu.new.cc ≡ sign_code (floor_shifted (signed (slice_index cpu.old.regs r)) n) }
+    ensures regs { let word = slice_index cpu.old.regs r in
+        cpu.new.regs ≡ slice_set cpu.old.regs r (word_of (floor_shifted (signed_word word) n)) }
+    ensures code { cpu.new.cc ≡ sign_code (floor_shifted (signed_word (slice_index cpu.old.regs r)) n) }
     ensures next { cpu.new.next ≡ updated.address }
 {
     let shifted = signed(cpu.regs[r as usize]) >> n;
@@ -69,7 +70,7 @@ pub(crate) fn shift_right(cpu: &mut Cpu, r: u8, n: u8, updated: Updated) -> Resu
     )
 }
 
-/// Shifts a register left by n bits but for its sign bit, which stays.
+/// Shifts a register left by n bits except its sign bit, which stays.
 #[inline(never)]
 pub(crate) fn shift_left(cpu: &mut Cpu, r: u8, n: u8, updated: Updated) -> Result<(), Interruption>
     requires register { r < 16 }
@@ -97,7 +98,8 @@ pub(crate) fn shift_pair(cpu: &mut Cpu, r: u8, n: u8, updated: Updated) -> Resul
     requires amount { n < 64 }
     requires address { updated.address < 2 ^ 24 }
     ensures done { result ≡ Ok tt }
-    ensures regs { cpu.new.regs ≡ with_pair cpu.old.regs r (double_of (floor_shifted (signed_double (pair cpu.old.regs r)) n)) }
+    ensures regs { let double = pair cpu.old.regs r in
+        cpu.new.regs ≡ with_pair cpu.old.regs r (double_of (floor_shifted (signed_double double) n)) }
     ensures code { cpu.new.cc ≡ sign_code (floor_shifted (signed_double (pair cpu.old.regs r)) n) }
     ensures next { cpu.new.next ≡ updated.address }
 {

@@ -1,11 +1,11 @@
 //! MVC and XC: two operands of one length, from left to right.
 
 ghost use Rattle.std.specs.Prelude.{◌≡◌, ◌≢◌, ℕ, ◌<◌, ◌≤◌, ◌^◌, ◌&&◌, take, true, is_some, length, slice_index, bit_xor};
-ghost use Rattle.cx_storage.specs.Address.{along};
+ghost use Rattle.cx_storage.specs.Address.{address_after};
 ghost use Rattle.cx_storage.specs.Storage.{span};
 ghost use Rattle.cx_exec.specs.Machine.{machine};
 ghost use Rattle.cx_exec.specs.Sequence.{stored_by};
-ghost use Rattle.cx_exec.specs.Strings.{moved, xored, MvcEffect, XcEffect};
+ghost use Rattle.cx_exec.specs.Strings.{moved_byte, xored_byte, MvcEffect, XcEffect};
 
 use crate::logic::string_code;
 use crate::machine::{Cpu, Interruption, Updated};
@@ -20,7 +20,7 @@ fn move_bytes<S: Store>(store: &S, n: u32, a1: u32, a2: u32, new: &mut [u8; 256]
     requires first { a1 < 2 ^ 24 }
     requires second { a2 < 2 ^ 24 }
     requires count { n ≤ 256 }
-    ensures { take n new.new ≡ stored_by (moved (S.storage store.now) a1 a2) n }
+    ensures { take n new.new ≡ stored_by (moved_byte (S.storage store.now) a1 a2) n }
 {
     for k in 0..n {
         let from = along(a2, k);
@@ -29,13 +29,13 @@ fn move_bytes<S: Store>(store: &S, n: u32, a1: u32, a2: u32, new: &mut [u8; 256]
     }
 }
 
-/// Puts the bytes that MVC stores at the front of the buffer, where the first operand may begin inside the second: those
-/// in front of its begin are then repeated.
+/// Puts the bytes that MVC stores at the front of the buffer, where the first operand may begin inside the second:
+/// those before its first byte are then repeated.
 fn fill_bytes<S: Store>(store: &S, n: u32, a1: u32, a2: u32, new: &mut [u8; 256])
     requires first { a1 < 2 ^ 24 }
     requires second { a2 < 2 ^ 24 }
     requires count { n ≤ 256 }
-    ensures { take n new.new ≡ stored_by (moved (S.storage store.now) a1 a2) n }
+    ensures { take n new.new ≡ stored_by (moved_byte (S.storage store.now) a1 a2) n }
 {
     let period = distance(a2, a1);
     if period == 0 || n <= period {
@@ -52,7 +52,7 @@ fn xor_bytes<S: Store>(store: &S, n: u32, a1: u32, a2: u32, new: &mut [u8; 256])
     requires first { a1 < 2 ^ 24 }
     requires second { a2 < 2 ^ 24 }
     requires count { n ≤ 256 }
-    ensures { take n new.new ≡ stored_by (xored (S.storage store.now) a1 a2) n }
+    ensures { take n new.new ≡ stored_by (xored_byte (S.storage store.now) a1 a2) n }
 {
     for k in 0..n {
         let from = along(a2, k);
@@ -61,20 +61,20 @@ fn xor_bytes<S: Store>(store: &S, n: u32, a1: u32, a2: u32, new: &mut [u8; 256])
     }
 }
 
-/// Whether the first operand, of `n` bytes, doesn't begin inside the second behind its first byte: then no byte is
+/// Whether the first operand, of `n` bytes, doesn't begin inside the second after its first byte: then no byte is
 /// stored before it is fetched as one of the second operand.
 fn begins_outside(n: u32, a1: u32, a2: u32) -> bool
     requires first { a1 < 2 ^ 24 }
     requires second { a2 < 2 ^ 24 }
     requires count { n ≤ 256 }
-    ensures { result ≡ true → (j : ℕ) → 0 < j → j < n → a1 ≢ along a2 j }
+    ensures { result ≡ true → (j : ℕ) → 0 < j → j < n → a1 ≢ address_after a2 j }
 {
     let behind = distance(a2, a1);
     behind == 0 || n <= behind
 }
 
-/// MVC through a buffer of the operands' length, of operands of which the first doesn't begin inside the second behind its
-/// first byte.
+/// MVC through a buffer of the operands' length, of operands of which the first doesn't begin inside the second after
+/// its first byte.
 #[tactic(auto, using(crate::proofs::BlockLemmas::read_is_moved), unfolding(crate::specs::Strings::MvcEffect))]
 #[inline(always)]
 fn copy_through<S: Store>(
@@ -88,9 +88,10 @@ fn copy_through<S: Store>(
     requires first { a1 < 2 ^ 24 }
     requires second { a2 < 2 ^ 24 }
     requires count { length bytes.old ≤ 256 }
-    requires outside { (j : ℕ) → 0 < j → j < length bytes.old → a1 ≢ along a2 j }
+    requires outside { (j : ℕ) → 0 < j → j < length bytes.old → a1 ≢ address_after a2 j }
     requires address { updated.address < 2 ^ 24 }
-    ensures { MvcEffect (length bytes.old) a1 a2 updated (machine cpu.old (S.storage store.old)) result (machine cpu.new (S.storage store.new)) }
+    ensures { let before = machine cpu.old (S.storage store.old) in let after = machine cpu.new (S.storage store.new) in
+        MvcEffect (length bytes.old) a1 a2 updated before result after }
 {
     if !store.read(a2, bytes) {
         return Err(Interruption::Addressing);
@@ -111,9 +112,10 @@ fn copy_long<S: Store>(
     requires first { a1 < 2 ^ 24 }
     requires second { a2 < 2 ^ 24 }
     requires count { n ≤ 256 }
-    requires outside { (j : ℕ) → 0 < j → j < n → a1 ≢ along a2 j }
+    requires outside { (j : ℕ) → 0 < j → j < n → a1 ≢ address_after a2 j }
     requires address { updated.address < 2 ^ 24 }
-    ensures { MvcEffect n a1 a2 updated (machine cpu.old (S.storage store.old)) result (machine cpu.new (S.storage store.new)) }
+    ensures { let before = machine cpu.old (S.storage store.old) in let after = machine cpu.new (S.storage store.new) in
+        MvcEffect n a1 a2 updated before result after }
 {
     if n <= 64 {
         let mut new = [0; 64];
@@ -123,8 +125,8 @@ fn copy_long<S: Store>(
     copy_through(cpu, store, a1, a2, &mut new[..n as usize], updated)
 }
 
-/// MVC of such operands. Those of a few bytes need no large buffer, and for each of the shortest lengths, which are the most
-/// frequent, there is code of its own.
+/// MVC of such operands. Those of a few bytes need no large buffer, and for each of the shortest lengths, which are the
+/// most frequent, there is code of its own.
 #[inline(always)]
 fn copy<S: Store>(
     cpu: &mut Cpu,
@@ -137,9 +139,10 @@ fn copy<S: Store>(
     requires first { a1 < 2 ^ 24 }
     requires second { a2 < 2 ^ 24 }
     requires count { n ≤ 256 }
-    requires outside { (j : ℕ) → 0 < j → j < n → a1 ≢ along a2 j }
+    requires outside { (j : ℕ) → 0 < j → j < n → a1 ≢ address_after a2 j }
     requires address { updated.address < 2 ^ 24 }
-    ensures { MvcEffect n a1 a2 updated (machine cpu.old (S.storage store.old)) result (machine cpu.new (S.storage store.new)) }
+    ensures { let before = machine cpu.old (S.storage store.old) in let after = machine cpu.new (S.storage store.new) in
+        MvcEffect n a1 a2 updated before result after }
 {
     let mut new = [0; 16];
     match n {
@@ -161,7 +164,8 @@ fn join_bytes(first: &[u8], second: &[u8], new: &mut [u8])
     requires same { length first.now ≡ length second.now }
     requires room { length new.old ≡ length first.now }
     ensures size { length new.new ≡ length new.old }
-    ensures each { (k : ℕ) → k < length first.now → slice_index new.new k ≡ bit_xor (slice_index first.now k) (slice_index second.now k) }
+    ensures each { (k : ℕ) → k < length first.now
+        → slice_index new.new k ≡ bit_xor (slice_index first.now k) (slice_index second.now k) }
 {
     for k in 0..new.len() {
         new[k] = first[k] ^ second[k];
@@ -174,9 +178,10 @@ fn join_copies<S: Store>(store: &S, a1: u32, a2: u32, new: &mut [u8]) -> bool
     requires first { a1 < 2 ^ 24 }
     requires second { a2 < 2 ^ 24 }
     requires count { length new.old ≤ 256 }
-    requires outside { (j : ℕ) → 0 < j → j < length new.old → a1 ≢ along a2 j }
-    ensures present { result ≡ is_some (span (S.storage store.now) a1 (length new.old)) && is_some (span (S.storage store.now) a2 (length new.old)) }
-    ensures bytes { result ≡ true → new.new ≡ stored_by (xored (S.storage store.now) a1 a2) (length new.old) }
+    requires outside { (j : ℕ) → 0 < j → j < length new.old → a1 ≢ address_after a2 j }
+    ensures present { let s = S.storage store.now in let n = length new.old in
+        result ≡ is_some (span s a1 n) && is_some (span s a2 n) }
+    ensures bytes { result ≡ true → new.new ≡ stored_by (xored_byte (S.storage store.now) a1 a2) (length new.old) }
 {
     let mut left = [0; 256];
     let mut right = [0; 256];
@@ -195,9 +200,10 @@ fn join_stored<S: Store>(store: &S, a1: u32, a2: u32, new: &mut [u8]) -> bool
     requires first { a1 < 2 ^ 24 }
     requires second { a2 < 2 ^ 24 }
     requires count { length new.old ≤ 256 }
-    requires outside { (j : ℕ) → 0 < j → j < length new.old → a1 ≢ along a2 j }
-    ensures present { result ≡ is_some (span (S.storage store.now) a1 (length new.old)) && is_some (span (S.storage store.now) a2 (length new.old)) }
-    ensures bytes { result ≡ true → new.new ≡ stored_by (xored (S.storage store.now) a1 a2) (length new.old) }
+    requires outside { (j : ℕ) → 0 < j → j < length new.old → a1 ≢ address_after a2 j }
+    ensures present { let s = S.storage store.now in let n = length new.old in
+        result ≡ is_some (span s a1 n) && is_some (span s a2 n) }
+    ensures bytes { result ≡ true → new.new ≡ stored_by (xored_byte (S.storage store.now) a1 a2) (length new.old) }
 {
     if let Some(first) = store.slice(a1, new.len()) {
         if let Some(second) = store.slice(a2, new.len()) {
@@ -208,8 +214,8 @@ fn join_stored<S: Store>(store: &S, a1: u32, a2: u32, new: &mut [u8]) -> bool
     join_copies(store, a1, a2, new)
 }
 
-/// XC through a buffer of the operands' length, of operands of which the first doesn't begin inside the second behind its
-/// first byte.
+/// XC through a buffer of the operands' length, of operands of which the first doesn't begin inside the second after
+/// its first byte.
 #[tactic(auto, unfolding(crate::specs::Strings::XcEffect))]
 #[inline(always)]
 fn join_through<S: Store>(
@@ -223,9 +229,10 @@ fn join_through<S: Store>(
     requires first { a1 < 2 ^ 24 }
     requires second { a2 < 2 ^ 24 }
     requires count { length bytes.old ≤ 256 }
-    requires outside { (j : ℕ) → 0 < j → j < length bytes.old → a1 ≢ along a2 j }
+    requires outside { (j : ℕ) → 0 < j → j < length bytes.old → a1 ≢ address_after a2 j }
     requires address { updated.address < 2 ^ 24 }
-    ensures { XcEffect (length bytes.old) a1 a2 updated (machine cpu.old (S.storage store.old)) result (machine cpu.new (S.storage store.new)) }
+    ensures { let before = machine cpu.old (S.storage store.old) in let after = machine cpu.new (S.storage store.new) in
+        XcEffect (length bytes.old) a1 a2 updated before result after }
 {
     if !join_stored(store, a1, a2, bytes) {
         return Err(Interruption::Addressing);
@@ -247,15 +254,17 @@ fn join_long<S: Store>(
     requires first { a1 < 2 ^ 24 }
     requires second { a2 < 2 ^ 24 }
     requires count { n ≤ 256 }
-    requires outside { (j : ℕ) → 0 < j → j < n → a1 ≢ along a2 j }
+    requires outside { (j : ℕ) → 0 < j → j < n → a1 ≢ address_after a2 j }
     requires address { updated.address < 2 ^ 24 }
-    ensures { XcEffect n a1 a2 updated (machine cpu.old (S.storage store.old)) result (machine cpu.new (S.storage store.new)) }
+    ensures { let before = machine cpu.old (S.storage store.old) in let after = machine cpu.new (S.storage store.new) in
+        XcEffect n a1 a2 updated before result after }
 {
     let mut new = [0; 256];
     join_through(cpu, store, a1, a2, &mut new[..n as usize], updated)
 }
 
-/// XC of such operands. Those of a few bytes need no large buffer, and the most frequent lengths have code of their own.
+/// XC of such operands. Those of a few bytes need no large buffer, and the most frequent lengths have code of their
+/// own.
 #[inline(always)]
 fn join<S: Store>(
     cpu: &mut Cpu,
@@ -268,9 +277,10 @@ fn join<S: Store>(
     requires first { a1 < 2 ^ 24 }
     requires second { a2 < 2 ^ 24 }
     requires count { n ≤ 256 }
-    requires outside { (j : ℕ) → 0 < j → j < n → a1 ≢ along a2 j }
+    requires outside { (j : ℕ) → 0 < j → j < n → a1 ≢ address_after a2 j }
     requires address { updated.address < 2 ^ 24 }
-    ensures { XcEffect n a1 a2 updated (machine cpu.old (S.storage store.old)) result (machine cpu.new (S.storage store.new)) }
+    ensures { let before = machine cpu.old (S.storage store.old) in let after = machine cpu.new (S.storage store.new) in
+        XcEffect n a1 a2 updated before result after }
 {
     let mut new = [0; 16];
     match n {
@@ -299,7 +309,8 @@ fn fill<S: Store>(
     requires second { a2 < 2 ^ 24 }
     requires count { n ≤ 256 }
     requires address { updated.address < 2 ^ 24 }
-    ensures { MvcEffect n a1 a2 updated (machine cpu.old (S.storage store.old)) result (machine cpu.new (S.storage store.new)) }
+    ensures { let before = machine cpu.old (S.storage store.old) in let after = machine cpu.new (S.storage store.new) in
+        MvcEffect n a1 a2 updated before result after }
 {
     if !is_present(store, a2, n) {
         return Err(Interruption::Addressing);
@@ -324,7 +335,8 @@ fn join_each<S: Store>(
     requires second { a2 < 2 ^ 24 }
     requires count { n ≤ 256 }
     requires address { updated.address < 2 ^ 24 }
-    ensures { XcEffect n a1 a2 updated (machine cpu.old (S.storage store.old)) result (machine cpu.new (S.storage store.new)) }
+    ensures { let before = machine cpu.old (S.storage store.old) in let after = machine cpu.new (S.storage store.new) in
+        XcEffect n a1 a2 updated before result after }
 {
     if !is_present(store, a2, n) {
         return Err(Interruption::Addressing);
@@ -350,7 +362,8 @@ pub(crate) fn mvc<S: Store>(
     requires second { a2 < 2 ^ 24 }
     requires count { n ≤ 256 }
     requires address { updated.address < 2 ^ 24 }
-    ensures { MvcEffect n a1 a2 updated (machine cpu.old (S.storage store.old)) result (machine cpu.new (S.storage store.new)) }
+    ensures { let before = machine cpu.old (S.storage store.old) in let after = machine cpu.new (S.storage store.new) in
+        MvcEffect n a1 a2 updated before result after }
 {
     if begins_outside(n, a1, a2) {
         return copy(cpu, store, n, a1, a2, updated);
@@ -372,7 +385,8 @@ pub(crate) fn xc<S: Store>(
     requires second { a2 < 2 ^ 24 }
     requires count { n ≤ 256 }
     requires address { updated.address < 2 ^ 24 }
-    ensures { XcEffect n a1 a2 updated (machine cpu.old (S.storage store.old)) result (machine cpu.new (S.storage store.new)) }
+    ensures { let before = machine cpu.old (S.storage store.old) in let after = machine cpu.new (S.storage store.new) in
+        XcEffect n a1 a2 updated before result after }
 {
     if begins_outside(n, a1, a2) {
         return join(cpu, store, n, a1, a2, updated);

@@ -4,7 +4,7 @@ ghost use Rattle.std.specs.Prelude.{◌≡◌, ◌≢◌, ℕ, ◌<◌, ◌≤�
 ghost use Rattle.cx_storage.specs.Storage.{Storage};
 ghost use Rattle.cx_exec.specs.Machine.{machine};
 ghost use Rattle.cx_exec.specs.Sequence.{stored_by};
-ghost use Rattle.cx_exec.specs.Translation.{table_byte, HasTable, translated, first_found, TrEffect, with_address, found_at, TrtEffect};
+ghost use Rattle.cx_exec.specs.Translation.{table_byte, HasTable, translated_byte, first_found, TrEffect, with_address, found_at, TrtEffect};
 
 use crate::loads::inserted;
 use crate::machine::{Cpu, Interruption, Updated};
@@ -44,7 +44,7 @@ fn translate_bytes<S: Store>(store: &S, n: u32, a1: u32, a2: u32, new: &mut [u8;
     requires first { a1 < 2 ^ 24 }
     requires second { a2 < 2 ^ 24 }
     requires count { n ≤ 256 }
-    ensures { take n new.new ≡ stored_by (translated (S.storage store.now) a1 a2) n }
+    ensures { take n new.new ≡ stored_by (translated_byte (S.storage store.now) a1 a2) n }
 {
     for k in 0..n {
         let argument = content(store, along(a1, k));
@@ -66,14 +66,15 @@ fn look_up(argument: &[u8], table: &[u8], new: &mut [u8; 256])
     }
 }
 
-/// Puts the bytes that TR stores at the front of the buffer, where argument and table are each lent in one piece and apart.
-/// False elsewhere.
+/// Puts the bytes that TR stores at the front of the buffer, where argument and table are each lent in one piece and
+/// apart. False elsewhere.
 #[tactic(auto, using(cx_storage::specs::Facts::Spans::span_length))]
 fn translate_lent<S: Store>(store: &S, n: u32, a1: u32, a2: u32, new: &mut [u8; 256]) -> bool
     requires first { a1 < 2 ^ 24 }
     requires second { a2 < 2 ^ 24 }
     requires count { n ≤ 256 }
-    ensures { result ≡ true → HasTable (S.storage store.now) n a1 a2 × (take n new.new ≡ stored_by (translated (S.storage store.now) a1 a2) n) }
+    ensures { let s = S.storage store.now in
+        result ≡ true → HasTable s n a1 a2 × (take n new.new ≡ stored_by (translated_byte s a1 a2) n) }
 {
     let Some(argument) = store.slice(a1, n as usize) else {
         return false;
@@ -88,14 +89,15 @@ fn translate_lent<S: Store>(store: &S, n: u32, a1: u32, a2: u32, new: &mut [u8; 
     true
 }
 
-/// Puts the bytes that TR stores at the front of the buffer. False where an argument byte, or the table's byte for it, is absent.
+/// Puts the bytes that TR stores at the front of the buffer. False where an argument byte, or the table's byte for it,
+/// is absent.
 #[tactic(auto, unfolding(crate::specs::Translation::HasTable))]
 fn translate<S: Store>(store: &S, n: u32, a1: u32, a2: u32, new: &mut [u8; 256]) -> bool
     requires first { a1 < 2 ^ 24 }
     requires second { a2 < 2 ^ 24 }
     requires count { n ≤ 256 }
-    ensures there { MatchBool result (HasTable (S.storage store.now) n a1 a2) (HasTable (S.storage store.now) n a1 a2 → ⊥) }
-    ensures bytes { result ≡ true → take n new.new ≡ stored_by (translated (S.storage store.now) a1 a2) n }
+    ensures there { let has = HasTable (S.storage store.now) n a1 a2 in MatchBool result has (has → ⊥) }
+    ensures bytes { result ≡ true → take n new.new ≡ stored_by (translated_byte (S.storage store.now) a1 a2) n }
 {
     if translate_lent(store, n, a1, a2, new) {
         return true;
@@ -122,7 +124,8 @@ pub(crate) fn tr<S: Store>(
     requires second { a2 < 2 ^ 24 }
     requires count { n ≤ 256 }
     requires address { updated.address < 2 ^ 24 }
-    ensures { TrEffect n a1 a2 updated (machine cpu.old (S.storage store.old)) result (machine cpu.new (S.storage store.new)) }
+    ensures { let before = machine cpu.old (S.storage store.old) in let after = machine cpu.new (S.storage store.new) in
+        TrEffect n a1 a2 updated before result after }
 {
     let mut new = [0; 256];
     if !translate(store, n, a1, a2, &mut new) {
@@ -150,8 +153,8 @@ fn first_in(argument: &[u8], table: &[u8]) -> Option<u32>
     None
 }
 
-/// The first of `n` places whose byte of the table is not there with the value zero, where argument and table are each lent
-/// in one piece.
+/// The first of `n` places whose byte of the table is not there with the value zero, where argument and table are each
+/// lent in one piece.
 #[tactic(auto, using(cx_storage::specs::Facts::Spans::span_length))]
 fn first_lent<S: Store>(store: &S, n: u32, a1: u32, a2: u32) -> Option<Option<u32>>
     requires first { a1 < 2 ^ 24 }
@@ -222,7 +225,8 @@ pub(crate) fn trt<S: Store>(
     requires second { a2 < 2 ^ 24 }
     requires count { n ≤ 256 }
     requires address { updated.address < 2 ^ 24 }
-    ensures { TrtEffect n a1 a2 updated (machine cpu.old (S.storage store.now)) result (machine cpu.new (S.storage store.now)) }
+    ensures { let before = machine cpu.old (S.storage store.now) in let after = machine cpu.new (S.storage store.now) in
+        TrtEffect n a1 a2 updated before result after }
 {
     if !is_present(store, a1, n) {
         return Err(Interruption::Addressing);

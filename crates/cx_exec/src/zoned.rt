@@ -1,11 +1,11 @@
 //! PACK and UNPK: two operands with lengths of their own, from right to left.
 
 ghost use Rattle.std.specs.Prelude.{◌≡◌, ◌⊎◌, ◌+◌, ◌-◌, ◌<◌, ◌≤◌, ◌^◌, true, false, is_some, length, take, drop, reverse};
-ghost use Rattle.cx_storage.specs.Address.{along};
+ghost use Rattle.cx_storage.specs.Address.{address_after};
 ghost use Rattle.cx_storage.specs.Storage.{span};
 ghost use Rattle.cx_exec.specs.Machine.{machine};
 ghost use Rattle.cx_exec.specs.Sequence.{stored_by};
-ghost use Rattle.cx_exec.specs.Zoned.{behind, source, swapped, packed, unpacked, unpacked_half, PackEffect, UnpkEffect};
+ghost use Rattle.cx_exec.specs.Zoned.{address_before, source, swap_halves, packed_byte, unpacked_byte, unpacked_half, PackEffect, UnpkEffect};
 
 use crate::digits::{align, pack_aligned, unpack_aligned};
 use crate::machine::{Cpu, Interruption, Updated};
@@ -17,7 +17,7 @@ use cx_storage::{Store, along};
 fn behind(a: u32, k: u32) -> u32
     requires address { a < 2 ^ 24 }
     requires count { k ≤ 256 }
-    ensures value { result ≡ behind a k }
+    ensures value { result ≡ address_before a k }
     ensures short { result < 2 ^ 24 }
 {
     along(a, 0x100_0000 - k)
@@ -42,18 +42,18 @@ fn source<S: Store>(store: &S, e1: u32, n2: u32, e2: u32, stored: &[u8], i: u32)
 
 /// The halves of a byte exchanged.
 pub(crate) fn swapped(byte: u8) -> u8
-    ensures { result ≡ swapped byte }
+    ensures { result ≡ swap_halves byte }
 {
     byte % 16 * 16 + byte / 16
 }
 
 /// The `k`-th byte (`k` is at most 16) from the right that PACK makes.
-#[tactic(auto, unfolding(crate::specs::Zoned::packed))]
+#[tactic(auto, unfolding(crate::specs::Zoned::packed_byte))]
 fn packed<S: Store>(store: &S, e1: u32, n2: u32, e2: u32, stored: &[u8], k: u32) -> u8
     requires first { e1 < 2 ^ 24 }
     requires second { e2 < 2 ^ 24 }
     requires place { k ≤ 16 }
-    ensures { result ≡ packed (S.storage store.now) e1 n2 e2 stored.now k }
+    ensures { result ≡ packed_byte (S.storage store.now) e1 n2 e2 stored.now k }
 {
     if k == 0 {
         return swapped(source(store, e1, n2, e2, stored, 0));
@@ -69,7 +69,7 @@ fn pack_bytes<S: Store>(store: &S, n1: u32, e1: u32, n2: u32, e2: u32, new: &mut
     requires first { e1 < 2 ^ 24 }
     requires second { e2 < 2 ^ 24 }
     requires count { n1 ≤ 16 }
-    ensures { take n1 new.new ≡ stored_by (packed (S.storage store.now) e1 n2 e2) n1 }
+    ensures { take n1 new.new ≡ stored_by (packed_byte (S.storage store.now) e1 n2 e2) n1 }
 {
     for k in 0..n1 {
         let byte = packed(store, e1, n2, e2, &new[..k as usize], k);
@@ -91,13 +91,13 @@ fn unpacked_half(k: u32, byte: u8) -> u8
 }
 
 /// The `k`-th byte (`k` is at most 16) from the right that UNPK makes; all before it are stored.
-#[tactic(auto, unfolding(crate::specs::Zoned::unpacked))]
+#[tactic(auto, unfolding(crate::specs::Zoned::unpacked_byte))]
 fn unpacked<S: Store>(store: &S, e1: u32, n2: u32, e2: u32, stored: &[u8], k: u32) -> u8
     requires first { e1 < 2 ^ 24 }
     requires second { e2 < 2 ^ 24 }
     requires place { k ≤ 16 }
     requires stored { length stored.now ≡ k }
-    ensures { result ≡ unpacked (S.storage store.now) e1 n2 e2 stored.now k }
+    ensures { result ≡ unpacked_byte (S.storage store.now) e1 n2 e2 stored.now k }
 {
     let fetched_at = if k % 2 == 0 { k.saturating_sub(1) } else { k };
     let byte = source(
@@ -117,7 +117,7 @@ fn unpack_bytes<S: Store>(store: &S, n1: u32, e1: u32, n2: u32, e2: u32, new: &m
     requires first { e1 < 2 ^ 24 }
     requires second { e2 < 2 ^ 24 }
     requires count { n1 ≤ 16 }
-    ensures { take n1 new.new ≡ stored_by (unpacked (S.storage store.now) e1 n2 e2) n1 }
+    ensures { take n1 new.new ≡ stored_by (unpacked_byte (S.storage store.now) e1 n2 e2) n1 }
 {
     for k in 0..n1 {
         let byte = unpacked(store, e1, n2, e2, &new[..k as usize], k);
@@ -125,7 +125,8 @@ fn unpack_bytes<S: Store>(store: &S, n1: u32, e1: u32, n2: u32, e2: u32, new: &m
     }
 }
 
-/// Whether a result of `n1` bytes at `a1` and a source of `n2` bytes at `a2` lie apart, the result not across address 0.
+/// Whether a result of `n1` bytes at `a1` and a source of `n2` bytes at `a2` lie apart, the result not across address
+/// 0.
 #[inline(always)]
 fn lie_apart(n1: u32, n2: u32, a1: u32, a2: u32) -> bool
     requires count1 { n1 ≤ 16 }
@@ -137,7 +138,8 @@ fn lie_apart(n1: u32, n2: u32, a1: u32, a2: u32) -> bool
     a1 + n1 <= 0x100_0000 && (a1 + n1 <= a2 || a2 + n2 <= a1)
 }
 
-/// Puts the bytes that PACK stores at the end of a buffer, where its source is lent in one piece and lies apart. False elsewhere.
+/// Puts the bytes that PACK stores at the end of a buffer, where its source is lent in one piece and lies apart. False
+/// elsewhere.
 #[tactic(auto, using(cx_storage::specs::Facts::Spans::span_length))]
 #[inline(always)]
 fn pack_lent<S: Store>(store: &S, n1: u32, n2: u32, a1: u32, a2: u32, new: &mut [u8; 16]) -> bool
@@ -148,7 +150,9 @@ fn pack_lent<S: Store>(store: &S, n1: u32, n2: u32, a1: u32, a2: u32, new: &mut 
     requires some1 { 0 < n1 }
     requires some2 { 0 < n2 }
     ensures there { result ≡ true → is_some (span (S.storage store.now) a2 n2) ≡ true }
-    ensures bytes { result ≡ true → drop (16 - n1) new.new ≡ reverse (stored_by (packed (S.storage store.now) (along a1 (n1 - 1)) n2 (along a2 (n2 - 1))) n1) }
+    ensures bytes { let rule = packed_byte (S.storage store.now) (address_after a1 (n1 - 1)) n2
+        (address_after a2 (n2 - 1)) in
+        result ≡ true → drop (16 - n1) new.new ≡ reverse (stored_by rule n1) }
 {
     let Some(source) = store.slice(a2, n2 as usize) else {
         return false;
@@ -162,7 +166,8 @@ fn pack_lent<S: Store>(store: &S, n1: u32, n2: u32, a1: u32, a2: u32, new: &mut 
     true
 }
 
-/// Puts the bytes that UNPK stores at the end of a buffer, where its source is lent in one piece and lies apart. False elsewhere.
+/// Puts the bytes that UNPK stores at the end of a buffer, where its source is lent in one piece and lies apart. False
+/// elsewhere.
 #[tactic(auto, using(cx_storage::specs::Facts::Spans::span_length))]
 #[inline(always)]
 fn unpack_lent<S: Store>(store: &S, n1: u32, n2: u32, a1: u32, a2: u32, new: &mut [u8; 16]) -> bool
@@ -173,7 +178,9 @@ fn unpack_lent<S: Store>(store: &S, n1: u32, n2: u32, a1: u32, a2: u32, new: &mu
     requires some1 { 0 < n1 }
     requires some2 { 0 < n2 }
     ensures there { result ≡ true → is_some (span (S.storage store.now) a2 n2) ≡ true }
-    ensures bytes { result ≡ true → drop (16 - n1) new.new ≡ reverse (stored_by (unpacked (S.storage store.now) (along a1 (n1 - 1)) n2 (along a2 (n2 - 1))) n1) }
+    ensures bytes { let rule = unpacked_byte (S.storage store.now) (address_after a1 (n1 - 1)) n2
+        (address_after a2 (n2 - 1)) in
+        result ≡ true → drop (16 - n1) new.new ≡ reverse (stored_by rule n1) }
 {
     let Some(source) = store.slice(a2, n2 as usize) else {
         return false;
@@ -187,7 +194,8 @@ fn unpack_lent<S: Store>(store: &S, n1: u32, n2: u32, a1: u32, a2: u32, new: &mu
     true
 }
 
-/// Puts the bytes that PACK stores at the end of a buffer, one after the other. False where a byte of its source is absent.
+/// Puts the bytes that PACK stores at the end of a buffer, one after the other. False where a byte of its source is
+/// absent.
 #[tactic(auto, using(crate::proofs::ZonedLemmas::reversed_end))]
 #[inline(never)]
 fn pack_each<S: Store>(store: &S, n1: u32, n2: u32, a1: u32, a2: u32, new: &mut [u8; 16]) -> bool
@@ -198,7 +206,9 @@ fn pack_each<S: Store>(store: &S, n1: u32, n2: u32, a1: u32, a2: u32, new: &mut 
     requires some1 { 0 < n1 }
     requires some2 { 0 < n2 }
     ensures there { result ≡ is_some (span (S.storage store.now) a2 n2) }
-    ensures bytes { result ≡ true → drop (16 - n1) new.new ≡ reverse (stored_by (packed (S.storage store.now) (along a1 (n1 - 1)) n2 (along a2 (n2 - 1))) n1) }
+    ensures bytes { let rule = packed_byte (S.storage store.now) (address_after a1 (n1 - 1)) n2
+        (address_after a2 (n2 - 1)) in
+        result ≡ true → drop (16 - n1) new.new ≡ reverse (stored_by rule n1) }
 {
     if !store.has_span(a2, n2 as usize) {
         return false;
@@ -208,7 +218,8 @@ fn pack_each<S: Store>(store: &S, n1: u32, n2: u32, a1: u32, a2: u32, new: &mut 
     true
 }
 
-/// Puts the bytes that UNPK stores at the end of a buffer, one after the other. False where a byte of its source is absent.
+/// Puts the bytes that UNPK stores at the end of a buffer, one after the other. False where a byte of its source is
+/// absent.
 #[tactic(auto, using(crate::proofs::ZonedLemmas::reversed_end))]
 #[inline(never)]
 fn unpack_each<S: Store>(store: &S, n1: u32, n2: u32, a1: u32, a2: u32, new: &mut [u8; 16]) -> bool
@@ -219,7 +230,9 @@ fn unpack_each<S: Store>(store: &S, n1: u32, n2: u32, a1: u32, a2: u32, new: &mu
     requires some1 { 0 < n1 }
     requires some2 { 0 < n2 }
     ensures there { result ≡ is_some (span (S.storage store.now) a2 n2) }
-    ensures bytes { result ≡ true → drop (16 - n1) new.new ≡ reverse (stored_by (unpacked (S.storage store.now) (along a1 (n1 - 1)) n2 (along a2 (n2 - 1))) n1) }
+    ensures bytes { let rule = unpacked_byte (S.storage store.now) (address_after a1 (n1 - 1)) n2
+        (address_after a2 (n2 - 1)) in
+        result ≡ true → drop (16 - n1) new.new ≡ reverse (stored_by rule n1) }
 {
     if !store.has_span(a2, n2 as usize) {
         return false;
@@ -247,7 +260,8 @@ pub(crate) fn pack<S: Store>(
     requires some1 { 0 < n1 }
     requires some2 { 0 < n2 }
     requires address { updated.address < 2 ^ 24 }
-    ensures { PackEffect n1 n2 a1 a2 updated (machine cpu.old (S.storage store.old)) result (machine cpu.new (S.storage store.new)) }
+    ensures { let before = machine cpu.old (S.storage store.old) in let after = machine cpu.new (S.storage store.new) in
+        PackEffect n1 n2 a1 a2 updated before result after }
 {
     let mut new = [0; 16];
     if !pack_lent(store, n1, n2, a1, a2, &mut new) && !pack_each(store, n1, n2, a1, a2, &mut new) {
@@ -274,7 +288,8 @@ pub(crate) fn unpk<S: Store>(
     requires some1 { 0 < n1 }
     requires some2 { 0 < n2 }
     requires address { updated.address < 2 ^ 24 }
-    ensures { UnpkEffect n1 n2 a1 a2 updated (machine cpu.old (S.storage store.old)) result (machine cpu.new (S.storage store.new)) }
+    ensures { let before = machine cpu.old (S.storage store.old) in let after = machine cpu.new (S.storage store.new) in
+        UnpkEffect n1 n2 a1 a2 updated before result after }
 {
     let mut new = [0; 16];
     if !unpack_lent(store, n1, n2, a1, a2, &mut new)

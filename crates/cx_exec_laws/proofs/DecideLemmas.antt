@@ -5,23 +5,23 @@ use Rattle.cx_exec.specs.declared.machine.Step.{Step}
 use Rattle.cx_exec.specs.declared.machine.Step.TheVariants.{Done, AtEntry, Interrupt}
 use Rattle.cx_exec.specs.declared.machine.Halt.{Halt}
 use Rattle.cx_exec.specs.declared.machine.Halt.TheVariants as halt
-use Rattle.cx_exec.specs.declared.stepping.Due.{Due}
+use Rattle.cx_exec.specs.declared.stepping.PendingInstruction.{PendingInstruction}
 use Rattle.cx_exec.specs.Machine.{Machine}
-use Rattle.cx_exec.specs.Outcome.{Outcome, Suppressed}
+use Rattle.cx_exec.specs.Outcome.{Outcome, IsSuppressed}
 use Rattle.cx_exec.specs.Rows.{Effect}
-use Rattle.cx_exec.specs.Step.{performed, Runs, Steps, entry}
+use Rattle.cx_exec.specs.Step.{instruction_to_perform, Runs, Steps, entry}
 use Rattle.cx_exec.specs.Advance.{Passes, Advances}
 use Rattle.cx_exec_laws.specs.Facts.Rows.{effect}
 use Rattle.cx_exec.specs.Laws.Numbers.{DivisionIsOne}
 
-abbrev Ends : Machine → Result Due Interruption → Outcome → Machine → Type 0
-Ends m r outcome after = MatchResult r (λ d. Effect d.inst d.updated m outcome after) (λ cause. Suppressed cause m outcome after)
+abbrev Ends : Machine → Result PendingInstruction Interruption → Outcome → Machine → Type 0
+Ends m r outcome after = MatchResult r (λ d. Effect d.inst d.updated m outcome after) (λ cause. IsSuppressed cause m outcome after)
 
 runs_decides : DivisionIsOne → (m : Machine) (o p : Outcome) (a b : Machine) → Runs m o a → Runs m p b → (o ≡ p) × (a ≡ b)
 unfolding Runs
-runs_decides one m o p a b h k = go (performed m) h k
+runs_decides one m o p a b h k = go (instruction_to_perform m) h k
   where
-    go : (r : Result Due Interruption) → Ends m r o a → Ends m r p b → (o ≡ p) × (a ≡ b)
+    go : (r : Result PendingInstruction Interruption) → Ends m r o a → Ends m r p b → (o ≡ p) × (a ≡ b)
     go (Ok d) h k = (effect d.inst d.updated m).decides one o p a b h k
     go (Err cause) h k = (h.0 ∙ sym k.0, h.1 ∙ sym k.1)
 

@@ -5,11 +5,11 @@ use Rattle.cx_exec.specs.declared.machine.Interruption.{Interruption}
 use Rattle.cx_exec.specs.declared.machine.Interruption.TheVariants as interruption
 use Rattle.cx_exec.specs.declared.machine.Step.TheVariants.{Interrupt}
 use Rattle.cx_exec.specs.declared.machine.Updated.{Updated}
-use Rattle.cx_exec.specs.declared.stepping.Due.{Due}
+use Rattle.cx_exec.specs.declared.stepping.PendingInstruction.{PendingInstruction}
 use Rattle.cx_exec.specs.Machine.{Machine}
-use Rattle.cx_exec.specs.Outcome.{Suppressed}
+use Rattle.cx_exec.specs.Outcome.{IsSuppressed}
 use Rattle.cx_exec.specs.Rows.{Effect}
-use Rattle.cx_exec.specs.Step.{is_execute, performed, Runs, Steps}
+use Rattle.cx_exec.specs.Step.{is_execute, instruction_to_perform, Runs, Steps}
 use Rattle.cx_exec_laws.specs.Laws.Interruptions.{IsConversion}
 use Rattle.cx_exec_laws.specs.Facts.Rows.{IsConvertedBy, effect}
 
@@ -20,9 +20,9 @@ every_row_is_there i updated m after formed other h = (effect i updated m).known
 
 pub interruptions_leave : (m : Machine) (cause : Interruption) (after : Machine) → Steps m (Interrupt cause) after → (after ≡ m) ⊎ IsConversion m cause after
 unfolding Steps Runs
-interruptions_leave m cause after h = go (performed m) refl h.1
+interruptions_leave m cause after h = go (instruction_to_perform m) refl h.1
   where
-    go : (r : Result Due Interruption) → performed m ≡ r → MatchResult r (λ d. Effect d.inst d.updated m (Err cause) after) (λ c. Suppressed c m (Err cause) after)
+    go : (r : Result PendingInstruction Interruption) → instruction_to_perform m ≡ r → MatchResult r (λ d. Effect d.inst d.updated m (Err cause) after) (λ c. IsSuppressed c m (Err cause) after)
         → (after ≡ m) ⊎ IsConversion m cause after
     go (Err c) e h = inl h.1
     go (Ok d) e h = by_cases ((effect d.inst d.updated m).left cause after h)

@@ -11,10 +11,10 @@ use Rattle.std.proofs.lemmas.List.{get_or-set_same, get_or-set_other, length-set
 use Rattle.std.proofs.lemmas.List.FromFn.{get_or-map-range_with_len}
 use Rattle.std.specs.List.{range_with_len}
 use Rattle.cx_storage.specs.Storage.{Storage}
-use Rattle.cx_storage.specs.Address.{along}
+use Rattle.cx_storage.specs.Address.{address_after}
 use Rattle.cx_storage.specs.Word.{word_at}
 use Rattle.byteorder.specs.Endian.{big_bytes}
-use Rattle.cx_exec.specs.Numbers.{signed, word_of, signed_double, double_of, fits_word}
+use Rattle.cx_exec.specs.Numbers.{signed_word, word_of, signed_double, double_of, fits_word}
 use Rattle.cx_exec.specs.Results.{pair, with_pair}
 use Rattle.cx_exec.specs.Shifts.{floor_shifted, times_power, shifted_arithmetic}
 use Rattle.cx_exec.specs.Registers.{place_after, register_count, words_at, loaded_register, loaded_registers, register_bytes}
@@ -27,7 +27,7 @@ fits x e = elim (cases_Bool (int_lt x (neg_ℤ (pos (2 ^ 31))))) [
       omega (arith, ints)
 ]
 
-pub result_is_exact : (x : ℤ) → fits_word x ≡ true → signed (word_of x) ≡ x
+pub result_is_exact : (x : ℤ) → fits_word x ≡ true → signed_word (word_of x) ≡ x
 unfolding int_wrap
 result_is_exact x e = int_wrap_fits w32 x (fits x e)
 
@@ -45,14 +45,14 @@ pair_kept regs r double h =
     get_or-set_other inner (r + 1) r (double % 2 ^ 32) 0 apart ∙ get_or-set_same regs r (double / 2 ^ 32) 0 (omega arith) in
     rw (high, low) (omega arith)
 
-word_bound : (word : ℕ) → word < 2 ^ 32 → unsigned_abs (signed word) ≤ 2 ^ 31
+word_bound : (word : ℕ) → word < 2 ^ 32 → unsigned_abs (signed_word word) ≤ 2 ^ 31
 word_bound word h = omega (arith, ints)
 
 pub product_is_exact : (regs : List ℕ) (r first second : ℕ) → r + 1 < length regs → first < 2 ^ 32 → second < 2 ^ 32
-    → signed_double (pair (with_pair regs r (double_of (signed first *ℤ signed second))) r) ≡ signed first *ℤ signed second
+    → signed_double (pair (with_pair regs r (double_of (signed_word first *ℤ signed_word second))) r) ≡ signed_word first *ℤ signed_word second
 product_is_exact regs r first second h k j =
-    ap signed_double (pair_kept regs r (double_of (signed first *ℤ signed second)) h)
-    ∙ double_is_exact _ (fits_signed_mul w64 (signed first) (signed second) (2 ^ 31) (2 ^ 31) (word_bound first k) (word_bound second j) (omega arith))
+    ap signed_double (pair_kept regs r (double_of (signed_word first *ℤ signed_word second)) h)
+    ∙ double_is_exact _ (fits_signed_mul w64 (signed_word first) (signed_word second) (2 ^ 31) (2 ^ 31) (word_bound first k) (word_bound second j) (omega arith))
 
 -- the floor of a quotient
 floor_not_above : (x : ℤ) (m : ℕ) → 0 < m → (shr_z x m *ℤ pos m) ≤ℤ x
@@ -73,18 +73,18 @@ pub shifted_is_floor : (x : ℤ) (n : ℕ) → ((floor_shifted x n *ℤ pos (2 ^
 shifted_is_floor x n = (floor_not_above x (2 ^ n) (pow_pos n), λ k e. floor_greatest x k (2 ^ n) (pow_pos n) e)
 
 -- a word shifted left, where its exact number fits
-kept_positive : (word a : ℕ) → word < 2 ^ 31 → a < 2 ^ 31 → signed ((word / 2 ^ 31) * 2 ^ 31 + a % 2 ^ 31) ≡ pos a
+kept_positive : (word a : ℕ) → word < 2 ^ 31 → a < 2 ^ 31 → signed_word ((word / 2 ^ 31) * 2 ^ 31 + a % 2 ^ 31) ≡ pos a
 kept_positive word a h k = omega (arith, ints)
 
 kept_negative : (word c : ℕ) → 2 ^ 31 ≤ word → word < 2 ^ 32 → c < 2 ^ 31
-    → signed ((word / 2 ^ 31) * 2 ^ 31 + (2 ^ 31 - 1 - c % 2 ^ 31)) ≡ negsuc c
+    → signed_word ((word / 2 ^ 31) * 2 ^ 31 + (2 ^ 31 - 1 - c % 2 ^ 31)) ≡ negsuc c
 kept_negative word c h k j =
     let bits : (word / 2 ^ 31) * 2 ^ 31 + (2 ^ 31 - 1 - c % 2 ^ 31) ≡ 2 ^ 32 - suc c = omega arith in
     let small : FitsSigned w32 (negsuc c) = omega (arith, ints) in
-    ap signed bits ∙ to_z-of_z w32 (negsuc c) small
+    ap signed_word bits ∙ to_z-of_z w32 (negsuc c) small
 
 kept : (word : ℕ) (x : ℤ) → word < 2 ^ 32 → FitsSigned w32 x → (x <ℤ pos 0 → 2 ^ 31 ≤ word) → (pos 0 ≤ℤ x → word < 2 ^ 31)
-    → signed ((word / 2 ^ 31) * 2 ^ 31 + unsigned_abs (int_rem_euclid x (pos (2 ^ 31)))) ≡ x
+    → signed_word ((word / 2 ^ 31) * 2 ^ 31 + unsigned_abs (int_rem_euclid x (pos (2 ^ 31)))) ≡ x
 kept word (pos a) h e low high = kept_positive word a (high (omega (arith, ints))) (omega (arith, ints))
 kept word (negsuc c) h e low high = kept_negative word c (low (omega (arith, ints))) h (omega (arith, ints))
 
@@ -97,17 +97,17 @@ times_positive : (v : ℤ) (m : ℕ) → 0 < m → pos 0 ≤ℤ (v *ℤ pos m) �
 times_positive (pos a) m h e = omega (arith, ints)
 times_positive (negsuc a) m h e = let more : suc a * m ≡ a * m + m = omega arith in absurd (omega (arith, ints))
 
-word_negative : (word : ℕ) → word < 2 ^ 32 → signed word <ℤ pos 0 → 2 ^ 31 ≤ word
+word_negative : (word : ℕ) → word < 2 ^ 32 → signed_word word <ℤ pos 0 → 2 ^ 31 ≤ word
 word_negative word h e = let back = of_z-to_z w32 word h in omega (arith, ints)
 
-word_positive : (word : ℕ) → word < 2 ^ 32 → pos 0 ≤ℤ signed word → word < 2 ^ 31
+word_positive : (word : ℕ) → word < 2 ^ 32 → pos 0 ≤ℤ signed_word word → word < 2 ^ 31
 word_positive word h e = let back = of_z-to_z w32 word h in omega (arith, ints)
 
-pub shifted_is_exact : (word n : ℕ) → word < 2 ^ 32 → fits_word (times_power word n) ≡ true → signed (shifted_arithmetic word n) ≡ times_power word n
+pub shifted_is_exact : (word n : ℕ) → word < 2 ^ 32 → fits_word (times_power word n) ≡ true → signed_word (shifted_arithmetic word n) ≡ times_power word n
 shifted_is_exact word n h e =
     kept word (times_power word n) h (fits (times_power word n) e)
-    (λ low. word_negative word h (times_negative (signed word) (2 ^ n) (pow_pos n) low))
-    (λ high. word_positive word h (times_positive (signed word) (2 ^ n) (pow_pos n) high))
+    (λ low. word_negative word h (times_negative (signed_word word) (2 ^ n) (pow_pos n) low))
+    (λ high. word_positive word h (times_positive (signed_word word) (2 ^ n) (pow_pos n) high))
 
 -- the words that are stored
 bytes_length : (regs : List ℕ) (first n : ℕ) → length (register_bytes regs first n) ≡ 4 * n
@@ -137,16 +137,16 @@ stored_words regs first (suc n) k h =
     ]
 
 words_each : (s : Storage) (a n : ℕ) (words : List ℕ) → words_at s a n ≡ Some words
-    → (length words ≡ n) × ((k : ℕ) → k < n → word_at s (along a (4 * k)) ≡ Some (slice_index words k))
+    → (length words ≡ n) × ((k : ℕ) → k < n → word_at s (address_after a (4 * k)) ≡ Some (slice_index words k))
 unfolding words_at
 words_each s a zero words e = let none : [] ≡ words = cc in (ap length (sym none), λ k h. absurd (omega (arith, h)))
-words_each s a (suc n) words e = go (words_at s a n) (λ front f. words_each s a n front f) (word_at s (along a (4 * n))) refl e
+words_each s a (suc n) words e = go (words_at s a n) (λ front f. words_each s a n front f) (word_at s (address_after a (4 * n))) refl e
   where
     go : (o : Option (List ℕ))
-        → ((front : List ℕ) → o ≡ Some front → (length front ≡ n) × ((k : ℕ) → k < n → word_at s (along a (4 * k)) ≡ Some (slice_index front k)))
-        → (p : Option ℕ) → word_at s (along a (4 * n)) ≡ p
+        → ((front : List ℕ) → o ≡ Some front → (length front ≡ n) × ((k : ℕ) → k < n → word_at s (address_after a (4 * k)) ≡ Some (slice_index front k)))
+        → (p : Option ℕ) → word_at s (address_after a (4 * n)) ≡ p
         → option_and_then (λ words. option_map (λ word. words ++ word ∷ []) p) o ≡ Some words
-        → (length words ≡ suc n) × ((k : ℕ) → k < suc n → word_at s (along a (4 * k)) ≡ Some (slice_index words k))
+        → (length words ≡ suc n) × ((k : ℕ) → k < suc n → word_at s (address_after a (4 * k)) ≡ Some (slice_index words k))
     go None each p f h = cc
     go (Some front) each None f h = cc
     go (Some front) each (Some word) f h =
@@ -169,7 +169,7 @@ place_back first k h j = omega arith
 
 pub loaded_words : (s : Storage) (a : ℕ) (regs words : List ℕ) (first last k : ℕ) → first < 16 → k < register_count first last
     → words_at s a (register_count first last) ≡ Some words
-    → word_at s (along a (4 * k)) ≡ Some (slice_index (loaded_registers regs first last words) ((first + k) % 16))
+    → word_at s (address_after a (4 * k)) ≡ Some (slice_index (loaded_registers regs first last words) ((first + k) % 16))
 unfolding loaded_registers
 loaded_words s a regs words first last k h j e =
     let small : k < 16 = omega arith in

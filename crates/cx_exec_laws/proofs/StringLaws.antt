@@ -3,12 +3,12 @@ use Rattle.std.proofs.Common.{◌≡◌, ◌≢◌, ℕ, zero, suc, ◌+◌, ◌
 use Rattle.std.proofs.lemmas.Bool.{le-ltb}
 use Rattle.std.proofs.Math.Nat.{div-div-eq-div-mul}
 use Rattle.std.proofs.lemmas.Nat.{pow-add}
-use Rattle.cx_storage.specs.Storage.{span, written}
-use Rattle.cx_storage.specs.Address.{along, distance}
+use Rattle.cx_storage.specs.Storage.{span, after_write}
+use Rattle.cx_storage.specs.Address.{address_after, distance}
 use Rattle.cx_storage.specs.Facts.Spans.{span_length}
 use Rattle.cx_storage.specs.Facts.Writes.{span_after_write}
 use Rattle.cx_exec.specs.Sequence.{stored_by}
-use Rattle.cx_exec.specs.Strings.{moved}
+use Rattle.cx_exec.specs.Strings.{moved_byte}
 use Rattle.cx_exec.specs.Laws.Strings.{OutsideIsMoved}
 use Rattle.cx_exec_laws.specs.Laws.Strings.{ApartIsCopied}
 use Rattle.cx_exec.specs.Decimal.{half, IsDecimal, first_digits, decimal_number, IsReadAs, digit, digit_pair, decimal_bytes}
@@ -78,7 +78,7 @@ decimal_reads_back (pos n) small = let plus = le-ltb n 0 (omega arith) in rw plu
 decimal_reads_back (negsuc n) small = (valid (suc n) 0xD (lit≤ tt) (lit< tt), read_as_minus (suc n) small)
 
 -- MVC of a second operand that has no byte of the first: no byte of it is the first one's
-outside : (a1 a2 n : ℕ) → ((k : ℕ) → k < n → n ≤ distance a1 (along a2 k)) → a2 < 2 ^ 24 → (j : ℕ) → 0 < j → j < n → a1 ≢ along a2 j
+outside : (a1 a2 n : ℕ) → ((k : ℕ) → k < n → n ≤ distance a1 (address_after a2 k)) → a2 < 2 ^ 24 → (j : ℕ) → 0 < j → j < n → a1 ≢ address_after a2 j
 outside a1 a2 n apart low j some h same =
     let far : n ≤ distance a1 a1 = rw (← same) at (apart j h) in
     let none : distance a1 a1 ≡ 0 = omega arith in
@@ -87,11 +87,11 @@ outside a1 a2 n apart low j some h same =
 pub apart_is_copied : OutsideIsMoved → ApartIsCopied
 apart_is_copied stays s a1 a2 n low1 low2 fits first second apart = go (span s a2 n) refl second
   where
-    go : (o : Option (List ℕ)) → span s a2 n ≡ o → is_some o ≡ true → span (written s a1 (stored_by (moved s a1 a2) n)) a1 n ≡ o
+    go : (o : Option (List ℕ)) → span s a2 n ≡ o → is_some o ≡ true → span (after_write s a1 (stored_by (moved_byte s a1 a2) n)) a1 n ≡ o
     go None e h = cc
     go (Some bytes) e h =
         let long = span_length s a2 n bytes e in
         let there : is_some (span s a1 (length bytes)) ≡ true = rw long first in
-        let after : span (written s a1 bytes) a1 n ≡ Some bytes = rw long at (span_after_write s a1 bytes low1 (omega (arith, long)) there) in
-        let copied : stored_by (moved s a1 a2) n ≡ bytes = stays s a1 a2 n bytes low1 low2 fits (outside a1 a2 n apart low2) e in
+        let after : span (after_write s a1 bytes) a1 n ≡ Some bytes = rw long at (span_after_write s a1 bytes low1 (omega (arith, long)) there) in
+        let copied : stored_by (moved_byte s a1 a2) n ≡ bytes = stays s a1 a2 n bytes low1 low2 fits (outside a1 a2 n apart low2) e in
         rw copied after

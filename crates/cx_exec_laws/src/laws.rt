@@ -31,13 +31,13 @@ pub fn runs_keep_areas()
     ensures { RunsKeepAreas }
 {}
 
-/// Every well-formed instruction but EX has a row: its effect is never the interruption operation.
+/// Every well-formed instruction except EX has a row: its effect is never the interruption operation.
 #[tactic(auto, using(crate::proofs::InterruptLemmas::every_row_is_there))]
 pub fn every_row_is_there()
     ensures { EveryRowIsThere }
 {}
 
-/// An interruption leaves registers, code, next address and storage as before, but for the register R1 of a CVB that
+/// An interruption leaves registers, code, next address and storage as before, except the register R1 of a CVB that
 /// is interrupted by 9.
 #[tactic(auto, using(crate::proofs::InterruptLemmas::interruptions_leave, crate::proofs::InterruptLemmas::interruptions_keep))]
 pub fn interruptions_leave()

@@ -7,14 +7,14 @@ use Rattle.std.proofs.lemmas.Bool.{cases_Bool, true≢false}
 use Rattle.std.proofs.lemmas.Option.{none-some, same_Some}
 use Rattle.cx_code.specs.declared.image.Image.{Image}
 use Rattle.cx_ebcdic.specs.Facts.Names.{is_name-decides, is_name-laws}
-use Rattle.cx_tables.specs.Facts.Lookups.{lookup-insert_entry-other, lookup-insert_entry-same, lookup-set_value-other, lookup-set_value-same}
+use Rattle.cx_base_lists.specs.Facts.Lookups.{lookup-insert_entry-other, lookup-insert_entry-same, lookup-set_value-other, lookup-set_value-same}
 use Rattle.cx_load.specs.declared.program.Loaded.{Loaded}
-use Rattle.cx_state.specs.declared.replies.TurnReply.{TurnReply}
-use Rattle.cx_state.specs.declared.replies.TurnReply.TheVariants as turn
-use Rattle.cx_state.specs.declared.verdict.NewLevel.{NewLevel}
-use Rattle.cx_state.specs.Replies.{is_over}
-use Rattle.cx_state.specs.State.{Input, Reach, TaskState}
-use Rattle.cx_task_laws.specs.Laws.Levels.{DueIsKept, Keeps}
+use Rattle.cx_region_state.specs.declared.replies.TurnReply.{TurnReply}
+use Rattle.cx_region_state.specs.declared.replies.TurnReply.TheVariants as turn
+use Rattle.cx_region_state.specs.declared.verdict.NewLevel.{NewLevel}
+use Rattle.cx_region_state.specs.Replies.{is_over}
+use Rattle.cx_region_state.specs.State.{Input, TaskContext, TaskState}
+use Rattle.cx_region_task_laws.specs.Laws.Levels.{DueIsKept, Keeps}
 use Rattle.cx_region.specs.declared.changes.AlterReply.{AlterReply}
 use Rattle.cx_region.specs.declared.changes.AlterReply.TheVariants as alter
 use Rattle.cx_region.specs.declared.changes.Change.{Change}
@@ -28,10 +28,10 @@ use Rattle.cx_ebcdic.specs.Names.{is_name}
 use Rattle.cx_region.specs.State.{RegionState, TerminalState, terminal_with}
 use Rattle.cx_region.specs.Tables.{fresh_terminal, program_of, terminal_of, transaction_of, with_terminal}
 use Rattle.cx_region.specs.Defining.{DefinesProgram, DefinesTerminal, DefinesTransaction, Loads, fresh_region, program_fault, terminal_fault, transaction_fault}
-use Rattle.cx_region.specs.Attach.{Attaches, Gives, Keyed, OnlyAnswers, Starts, commarea_kept, first_level, fresh_task, input_from, next_number, transaction_named, with_task}
-use Rattle.cx_region.specs.Turn.{TaskTurned, Turned, reach_of, task_after}
-use Rattle.cx_region.specs.Alter.{Alters, alter_refusal, altered, altered_at, altered_region, ends_task, task_left}
-use Rattle.cx_region.specs.Events.{Happens, Run}
+use Rattle.cx_region.specs.Attach.{Attaches, Gives, TakesKey, OnlyAnswers, Starts, commarea_kept, first_level, fresh_task, input_from, next_number, transaction_named, with_task}
+use Rattle.cx_region.specs.Turn.{TaskTakesTurn, TakesTurn, context_of, task_after}
+use Rattle.cx_region.specs.Alter.{Alters, alter_refusal, after_change, altered_at, altered_region, ends_task, task_left}
+use Rattle.cx_region.specs.Events.{Applies, Run}
 use Rattle.cx_region_laws.specs.Laws.Alterations.{AlterationsKeepLevels}
 use Rattle.cx_region_laws.specs.Laws.Regions.{OthersAsBefore}
 use Rattle.cx_script.specs.Laws.Events.{ScriptsRunTheirEvents}
@@ -142,8 +142,8 @@ attach_kept old new name t input tran program loaded key.Attached kept there h =
 attach_kept old new name t input tran program loaded key.NoStorage kept there h = subst KeepsWhatIsDue (sym h.1) kept
 attach_kept old new name t input tran program loaded _ kept there h = absurd h
 
-key_kept : (old new : RegionState) (name : List ℕ) (input : Input) (reply : KeyReply) → KeepsWhatIsDue old → Keyed old name input reply new → KeepsWhatIsDue new
-unfolding Keyed
+key_kept : (old new : RegionState) (name : List ℕ) (input : Input) (reply : KeyReply) → KeepsWhatIsDue old → TakesKey old name input reply new → KeepsWhatIsDue new
+unfolding TakesKey
 key_kept old new name input reply kept h = at_terminal (terminal_of old name) refl h
   where
     only : (due : KeyReply) → OnlyAnswers due old reply new → KeepsWhatIsDue new
@@ -177,27 +177,27 @@ key_kept old new name input reply kept h = at_terminal (terminal_of old name) re
     at_terminal (Some t) there h = at_task t there t.task h
 
 -- ---- turns
-turn_kept : DueIsKept → (old new : RegionState) (name : List ℕ) (reply : TurnReply) → KeepsWhatIsDue old → Turned old name reply new → KeepsWhatIsDue new
-unfolding Turned
+turn_kept : DueIsKept → (old new : RegionState) (name : List ℕ) (reply : TurnReply) → KeepsWhatIsDue old → TakesTurn old name reply new → KeepsWhatIsDue new
+unfolding TakesTurn
 turn_kept law old new name reply kept h = at_terminal (terminal_of old name) refl h
   where
-    turned : (t : TerminalState) (task : TaskState) → terminal_of old name ≡ Some t → t.task ≡ Some task → TaskTurned old name t task reply new → KeepsWhatIsDue new
+    turned : (t : TerminalState) (task : TaskState) → terminal_of old name ≡ Some t → t.task ≡ Some task → TaskTakesTurn old name t task reply new → KeepsWhatIsDue new
     turned t task there live h =
-        let own = task_left_keeps (is_over reply) h.reached.task (law (reach_of old t task) h.reached reply (own_kept old name t kept there task live) h.half_turn) in
-        set_kept old new name t (terminal_with h.reached.station (task_after reply h.reached.task)) there (ap (λ (r : RegionState). r.terminals) h.after) own kept
+        let own = task_left_keeps (is_over reply) h.reached.task (law (context_of old t task) h.reached reply (own_kept old name t kept there task live) h.half_turn) in
+        set_kept old new name t (terminal_with h.reached.terminal_entry (task_after reply h.reached.task)) there (ap (λ (r : RegionState). r.terminals) h.after) own kept
 
     at_task : (t : TerminalState) → terminal_of old name ≡ Some t → (o : Option TaskState) → t.task ≡ o
-        → MatchOption o ((reply ≡ turn.Idle) × (new ≡ old)) (λ task. TaskTurned old name t task reply new) → KeepsWhatIsDue new
+        → MatchOption o ((reply ≡ turn.Idle) × (new ≡ old)) (λ task. TaskTakesTurn old name t task reply new) → KeepsWhatIsDue new
     at_task t there None live h = subst KeepsWhatIsDue (sym h.1) kept
     at_task t there (Some task) live h = turned t task there live h
 
     at_terminal : (o : Option TerminalState) → terminal_of old name ≡ o
-        → MatchOption o ((reply ≡ turn.NoSuchTerminal) × (new ≡ old)) (λ t. MatchOption t.task ((reply ≡ turn.Idle) × (new ≡ old)) (λ task. TaskTurned old name t task reply new)) → KeepsWhatIsDue new
+        → MatchOption o ((reply ≡ turn.NoSuchTerminal) × (new ≡ old)) (λ t. MatchOption t.task ((reply ≡ turn.Idle) × (new ≡ old)) (λ task. TaskTakesTurn old name t task reply new)) → KeepsWhatIsDue new
     at_terminal None there h = subst KeepsWhatIsDue (sym h.1) kept
     at_terminal (Some t) there h = at_task t there t.task refl h
 
 -- ---- alterations
-change_keeps : AlterationsKeepLevels → (change : Change) (before : Reach) → KeepsDue before.task → KeepsDue (altered change before).task
+change_keeps : AlterationsKeepLevels → (change : Change) (before : TaskContext) → KeepsDue before.task → KeepsDue (after_change change before).task
 change_keeps law change before keeps due =
     let both = (law change before).kept (λ was. ((keeps was).regs, (keeps was).cc)) due in record { regs = both.0; cc = both.1 }
 
@@ -208,9 +208,9 @@ alter_kept law old new name change reply kept h = by_refusal (alter_refusal old 
   where
     changed : (t : TerminalState) (task : TaskState) → terminal_of old name ≡ Some t → t.task ≡ Some task → KeepsWhatIsDue (altered_at old name change t task)
     changed t task there live =
-        let after = altered change (reach_of old t task) in
-        let own = task_left_keeps (ends_task change) after.task (λ on. change_keeps law change (reach_of old t task) (own_kept old name t kept there task live)) in
-        set_kept old (altered_at old name change t task) name t (terminal_with after.station (task_left change after.task)) there refl own kept
+        let after = after_change change (context_of old t task) in
+        let own = task_left_keeps (ends_task change) after.task (λ on. change_keeps law change (context_of old t task) (own_kept old name t kept there task live)) in
+        set_kept old (altered_at old name change t task) name t (terminal_with after.terminal_entry (task_left change after.task)) there refl own kept
 
     by_task : (t : TerminalState) → terminal_of old name ≡ Some t → (o : Option TaskState) → t.task ≡ o → KeepsWhatIsDue (option_map_or (altered_at old name change t) o old)
     by_task t there None live = kept
@@ -229,7 +229,7 @@ fresh_region_keeps : KeepsWhatIsDue fresh_region
 fresh_region_keeps name = no_task
 
 pub events_keep : DueIsKept → AlterationsKeepLevels → EventsKeepWhatIsDue
-unfolding Happens
+unfolding Applies
 events_keep turns changes old (event.Program name image) (reply.Program result) new kept h = program_kept old new name image result kept h
 events_keep turns changes old (event.Program name image) _ new kept h = absurd h
 events_keep turns changes old (event.Transaction tran program) (reply.Transaction result) new kept h = transaction_kept old new tran program result kept h

@@ -5,24 +5,25 @@ use Rattle.std.specs.List.{AllByRecursion, filter, list_all, list_any}
 use Rattle.std.specs.Str.{bytes_eq}
 use Rattle.std.proofs.lemmas.Bool.{and_parts}
 use Rattle.std.proofs.lemmas.Slice.Eq.{bytes_eq-Decides}
-use Rattle.cx_command.specs.declared.commands.Command.{Command}
-use Rattle.cx_command.specs.declared.options.CommandOption.{CommandOption}
-use Rattle.cx_command.specs.declared.options.Mark.{Mark}
-use Rattle.cx_command.specs.Arguments.{arguments_in, is_argument, takes_argument}
-use Rattle.cx_command.specs.Commands.{row_of}
-use Rattle.cx_command.specs.Facts.Commands.{each_command}
-use Rattle.cx_command.specs.Legal.{has_bit, lists_conditions}
-use Rattle.cx_command.specs.Options.{option_name}
-use Rattle.cx_translate.specs.declared.due.Due.{Due}
-use Rattle.cx_translate.specs.declared.due.Due.TheVariants.{Nothing, Name, Value, Label}
+use Rattle.cx_base_commands.specs.declared.commands.Command.{Command}
+use Rattle.cx_base_commands.specs.declared.options.CommandOption.{CommandOption}
+use Rattle.cx_base_commands.specs.declared.options.ArgumentKind.{ArgumentKind}
+use Rattle.cx_base_commands.specs.Arguments.{arguments_in, is_argument, takes_argument}
+use Rattle.cx_base_commands.specs.Commands.{row_of}
+use Rattle.cx_base_commands.specs.Facts.Commands.{each_command}
+use Rattle.cx_base_commands.specs.Legal.{has_bit, lists_conditions}
+use Rattle.cx_base_commands.specs.Options.{option_name}
+use Rattle.cx_translate.specs.declared.due.DueStatement.{DueStatement}
+use Rattle.cx_translate.specs.declared.due.DueStatement.TheVariants.{Nothing, Name, Value, Label}
 use Rattle.cx_translate.specs.declared.faults.TransFault.{TransFault}
 use Rattle.cx_translate.specs.declared.faults.TransFault.TheVariants.{BadArgument, UnknownOption}
 use Rattle.cx_translate.specs.declared.words.Argument.{Argument}
 use Rattle.cx_translate.specs.declared.words.Argument.TheVariants.{Absent, Given, Bad}
 use Rattle.cx_translate.specs.declared.words.Word.{Word}
-use Rattle.cx_translate.specs.Call.{argument_of, operand_by, operands_of, text_in}
+use Rattle.cx_translate.specs.Facts.Found.{is_wrong, operand_by, with_option}
+use Rattle.cx_translate.specs.Call.{argument_of, operands_of, text_in}
 use Rattle.cx_translate.specs.Due.{common_due, condition_due, due_of, option_called, suits}
-use Rattle.cx_translate.specs.Refusals.{conditions_in, fault_in, first_byte, has_argument, has_unknown, has_wrong, is_given, is_wrong, with_option}
+use Rattle.cx_translate.specs.Refusals.{conditions_in, fault_in, first_byte, has_argument, has_unknown, has_wrong, is_given}
 
 -- ---- the bits of an option byte
 abbrev agree : Bool → Bool → Bool
@@ -34,7 +35,7 @@ agree_is true false e = absurd (cc)
 agree_is false true e = absurd (cc)
 agree_is false false e = refl
 
--- the byte with the bits of these options, whichever of them are given, tells which are given of all that were seen
+-- the byte with the bits of these options, whichever of them are given, says which are given of all that were seen
 abbrev tells : List CommandOption → ℕ → List (CommandOption × Bool) → Bool
 tells [] byte seen = list_all (λ (p : CommandOption × Bool). agree (has_bit byte (p.0).bit) p.1) seen
 tells (o ∷ rest) byte seen = tells rest (bit_or byte o.bit) ((o, true) ∷ seen) && tells rest byte ((o, false) ∷ seen)
@@ -69,7 +70,7 @@ told words (o ∷ rest) byte seen h =
 
 -- ---- an option's argument
 -- what is due with an option agrees with its mark
-abbrev fits : Option Due → Mark → Bool
+abbrev fits : Option DueStatement → ArgumentKind → Bool
 fits (Some Nothing) mark = not (takes_argument mark)
 fits (Some (Name n)) mark = takes_argument mark
 fits (Some Value) mark = takes_argument mark
@@ -83,7 +84,7 @@ not_true : (b : Bool) → not b ≡ true → false ≡ b
 not_true true e = absurd (cc)
 not_true false e = refl
 
-suited : (d : Due) (a : Argument) (m : Mark) → fits (Some d) m ≡ true → not (suits d a) ≡ false → is_some (text_in a) ≡ takes_argument m
+suited : (d : DueStatement) (a : Argument) (m : ArgumentKind) → fits (Some d) m ≡ true → not (suits d a) ≡ false → is_some (text_in a) ≡ takes_argument m
 unfolding suits
 suited Nothing Absent m f s = not_true (takes_argument m) f
 suited Nothing (Given text) m f s = absurd (cc)
@@ -96,12 +97,12 @@ suited Value (Given text) m f s = sym f
 suited Value Bad m f s = absurd (cc)
 suited Label a m f s = absurd (cc)
 
-right_by : (d : Option Due) (a : Argument) (m : Mark) → fits d m ≡ true → is_wrong d a ≡ false → is_some (text_in a) ≡ takes_argument m
+right_by : (d : Option DueStatement) (a : Argument) (m : ArgumentKind) → fits d m ≡ true → is_wrong d a ≡ false → is_some (text_in a) ≡ takes_argument m
 right_by None a m f w = absurd (cc)
 right_by (Some d) a m f w = suited d a m f w
 
 -- a name has an argument where it is given, and one is due
-argued : (c : Command) (words : List Word) (name : List ℕ) (m : Mark) → fits (due_of c name) m ≡ true → has_wrong c words ≡ false
+argued : (c : Command) (words : List Word) (name : List ℕ) (m : ArgumentKind) → fits (due_of c name) m ≡ true → has_wrong c words ≡ false
     → is_some (argument_of words name) ≡ (is_given words name && takes_argument m)
 unfolding has_wrong is_given
 argued c [] name m f w = refl

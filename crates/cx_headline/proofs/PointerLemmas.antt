@@ -1,28 +1,29 @@
--- A pointer comes back, from the EXEC statement to the load behind it.
+-- A pointer comes back, from the EXEC statement to the load after it.
 use Rattle.std.proofs.Common.{◌≡◌, ◌≢◌, ℕ, ◌+◌, ◌<◌, None, Bool, true, false, cond, nat_eq, List, [], ◌∷◌, ◌++◌, length, Some, Ok, refl, sym, subst, ◌∙◌, ap, arith}
 use Rattle.std.specs.Prelude.{Result, codes, drop, option_map, slice_get, take, slice_index, slice_set}
 use Rattle.std.proofs.lemmas.Bool.{true≢false}
 use Rattle.std.proofs.lemmas.Option.{slice_get-map}
-use Rattle.cx_command.specs.declared.commands.Command.{Command}
-use Rattle.cx_command.specs.declared.conditions.Condition.{Condition}
-use Rattle.cx_command.specs.declared.options.CommandOption.{CommandOption}
-use Rattle.cx_command.specs.Arguments.{argument_index, arguments_in}
-use Rattle.cx_command.specs.Commands.{row_of}
-use Rattle.cx_storage.specs.Address.{address_in, along}
+use Rattle.cx_base_commands.specs.declared.commands.Command.{Command}
+use Rattle.cx_base_commands.specs.declared.conditions.Condition.{Condition}
+use Rattle.cx_base_commands.specs.declared.options.CommandOption.{CommandOption}
+use Rattle.cx_base_commands.specs.Arguments.{argument_index, arguments_in}
+use Rattle.cx_base_commands.specs.Commands.{row_of}
+use Rattle.cx_storage.specs.Address.{address_in, address_after}
 use Rattle.cx_storage.specs.Storage.{Storage}
 use Rattle.cx_storage.specs.Word.{word_at}
 use Rattle.cx_load.specs.Fault.{IsFit}
 use Rattle.cx_load.specs.Program.{IsLoaded}
 use Rattle.cx_load.specs.declared.program.Loaded.{Loaded}
-use Rattle.cx_exec.specs.Machine.{Machine, given}
+use Rattle.cx_exec.specs.Machine.{Machine, address_part}
 use Rattle.cx_exec.specs.Step.{Steps}
 use Rattle.cx_exec.specs.declared.machine.Step.TheVariants.{Done}
-use Rattle.cx_call.specs.declared.call.CallFault.{CallFault}
-use Rattle.cx_call.specs.declared.outputs.Output.{Output}
-use Rattle.cx_call.specs.declared.outputs.Source.TheVariants.{Word}
-use Rattle.cx_call.specs.Call.{Call, place_of}
-use Rattle.cx_arrival.specs.Arrives.{Arrives, made_length}
-use Rattle.cx_arrival.specs.Made.{Argument, Statement, argument_address, call_made}
+use Rattle.cx_region_call.specs.declared.call.CallFault.{CallFault}
+use Rattle.cx_region_call.specs.declared.outputs.Output.{Output}
+use Rattle.cx_region_call.specs.declared.outputs.OutputValue.TheVariants.{Word}
+use Rattle.cx_region_call.specs.Call.{Call, place_of}
+use Rattle.cx_asm_arrival.specs.Arrives.{Arrives}
+use Rattle.cx_asm_arrival.specs.Stands.{code_length}
+use Rattle.cx_asm_arrival.specs.Made.{Argument, Statement, argument_address, call_made, instructions_made}
 use Rattle.cx_source.specs.declared.source.Item.{Item}
 use Rattle.cx_source.specs.declared.source.Source.{Source}
 use Rattle.cx_source.specs.declared.source.Stmt.{Stmt}
@@ -31,17 +32,17 @@ use Rattle.std.specs.Option.{option_map_or}
 use Rattle.cx_translate.specs.declared.faults.TransFault.TheVariants.{UnknownCommand}
 use Rattle.cx_translate.specs.Refusals.{fault_in, fault_of, first_byte}
 use Rattle.cx_translate.specs.Words.{words_of}
-use Rattle.cx_operands.specs.Bases.{Bases}
-use Rattle.cx_operands.specs.Forms.{operands_of}
+use Rattle.cx_asm_operands.specs.Bases.{Bases}
+use Rattle.cx_asm_operands.specs.Forms.{operands_of}
 use Rattle.cx_asm.specs.Assembly.{AssemblyParts}
-use Rattle.cx_command_arrival.specs.Arguments.{HoldsBase, Sections}
-use Rattle.cx_command_arrival.specs.Arriving.{CommandArrives, ComesBack, IsAtLoad, IsPointer}
-use Rattle.cx_command_arrival.specs.Standing.{IsMade, Site, bases_of, site_of}
-use Rattle.cx_rows.specs.Common.{output as output_of}
-use Rattle.cx_state.specs.State.{Reach}
-use Rattle.cx_state.specs.Verdicts.{handed_over}
-use Rattle.cx_task.specs.Turn.{machine_of}
-use Rattle.cx_task_laws.specs.Laws.Pointers.{HasPutOut, OutputsStay, ProgramsGoOn, is_written_again}
+use Rattle.cx_asm_execution.specs.Arguments.{HoldsBase, Sections}
+use Rattle.cx_asm_execution.specs.Arriving.{AreKept, CommandArrives, ComesBack, IsPointer}
+use Rattle.cx_asm_execution.specs.Standing.{IsMade, Site, bases_of, site_of}
+use Rattle.cx_region_commands.specs.Common.{output as output_of}
+use Rattle.cx_region_state.specs.State.{TaskContext}
+use Rattle.cx_region_state.specs.Verdicts.{handed_over}
+use Rattle.cx_region_task.specs.Turn.{machine_of}
+use Rattle.cx_region_task_laws.specs.Laws.Pointers.{HasPutOut, OutputsStay, ProgramsGoOn, is_written_again}
 use Rattle.cx_headline.specs.Laws.Pointers.{GetsPointer, IsPerformed, PointersAreGiven}
 use Rattle.cx_headline.proofs.OptionLemmas.{option_is_read}
 
@@ -77,13 +78,13 @@ unfolding place_of call_made
 place_is found regs s c first k option a is byte at given = rw (is, byte, found c first k option at) (slice_get-map (argument_address regs) s.arguments k ∙ ap (option_map (argument_address regs)) given)
 
 -- ---- the address in register 14
-behind_call : (at c n : ℕ) → along (along at c) n ≡ along at (c + n)
+behind_call : (at c n : ℕ) → address_after (address_after at c) n ≡ address_after at (c + n)
 behind_call at c n = omega arith
 
 -- ---- the base register
 holds_still : (sections : Sections) (bases : Bases) (base : ℕ) (s : Statement) (m now : Machine) (regs : List ℕ) → Arrives m s now → regs ≡ now.regs → base ≢ 1 → base ≢ 14 → base ≢ 15
     → HoldsBase sections m.regs bases base → HoldsBase sections regs bases base
-holds_still sections bases base s m now regs arrives is one link entry holds b e = ap address_in (ap (λ (l : List ℕ). given l base) is ∙ same (nat_eq base 0) refl) ∙ holds b e
+holds_still sections bases base s m now regs arrives is one link entry holds b e = ap address_in (ap (λ (l : List ℕ). address_part l base) is ∙ same (nat_eq base 0) refl) ∙ holds b e
   where
     same : (z : Bool) → nat_eq base 0 ≡ z → cond z 0 (slice_index now.regs base) ≡ cond z 0 (slice_index m.regs base)
     same true e = refl
@@ -99,39 +100,36 @@ module _ (laws : Laws) (translated : Source) (assembly : AssemblyParts) (item : 
   s = arrives.call.statement
 
   abbrev at : ℕ
-  at = arrives.call.at + made_length s
+  at = arrives.call.at + code_length (instructions_made s)
 
   abbrev back : ComesBack site assembly.section.image arrives.call.at s options register
   back = arrives.call.returns options register pointer cut
 
-  module _ (storage loaded : Storage) (program : Loaded) (sections : Sections) (m : Machine) (before : Reach) (condition : Condition) (after : Reach)
+  module _ (storage loaded : Storage) (program : Loaded) (sections : Sections) (m : Machine) (before : TaskContext) (condition : Condition) (after : TaskContext)
       (fit : IsFit assembly.section.image) (stored : IsLoaded storage assembly.section.image program loaded)
-      (performed : IsPerformed loaded (along program.at arrives.call.at) (along program.at at) sections (bases_of site) back.argument.base s m before condition after) where
+      (performed : IsPerformed loaded (address_after program.at arrives.call.at) (address_after program.at at) sections (bases_of site) back.argument.base s m before condition after) where
     abbrev put : HasPutOut condition before after
     put = laws.stay before after condition performed.storage performed.task performed.half_turn
 
-    next_is : after.task.next ≡ along program.at at
+    next_is : after.task.next ≡ address_after program.at at
     next_is =
-        (laws.go_on before after condition performed.half_turn).next ∙ performed.arrives.link ∙ ap (λ n. along n (made_length s)) performed.next
-        ∙ behind_call program.at arrives.call.at (made_length s)
+        (laws.go_on before after condition performed.half_turn).next ∙ performed.arrives.link ∙ ap (λ n. address_after n (code_length (instructions_made s))) performed.next
+        ∙ behind_call program.at arrives.call.at (code_length (instructions_made s))
 
     call_is : put.call ≡ call_made m.regs s
     call_is = (let same : ◌≡◌ {A = Result Call CallFault} (Ok put.call) (Ok (call_made m.regs s)) = sym put.reads ∙ performed.arrives.call in cc)
 
-    at_load : IsAtLoad loaded (along program.at at) sections (bases_of site) back.argument.base (machine_of after)
-    at_load =
-        record {
-          machine = performed.machine;
-          next = next_is;
-          load = performed.kept;
-          holds =
-              holds_still sections (bases_of site) back.argument.base s m (machine_of before) after.task.regs performed.arrives (laws.go_on before after condition performed.half_turn).regs
-              performed.stays.0 performed.stays.1 performed.stays.2 performed.holds;
-        }
+    load_kept : AreKept loaded (machine_of after).storage (machine_of after).next 4
+    load_kept = subst (λ n. AreKept loaded (machine_of after).storage n 4) (sym next_is) performed.kept
+
+    held : HoldsBase sections (machine_of after).regs (bases_of site) back.argument.base
+    held =
+        holds_still sections (bases_of site) back.argument.base s m (machine_of before) after.task.regs performed.arrives (laws.go_on before after condition performed.half_turn).regs
+        performed.stays.0 performed.stays.1 performed.stays.2 performed.holds
 
     loads_it : (front behind : List Output) (given : ℕ) → put.outputs ≡ front ++ output_of pointer.option.name (Word given) ∷ behind
-        → ((k : ℕ) → k < 4 → is_written_again (along (argument_address m.regs back.argument) k) before.task.eib put.call (handed_over put.change before) behind ≡ false)
-        → Steps (machine_of after) Done (record (machine_of after) { regs = slice_set after.task.regs back.number given; next = along (along program.at at) 4 })
+        → ((k : ℕ) → k < 4 → is_written_again (address_after (argument_address m.regs back.argument) k) before.task.eib put.call (handed_over put.change before) behind ≡ false)
+        → Steps (machine_of after) Done (record (machine_of after) { regs = slice_set after.task.regs back.number given; next = address_after (address_after program.at at) 4 })
     loads_it front behind given split apart =
         let place = argument_address m.regs back.argument in
         let read = option_read item exec translated.items arrives.made options register pointer in
@@ -140,10 +138,10 @@ module _ (laws : Laws) (translated : Source) (assembly : AssemblyParts) (item : 
         ∙ place_is laws.found m.regs s site.command (first_byte site.command site.words) (length (arguments_handed options site.words)) pointer.option back.argument
         arrives.call.is.command arrives.call.is.first read back.handed in
         let word : word_at after.shared.storage place ≡ Some given = put.pointers front behind pointer.option.name place given split there apart in
-        subst (λ n. Steps (machine_of after) Done (record (machine_of after) { regs = slice_set after.task.regs back.number given; next = along n 4 })) next_is
-        (back.gets storage loaded program sections m.regs (machine_of after) given fit stored performed.holds at_load word)
+        subst (λ n. Steps (machine_of after) Done (record (machine_of after) { regs = slice_set after.task.regs back.number given; next = address_after n 4 })) next_is
+        (back.gets storage loaded program sections m.regs (machine_of after) given fit stored performed.holds performed.machine next_is load_kept held word)
 
-    pub gets_pointer : GetsPointer (along program.at at) (argument_address m.regs back.argument) back.number pointer.option.name s m before condition after
+    pub gets_pointer : GetsPointer (address_after program.at at) (argument_address m.regs back.argument) back.number pointer.option.name s m before condition after
     gets_pointer = record { next = next_is; put = put; call = call_is; gets = loads_it }
 
 pub pointers_are_given : Laws → PointersAreGiven

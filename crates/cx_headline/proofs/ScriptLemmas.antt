@@ -5,22 +5,22 @@ use Rattle.std.specs.Io.KnownBytes.{Appends}
 use Rattle.cx_edf.specs.declared.answers.Answer.{Answer}
 use Rattle.cx_edf.specs.declared.answers.EdfEvent.{EdfEvent}
 use Rattle.cx_edf.specs.State.{EdfState}
-use Rattle.cx_actions.specs.Effects.{Performs, fresh_state}
-use Rattle.cx_actions.specs.Language.{Language, edf_language}
-use Rattle.cx_blocks.specs.declared.faults.RunFault.{RunFault}
-use Rattle.cx_blocks.specs.declared.faults.RunFault.TheVariants.{BadLine, Source, Read, Write, Memory, ReadBound}
-use Rattle.cx_blocks.specs.declared.faults.Summary.{Summary}
-use Rattle.cx_lines.specs.Lines.{lines_met}
-use Rattle.cx_lines.specs.declared.input.Ending.{Ending}
+use Rattle.cx_script_actions.specs.Effects.{Performs, fresh_state}
+use Rattle.cx_script_actions.specs.Language.{Language, edf_language}
+use Rattle.cx_script_blocks.specs.declared.faults.RunFault.{RunFault}
+use Rattle.cx_script_blocks.specs.declared.faults.RunFault.TheVariants.{BadLine, Source, Read, Write, Memory, ReadBound}
+use Rattle.cx_script_blocks.specs.declared.faults.Summary.{Summary}
+use Rattle.cx_script_io.specs.Lines.{lines_met}
+use Rattle.cx_script_io.specs.declared.input.Ending.{Ending}
 use Rattle.cx_script.specs.Facts.Fronts.{first_actions}
 use Rattle.cx_script.specs.Script.{Script, script_in}
 use Rattle.cx_script.specs.Transcript.{Ends, Runs, Wrote, front_of}
 use Rattle.cx_script.specs.Laws.Events.{ScriptsRunTheirEvents, events_of}
 use Rattle.cx_script.specs.Laws.Inputs.{was_stopped}
-use Rattle.cx_look_stage.specs.Laws.Looks.{LooksChangeNothing, plain_of, written_of}
-use Rattle.cx_look_stage.specs.Looking.{LookPerforms}
-use Rattle.cx_look_stage.specs.Reading.{look_language}
-use Rattle.cx_look_stage.specs.State.{fresh_looked}
+use Rattle.cx_look_script.specs.Laws.Looks.{LooksChangeNothing, plain_of, written_of}
+use Rattle.cx_look_script.specs.Looking.{LookPerforms}
+use Rattle.cx_look_script.specs.Reading.{look_language}
+use Rattle.cx_look_script.specs.State.{fresh_looked}
 use Rattle.cx_headline.specs.Laws.Looks.{ScriptsAreLookedOver}
 use Rattle.cx_headline.specs.Laws.Runs.{IsDoneOf, OfEachRun, OfEachScript, WasWritten}
 

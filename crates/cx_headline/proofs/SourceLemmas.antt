@@ -12,21 +12,21 @@ use Rattle.cx_asm.specs.Assembly.{AssemblyParts, assembly_of, section_of, standi
 use Rattle.cx_asm.specs.Facts.Accepted.{accepted}
 use Rattle.cx_asm.specs.declared.faults.AsmFault.{AsmFault}
 use Rattle.cx_asm_laws.specs.Laws.Back.{ComesBack}
-use Rattle.cx_prepare.specs.Prepared.{by_assembly, by_source, by_translation, prepared_of, where_wanted, written}
-use Rattle.cx_prepare.specs.declared.program.Prepared.{Prepared}
+use Rattle.cx_asm_build.specs.Prepared.{by_assembly, by_source, by_translation, prepared_of, where_wanted, output_lines}
+use Rattle.cx_asm_build.specs.declared.program.Prepared.{Prepared}
 use Rattle.cx_headline.specs.Laws.Sources.{BlocksComeBack, IsWrittenBack}
 
 -- what is written of an assembly, and its image
 abbrev prepared_by : Bool → Bool → AssemblyParts → Prepared
-prepared_by listing disassembly made = record { text = written listing disassembly made; image = made.section.image }
+prepared_by listing disassembly made = record { text = output_lines listing disassembly made; image = made.section.image }
 
--- an accepted source's resolved lines are those that stand in its control section
+-- an accepted source's resolved lines are those in its control section
 resolved_is : (source : Source) (made : AssemblyParts) → assembly_of source ≡ Ok made → made.section.resolved ≡ (standing_of source).lines
 unfolding section_of
 resolved_is source made e = subst (λ (m : AssemblyParts). m.section.resolved ≡ (standing_of source).lines) (accepted source made e).made_is refl
 
 pub blocks_come_back : ComesBack → BlocksComeBack
-unfolding prepared_of written
+unfolding prepared_of output_lines
 blocks_come_back back listing disassembly block prepared e = by_read (source_in block) refl e
   where
     made_back : (source translated : Source) (made : AssemblyParts) → source_in block ≡ Ok source → translation_of source ≡ Ok translated

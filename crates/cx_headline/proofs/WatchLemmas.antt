@@ -21,12 +21,12 @@ use Rattle.cx_edf.specs.declared.answers.EdfEvent.{EdfEvent}
 use Rattle.cx_edf.specs.declared.answers.EdfEvent.TheVariants as edf_event
 use Rattle.cx_edf.specs.Sessions.{Sessions}
 use Rattle.cx_edf.specs.State.{EdfState, session_at}
-use Rattle.cx_edf.specs.Steps.{Door, EdfHappens, Keeps, door_of}
-use Rattle.cx_edf.specs.Erasure.{erased, is_own, is_refused, left_in, left_of, told}
+use Rattle.cx_edf.specs.Steps.{Door, EdfApplies, Keeps, door_of}
+use Rattle.cx_edf.specs.Erasure.{erasure, is_own, is_refused, left_in, left_of, region_replies}
 use Rattle.cx_edf.specs.Runs.{EdfRun, Trace, last_state}
 use Rattle.cx_edf.specs.Laws.Edf.{ErasedEvents, OffIsTheRegion, OtherEventsArePassed, OwnEventsHaveOwnAnswers, ends_task, is_alteration}
-use Rattle.cx_actions.specs.Effects.{ByFault, Performs}
-use Rattle.cx_actions.specs.declared.actions.Action.TheVariants as action
+use Rattle.cx_script_actions.specs.Effects.{ByFault, Performs}
+use Rattle.cx_script_actions.specs.declared.actions.Action.TheVariants as action
 use Rattle.cx_script.specs.Laws.Events.{program_event}
 use Rattle.cx_headline.specs.Laws.Runs.{OfEachRun, state_behind}
 use Rattle.cx_headline.specs.Laws.Watching.{AltersNothing, IsAsUnwatched, ShowingChangesNothing, answered_in, answered_of, left_behind, told_behind}
@@ -64,7 +64,7 @@ left_switched old name given = (
   left_neither (not (is_some (terminal_of old.region name))) (is_some (session_at old name)) _ _ _ _ _ _ given,
 )
 
-left_answered : OwnEventsHaveOwnAnswers → ErasedEvents → OtherEventsArePassed → (old : EdfState) (e : EdfEvent) (given : Answer) (new : EdfState) → EdfHappens old e given new → ends_task old e ≡ false
+left_answered : OwnEventsHaveOwnAnswers → ErasedEvents → OtherEventsArePassed → (old : EdfState) (e : EdfEvent) (given : Answer) (new : EdfState) → EdfApplies old e given new → ends_task old e ≡ false
     → (given ≡ answer.Region (reply.Alter alter.Altered) → ⊥) → left_of old e given ≡ answered_of e given
 left_answered answers erases law old (edf_event.On name) given new h ends never = (left_switched old name given).0
 left_answered answers erases law old (edf_event.Off name) given new h ends never = (left_switched old name given).1
@@ -84,7 +84,7 @@ left_of_front : OwnEventsHaveOwnAnswers → ErasedEvents → OtherEventsArePasse
     → AltersNothing old events answers states
     → (left_behind old events answers states n ≡ events_in (answered_in (take n events) (take n answers)))
     × (told_behind old events answers states n ≡ replies_in (answered_in (take n events) (take n answers)))
-unfolding Trace erased told answered_in last_state
+unfolding Trace erasure region_replies answered_in last_state
 left_of_front answers_own erases law old es gs ss zero trace still = (refl, refl)
 left_of_front answers_own erases law old [] [] [] (suc n) trace still = (refl, refl)
 left_of_front answers_own erases law old [] [] (s ∷ ss) (suc n) trace still = absurd trace

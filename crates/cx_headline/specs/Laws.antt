@@ -1,4 +1,4 @@
--- Of which runs the headline stands, and its clauses.
+-- Of which runs the headline holds, and its clauses.
 pub mod Runs
 pub mod Rows
 pub mod Sources

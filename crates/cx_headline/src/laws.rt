@@ -1,5 +1,5 @@
-//! The headline, a public function a clause. They stand of every list of events under EDF, and of every script that ran, by the
-//! very record that `run_script` ensures of it.
+//! The headline, one public function for each clause. They hold of every list of events under EDF, and of every script
+//! that ran, by the very record that `run_script` ensures of it.
 
 ghost use Rattle.cx_asm_laws.specs.Laws.Back.{ComesBack};
 ghost use Rattle.cx_headline.specs.Laws.Due.{AlwaysKeepsWhatIsDue, EventsKeepWhatIsDue, KeepsWhatIsDue, RunsKeepWhatIsDue, StillKeepsWhatIsDue};
@@ -10,23 +10,24 @@ ghost use Rattle.cx_headline.specs.Laws.Rows.{EachIsItsRow};
 ghost use Rattle.cx_headline.specs.Laws.Runs.{OfEachRun, OfEachScript};
 ghost use Rattle.cx_headline.specs.Laws.Sources.{BlocksComeBack};
 ghost use Rattle.cx_headline.specs.Laws.Watching.{IsAsUnwatched, ShowingChangesNothing};
-ghost use Rattle.cx_look_stage.specs.Laws.Looks.{LooksAreMarked, LooksAreToldOnce, LooksChangeNothing};
+ghost use Rattle.cx_look_script.specs.Laws.Looks.{LooksAreMarked, LooksAreToldOnce, LooksChangeNothing};
 ghost use Rattle.cx_region.specs.Defining.{fresh_region};
 
 /// Each event of a run changes the region exactly as its row says. A turn is one half-turn of the terminal's task: the
 /// instructions up to its next command, or that command. What the half-turn reached is put back, and all else is as before.
-/// EDF's own events leave the region, but a PF12 that ends a task, which is that alteration.
+/// EDF's own events leave the region, except a PF12 that ends a task, which is that alteration.
 pub fn every_half_turn_is_its_row()
     ensures runs { OfEachRun EachIsItsRow }
     ensures scripts { OfEachScript EachIsItsRow }
 {
-    cx_task::laws::half_turns_decide();
-    cx_edf::edf_laws::what_is_erased_changes_nothing();
+    cx_region_task::laws::half_turns_decide();
+    cx_edf::laws::what_is_erased_changes_nothing();
     cx_script::laws::a_script_runs_its_events();
 }
 
-/// Assembling an accepted source and disassembling its text by the places of its instructions gives what stands in its control
-/// section: its statements, resolved. In a script that is what DISASM writes of a block, read, translated and assembled.
+/// Assembling an accepted source and disassembling its text by the places of its instructions gives what is in its
+/// control section: its statements, resolved. In a script that is what DISASM writes of a block, read, translated and
+/// assembled.
 pub fn what_was_assembled_comes_back()
     ensures sources { ComesBack }
     ensures scripts { BlocksComeBack }
@@ -34,33 +35,34 @@ pub fn what_was_assembled_comes_back()
     cx_asm_laws::laws::what_was_assembled_comes_back();
 }
 
-/// Under EDF, begun, ended and shown anywhere, the region is behind each event that of a plain run of the events that are left
-/// without EDF. Where nothing was altered these are exactly the events that the region answered, but for refused alterations, in
-/// their order, each as it was given; and with EDF Off everywhere they are answered so, and lead to that region.
+/// Under EDF, begun, ended and shown anywhere, the region after each event is that of a plain run of the events that
+/// are left without EDF. Where nothing was altered these are exactly the events that the region answered, except
+/// refused alterations, in their order, each as it was given; and with EDF Off everywhere they are answered so, and
+/// lead to that region.
 pub fn watching_changes_nothing()
     ensures runs { OfEachRun IsAsUnwatched }
     ensures scripts { OfEachScript IsAsUnwatched }
     ensures shown { ShowingChangesNothing }
 {
     cx_region_laws::laws::runs_decide();
-    cx_edf::edf_laws::what_is_erased_changes_nothing();
-    cx_edf::edf_laws::off_is_the_region();
+    cx_edf::laws::what_is_erased_changes_nothing();
+    cx_edf::laws::off_is_the_region();
     cx_script::laws::a_script_runs_its_events();
 }
 
 /// A look changes nothing. In each run of a script with looks each action has a part: one of `cicsedf` stands for itself, RUN for
 /// the turns that it did, and a look for nothing. What they stand for, in order, is a run of `cicsedf` from the same state to the
-/// same state, and the text is that run's, with each look's where it stands. A look's text is a function of the state there, and
-/// is lines that begin with `> `, with no other LF than that at their ends.
+/// same state, and the text is that run's, with each look's at its place. A look's text is a function of the state
+/// there, and is lines that begin with `> `, with no other LF than that at their ends.
 pub fn looking_changes_nothing()
     ensures runs { LooksChangeNothing }
     ensures scripts { ScriptsAreLookedOver }
     ensures told { LooksAreToldOnce }
     ensures marked { LooksAreMarked }
 {
-    cx_look_stage::laws::looks_change_nothing();
-    cx_look_stage::laws::looks_are_told_once();
-    cx_look_stage::laws::looks_are_marked();
+    cx_look_script::laws::looks_change_nothing();
+    cx_look_script::laws::looks_are_told_once();
+    cx_look_script::laws::looks_are_marked();
     cx_script::laws::a_script_runs_its_events();
 }
 
@@ -75,7 +77,8 @@ pub fn entries_hold_their_bases()
 
 /// Wherever a command is due, the task's current level keeps the registers and the condition code that its program has at the
 /// command. So it is in a fresh region, and after each event of one in which it is so: definitions, the clock, keys, turns and
-/// alterations. So it is behind each event of a run under EDF that begins in such a region, and in every state of a script.
+/// alterations. So it is after each event of a run under EDF that begins in such a region, and in every state of a
+/// script.
 pub fn what_is_due_is_kept()
     ensures fresh { KeepsWhatIsDue fresh_region }
     ensures events { EventsKeepWhatIsDue }
@@ -83,7 +86,7 @@ pub fn what_is_due_is_kept()
     ensures watched { OfEachRun StillKeepsWhatIsDue }
     ensures scripts { OfEachScript AlwaysKeepsWhatIsDue }
 {
-    cx_task_laws::laws::half_turns_leave_callers();
+    cx_region_task_laws::laws::half_turns_leave_callers();
     cx_region_laws::laws::an_alteration_keeps_to_its_task();
     cx_script::laws::a_script_runs_its_events();
 }
@@ -92,11 +95,11 @@ pub fn what_is_due_is_kept()
 /// come to the command, and a half-turn has performed it, the program goes on at the pointer's load, and that load gives the
 /// register named in SET or CWA the very pointer that the command wrote, and leaves all else. So it is of each EXEC statement
 /// of an accepted translation that is loaded, if the register is an operand by itself; the load's four bytes are as loaded
-/// still; DFHEITP's base register held its base at the statement, and is none of 1, 14 and 15, which the call sets; and no
-/// output behind the pointer, the EIB or RESP's word has one of the pointer's four addresses.
+/// still; DFHEITP's base register held its base at the statement, and is none of 1, 14 and 15, which the call sets; and
+/// no output after the pointer, the EIB or RESP's word has one of the pointer's four addresses.
 pub fn a_pointer_comes_back()
     ensures { PointersAreGiven }
 {
-    cx_command::laws::arguments_are_found_by_name();
-    cx_task_laws::laws::a_pointer_stays();
+    cx_base_commands::laws::arguments_are_found_by_name();
+    cx_region_task_laws::laws::a_pointer_stays();
 }

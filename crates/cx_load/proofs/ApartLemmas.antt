@@ -1,4 +1,4 @@
--- Words that stand in a text, and words that share no byte.
+-- Words that lie in a text, and words that share no byte.
 use Rattle.std.proofs.Common.{◌≡◌, ℕ, zero, suc, ◌+◌, ◌<◌, ◌≤◌, ◌⊎◌, max, Bool, true, false, ◌&&◌, ◌||◌, IsTrue, List, [], ◌∷◌, length, refl, sym, ◌∙◌, ap, inl, inr, arith}
 use Rattle.std.specs.Prelude.{nat_le, nat_lt, slice_index}
 use Rattle.std.specs.List.{list_all}
@@ -26,7 +26,7 @@ pub either : (a b : Bool) → (a || b) ≡ true → (a ≡ true) ⊎ (b ≡ true
 either true b e = inl refl
 either false b e = inr e
 
--- each relocated word stands in the text
+-- each relocated word lies in the text
 pub inside_at : (size : ℕ) (relocs : List ℕ) (i : ℕ) → IsTrue (are_inside size relocs) → i < length relocs → slice_index relocs i + 4 ≤ size
 unfolding are_inside
 inside_at size [] i all h = absurd (omega arith)
@@ -46,7 +46,7 @@ inside_from size [] each = refl
 inside_from size (r ∷ relocs) each =
     and_from _ _ (le-leb (r + 4) size (each 0 (omega arith))) (inside_from size relocs (λ i h. each (suc i) (omega arith)))
 
--- a byte of a word that shares none with another is none of that other's
+-- a byte of a word that shares none with a second word is none of that word's
 pub not_of_other : (r q k : ℕ) → are_apart r q ≡ true → r ≤ k → k < r + 4 → is_of_word k q ≡ false
 unfolding are_apart
 not_of_other r q k apart low high = elim (either (nat_le (r + 4) q) (nat_le (q + 4) r) apart) [

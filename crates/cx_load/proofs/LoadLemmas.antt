@@ -3,8 +3,8 @@ use Rattle.std.proofs.Common.{◌≡◌, ℕ, ◌+◌, ◌<◌, ◌≤◌, true,
 use Rattle.std.specs.Prelude.{is_some, slice_index}
 use Rattle.std.proofs.lemmas.List.{get_or-replicate, length-replicate, take-append-le, take_all}
 use Rattle.cx_storage.specs.declared.areas.Owner.{Owner}
-use Rattle.cx_storage.specs.Storage.{Storage, byte_at, covers, span, with_area, written}
-use Rattle.cx_storage.specs.Address.{along}
+use Rattle.cx_storage.specs.Storage.{Storage, byte_at, covers, span, with_area, after_write}
+use Rattle.cx_storage.specs.Address.{address_after}
 use Rattle.cx_storage.specs.Facts.Sound.{covers_from}
 use Rattle.cx_storage.specs.Storage.{area_from}
 use Rattle.cx_storage.specs.Facts.Areas.{byte_after_get}
@@ -29,13 +29,13 @@ unfolding IsLeastPlace
 place_found storage size at place none = none at place.0
 
 byte_of_fresh : (storage : Storage) (size at k : ℕ) (owner : Owner) → CanPlace storage 65536 2097151 size at → at + size ≤ 2097152 → k < size
-    → byte_at (with_area storage (Some at) size owner) (along at k) ≡ Some (slice_index (replicate size 0) k)
+    → byte_at (with_area storage (Some at) size owner) (address_after at k) ≡ Some (slice_index (replicate size 0) k)
 byte_of_fresh storage size at k owner can ends inside =
-    let here : along at k ≡ at + k = omega arith in
-    let covered : covers (area_from at size owner) (along at k) ≡ true =
+    let here : address_after at k ≡ at + k = omega arith in
+    let covered : covers (area_from at size owner) (address_after at k) ≡ true =
     rw here (covers_from (area_from at size owner) (at + k) (omega arith) (omega arith)) in
     let zero : slice_index (replicate size 0) k ≡ 0 = get_or-replicate size k 0 0 inside in
-    byte_after_get storage 65536 2097151 size at owner (along at k) can ∙ rw (covered, zero) refl
+    byte_after_get storage 65536 2097151 size at owner (address_after at k) can ∙ rw (covered, zero) refl
 
 fresh_present : (storage : Storage) (size at : ℕ) (owner : Owner) → CanPlace storage 65536 2097151 size at → at + size ≤ 2097152
     → is_some (span (with_area storage (Some at) size owner) at size) ≡ true
@@ -43,9 +43,9 @@ fresh_present storage size at owner can ends =
     ap is_some (span_from (with_area storage (Some at) size owner) at size (replicate size 0) (omega arith) (length-replicate size 0)
     (λ k inside. byte_of_fresh storage size at k owner can ends inside))
 
--- bytes written into a fresh area stand there
+-- bytes written into a fresh area are there
 pub fresh_holds : (storage : Storage) (size at : ℕ) (owner : Owner) (bytes : List ℕ) → IsLeastPlace storage 65536 2097151 size (Some at) → size ≤ 65536 → length bytes ≡ size
-    → span (written (with_area storage (Some at) size owner) at bytes) at size ≡ Some bytes
+    → span (after_write (with_area storage (Some at) size owner) at bytes) at size ≡ Some bytes
 unfolding IsLeastPlace
 fresh_holds storage size at owner bytes place short same =
     let ends = place_ends storage size at place in
@@ -58,7 +58,7 @@ whole_list xs ys n same = let most : n ≤ length xs = omega arith in take-appen
 
 -- the text written into the area of its place is loaded
 pub loaded_from : (before after : Storage) (image : Image) (at : ℕ) → IsFit image → IsProgramPlace before (length image.text) (Some at)
-    → after ≡ written (with_area before (Some at) (length image.text) program_owner) at (text_at at image)
+    → after ≡ after_write (with_area before (Some at) (length image.text) program_owner) at (text_at at image)
     → IsLoaded before image (record { at = at; len = length image.text; entry = at + image.entry; stg_len = image.stg_len }) after
 loaded_from before after image at fit place wrote =
     let size = length-relocated at image.relocs image.text fit.inside in

@@ -13,7 +13,7 @@ has_length image = nat_le 1 (length image.text) && nat_le (length image.text) 65
 unfoldable pub has_entry : Image → Bool
 has_entry image = nat_lt image.entry (length image.text)
 
--- each relocated word, of four bytes, stands in a text of so many bytes
+-- each relocated word, of four bytes, lies in a text of `size` bytes
 unfoldable pub are_inside : ℕ → List ℕ → Bool
 are_inside size relocs = list_all (λ r. nat_le (r + 4) size) relocs
 

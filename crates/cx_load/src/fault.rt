@@ -117,7 +117,7 @@ fn first_fault(image: &Image) -> Option<ImageFault>
     }
 }
 
-/// Whether each relocated word stands in a text of so many bytes.
+/// Whether each relocated word lies in a text of `size` bytes.
 #[tactic(auto, unfolding(crate::specs::Fault::are_inside))]
 fn are_inside(size: usize, relocs: &[u32]) -> bool
     ensures { result ≡ are_inside size relocs.now }
@@ -141,7 +141,7 @@ fn is_apart(r: u32, relocs: &[u32]) -> bool
     relocs.iter().all(|q| are_apart(r, *q))
 }
 
-/// Whether each of the words begins at or behind the end of the one before it, as an assembler lists them.
+/// Whether each of the words begins at or past the end of the one before it, as an assembler lists them.
 fn are_in_order(relocs: &[u32]) -> bool
     ensures { result ≡ are_in_order 0 relocs.now }
 {
@@ -155,7 +155,7 @@ fn are_in_order(relocs: &[u32]) -> bool
     true
 }
 
-/// Whether no two of the words share a byte, each compared with all behind it.
+/// Whether no two of the words share a byte, each compared with all after it.
 fn no_pair_overlaps(relocs: &[u32]) -> bool
     ensures { result ≡ all_apart relocs.now }
 {

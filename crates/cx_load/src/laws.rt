@@ -10,11 +10,12 @@ ghost use Rattle.cx_load.specs.declared.program.Loaded.{Loaded};
 ghost use Rattle.cx_load.specs.Fault.{IsFit, IsLowestFault, all_apart, applies, are_inside};
 ghost use Rattle.cx_load.specs.Laws.Words.{SharesNoByte, are_in_order, is_of_word};
 ghost use Rattle.cx_load.specs.Program.{IsLoaded};
-ghost use Rattle.cx_load.specs.Relocation.{relocated, word_in};
+ghost use Rattle.cx_load.specs.Relocation.{relocated_text, word_in};
 
 /// An image has one lowest fault at most, and none exactly where it is fit.
 pub fn the_lowest_fault()
-    ensures decides { (image : Image) (one other : ImageFault) → IsLowestFault image one → IsLowestFault image other → one ≡ other }
+    ensures decides { (image : Image) (one other : ImageFault)
+        → IsLowestFault image one → IsLowestFault image other → one ≡ other }
     ensures none { (image : Image) (fault : ImageFault) → IsFit image → IsLowestFault image fault → ⊥ }
 {}
 
@@ -28,8 +29,8 @@ pub fn facts_of_checked()
         ↔ ((i j : ℕ) → i < j → j < length relocs → SharesNoByte (slice_index relocs i) (slice_index relocs j)) }
 {}
 
-/// Words in ascending order, each at or behind the end of the one before it, share no byte; and an image whose words are so,
-/// and end in its text, is refused for its length, its entry or its working storage alone.
+/// Words in ascending order, each at or past the end of the one before it, share no byte; and an image whose words are
+/// so, and end in its text, is refused for its length, its entry or its working storage alone.
 pub fn words_in_order()
     ensures apart { (relocs : List ℕ) → IsTrue (are_in_order 0 relocs) → IsTrue (all_apart relocs) }
     ensures refused { (image : Image) (fault : ImageFault) → IsTrue (are_in_order 0 image.relocs)
@@ -40,16 +41,17 @@ pub fn words_in_order()
 /// Each relocated word is raised by the load address modulo 2^32, every byte of no such word stays, and
 /// the text keeps its length.
 pub fn relocation()
-    ensures words { (at i : ℕ) (relocs text : List ℕ) → IsTrue (all_apart relocs) → IsTrue (are_inside (length text) relocs)
+    ensures words { (at i : ℕ) (relocs text : List ℕ) → IsTrue (all_apart relocs)
+        → IsTrue (are_inside (length text) relocs)
         → i < length relocs
-        → word_in (relocated at relocs text) (slice_index relocs i) ≡ (word_in text (slice_index relocs i) + at) % 2 ^ 32 }
+        → word_in (relocated_text at relocs text) (slice_index relocs i) ≡ (word_in text (slice_index relocs i) + at) % 2 ^ 32 }
     ensures others { (at k : ℕ) (relocs text : List ℕ) → IsTrue (are_inside (length text) relocs)
-        → list_any (is_of_word k) relocs ≡ false → slice_index (relocated at relocs text) k ≡ slice_index text k }
+        → list_any (is_of_word k) relocs ≡ false → slice_index (relocated_text at relocs text) k ≡ slice_index text k }
     ensures size { (at : ℕ) (relocs text : List ℕ) → IsTrue (are_inside (length text) relocs)
-        → length (relocated at relocs text) ≡ length text }
+        → length (relocated_text at relocs text) ≡ length text }
 {}
 
-/// The storage before and the image decide what loading gives: what is told, and the storage after.
+/// The storage before and the image decide what loading gives: what is reported, and the storage after.
 #[tactic(auto, using(crate::proofs::LoadLemmas::loaded_decides))]
 pub fn loading_decides()
     ensures { (storage after later : Storage) (image : Image) (one other : Loaded)

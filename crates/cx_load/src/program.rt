@@ -2,7 +2,7 @@
 
 ghost use Rattle.std.specs.Prelude.{◌≡◌, ◌+◌, ◌≤◌, ◌<◌, ◌^◌, ◌↔◌, IsTrue, IfOk, OnErr, IsErrOf, MatchBool, None, length};
 ghost use Rattle.cx_load.specs.Fault.{are_inside};
-ghost use Rattle.cx_load.specs.Relocation.{raised, relocated};
+ghost use Rattle.cx_load.specs.Relocation.{relocate_word, relocated_text};
 ghost use Rattle.cx_load.specs.Program.{IsLoaded, IsProgramPlace};
 ghost use Rattle.cx_load.specs.declared.program.LoadFault.TheVariants.{Memory};
 
@@ -12,10 +12,10 @@ use cx_storage::{Kind, Owner, Store};
 use std::alloc::{AllocError, Global};
 use thiserror::Error;
 
-/// The first address of the range in which programs stand.
+/// The first address of the range in which programs lie.
 pub const FIRST_OF_PROGRAMS: u32 = 0x010000;
 
-/// The last address of the range in which programs stand.
+/// The last address of the range in which programs lie.
 pub const LAST_OF_PROGRAMS: u32 = 0x1FFFFF;
 
 /// Programs are the region's own, and stay.
@@ -24,7 +24,7 @@ const PROGRAM_OWNER: Owner = Owner {
     kind: Kind::Fixed,
 };
 
-/// Where a program stands: its address, its length in bytes, the address of its entry, and how many
+/// Where a program is: its address, its length in bytes, the address of its entry, and how many
 /// bytes of working storage it has.
 #[derive(Clone, Copy, Debug, PartialEq, Eq)]
 pub struct Loaded {
@@ -40,7 +40,7 @@ pub enum LoadFault {
     /// The program range has no place for the text.
     #[error("NoRoom")]
     NoRoom,
-    /// A growth was refused.
+    /// An allocation failed.
     #[error("Memory")]
     Memory,
 }
@@ -54,10 +54,10 @@ impl From<AllocError> for LoadFault {
 }
 
 /// Raises the word at an offset by an address, modulo 2^32.
-#[tactic(auto, unfolding(crate::specs::Relocation::raised))]
+#[tactic(auto, unfolding(crate::specs::Relocation::relocate_word))]
 fn raise(bytes: &mut [u8], r: usize, at: u32)
     requires { r + 4 ≤ length bytes.old }
-    ensures { bytes.new ≡ raised at r bytes.old }
+    ensures { bytes.new ≡ relocate_word at r bytes.old }
 {
     let word = &mut bytes[r..r + 4];
     let value = BigEndian::read_u32(word).wrapping_add(at);
@@ -67,7 +67,7 @@ fn raise(bytes: &mut [u8], r: usize, at: u32)
 /// Raises each relocated word by an address, modulo 2^32.
 fn relocate(bytes: &mut [u8], relocs: &[u32], at: u32)
     requires { IsTrue (are_inside (length bytes.old) relocs.now) }
-    ensures { bytes.new ≡ relocated at relocs.now bytes.old }
+    ensures { bytes.new ≡ relocated_text at relocs.now bytes.old }
 {
     for r in relocs {
         raise(bytes, *r as usize, at);
@@ -94,9 +94,9 @@ pub fn has_room<S: Store>(store: &S, len: u32) -> bool
     program_place(store, len).is_some()
 }
 
-/// Loads a checked image: the text stands at the least place from X'010000' to X'1FFFFF', in a fixed
+/// Loads a checked image: the text is put at the least place from X'010000' to X'1FFFFF', in a fixed
 /// area of slot 0, each relocated word raised by that address modulo 2^32. NoRoom exactly where there is
-/// no place; Memory only where a growth was refused. Either leaves the store as it was.
+/// no place; Memory only where an allocation failed. Either leaves the store as it was.
 #[tactic(auto, using(crate::proofs::LoadLemmas::place_ends, crate::proofs::LoadLemmas::place_found))]
 pub fn load<S: Store>(
     alloc: Global,

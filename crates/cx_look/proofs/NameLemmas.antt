@@ -4,7 +4,7 @@ use Rattle.std.specs.Prelude.{if◌then◌else◌}
 use Rattle.std.specs.Result.{result_ok}
 use Rattle.hex.specs.Hex.{decode_sized}
 use Rattle.hex.specs.declared.error.FromHexError.{FromHexError}
-use Rattle.cx_actions.specs.Words.{hex_bytes}
+use Rattle.cx_script_actions.specs.Words.{hex_bytes}
 
 sized : (word : List ℕ) → length word ≡ 16 → result_ok (decode_sized word 8) ≡ hex_bytes word
 unfolding hex_bytes

@@ -4,8 +4,8 @@ use Rattle.std.specs.List.{find}
 use Rattle.std.specs.Option.{option_and_then, option_map}
 use Rattle.std.specs.Str.{bytes_eq}
 use Rattle.cx_ebcdic.specs.Names.{name_of}
-use Rattle.cx_actions.specs.Alterations.{hex_number}
-use Rattle.cx_actions.specs.Words.{behind, hex_bytes, number_of, two_words, word}
+use Rattle.cx_script_actions.specs.Alterations.{hex_number}
+use Rattle.cx_script_actions.specs.Words.{after_first_blank, hex_bytes, number_of, two_words, word}
 use Rattle.cx_look.specs.declared.look.Look.{Look}
 use Rattle.cx_look.specs.declared.look.Look.TheVariants as look
 use Rattle.cx_look.specs.declared.look.Subject.{Subject}
@@ -51,24 +51,24 @@ abbrev pub queue_look : List ℕ → Option (List ℕ) → Option Look
 queue_look name None = Some (look.Queue name)
 queue_look name (Some text) = option_map (λ n. look.Item name n) (count_of 32767 text)
 
--- a look by its first word, and by the words behind it where there are some
-unfoldable pub looked : Subject → Option (List ℕ) → Option Look
-looked subject.Storage (Some text) = two_words look.Storage (hex_number 3) (count_of 4096) text
-looked subject.Areas None = Some look.Areas
-looked subject.Areas (Some text) = option_map (λ name. look.AreasOf name) (name_of 4 text)
-looked subject.Task (Some text) = option_map (λ name. look.Task name) (name_of 4 text)
-looked subject.Tasks None = Some look.Tasks
-looked subject.Abend (Some text) = option_map (λ name. look.Abend name) (name_of 4 text)
-looked subject.Queues None = Some look.Queues
-looked subject.Queue (Some text) = option_and_then (λ name. queue_look name (behind text)) (queue_name_of (word text))
-looked subject.Resources None = Some look.Resources
-looked subject.Programs None = Some look.Programs
-looked subject.Command (Some text) = option_map (λ name. look.Command name) (name_of 4 text)
-looked subject.Symbol (Some text) = two_words look.Symbol (name_of 8) (name_of 8) text
-looked subject.Symbols (Some text) = option_map (λ name. look.Symbols name) (name_of 8 text)
-looked subject.Xref (Some text) = option_map (λ name. look.Xref name) (name_of 8 text)
-looked _ _ = None
+-- a look by its first word, and by the words after it where there are some
+unfoldable pub look_by_word : Subject → Option (List ℕ) → Option Look
+look_by_word subject.Storage (Some text) = two_words look.Storage (hex_number 3) (count_of 4096) text
+look_by_word subject.Areas None = Some look.Areas
+look_by_word subject.Areas (Some text) = option_map (λ name. look.AreasOf name) (name_of 4 text)
+look_by_word subject.Task (Some text) = option_map (λ name. look.Task name) (name_of 4 text)
+look_by_word subject.Tasks None = Some look.Tasks
+look_by_word subject.Abend (Some text) = option_map (λ name. look.Abend name) (name_of 4 text)
+look_by_word subject.Queues None = Some look.Queues
+look_by_word subject.Queue (Some text) = option_and_then (λ name. queue_look name (after_first_blank text)) (queue_name_of (word text))
+look_by_word subject.Resources None = Some look.Resources
+look_by_word subject.Programs None = Some look.Programs
+look_by_word subject.Command (Some text) = option_map (λ name. look.Command name) (name_of 4 text)
+look_by_word subject.Symbol (Some text) = two_words look.Symbol (name_of 8) (name_of 8) text
+look_by_word subject.Symbols (Some text) = option_map (λ name. look.Symbols name) (name_of 8 text)
+look_by_word subject.Xref (Some text) = option_map (λ name. look.Xref name) (name_of 8 text)
+look_by_word _ _ = None
 
 -- What a line looks at; None where it is no look.
 unfoldable pub look_of : List ℕ → Option Look
-look_of text = option_and_then (λ s. looked s (behind text)) (subject_of (word text))
+look_of text = option_and_then (λ s. look_by_word s (after_first_blank text)) (subject_of (word text))

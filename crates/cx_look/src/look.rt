@@ -3,14 +3,14 @@ ghost use Rattle.std.specs.Prelude.{◌≡◌, ◌≤◌, IfSome, None, Some, if
 ghost use Rattle.std.specs.List.{find};
 ghost use Rattle.std.specs.Option.{option_copied};
 ghost use Rattle.std.specs.Str.{bytes_eq};
-ghost use Rattle.cx_actions.specs.Words.{hex_bytes};
-ghost use Rattle.cx_look.specs.Looks.{count_of, look_of, looked, queue_look, queue_name_of, subject_name, subject_of};
+ghost use Rattle.cx_script_actions.specs.Words.{hex_bytes};
+ghost use Rattle.cx_look.specs.Looks.{count_of, look_of, look_by_word, queue_look, queue_name_of, subject_name, subject_of};
 ghost use Rattle.cx_look.specs.declared.look.Subject.TheVariants as subject;
 
-use cx_actions::{hex_address, name4, name8, number, split_word};
+use cx_base_lists::List;
 use cx_ebcdic::{Name4, Name8};
+use cx_script_actions::{hex_address, name4, name8, number, split_word};
 use cx_source::Text;
-use cx_tables::List;
 
 /// The most bytes of storage that are looked at together.
 const MOST_BYTES: u32 = 4_096;
@@ -21,7 +21,7 @@ const LAST_ITEM: u32 = 32_767;
 /// The digits that spell the eight bytes of a queue's name.
 const NAME_DIGITS: usize = 16;
 
-/// The lines of a source that stand in a block of a script.
+/// The lines of a source that are in a block of a script.
 #[derive(Debug, Drop)]
 pub struct SourceLines {
     /// The number in the script of the line that begins the block, counted from 1.
@@ -35,7 +35,7 @@ pub struct SourceLines {
 /// What is looked at.
 #[derive(Debug, Drop)]
 pub enum Look {
-    /// Storage from an address on, so many bytes: 1 to 4,096.
+    /// Storage from an address on, and how many bytes: 1 to 4,096.
     Storage(u32, u32),
     /// All areas.
     Areas,
@@ -192,7 +192,7 @@ fn queue_name_of(word: &[u8]) -> Option<Name8>
     }
 }
 
-/// A look at a queue, or at its item of the number that is behind its name.
+/// A look at a queue, or at its item of the number that follows its name.
 fn queue_look(name: Name8, rest: Option<&[u8]>) -> Option<Look>
     ensures { result ≡ queue_look name (option_copied rest.entry) }
 {
@@ -203,20 +203,20 @@ fn queue_look(name: Name8, rest: Option<&[u8]>) -> Option<Look>
     Some(Look::Item(name, n))
 }
 
-/// QUEUE, by what is behind it.
-#[tactic(auto, unfolding(crate::specs::Looks::looked))]
+/// QUEUE, by what follows it.
+#[tactic(auto, unfolding(crate::specs::Looks::look_by_word))]
 fn queue(text: &[u8]) -> Option<Look>
-    ensures { result ≡ looked subject.Queue (Some text.now) }
+    ensures { result ≡ look_by_word subject.Queue (Some text.now) }
 {
     let (word, rest) = split_word(text);
     let name = queue_name_of(word)?;
     queue_look(name, rest)
 }
 
-/// STORAGE, by what is behind it.
-#[tactic(auto, unfolding(crate::specs::Looks::looked))]
+/// STORAGE, by what follows it.
+#[tactic(auto, unfolding(crate::specs::Looks::look_by_word))]
 fn storage(text: &[u8]) -> Option<Look>
-    ensures { result ≡ looked subject.Storage (Some text.now) }
+    ensures { result ≡ look_by_word subject.Storage (Some text.now) }
 {
     let (word, rest) = split_word(text);
     let address = hex_address(word)?;
@@ -224,10 +224,10 @@ fn storage(text: &[u8]) -> Option<Look>
     Some(Look::Storage(address, count))
 }
 
-/// SYMBOL, by what is behind it.
-#[tactic(auto, unfolding(crate::specs::Looks::looked))]
+/// SYMBOL, by what follows it.
+#[tactic(auto, unfolding(crate::specs::Looks::look_by_word))]
 fn symbol(text: &[u8]) -> Option<Look>
-    ensures { result ≡ looked subject.Symbol (Some text.now) }
+    ensures { result ≡ look_by_word subject.Symbol (Some text.now) }
 {
     let (word, rest) = split_word(text);
     let program = name8(word)?;
@@ -235,10 +235,10 @@ fn symbol(text: &[u8]) -> Option<Look>
     Some(Look::Symbol(program, name))
 }
 
-/// A look whose word stands alone.
-#[tactic(auto, unfolding(crate::specs::Looks::looked))]
+/// A look whose word is alone.
+#[tactic(auto, unfolding(crate::specs::Looks::look_by_word))]
 fn alone(subject: Subject) -> Option<Look>
-    ensures { result ≡ looked subject None }
+    ensures { result ≡ look_by_word subject None }
 {
     match subject {
         Subject::Areas => Some(Look::Areas),
@@ -250,10 +250,10 @@ fn alone(subject: Subject) -> Option<Look>
     }
 }
 
-/// A look by its word and what is behind it.
-#[tactic(auto, unfolding(crate::specs::Looks::looked))]
+/// A look by its word and what follows it.
+#[tactic(auto, unfolding(crate::specs::Looks::look_by_word))]
 fn at(subject: Subject, text: &[u8]) -> Option<Look>
-    ensures { result ≡ looked subject (Some text.now) }
+    ensures { result ≡ look_by_word subject (Some text.now) }
 {
     match subject {
         Subject::Storage => storage(text),

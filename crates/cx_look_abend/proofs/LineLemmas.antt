@@ -4,12 +4,12 @@ use Rattle.std.proofs.lemmas.List.Concat.{flat_map-append}
 use Rattle.std.specs.List.{flat_map}
 use Rattle.std.specs.Option.{option_map_or}
 use Rattle.cx_storage.specs.Address.{address_in}
-use Rattle.cx_task.specs.declared.cause.Cause.{Cause}
-use Rattle.cx_task.specs.declared.cause.Cause.TheVariants as cause
-use Rattle.cx_task.specs.declared.cause.Trouble.{Trouble}
-use Rattle.cx_text.specs.Digits.{digits}
-use Rattle.cx_text.specs.Texts.{shown, shown_name}
-use Rattle.cx_look_names.specs.Lines.{SourcePlaces}
+use Rattle.cx_region_task.specs.declared.cause.Cause.{Cause}
+use Rattle.cx_region_task.specs.declared.cause.Cause.TheVariants as cause
+use Rattle.cx_region_task.specs.declared.cause.Trouble.{Trouble}
+use Rattle.cx_base_text.specs.Digits.{digits}
+use Rattle.cx_base_text.specs.Texts.{shown_text, shown_name}
+use Rattle.cx_look_symbols.specs.Lines.{SourcePlaces}
 use Rattle.cx_look_abend.specs.Laws.{IsOfLines, TextsAreLines}
 use Rattle.cx_look_abend.specs.Texts.{abend_text, code_line, command_lines, command_word, exit_line, head_line, instruction_word, last_of, last_text, line, next_line, none_line, place_word, register_line, register_lines, told_lines, where_lines, why_word}
 use Rattle.cx_look_abend.specs.declared.abends.LastAbend.{LastAbend}
@@ -71,7 +71,7 @@ last : (sources : SourcePlaces) (name : List ℕ) (it : LastAbend) → IsOfLines
 unfolding last_text
 last sources name it =
     both (head_line name it ++ exit_line sources it.exit) (option_map_or (told_lines sources) it.told [])
-    (both (head_line name it) (exit_line sources it.exit) (one (codes "ABEND" ∷ shown_name name ∷ shown it.code ∷ why_word it.told ∷ []))
+    (both (head_line name it) (exit_line sources it.exit) (one (codes "ABEND" ∷ shown_name name ∷ shown_text it.code ∷ why_word it.told ∷ []))
     (if_there (λ (place : Place). line (codes "EXIT" ∷ place_word sources place ∷ [])) (λ place. one (codes "EXIT" ∷ place_word sources place ∷ [])) it.exit))
     (if_there (told_lines sources) (told sources) it.told)
 

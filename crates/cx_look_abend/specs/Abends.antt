@@ -2,26 +2,26 @@
 use Rattle.std.specs.Prelude.{ℕ, ◌-◌, ◌&&◌, Bool, nat_le, nat_lt, List, Option, Some, None, slice_index}
 use Rattle.std.specs.List.{find}
 use Rattle.std.specs.Option.{option_and_then, option_map}
-use Rattle.cx_command.specs.Abends.{abend_code}
-use Rattle.cx_command.specs.declared.abends.Abend.TheVariants.{Xedf}
+use Rattle.cx_base_commands.specs.Abends.{abend_code}
+use Rattle.cx_base_commands.specs.declared.abends.Abend.TheVariants.{Xedf}
 use Rattle.cx_load.specs.declared.program.Loaded.{Loaded}
 use Rattle.cx_storage.specs.Address.{address_in}
-use Rattle.cx_state.specs.declared.replies.TurnReply.{TurnReply}
-use Rattle.cx_state.specs.declared.replies.TurnReply.TheVariants as turn
-use Rattle.cx_task.specs.declared.cause.Cause.{Cause}
-use Rattle.cx_task.specs.declared.cause.Cause.TheVariants as cause
-use Rattle.cx_task.specs.declared.cause.Trouble.{Trouble}
+use Rattle.cx_region_state.specs.declared.replies.TurnReply.{TurnReply}
+use Rattle.cx_region_state.specs.declared.replies.TurnReply.TheVariants as turn
+use Rattle.cx_region_task.specs.declared.cause.Cause.{Cause}
+use Rattle.cx_region_task.specs.declared.cause.Cause.TheVariants as cause
+use Rattle.cx_region_task.specs.declared.cause.Trouble.{Trouble}
 use Rattle.cx_region.specs.State.{RegionState}
 use Rattle.cx_region.specs.Tables.{task_of}
 use Rattle.cx_look_abend.specs.declared.abends.LastAbend.{LastAbend}
 use Rattle.cx_look_abend.specs.declared.abends.Place.{Place}
 
 -- ---- places
--- a program stands at an address
+-- a program is at an address
 unfoldable pub covers : ℕ → Loaded → Bool
 covers a loaded = nat_le loaded.at a && nat_lt (a - loaded.at) loaded.len
 
--- an address, with the program that stands there and how many of its bytes stand before it
+-- an address, with the program there and how many of its bytes come before it
 abbrev pub place_in : List (List ℕ × Loaded) → ℕ → Place
 place_in programs a =
     record {
@@ -36,7 +36,7 @@ abend_code_in (turn.TookExit code) = Some code
 abend_code_in (turn.Abended code) = Some code
 abend_code_in _ = None
 
--- where the program was: at the next address, or behind a command, where bits 8 to 31 of R14 lead
+-- where the program was: at the next address, or after a command, where bits 8 to 31 of R14 lead
 abbrev pub place_by : Cause → Trouble → ℕ
 place_by (cause.Interrupted interruption) trouble = trouble.next
 place_by cause.Limit trouble = trouble.next

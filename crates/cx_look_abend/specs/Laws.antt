@@ -1,8 +1,8 @@
 -- Which turns keep an abend; what is kept is decided; the text of a look at it is lines.
 use Rattle.std.specs.Prelude.{◌≡◌, ℕ, true, is_some, List}
 use Rattle.std.specs.List.{flat_map}
-use Rattle.cx_state.specs.declared.replies.TurnReply.{TurnReply}
-use Rattle.cx_state.specs.declared.replies.TurnReply.TheVariants as turn
+use Rattle.cx_region_state.specs.declared.replies.TurnReply.{TurnReply}
+use Rattle.cx_region_state.specs.declared.replies.TurnReply.TheVariants as turn
 use Rattle.cx_region.specs.declared.replies.Event.TheVariants as event
 use Rattle.cx_region.specs.declared.replies.Reply.TheVariants as reply
 use Rattle.cx_edf.specs.State.{EdfState}
@@ -10,8 +10,8 @@ use Rattle.cx_edf.specs.declared.answers.Answer.{Answer}
 use Rattle.cx_edf.specs.declared.answers.Answer.TheVariants as answer
 use Rattle.cx_edf.specs.declared.answers.EdfEvent.{EdfEvent}
 use Rattle.cx_edf.specs.declared.answers.EdfEvent.TheVariants as edf_event
-use Rattle.cx_look_names.specs.Lines.{SourcePlaces}
-use Rattle.cx_look_abend.specs.Noting.{Abends, HappensNoted, with_last}
+use Rattle.cx_look_symbols.specs.Lines.{SourcePlaces}
+use Rattle.cx_look_abend.specs.Noting.{Abends, AppliesWithAbends, with_last}
 use Rattle.cx_look_abend.specs.Texts.{abend_text, line}
 use Rattle.cx_look_abend.specs.declared.abends.LastAbend.{LastAbend}
 
@@ -30,13 +30,13 @@ KeepsTurn before name _ after = after ≡ before
 
 abbrev pub AbendsAreKept : Type 0
 AbendsAreKept = (old new : EdfState) (before after : Abends) (name : List ℕ) (given : TurnReply)
-    → HappensNoted old before (edf_event.Plain (event.Turn name)) (answer.Region (reply.Turn given)) new after
+    → AppliesWithAbends old before (edf_event.Plain (event.Turn name)) (answer.Region (reply.Turn given)) new after
     → KeepsTurn before name given after
 
 -- the state and what is kept before an event decide its answer, the state after it, and what is kept then
 abbrev pub NotedDecide : Type 0
 NotedDecide = (old new later : EdfState) (before after others : Abends) (e : EdfEvent) (given other : Answer)
-    → HappensNoted old before e given new after → HappensNoted old before e other later others
+    → AppliesWithAbends old before e given new after → AppliesWithAbends old before e other later others
     → (given ≡ other) × (new ≡ later) × (after ≡ others)
 
 -- the text of a look is lines

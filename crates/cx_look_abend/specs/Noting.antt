@@ -3,7 +3,7 @@ use Rattle.std.specs.Prelude.{◌≡◌, ℕ, Bool, true, false, ⊤, List, Opti
 use Rattle.std.specs.Map.{set_value}
 use Rattle.std.specs.Option.{option_map_or}
 use Rattle.indexmap.specs.IndexMap.{insert_entry}
-use Rattle.cx_task.specs.declared.cause.Trouble.{Trouble}
+use Rattle.cx_region_task.specs.declared.cause.Trouble.{Trouble}
 use Rattle.cx_ebcdic.specs.Names.{is_name}
 use Rattle.cx_region.specs.State.{RegionState}
 use Rattle.cx_region.specs.declared.changes.AlterReply.TheVariants as alter
@@ -11,10 +11,10 @@ use Rattle.cx_region.specs.declared.changes.Change.{Change}
 use Rattle.cx_region.specs.declared.changes.Change.TheVariants as change
 use Rattle.cx_region.specs.declared.replies.Event.TheVariants as event
 use Rattle.cx_region.specs.declared.replies.Reply.TheVariants as reply
-use Rattle.cx_edf.specs.Causes.{EdfTroubled}
+use Rattle.cx_edf.specs.Causes.{EdfHasTrouble}
 use Rattle.cx_edf.specs.Runs.{MayTakeEdf}
 use Rattle.cx_edf.specs.State.{EdfState, ends_by_key}
-use Rattle.cx_edf.specs.Steps.{EdfHappens}
+use Rattle.cx_edf.specs.Steps.{EdfApplies}
 use Rattle.cx_edf.specs.declared.answers.Answer.{Answer}
 use Rattle.cx_edf.specs.declared.answers.Answer.TheVariants as answer
 use Rattle.cx_edf.specs.declared.answers.EdfEvent.{EdfEvent}
@@ -66,10 +66,10 @@ ends_task old (edf_event.Plain (event.Key name aid bytes)) = ends_by_key old nam
 ends_task old _ = false
 
 -- an event, and what is kept after it
-pub record HappensNoted (old : EdfState) (before : Abends) (e : EdfEvent) (given : Answer) (new : EdfState) (after : Abends) : Type 0 where
+pub record AppliesWithAbends (old : EdfState) (before : Abends) (e : EdfEvent) (given : Answer) (new : EdfState) (after : Abends) : Type 0 where
   pub trouble : Option Trouble
-  pub happens : EdfHappens old e given new
-  pub troubled : EdfTroubled old e trouble
+  pub happens : EdfApplies old e given new
+  pub troubled : EdfHasTrouble old e trouble
   pub kept : after ≡ kept_after before (ends_task old e) e given trouble new.region
 
 -- A new terminal takes room for its last abend; any other event may take memory as it may without what is kept.

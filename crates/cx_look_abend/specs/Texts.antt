@@ -4,19 +4,19 @@ use Rattle.std.specs.List.{flat_map, list_all}
 use Rattle.std.specs.Map.{lookup}
 use Rattle.std.specs.Option.{option_and_then, option_map_or}
 use Rattle.cx_code.specs.Table.{length_of_code}
-use Rattle.cx_command.specs.declared.commands.Command.{Command}
-use Rattle.cx_command.specs.Commands.{row_of}
-use Rattle.cx_command.specs.Conditions.{entry_of}
+use Rattle.cx_base_commands.specs.declared.commands.Command.{Command}
+use Rattle.cx_base_commands.specs.Commands.{row_of}
+use Rattle.cx_base_commands.specs.Conditions.{entry_of}
 use Rattle.cx_exec.specs.declared.machine.Interruption.{Interruption}
 use Rattle.cx_exec.specs.declared.machine.Interruption.TheVariants as interruption
 use Rattle.cx_storage.specs.Address.{address_in}
-use Rattle.cx_task.specs.declared.cause.Cause.{Cause}
-use Rattle.cx_task.specs.declared.cause.Cause.TheVariants as cause
-use Rattle.cx_task.specs.declared.cause.Trouble.{Trouble}
+use Rattle.cx_region_task.specs.declared.cause.Cause.{Cause}
+use Rattle.cx_region_task.specs.declared.cause.Cause.TheVariants as cause
+use Rattle.cx_region_task.specs.declared.cause.Trouble.{Trouble}
 use Rattle.cx_ebcdic.specs.Names.{is_name}
-use Rattle.cx_text.specs.Digits.{digits}
-use Rattle.cx_text.specs.Texts.{shown, shown_name, written_line}
-use Rattle.cx_look_names.specs.Lines.{SourcePlaces, line_word}
+use Rattle.cx_base_text.specs.Digits.{digits}
+use Rattle.cx_base_text.specs.Texts.{shown_text, shown_name, written_line}
+use Rattle.cx_look_symbols.specs.Lines.{SourcePlaces, line_word}
 use Rattle.cx_look_abend.specs.Noting.{Abends}
 use Rattle.cx_look_abend.specs.declared.abends.LastAbend.{LastAbend}
 use Rattle.cx_look_abend.specs.declared.abends.Place.{Place}
@@ -46,7 +46,7 @@ abbrev pub why_word : Option Told → List ℕ
 why_word told = option_map_or (λ it. cause_word it.trouble.cause) told (codes "ASKED BY OPERATOR")
 
 -- ---- where
--- an address, and where that is in the program that stands there, with the line of the program's source
+-- an address, and where that is in the program there, with the line of the program's source
 abbrev pub spot_word : SourcePlaces → Option (List ℕ × ℕ) → List ℕ
 spot_word sources None = []
 spot_word sources (Some (program, offset)) =
@@ -71,7 +71,7 @@ instruction_word bytes =
 abbrev pub next_line : SourcePlaces → Trouble → Place → List ℕ
 next_line sources trouble place = line (codes "NEXT" ∷ place_word sources place ∷ codes "INSTRUCTION" ∷ instruction_word trouble.bytes ∷ [])
 
--- of a command: its name, the address of its argument list, and where the program would go on behind it
+-- of a command: its name, the address of its argument list, and where the program would go on after it
 abbrev pub command_word : Option Command → List ℕ
 command_word command = option_map_or (λ it. (row_of it).name) command (codes "?")
 
@@ -109,7 +109,7 @@ exit_line sources exit = option_map_or (λ place. line (codes "EXIT" ∷ place_w
 
 -- ---- the look
 abbrev pub head_line : List ℕ → LastAbend → List ℕ
-head_line name last = line (codes "ABEND" ∷ shown_name name ∷ shown last.code ∷ why_word last.told ∷ [])
+head_line name last = line (codes "ABEND" ∷ shown_name name ∷ shown_text last.code ∷ why_word last.told ∷ [])
 
 unfoldable pub last_text : SourcePlaces → List ℕ → LastAbend → List ℕ
 last_text sources name last = head_line name last ++ exit_line sources last.exit ++ option_map_or (told_lines sources) last.told []

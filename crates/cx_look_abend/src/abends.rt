@@ -5,7 +5,7 @@ ghost use Rattle.indexmap.specs.IndexMap.{insert_entry, spare};
 ghost use Rattle.cx_ebcdic.specs.Names.{is_name};
 ghost use Rattle.cx_look_abend.specs.Abends.{abend_code_in, by_operator, covers, exit_place, last_of_turn, next_of, place_in, told_place};
 
-use cx_command::Abend;
+use cx_base_commands::Abend;
 use cx_ebcdic::{Name4, Name8};
 use cx_load::Loaded;
 use cx_region::{Cause, Region, Trouble, TurnReply};
@@ -13,14 +13,14 @@ use cx_storage::{Store, address_in};
 use indexmap::IndexMap;
 use std::marker::Model;
 
-/// An address, and the program that stands there, with how many of its bytes stand before it.
+/// An address, and the program there, with how many of its bytes come before it.
 #[derive(Clone, Copy, Debug, PartialEq, Eq)]
 pub struct Place {
     pub address: u32,
     pub spot: Option<(Name8, u32)>,
 }
 
-/// Why a turn led to an abend, and where its program was: at the next address, or behind a command, where R14 leads.
+/// Why a turn led to an abend, and where its program was: at the next address, or after a command, where R14 leads.
 #[derive(Clone, Copy, Debug, PartialEq, Eq)]
 pub struct Told {
     pub trouble: Trouble,
@@ -89,7 +89,7 @@ pub(crate) fn put_none(abends: &mut LastAbends, name: Name4)
     }
 }
 
-/// Whether a program stands at an address.
+/// Whether a program is at an address.
 #[tactic(auto, unfolding(crate::specs::Abends::covers))]
 fn covers(loaded: &Loaded, address: u32) -> bool
     ensures { result ≡ covers address loaded.now }
@@ -97,7 +97,7 @@ fn covers(loaded: &Loaded, address: u32) -> bool
     loaded.at <= address && address - loaded.at < loaded.len
 }
 
-/// The program that stands at an address, with its name.
+/// The program at an address, with its name.
 fn program_at(programs: &IndexMap<Name8, Loaded>, address: u32) -> Option<(Name8, Loaded)>
     ensures { result ≡ find (λ program. covers address program.1) programs.now.entries }
 {
@@ -109,7 +109,7 @@ fn program_at(programs: &IndexMap<Name8, Loaded>, address: u32) -> Option<(Name8
     None
 }
 
-/// An address, and the program that stands there.
+/// An address, and the program there.
 fn place_in(programs: &IndexMap<Name8, Loaded>, address: u32) -> Place
     ensures { result ≡ place_in programs.now.entries address }
 {

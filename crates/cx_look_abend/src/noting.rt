@@ -5,7 +5,7 @@ ghost use Rattle.indexmap.specs.IndexMap.{spare};
 ghost use Rattle.cx_edf.specs.Runs.{IsAllowedEdf};
 ghost use Rattle.cx_edf.specs.State.{ends_by_key};
 ghost use Rattle.cx_look_abend.specs.Abends.{last_of_turn};
-ghost use Rattle.cx_look_abend.specs.Noting.{HappensNoted, MayTakeNoted, defines_terminal, ends_task, is_defined, kept_after, kept_alter, kept_key, kept_terminal, kept_turn, with_last};
+ghost use Rattle.cx_look_abend.specs.Noting.{AppliesWithAbends, MayTakeNoted, defines_terminal, ends_task, is_defined, kept_after, kept_alter, kept_key, kept_terminal, kept_turn, with_last};
 
 use crate::abends::{LastAbend, LastAbends, by_operator, last_of_turn, put_none};
 use cx_ebcdic::{Aid, Name4};
@@ -15,7 +15,7 @@ use cx_storage::Store;
 use std::alloc::AllocError;
 
 /// Keeps an abend as a terminal's last one, where the terminal is defined.
-#[tactic(auto, using(cx_tables::specs::Facts::Tables::set_value_absent))]
+#[tactic(auto, using(cx_base_lists::specs::Facts::Tables::set_value_absent))]
 fn put(abends: &mut LastAbends, name: Name4, last: LastAbend)
     ensures { abends.new.entries ≡ with_last abends.old.entries name last }
 {
@@ -25,7 +25,7 @@ fn put(abends: &mut LastAbends, name: Name4, last: LastAbend)
     kept.keep(last);
 }
 
-/// Whether an answer tells that a terminal was defined.
+/// Whether an answer says that a terminal was defined.
 fn is_defined(answer: &Answer) -> bool
     ensures { result ≡ is_defined answer.now }
 {
@@ -139,8 +139,8 @@ fn make_room(abends: &mut LastAbends, event: &EdfEvent) -> Result<(), AllocError
 /// Does an event of a region under EDF, and keeps its terminal's last abend, where the event led to one. Room for it is made with
 /// the terminal.
 ///
-/// An error comes only where a growth was refused: that of a new terminal's room, or one that the event may take. Then all is
-/// as before.
+/// An error comes only where an allocation failed: that of a new terminal's room, or one that the event may take. Then
+/// all is as before.
 pub fn happen_noted<S: Store + Drop>(
     state: &mut Debugged<S>,
     abends: &mut LastAbends,
@@ -148,7 +148,7 @@ pub fn happen_noted<S: Store + Drop>(
 ) -> Result<Answer, AllocError>
     requires { IsAllowedEdf event.now }
     ensures happens { let before = abends.old.entries in let after = abends.new.entries in
-        IfOk result (λ given. HappensNoted state.old before event.now given state.new after) }
+        IfOk result (λ given. AppliesWithAbends state.old before event.now given state.new after) }
     ensures memory { OnErr result (MayTakeNoted state.old event.now) }
     ensures err { OnErr result ((state.new ≡ state.old) × (abends.new.entries ≡ abends.old.entries)) }
 {

@@ -2,18 +2,18 @@
 ghost use Rattle.std.specs.Prelude.{◌≡◌, ◌≤◌, ◌++◌, [], IfOk, OnOk, is_some, take};
 ghost use Rattle.std.specs.Option.{option_map_or};
 ghost use Rattle.std.specs.List.{flat_map, list_all};
-ghost use Rattle.cx_look_names.specs.Lines.{line_word};
+ghost use Rattle.cx_look_symbols.specs.Lines.{line_word};
 ghost use Rattle.cx_look_abend.specs.Texts.{abend_text, byte_digits, bytes_word, cause_word, code_line, command_lines, command_word, exit_line, head_line, instruction_word, interruption_word, last_of, last_text, next_line, none_line, place_word, register_line, register_lines, spot_word, told_lines, where_lines, why_word};
 
 use crate::abends::{LastAbend, LastAbends, Place, Told};
+use cx_base_commands::Command;
+use cx_base_text::{decimal, hexadecimal, shown, shown_name, written_line};
 use cx_code::instruction_length;
-use cx_command::Command;
 use cx_ebcdic::{Name4, Name8};
 use cx_exec::Interruption;
-use cx_look_names::{SourcePlaces, line_word};
+use cx_look_symbols::{SourcePlaces, line_word};
 use cx_region::{Cause, Trouble};
 use cx_storage::address_in;
-use cx_text::{decimal, hexadecimal, shown, shown_name, written_line};
 use std::alloc::{AllocError, Global};
 
 /// An interruption's code and its name.
@@ -76,7 +76,7 @@ fn spot_word(
     Ok(text)
 }
 
-/// An address, and where that is in the program that stands there.
+/// An address, and where that is in the program there.
 fn place_word(alloc: Global, sources: &SourcePlaces, place: &Place) -> Result<Vec<u8>, AllocError>
     ensures { IfOk result (λ text. text.items ≡ place_word sources.now.entries place.now) }
 {
@@ -85,7 +85,7 @@ fn place_word(alloc: Global, sources: &SourcePlaces, place: &Place) -> Result<Ve
     Ok(text)
 }
 
-/// The first so many bytes, or all where there are fewer.
+/// The first `count` bytes, or all where there are fewer.
 fn front(bytes: &[Option<u8>], count: usize) -> &[Option<u8>]
     ensures { result.now ≡ take count bytes.now }
 {
@@ -177,7 +177,7 @@ fn command_lines(
     Ok(text)
 }
 
-/// The lines that tell where the program was.
+/// The lines that say where the program was.
 fn where_lines(
     alloc: Global,
     sources: &SourcePlaces,
@@ -307,7 +307,7 @@ fn last_of(abends: &LastAbends, name: Name4) -> Option<LastAbend>
 }
 
 /// Looks at a terminal's last abend; NONE where it has had none, or there is no such terminal. A place in a program that a source
-/// defined is told with the line of the statement whose bytes hold it.
+/// defined is shown with the line of the statement whose bytes hold it.
 ///
 /// An error comes only where memory for the text was refused.
 #[tactic(auto, unfolding(crate::specs::Texts::abend_text))]

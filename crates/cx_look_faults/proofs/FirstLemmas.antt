@@ -1,29 +1,27 @@
 -- The first of all faults is what a source is refused for.
-use Rattle.std.proofs.Common.{◌≡◌, ◌≢◌, ℕ, Bool, false, Option, Some, None, List, [], ◌∷◌, map, slice_get, Result, Ok, Err, refl, sym, ◌∙◌, ap, subst}
+use Rattle.std.proofs.Common.{◌≡◌, ◌≢◌, ℕ, Bool, false, Option, Some, None, List, [], ◌∷◌, map, slice_get, Result, Ok, Err, refl, sym, ◌∙◌, ap}
 use Rattle.std.specs.Prelude.{option_map}
 use Rattle.std.specs.List.{cons_option}
 use Rattle.std.specs.Option.{option_map_or}
 use Rattle.std.specs.Result.{result_err}
-use Rattle.cx_asm.specs.AllFaults.{assembly_faults}
-use Rattle.cx_asm.specs.Assembly.{AssemblyParts, assembly_of, fault_at}
+use Rattle.cx_asm.specs.Assembly.{AssemblyParts, assembly_faults, assembly_of, fault_at}
 use Rattle.cx_asm.specs.Facts.AllFaults as assembly
 use Rattle.cx_asm.specs.declared.faults.AsmFault.{AsmFault}
-use Rattle.cx_places.specs.declared.place.LineFault.{LineFault}
-use Rattle.cx_source.specs.Faults.{first_fault, line_faults, source_from, source_in, source_or_faults, unless_faulty}
+use Rattle.cx_asm_pass1.specs.declared.place.LineFault.{LineFault}
+use Rattle.cx_source.specs.Faults.{line_faults, source_from, source_in, source_or_faults, unless_faulty}
 use Rattle.cx_source.specs.Facts.AllFaults as lines
 use Rattle.cx_source.specs.Lines.{text_of}
 use Rattle.cx_source.specs.Statements.{up_to_end}
 use Rattle.cx_source.specs.declared.source.Source.{Source}
 use Rattle.cx_source.specs.declared.source.SourceFault.{SourceFault}
-use Rattle.cx_translate.specs.Facts.AllFaults as statements
 use Rattle.cx_translate.specs.Translation as translation
 use Rattle.cx_translate.specs.declared.faults.TransFault.{TransFault}
-use Rattle.cx_prepare.specs.Facts.Faults.{prepared_not_memory}
-use Rattle.cx_prepare.specs.Kinds.{of_assembly, of_source, of_translation}
-use Rattle.cx_prepare.specs.Prepared as prepared
-use Rattle.cx_prepare.specs.declared.faults.PrepareFault.{PrepareFault}
-use Rattle.cx_prepare.specs.declared.faults.PrepareFault.TheVariants.{At, Memory}
-use Rattle.cx_prepare.specs.declared.program.Prepared.{Prepared}
+use Rattle.cx_asm_build.specs.Facts.Faults.{prepared_not_memory}
+use Rattle.cx_asm_build.specs.Kinds.{of_assembly, of_source, of_translation}
+use Rattle.cx_asm_build.specs.Prepared as prepared
+use Rattle.cx_asm_build.specs.declared.faults.PrepareFault.{PrepareFault}
+use Rattle.cx_asm_build.specs.declared.faults.PrepareFault.TheVariants.{At, Memory}
+use Rattle.cx_asm_build.specs.declared.program.Prepared.{Prepared}
 use Rattle.cx_look_faults.specs.Faults.{by_source, by_translation, faults_of, faulty_line, faulty_lines}
 use Rattle.cx_look_faults.specs.Laws.First.{fault_of}
 use Rattle.cx_look_faults.specs.declared.faults.FaultyLine.{FaultyLine}
@@ -31,7 +29,7 @@ use Rattle.cx_look_faults.specs.declared.faults.FaultyLine.{FaultyLine}
 abbrev Tells : Result Prepared PrepareFault → List FaultyLine → Type 0
 Tells due faulty = result_err due ≡ option_map fault_of (slice_get faulty 0)
 
--- a fault that isn't want of memory is of a line
+-- a fault other than Memory is of a line
 first_line : (fault : PrepareFault) (rest : List FaultyLine) → fault ≢ Memory → Some fault ≡ option_map fault_of (slice_get (cons_option (faulty_line fault) rest) 0)
 first_line (At line kind) rest h = refl
 first_line Memory rest h = absurd (h refl)
@@ -65,14 +63,10 @@ translated listing disassembly source (Some first) (f ∷ more) e h =
 
 by_translation_told : (listing disassembly : Bool) (source : Source) → prepared.by_translation listing disassembly (translation.translation_of source) ≢ Err Memory
     → Tells (prepared.by_translation listing disassembly (translation.translation_of source)) (by_translation (translation.translation_or_faults source))
-unfolding translation.translation_or_faults
+unfolding translation.translation_of translation.translation_or_faults
 by_translation_told listing disassembly source h =
-    subst (λ (due : Result Source TransFault). prepared.by_translation listing disassembly due ≢ Err Memory
-    → Tells (prepared.by_translation listing disassembly due) (by_translation (unless_faulty (translation.statement_faults source.items) (translation.made_source source))))
-    (sym (statements.translation_is source))
-    (translated listing disassembly (translation.made_source source) (translation.first_fault source.items) (translation.statement_faults source.items)
-    (statements.first_of_faults source.items))
-    h
+    translated listing disassembly (translation.made_source source) (slice_get (translation.statement_faults source.items) 0)
+    (translation.statement_faults source.items) refl h
 
 -- ---- the lines
 read : (listing disassembly : Bool) (source : Source) (first : Option SourceFault) (faults : List SourceFault) → slice_get faults 0 ≡ first
@@ -89,5 +83,5 @@ read listing disassembly source (Some first) (f ∷ more) e h =
 pub first_is_told : (listing disassembly : Bool) (all : List (List ℕ)) → result_err (prepared.prepared_of listing disassembly all) ≡ option_map fault_of (slice_get (faults_of all) 0)
 unfolding prepared.prepared_of source_in faults_of source_or_faults
 first_is_told listing disassembly all =
-    read listing disassembly (source_from (up_to_end false (map text_of all))) (first_fault false 1 all) (line_faults false 1 all)
-    (lines.first_of_faults false 1 all) (prepared_not_memory listing disassembly all)
+    read listing disassembly (source_from (up_to_end false (map text_of all))) (slice_get (line_faults false 1 all) 0) (line_faults false 1 all)
+    refl (prepared_not_memory listing disassembly all)

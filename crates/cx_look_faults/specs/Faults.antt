@@ -1,19 +1,18 @@
 -- The faulty lines of a source: those of the first stage that finds any, of its lines, its translation and its assembly (own).
 use Rattle.std.specs.Prelude.{ℕ, Option, Some, None, Result, Ok, Err, List}
 use Rattle.std.specs.List.{filter_map}
-use Rattle.cx_asm.specs.AllFaults.{assembly_faults}
-use Rattle.cx_asm.specs.Assembly.{fault_at}
+use Rattle.cx_asm.specs.Assembly.{assembly_faults, fault_at}
 use Rattle.cx_source.specs.Faults.{source_or_faults}
 use Rattle.cx_source.specs.declared.source.Source.{Source}
 use Rattle.cx_source.specs.declared.source.SourceFault.{SourceFault}
 use Rattle.cx_translate.specs.Translation.{translation_or_faults}
 use Rattle.cx_translate.specs.declared.faults.TransFault.{TransFault}
-use Rattle.cx_prepare.specs.Kinds.{of_assembly, of_source, of_translation}
-use Rattle.cx_prepare.specs.declared.faults.PrepareFault.{PrepareFault}
-use Rattle.cx_prepare.specs.declared.faults.PrepareFault.TheVariants.{At, Memory}
+use Rattle.cx_asm_build.specs.Kinds.{of_assembly, of_source, of_translation}
+use Rattle.cx_asm_build.specs.declared.faults.PrepareFault.{PrepareFault}
+use Rattle.cx_asm_build.specs.declared.faults.PrepareFault.TheVariants.{At, Memory}
 use Rattle.cx_look_faults.specs.declared.faults.FaultyLine.{FaultyLine}
 
--- the line that a fault is of; want of memory is of none
+-- the line that a fault is of; Memory is of none
 abbrev pub faulty_line : PrepareFault → Option FaultyLine
 faulty_line (At line kind) = Some (record { line = line; kind = kind })
 faulty_line Memory = None

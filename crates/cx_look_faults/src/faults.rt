@@ -2,15 +2,14 @@
 
 ghost use Rattle.std.specs.Prelude.{◌≡◌, ◌++◌, IfOk, OnOk};
 ghost use Rattle.std.specs.Option.{option_to_list};
-ghost use Rattle.cx_asm.specs.AllFaults.{assembly_faults};
-ghost use Rattle.cx_asm.specs.Assembly.{fault_at};
-ghost use Rattle.cx_prepare.specs.Kinds.{of_assembly, of_source, of_translation};
+ghost use Rattle.cx_asm.specs.Assembly.{assembly_faults, fault_at};
+ghost use Rattle.cx_asm_build.specs.Kinds.{of_assembly, of_source, of_translation};
 ghost use Rattle.cx_translate.specs.Translation.{translation_or_faults};
 ghost use Rattle.cx_look_faults.specs.Faults.{by_translation, faults_of, faulty_line, faulty_lines};
 
 use cx_asm::{assembly_faults, fault_at};
-use cx_places::LineFault;
-use cx_prepare::{PrepareFault, SourceKind};
+use cx_asm_build::{PrepareFault, SourceKind};
+use cx_asm_pass1::LineFault;
 use cx_source::{Source, SourceFault, Text, source_or_faults};
 use cx_translate::{TransFault, translate_or_faults};
 use std::alloc::{AllocError, Global};
@@ -86,8 +85,8 @@ fn lines_of(alloc: Global, source: Source) -> Result<Vec<FaultyLine>, AllocError
 /// They are those of the first of these stages that finds any: of the lines themselves, of the EXEC statements, of the
 /// assembler's first pass, of its second pass, and of the size of the text (TooLarge, at END's line alone). A stage goes on
 /// after a fault: the next line continues a statement where a faulty line's column 72 says so, and a faulty statement of the
-/// first pass defines and takes what is told of it in spite of its fault. The first of the lines is the one that
-/// `cx_prepare::prepare` refuses the source for. An error comes only where a growth was refused.
+/// first pass defines and takes what is known of it in spite of its fault. The first of the lines is the one that
+/// `cx_asm_build::prepare` refuses the source for. An error comes only where an allocation failed.
 #[tactic(auto, unfolding(crate::specs::Faults::faults_of))]
 pub fn faults_of(alloc: Global, lines: &[Text]) -> Result<Vec<FaultyLine>, AllocError>
     ensures { IfOk result (λ all. all.items ≡ faults_of lines.now) }

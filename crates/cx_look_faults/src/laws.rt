@@ -2,7 +2,7 @@
 
 ghost use Rattle.std.specs.Prelude.{◌≡◌, ℕ, List, Bool, option_map, slice_get};
 ghost use Rattle.std.specs.Result.{result_err};
-ghost use Rattle.cx_prepare.specs.Prepared.{prepared_of};
+ghost use Rattle.cx_asm_build.specs.Prepared.{prepared_of};
 ghost use Rattle.cx_look_faults.specs.Faults.{faults_of};
 ghost use Rattle.cx_look_faults.specs.Laws.First.{fault_of};
 

@@ -32,7 +32,7 @@ next_start (h ∷ hs) from area sound e = elim (cases_Bool (nat_le from h.area.s
   | inr high ↦ next_start hs from area (IsSound-tail h hs sound) (rw high at e)
 ]
 
--- it is the first of those that are left, and the others start behind it
+-- it is the first of those that are left, and the others start after it
 pub next_left : (s : Storage) (from : ℕ) (area : Area) → IsSound s → next_area s from ≡ Some area → areas_from s from ≡ area ∷ areas_from s (area.start + 1)
 unfolding next_area
 next_left [] from area sound e = absurd (none-some area e)
@@ -58,12 +58,12 @@ none_left (h ∷ hs) from e = elim (cases_Bool (nat_le from h.area.start)) [
   | inr high ↦ rw high (none_left hs from (rw high at e))
 ]
 
--- one more area is told
+-- one more area is reported
 pub one_more : (s : Storage) (from : ℕ) (area : Area) (before after all : List Area) → IsSound s → next_area s from ≡ Some area → after ≡ before ++ area ∷ []
     → before ++ areas_from s from ≡ all → after ++ areas_from s (area.start + 1) ≡ all
 one_more s from area before after all sound e added left =
     rw added (append_assoc before (area ∷ []) (areas_from s (area.start + 1)) ∙ ap (λ rest. before ++ rest) (sym (next_left s from area sound e)) ∙ left)
 
--- all are told
+-- all are reported
 pub all_told : (s : Storage) (from : ℕ) (before all : List Area) → next_area s from ≡ None → before ++ areas_from s from ≡ all → before ≡ all
 all_told s from before all e left = sym (append-nil before) ∙ ap (λ rest. before ++ rest) (sym (none_left s from e)) ∙ left

@@ -1,7 +1,7 @@
 -- Which areas have bytes from an address on.
 use Rattle.std.proofs.Common.{◌≡◌, ℕ, ◌<◌, ◌≤◌, ◌^◌, ◌⊎◌, inl, inr, true, arith}
 use Rattle.std.proofs.lemmas.Bool.{or_cases, or_left, or_right, ltb-true, lt-ltb}
-use Rattle.cx_storage.specs.Address.{along, distance}
+use Rattle.cx_storage.specs.Address.{address_after, distance}
 use Rattle.cx_storage.specs.Facts.Sound.{covers_cases, covers_from}
 use Rattle.cx_storage.specs.Storage.{end_of}
 use Rattle.cx_storage.specs.declared.areas.Area.{Area}
@@ -9,14 +9,14 @@ use Rattle.cx_look_storage.specs.Laws.{HasByte}
 use Rattle.cx_look_storage.specs.Uses.{is_met}
 
 -- an address is at its distance from another
-back : (a x : ℕ) → a < 2 ^ 24 → x < 2 ^ 24 → along a (distance a x) ≡ x
+back : (a x : ℕ) → a < 2 ^ 24 → x < 2 ^ 24 → address_after a (distance a x) ≡ x
 back a x la lx = omega arith
 
--- and what is so many bytes behind is no nearer than at its distance
-near : (a k : ℕ) → a < 2 ^ 24 → distance a (along a k) ≤ k
+-- and what is k bytes past it is no farther than k
+near : (a k : ℕ) → a < 2 ^ 24 → distance a (address_after a k) ≤ k
 near a k la = omega arith
 
-here : (a : ℕ) → a < 2 ^ 24 → along a 0 ≡ a
+here : (a : ℕ) → a < 2 ^ 24 → address_after a 0 ≡ a
 here a la = omega arith
 
 -- from an address that an area doesn't have, its start comes before its other bytes
@@ -37,9 +37,9 @@ to_byte address n area la some nonempty below met = elim (or_cases _ _ met) [
 from_byte : (address n : ℕ) (area : Area) → address < 2 ^ 24 → end_of area ≤ 2 ^ 24 → HasByte address n area → is_met address n area ≡ true
 from_byte address n area la below has = elim (covers_cases area address) [
   | inl c ↦ or_left _ _ c.0
-  | inr c ↦ elim (covers_cases area (along address has.k)) [
+  | inr c ↦ elim (covers_cases area (address_after address has.k)) [
     | inl d ↦
-        let closer = first address area.start (end_of area) (along address has.k) la below d.1 d.2 c.1 in
+        let closer = first address area.start (end_of area) (address_after address has.k) la below d.1 d.2 c.1 in
         let within = near address has.k la in
         or_right _ _ (lt-ltb (distance address area.start) n (omega (arith, closer, within, has.among)))
     | inr d ↦ absurd (cc (d.0, has.covered))

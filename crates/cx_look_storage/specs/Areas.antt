@@ -3,7 +3,7 @@ use Rattle.std.specs.Prelude.{ℕ, Bool, ◌==◌, Option, Some, None, List, [],
 use Rattle.std.specs.List.{filter, flat_map}
 use Rattle.cx_storage.specs.Storage.{Storage, areas_of}
 use Rattle.cx_storage.specs.declared.areas.Area.{Area}
-use Rattle.cx_text.specs.Texts.{shown_name}
+use Rattle.cx_base_text.specs.Texts.{shown_name}
 use Rattle.cx_region.specs.State.{RegionState, TerminalState}
 use Rattle.cx_region.specs.Tables.{terminal_of}
 use Rattle.cx_look_words.specs.Words.{look_line}

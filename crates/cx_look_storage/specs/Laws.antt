@@ -1,6 +1,6 @@
 -- What the laws of looks at storage state.
 use Rattle.std.specs.Prelude.{◌≡◌, ℕ, ◌^◌, ◌<◌, ◌≤◌, ◌↔◌, true}
-use Rattle.cx_storage.specs.Address.{along}
+use Rattle.cx_storage.specs.Address.{address_after}
 use Rattle.cx_storage.specs.Storage.{covers, end_of}
 use Rattle.cx_storage.specs.declared.areas.Area.{Area}
 use Rattle.cx_look_storage.specs.Uses.{is_met}
@@ -9,7 +9,7 @@ use Rattle.cx_look_storage.specs.Uses.{is_met}
 pub record HasByte (address n : ℕ) (area : Area) : Type 0 where
   pub k : ℕ
   pub among : k < n
-  pub covered : covers area (along address k) ≡ true
+  pub covered : covers area (address_after address k) ≡ true
 
 abbrev pub MeetsItsBytes : Type 0
 MeetsItsBytes = (address n : ℕ) (area : Area) → address < 2 ^ 24 → 0 < n → 0 < area.len → end_of area ≤ 2 ^ 24

@@ -3,8 +3,8 @@ use Rattle.std.specs.Prelude.{ℕ, ◌+◌, ◌-◌, Bool, ◌||◌, nat_lt, ◌
 use Rattle.std.specs.Fmt.{decimal}
 use Rattle.std.specs.List.{find}
 use Rattle.std.specs.Option.{option_and_then}
-use Rattle.cx_text.specs.Digits.{digits}
-use Rattle.cx_text.specs.Texts.{shown_name}
+use Rattle.cx_base_text.specs.Digits.{digits}
+use Rattle.cx_base_text.specs.Texts.{shown_name}
 use Rattle.cx_storage.specs.Address.{distance}
 use Rattle.cx_storage.specs.Storage.{covers}
 use Rattle.cx_storage.specs.declared.areas.Area.{Area}
@@ -13,7 +13,7 @@ use Rattle.cx_storage.specs.declared.areas.Kind.TheVariants as kind
 use Rattle.cx_load.specs.declared.program.Loaded.{Loaded}
 use Rattle.cx_program.specs.declared.level.Level.{Level}
 use Rattle.cx_program.specs.Levels.{Levels, all_levels}
-use Rattle.cx_state.specs.State.{TaskState}
+use Rattle.cx_region_state.specs.State.{TaskState}
 use Rattle.cx_region.specs.State.{RegionState, TerminalState}
 use Rattle.cx_look_words.specs.Terminals.{terminal_at}
 use Rattle.cx_look_words.specs.Words.{look_line}
@@ -46,7 +46,7 @@ abbrev pub stg_use : Option ℕ → List ℕ
 stg_use None = codes "OTHER"
 stg_use (Some n) = codes "DFHEISTG " ++ decimal n
 
--- an area that a task was given unasked: its EIB, a level's DFHEISTG, or another
+-- an area that a task was given unasked: its EIB, a level's DFHEISTG, or any other
 abbrev pub task_use : ℕ → Option TaskState → List ℕ
 task_use start None = codes "OTHER"
 task_use start (Some task) = if task.eib == start then codes "EIB" else stg_use (stg_at task.levels start)

@@ -7,12 +7,12 @@ ghost use Rattle.cx_look_storage.specs.Areas.{areas_text, is_of, lines_or, owned
 ghost use Rattle.cx_look_storage.specs.Uses.{area_line};
 
 use crate::uses::area_line;
+use cx_base_text::shown_name;
 use cx_ebcdic::Name4;
 use cx_look_words::look_line;
 use cx_region::Region;
 use cx_storage::laws::store_is_sound;
 use cx_storage::{Area, Store};
-use cx_text::shown_name;
 use std::alloc::{AllocError, Global};
 
 /// All areas, the one at the lowest address first.
@@ -47,7 +47,11 @@ fn task_areas<S: Store + Drop>(
     ensures { IfOk result (λ areas. areas.items ≡ owned_by region.now.storage (terminal_of region.now name)) }
 {
     match region.terminals().get(&name) {
-        Some(terminal) => areas_at(alloc, &region.shared().store, terminal.station().slot),
+        Some(terminal) => areas_at(
+            alloc,
+            &region.shared().store,
+            terminal.terminal_entry().slot,
+        ),
         None => Ok(Vec::new(alloc)),
     }
 }

@@ -1,24 +1,24 @@
 //! STORAGE.
 ghost use Rattle.std.specs.Prelude.{◌≡◌, ◌-◌, ◌*◌, ◌<◌, ◌^◌, ◌++◌, IfOk, OnOk};
 ghost use Rattle.std.specs.List.{filter, flat_map};
-ghost use Rattle.cx_storage.specs.Address.{along};
+ghost use Rattle.cx_storage.specs.Address.{address_after};
 ghost use Rattle.cx_storage.specs.Storage.{areas_of};
 ghost use Rattle.cx_look_storage.specs.Bytes.{row_line, rows_text, storage_text};
 ghost use Rattle.cx_look_storage.specs.Uses.{is_met, met_line};
 
 use crate::areas::all_areas;
 use crate::uses::{is_met, met_line};
-use cx_display::{character_group, hex_group};
+use cx_base_text::{hexadecimal, in_columns};
+use cx_edf_display::{character_group, hex_group};
 use cx_look_words::look_line;
 use cx_region::Region;
 use cx_storage::{Area, Store, along};
-use cx_text::{hexadecimal, in_columns};
 use std::alloc::{AllocError, Global};
 
 /// The bytes of a row.
 const ROW: u32 = 16;
 
-/// The line of a row of so many bytes, of which it shows the first sixteen.
+/// The line of a row of `count` bytes, of which it shows the first sixteen.
 #[tactic(auto, unfolding(crate::specs::Bytes::row_line))]
 fn row_line<S: Store + Drop>(
     alloc: Global,
@@ -41,7 +41,7 @@ fn row_line<S: Store + Drop>(
     look_line(alloc, &[&place, b"", &a, &b, &c, &d, b"", &characters])
 }
 
-/// Adds the rows of so many bytes from an address on.
+/// Adds the rows of `n` bytes from an address on.
 fn push_rows<S: Store + Drop>(
     alloc: Global,
     text: &mut Vec<u8>,
@@ -75,7 +75,7 @@ fn push_met<S: Store + Drop>(
     Ok(())
 }
 
-/// The areas that have one of so many bytes from an address on.
+/// The areas that have one of `n` bytes from an address on.
 fn met_areas<S: Store>(
     alloc: Global,
     store: &S,
@@ -89,8 +89,8 @@ fn met_areas<S: Store>(
     Ok(areas)
 }
 
-/// Looks at so many bytes of storage from an address on: sixteen a line, with hyphens for one that is in no area, and
-/// a line for each area that has one of them, the one at the lowest address first. Behind X'FFFFFF' they go on at
+/// Looks at `n` bytes of storage from an address on: sixteen in each line, with hyphens for one that is in no area,
+/// and a line for each area that has one of them, the one at the lowest address first. After X'FFFFFF' they go on at
 /// address 0.
 ///
 /// An error comes only where memory for the text was refused.

@@ -2,9 +2,9 @@
 ghost use Rattle.std.specs.Prelude.{◌≡◌, IfOk};
 ghost use Rattle.cx_look_storage.specs.Places.{is_in, offset_in, place_word, program_with};
 
+use cx_base_text::{hexadecimal, shown_name};
 use cx_ebcdic::Name8;
 use cx_load::Loaded;
-use cx_text::{hexadecimal, shown_name};
 use indexmap::IndexMap;
 use std::alloc::{AllocError, Global};
 

@@ -4,13 +4,13 @@ ghost use Rattle.std.specs.Option.{option_copied, option_map};
 ghost use Rattle.cx_storage.specs.Storage.{covers};
 ghost use Rattle.cx_look_storage.specs.Uses.{area_line, area_owner, area_use, fixed_use, is_met, met_line, offset_of, program_at, stg_at, stg_use, task_use, use_of};
 
+use cx_base_text::{hexadecimal, shown_name};
 use cx_ebcdic::{Name4, Name8};
 use cx_load::Loaded;
 use cx_look_words::{look_line, terminal_at};
 use cx_program::LevelStack;
 use cx_region::{Region, Task, Terminal};
 use cx_storage::{Area, Kind, Store, along};
-use cx_text::{hexadecimal, shown_name};
 use indexmap::IndexMap;
 use std::alloc::{AllocError, Global};
 
@@ -21,7 +21,7 @@ fn covers(area: Area, address: u32) -> bool
     area.start <= address && address - area.start < area.len
 }
 
-/// The offset in an area of the first byte that it has from an address on: 0 where it starts behind the address.
+/// The offset in an area of the first byte that it has from an address on: 0 where it starts after the address.
 fn offset_of(address: u32, area: Area) -> u32
     ensures { result ≡ offset_of address area }
 {
@@ -32,7 +32,7 @@ fn offset_of(address: u32, area: Area) -> u32
     }
 }
 
-/// Whether an area has one of so many bytes from an address on.
+/// Whether an area has one of `n` bytes from an address on.
 pub(crate) fn is_met(address: u32, n: u32, area: Area) -> bool
     ensures { result ≡ is_met address n area }
 {

@@ -2,8 +2,8 @@
 use Rattle.std.specs.Prelude.{ℕ, zero, suc, ◌+◌, ◌*◌, ◌/◌, List, [], ◌∷◌, ◌++◌, length, take, drop, codes, Option, Some, None}
 use Rattle.std.specs.Fmt.{decimal}
 use Rattle.std.specs.List.{flat_map}
-use Rattle.cx_text.specs.Digits.{digits, spelled}
-use Rattle.cx_text.specs.Texts.{in_columns, joined, shown}
+use Rattle.cx_base_text.specs.Digits.{digits, hex_digits}
+use Rattle.cx_base_text.specs.Texts.{in_columns, join, shown_text}
 use Rattle.cx_service.specs.Queues.{Queue, Queues, item_of, queue_of, size_of}
 use Rattle.cx_look_words.specs.Words.{in_apostrophes, look_line, none_line, written_name}
 
@@ -22,7 +22,7 @@ queues_text (queue ∷ queues) = flat_map queue_line (queue ∷ queues)
 -- an item: its number, its length, and its first 64 bytes in characters
 abbrev pub item_line : ℕ → List ℕ → List ℕ
 item_line n item =
-    look_line (codes "ITEM" ∷ decimal n ∷ codes "LENGTH" ∷ decimal (length item) ∷ in_apostrophes (shown (take 64 item)) ∷ [])
+    look_line (codes "ITEM" ∷ decimal n ∷ codes "LENGTH" ∷ decimal (length item) ∷ in_apostrophes (shown_text (take 64 item)) ∷ [])
 
 abbrev pub items_text : ℕ → List (List ℕ) → List ℕ
 items_text n [] = []
@@ -39,12 +39,12 @@ queue_text queues name = queue_found name (queue_of queues name)
 -- up to sixteen bytes in hexadecimal digits, in groups of four
 unfoldable pub hex_column : List ℕ → List ℕ
 hex_column row =
-    in_columns 35 (joined (spelled (take 4 (drop 0 row)) ∷ codes " " ∷ spelled (take 4 (drop 4 row)) ∷ codes " " ∷ spelled (take 4 (drop 8 row))
-    ∷ codes " " ∷ spelled (take 4 (drop 12 row)) ∷ []))
+    in_columns 35 (join (hex_digits (take 4 (drop 0 row)) ∷ codes " " ∷ hex_digits (take 4 (drop 4 row)) ∷ codes " " ∷ hex_digits (take 4 (drop 8 row))
+    ∷ codes " " ∷ hex_digits (take 4 (drop 12 row)) ∷ []))
 
 -- a row of sixteen bytes, of which the last one may have fewer: its offset, its bytes in digits, and in characters
 abbrev pub row_line : ℕ → List ℕ → List ℕ
-row_line offset row = look_line (digits 16 4 offset ∷ hex_column row ∷ in_apostrophes (shown row) ∷ [])
+row_line offset row = look_line (digits 16 4 offset ∷ hex_column row ∷ in_apostrophes (shown_text row) ∷ [])
 
 abbrev pub row_of : ℕ → List ℕ → List ℕ
 row_of k bytes = row_line (16 * k) (take 16 (drop (16 * k) bytes))

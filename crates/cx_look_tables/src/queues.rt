@@ -3,15 +3,15 @@ ghost use Rattle.std.specs.Prelude.{◌≡◌, ◌+◌, ◌<◌, ◌≤◌, ◌^
 ghost use Rattle.std.specs.Fmt.{decimal};
 ghost use Rattle.std.specs.List.{flat_map};
 ghost use Rattle.std.specs.Option.{option_copied, option_map};
-ghost use Rattle.cx_service.specs.Queues.{AreSoundQueues, item_of, numbered, size_of};
+ghost use Rattle.cx_service.specs.Queues.{AreSoundQueues, item_of, item_numbered, size_of};
 ghost use Rattle.cx_look_tables.specs.Queues.{item_found, item_line, items_text, item_text, queue_found, queue_line, queue_text, queues_text, rows_text};
 ghost use Rattle.cx_look_words.specs.Words.{look_line};
 
 use crate::rows::{front, push_rows};
+use cx_base_text::shown;
 use cx_ebcdic::Name8;
 use cx_look_words::{decimal, in_apostrophes, look_line, written_name};
 use cx_service::{Queue, Queues};
-use cx_text::shown;
 use indexmap::IndexMap;
 use std::alloc::{AllocError, Global};
 
@@ -48,7 +48,7 @@ fn item_line(alloc: Global, n: usize, item: &[u8]) -> Result<Vec<u8>, AllocError
 
 /// Adds the line of a queue's item number n, counted from 1, where it is there.
 fn push_item(alloc: Global, text: &mut Vec<u8>, queue: &Queue, n: usize) -> Result<(), AllocError>
-    ensures { let more = unwrap_or (option_map (item_line n) (numbered n queue.now)) [] in
+    ensures { let more = unwrap_or (option_map (item_line n) (item_numbered n queue.now)) [] in
         OnOk result (text.new.items ≡ text.old.items ++ more) }
 {
     let Some(item) = queue.item(n) else {

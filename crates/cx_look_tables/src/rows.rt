@@ -1,10 +1,10 @@
 //! Bytes in rows of sixteen.
 ghost use Rattle.std.specs.Prelude.{◌≡◌, ◌*◌, ◌<◌, ◌≤◌, ◌^◌, ◌++◌, IfOk, OnOk, drop, length, take};
-ghost use Rattle.cx_text.specs.Digits.{spelled};
+ghost use Rattle.cx_base_text.specs.Digits.{hex_digits};
 ghost use Rattle.cx_look_tables.specs.Queues.{hex_column, row_line, row_of, rows_text};
 
+use cx_base_text::{hexadecimal, in_columns, shown};
 use cx_look_words::{in_apostrophes, look_line, spelled};
-use cx_text::{hexadecimal, in_columns, shown};
 use std::alloc::{AllocError, Global};
 
 /// The bytes of a row.
@@ -20,7 +20,7 @@ fn behind(bytes: &[u8], place: usize) -> &[u8]
     bytes.split_at(place.min(bytes.len())).1
 }
 
-/// The first so many bytes, or all where there are fewer.
+/// The first `count` bytes, or all where there are fewer.
 pub(crate) fn front(bytes: &[u8], count: usize) -> &[u8]
     ensures { result.now ≡ take count bytes.now }
 {
@@ -29,7 +29,7 @@ pub(crate) fn front(bytes: &[u8], count: usize) -> &[u8]
 
 /// The group of four bytes at a place of a row, as far as it has them, in hexadecimal digits.
 fn group(alloc: Global, row: &[u8], place: usize) -> Result<Vec<u8>, AllocError>
-    ensures { IfOk result (λ text. text.items ≡ spelled (take 4 (drop place row.now))) }
+    ensures { IfOk result (λ text. text.items ≡ hex_digits (take 4 (drop place row.now))) }
 {
     spelled(alloc, front(behind(row, place), GROUP))
 }

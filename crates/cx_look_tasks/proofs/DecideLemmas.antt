@@ -1,4 +1,4 @@
--- The texts of TASKS and of RESOURCES are told in one way.
+-- The texts of TASKS and of RESOURCES are determined.
 use Rattle.std.proofs.Common.{◌≡◌, ℕ, List, [], ◌∷◌, codes, refl, sym, ap, ◌∙◌}
 use Rattle.std.specs.List.{flat_map}
 use Rattle.cx_region.specs.State.{RegionState, TerminalState}

@@ -1,10 +1,10 @@
--- Who is told as waiting, and that each text is one.
+-- Who is reported as waiting, and that each text is one.
 use Rattle.std.specs.Prelude.{◌≡◌, ℕ, Bool, true, false, List, Some}
-use Rattle.cx_state.specs.declared.replies.TurnReply.{TurnReply}
-use Rattle.cx_state.specs.declared.replies.TurnReply.TheVariants as turn
+use Rattle.cx_region_state.specs.declared.replies.TurnReply.{TurnReply}
+use Rattle.cx_region_state.specs.declared.replies.TurnReply.TheVariants as turn
 use Rattle.cx_region.specs.State.{RegionState, TerminalState}
 use Rattle.cx_region.specs.Tables.{terminal_of}
-use Rattle.cx_region.specs.Turn.{Turned}
+use Rattle.cx_region.specs.Turn.{TakesTurn}
 use Rattle.cx_look_tasks.specs.Activities.{IsActivity, is_waiting}
 use Rattle.cx_look_tasks.specs.Tasks.{ResourcesText, TasksText}
 use Rattle.cx_look_tasks.specs.declared.activities.Activity.{Activity}
@@ -13,14 +13,14 @@ abbrev pub is_wait_reply : TurnReply → Bool
 is_wait_reply turn.Waiting = true
 is_wait_reply _ = false
 
--- a terminal is told as waiting exactly where its next turn would be answered Waiting
+-- a terminal is reported as waiting exactly where its next turn would be answered Waiting
 abbrev pub WaitsAreTold : Type 0
 WaitsAreTold = (region new : RegionState) (name : List ℕ) (terminal : TerminalState) (activity : Activity)
     (reply : TurnReply)
-    → terminal_of region name ≡ Some terminal → IsActivity region terminal activity → Turned region name reply new
+    → terminal_of region name ≡ Some terminal → IsActivity region terminal activity → TakesTurn region name reply new
     → is_wait_reply reply ≡ is_waiting activity
 
--- what a terminal's task is doing is told in one way
+-- what a terminal's task is doing is determined
 abbrev pub ActivitiesDecide : Type 0
 ActivitiesDecide = (region : RegionState) (terminal : TerminalState) (one other : Activity)
     → IsActivity region terminal one → IsActivity region terminal other → one ≡ other

@@ -2,16 +2,16 @@
 use Rattle.std.specs.Prelude.{◌≡◌, ℕ, Bool, false, ◌+◌, List, [], ◌∷◌, ◌++◌, length, codes, Option, Some, None, if◌then◌else◌}
 use Rattle.std.specs.List.{flat_map}
 use Rattle.std.specs.Option.{option_and_then, option_map_or}
-use Rattle.cx_command.specs.declared.commands.Command.{Command}
-use Rattle.cx_command.specs.Commands.{row_of}
+use Rattle.cx_base_commands.specs.declared.commands.Command.{Command}
+use Rattle.cx_base_commands.specs.Commands.{row_of}
 use Rattle.cx_service.specs.Resources.{hold_of, is_resource}
 use Rattle.cx_service.specs.declared.resources.Hold.{Hold}
 use Rattle.cx_service.specs.declared.resources.ResourceName.{ResourceName}
 use Rattle.cx_service.specs.declared.resources.ResourceName.TheVariants as resource
-use Rattle.cx_state.specs.State.{TaskState}
+use Rattle.cx_region_state.specs.State.{TaskState}
 use Rattle.cx_region.specs.State.{RegionState, TerminalState}
-use Rattle.cx_text.specs.Digits.{digits}
-use Rattle.cx_text.specs.Texts.{shown_name}
+use Rattle.cx_base_text.specs.Digits.{digits}
+use Rattle.cx_base_text.specs.Texts.{shown_name}
 use Rattle.cx_look_words.specs.Terminals.{terminal_at}
 use Rattle.cx_look_words.specs.Words.{look_line, or_none, written_bytes, written_name}
 use Rattle.cx_look_tasks.specs.Activities.{AreActivities}
@@ -20,7 +20,7 @@ use Rattle.cx_look_tasks.specs.declared.activities.Activity.TheVariants.{Due, No
 use Rattle.cx_look_tasks.specs.declared.activities.Wait.{Wait}
 use Rattle.cx_look_tasks.specs.declared.activities.Wait.TheVariants as wait
 
--- ---- names; hyphens stand where there is none
+-- ---- names; hyphens where there is none
 -- the terminal whose task is an owner
 abbrev pub owner_name : RegionState → ℕ → List ℕ
 owner_name region slot = option_map_or (λ terminal. shown_name terminal.0) (terminal_at region.terminals slot) (codes "--")

@@ -1,6 +1,6 @@
 //! What a task is doing.
 
-use cx_command::Command;
+use cx_base_commands::Command;
 use cx_ebcdic::Name8;
 use cx_service::ResourceName;
 

@@ -2,24 +2,24 @@
 
 ghost use Rattle.std.specs.Prelude.{◌≡◌, ◌≢◌, ◌&&◌, true};
 ghost use Rattle.cx_service.specs.Queues.{AreSoundQueues};
-ghost use Rattle.cx_call.specs.Inputs.{are_inputs_there};
-ghost use Rattle.cx_state.specs.State.{reach};
-ghost use Rattle.cx_state.specs.Parts.Fits.{Fits};
-ghost use Rattle.cx_rows.specs.Common.{AreSoundPrograms};
-ghost use Rattle.cx_rows.specs.Judged.{Judged};
+ghost use Rattle.cx_region_call.specs.Inputs.{are_inputs_there};
+ghost use Rattle.cx_region_state.specs.State.{context};
+ghost use Rattle.cx_region_state.specs.Parts.Fits.{Fits};
+ghost use Rattle.cx_region_commands.specs.Common.{AreSoundPrograms};
+ghost use Rattle.cx_region_commands.specs.Judged.{HasVerdict};
 ghost use Rattle.cx_region.specs.Sound.{IsSound};
 ghost use Rattle.cx_look_tasks.specs.Activities.{Acts, ActsByCall, ActsByCommand, IsActivity, activity_by, resource_waited, wait_for};
 
 use crate::activities::{Activity, Wait};
-use cx_call::{Call, Outputs, are_inputs_there, name8, read_call};
-use cx_command::{Condition, OptionName};
+use cx_base_commands::{Condition, OptionName};
 use cx_ebcdic::Name8;
 use cx_region::{Region, Terminal};
-use cx_rows::{is_wrong_length, judge, resource_named};
+use cx_region_call::{Call, Outputs, are_inputs_there, name8, read_call};
+use cx_region_commands::{is_wrong_length, judge, resource_named};
+use cx_region_state::{Shared, Task, TaskChange, TerminalEntry, Verdict};
+use cx_region_task::{continuation_at, has_room, is_wait};
 use cx_service::{Queues, ResourceName};
-use cx_state::{Change, Shared, Station, Task, Verdict};
 use cx_storage::{Store, address_in};
-use cx_task::{has_room, is_wait, way_at};
 
 /// The resource that a command names.
 fn resource_waited<S: Store>(store: &S, call: &Call) -> Option<ResourceName>
@@ -47,18 +47,18 @@ fn wait_for<S: Store>(condition: Condition, store: &S, call: &Call) -> Wait
 fn activity_met<S: Store + Drop>(
     condition: Condition,
     outputs: &Outputs,
-    change: &Change,
+    change: &TaskChange,
     call: &Call,
     shared: &Shared<S>,
-    station: &Station,
+    terminal_entry: &TerminalEntry,
     task: &Task,
 ) -> Activity
     requires { condition ≢ Condition.Error }
-    ensures { let before = reach shared.now station.now task.now in
+    ensures { let before = context shared.now terminal_entry.now task.now in
         result ≡ activity_by (Verdict.Meets condition outputs.now change.now) call.now before }
 {
-    if has_room(call, outputs, change, shared, station, task)
-        && is_wait(&way_at(call, condition, change, task))
+    if has_room(call, outputs, change, shared, terminal_entry, task)
+        && is_wait(&continuation_at(call, condition, change, task))
     {
         Activity::Waiting(wait_for(condition, &shared.store, call))
     } else {
@@ -72,44 +72,52 @@ fn activity_by<S: Store + Drop>(
     verdict: &Verdict,
     call: &Call,
     shared: &Shared<S>,
-    station: &Station,
+    terminal_entry: &TerminalEntry,
     task: &Task,
 ) -> Activity
-    requires { Fits verdict.now (reach shared.now station.now task.now) }
-    ensures { result ≡ activity_by verdict.now call.now (reach shared.now station.now task.now) }
+    requires { Fits verdict.now (context shared.now terminal_entry.now task.now) }
+    ensures { result ≡ activity_by verdict.now call.now (context shared.now terminal_entry.now task.now) }
 {
     match verdict {
         Verdict::Refuses(_abend) => Activity::Due(Some(call.command())),
         Verdict::Waits => Activity::Waiting(Wait::Input),
         Verdict::Meets(condition, outputs, change) => {
-            activity_met(*condition, outputs, change, call, shared, station, task)
+            activity_met(
+                *condition,
+                outputs,
+                change,
+                call,
+                shared,
+                terminal_entry,
+                task,
+            )
         }
     }
 }
 
 /// How a call is judged whose inputs are in storage: what the verdict says can be done.
-#[tactic(auto, using(cx_rows::specs::Facts::Fits::judged_fits))]
+#[tactic(auto, using(cx_region_commands::specs::Facts::Fits::judged_fits))]
 fn judge_fitting<S: Store + Drop>(
     call: &Call,
     shared: &Shared<S>,
-    station: &Station,
+    terminal_entry: &TerminalEntry,
     task: &Task,
 ) -> Verdict
     requires sound { AreSoundPrograms shared.now.programs }
     requires there { are_inputs_there shared.now.storage call.now ≡ true }
-    ensures judged { Judged call.now (reach shared.now station.now task.now) result }
-    ensures fits { Fits result (reach shared.now station.now task.now) }
+    ensures judged { HasVerdict call.now (context shared.now terminal_entry.now task.now) result }
+    ensures fits { Fits result (context shared.now terminal_entry.now task.now) }
 {
     call.addresses_are_below();
     queues_are_sound(&shared.queues);
-    judge(call, shared, station, task)
+    judge(call, shared, terminal_entry, task)
 }
 
 /// The queues are within their limits, as always.
 fn queues_are_sound(queues: &Queues)
     ensures { AreSoundQueues queues.now }
 {
-    // A look at them is what tells it.
+    // A look at them says so.
     queues.items(Name8::from_bytes([0; 8]));
 }
 
@@ -118,43 +126,47 @@ fn queues_are_sound(queues: &Queues)
 fn activity_of_call<S: Store + Drop>(
     call: &Call,
     shared: &Shared<S>,
-    station: &Station,
+    terminal_entry: &TerminalEntry,
     task: &Task,
 ) -> Activity
     requires { AreSoundPrograms shared.now.programs }
-    ensures { ActsByCall call.now (reach shared.now station.now task.now) result }
+    ensures { ActsByCall call.now (context shared.now terminal_entry.now task.now) result }
 {
     if !are_inputs_there(&shared.store, call) {
         return Activity::Due(Some(call.command()));
     }
-    let verdict = judge_fitting(call, shared, station, task);
-    activity_by(&verdict, call, shared, station, task)
+    let verdict = judge_fitting(call, shared, terminal_entry, task);
+    activity_by(&verdict, call, shared, terminal_entry, task)
 }
 
 /// By the command that is due.
 #[tactic(auto, unfolding(crate::specs::Activities::ActsByCommand))]
 fn activity_of_command<S: Store + Drop>(
     shared: &Shared<S>,
-    station: &Station,
+    terminal_entry: &TerminalEntry,
     task: &Task,
 ) -> Activity
     requires { AreSoundPrograms shared.now.programs }
-    ensures { ActsByCommand (reach shared.now station.now task.now) result }
+    ensures { ActsByCommand (context shared.now terminal_entry.now task.now) result }
 {
     match read_call(&shared.store, address_in(task.cpu.regs[1])) {
-        Ok(call) => activity_of_call(&call, shared, station, task),
+        Ok(call) => activity_of_call(&call, shared, terminal_entry, task),
         Err(_fault) => Activity::Due(None),
     }
 }
 
 /// What a task is doing.
 #[tactic(auto, unfolding(crate::specs::Activities::Acts))]
-fn activity_of_task<S: Store + Drop>(shared: &Shared<S>, station: &Station, task: &Task) -> Activity
+fn activity_of_task<S: Store + Drop>(
+    shared: &Shared<S>,
+    terminal_entry: &TerminalEntry,
+    task: &Task,
+) -> Activity
     requires { AreSoundPrograms shared.now.programs }
-    ensures { Acts (reach shared.now station.now task.now) result }
+    ensures { Acts (context shared.now terminal_entry.now task.now) result }
 {
     if task.due {
-        activity_of_command(shared, station, task)
+        activity_of_command(shared, terminal_entry, task)
     } else {
         Activity::Running
     }
@@ -168,7 +180,7 @@ pub fn activity<S: Store + Drop>(region: &Region<S>, terminal: &Terminal) -> Act
     ensures { IsActivity region.now terminal.now result }
 {
     match terminal.task() {
-        Some(task) => activity_of_task(region.shared(), terminal.station(), task),
+        Some(task) => activity_of_task(region.shared(), terminal.terminal_entry(), task),
         None => Activity::NoTask,
     }
 }

@@ -1,18 +1,18 @@
-//! Who is told as waiting, and that each text is one.
+//! Who is reported as waiting, and that each text is one.
 ghost use Rattle.cx_look_tasks.specs.Laws.{ActivitiesDecide, ResourcesTextsDecide, TasksTextsDecide, WaitsAreTold};
 
-/// A terminal is told as waiting exactly where its next turn would be answered Waiting.
+/// A terminal is reported as waiting exactly where its next turn would be answered Waiting.
 pub fn waits_are_told()
     ensures { WaitsAreTold }
 {
-    cx_rows::laws::a_call_is_judged_once();
+    cx_region_commands::laws::a_call_is_judged_once();
 }
 
-/// What a terminal's task is doing is told in one way.
+/// What a terminal's task is doing is determined.
 pub fn activities_decide()
     ensures { ActivitiesDecide }
 {
-    cx_rows::laws::a_call_is_judged_once();
+    cx_region_commands::laws::a_call_is_judged_once();
 }
 
 /// Each region has one text of its tasks, and one of its resources.

@@ -8,12 +8,12 @@ ghost use Rattle.cx_look_tasks.specs.Tasks.{ResourcesText, hold_line, of_each, r
 
 use crate::activities::{Activity, Wait};
 use crate::tasks::{activities_in, owner_name, resource_value};
+use cx_base_text::{decimal, shown_name};
 use cx_ebcdic::Name4;
 use cx_look_words::{look_line, or_none};
 use cx_region::Region;
 use cx_service::{Hold, ResourceName};
 use cx_storage::Store;
-use cx_text::{decimal, shown_name};
 use indexmap::IndexMap;
 use std::alloc::{AllocError, Global};
 

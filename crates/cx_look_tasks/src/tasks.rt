@@ -7,21 +7,21 @@ ghost use Rattle.cx_region.specs.State.{TerminalState};
 ghost use Rattle.cx_look_tasks.specs.Activities.{AreActivities, IsActivity};
 ghost use Rattle.cx_look_tasks.specs.Tasks.{TasksText, activity_words, command_word, of_each, owner_name, owner_of, owner_word, queue_word, resource_value, resource_word, task_line, task_words, wait_words};
 ghost use Rattle.cx_look_tasks.specs.Parts.Words.{of_one};
-ghost use Rattle.cx_look_words.specs.Words.{spaced};
+ghost use Rattle.cx_look_words.specs.Words.{with_blanks};
 
 use crate::activities::{Activity, Wait};
 use crate::judging::activity;
-use cx_command::Command;
+use cx_base_commands::Command;
+use cx_base_text::{decimal, hexadecimal, shown_name};
 use cx_ebcdic::{Name4, Name8};
 use cx_look_words::{or_none, push_words, terminal_at, written_bytes, written_name};
 use cx_region::{Region, Terminal};
+use cx_region_state::Task;
 use cx_service::{Hold, ResourceName};
-use cx_state::Task;
 use cx_storage::Store;
-use cx_text::{decimal, hexadecimal, shown_name};
 use std::alloc::{AllocError, Global};
 
-/// What stands where there is no name.
+/// What is written where there is no name.
 const ABSENT: &[u8] = b"--";
 
 /// The name of the terminal at a position.
@@ -108,7 +108,7 @@ fn push_resource<S: Store + Drop>(
     name: &Option<ResourceName>,
 ) -> Result<(), AllocError>
     ensures { let words = wait_words region.now (Wait.Resource name.now) in
-        OnOk result (text.new.items ≡ text.old.items ++ spaced words) }
+        OnOk result (text.new.items ≡ text.old.items ++ with_blanks words) }
 {
     let resource = resource_word(alloc, name)?;
     let owner = owner_word(alloc, region, name)?;
@@ -125,7 +125,7 @@ fn push_queue<S: Store + Drop>(
     region: &Region<S>,
     name: Option<Name8>,
 ) -> Result<(), AllocError>
-    ensures { OnOk result (text.new.items ≡ text.old.items ++ spaced (wait_words region.now (Wait.Room name))) }
+    ensures { OnOk result (text.new.items ≡ text.old.items ++ with_blanks (wait_words region.now (Wait.Room name))) }
 {
     let queue = queue_word(alloc, name)?;
     push_words(text, &[b"ROOM IN QUEUE", queue.as_slice()])
@@ -138,7 +138,7 @@ fn push_wait<S: Store + Drop>(
     region: &Region<S>,
     wait: &Wait,
 ) -> Result<(), AllocError>
-    ensures { OnOk result (text.new.items ≡ text.old.items ++ spaced (wait_words region.now wait.now)) }
+    ensures { OnOk result (text.new.items ≡ text.old.items ++ with_blanks (wait_words region.now wait.now)) }
 {
     match wait {
         Wait::Input => push_words(text, &[b"INPUT"]),
@@ -156,7 +156,7 @@ fn push_activity<S: Store + Drop>(
     region: &Region<S>,
     activity: &Activity,
 ) -> Result<(), AllocError>
-    ensures { OnOk result (text.new.items ≡ text.old.items ++ spaced (activity_words region.now activity.now)) }
+    ensures { OnOk result (text.new.items ≡ text.old.items ++ with_blanks (activity_words region.now activity.now)) }
 {
     match activity {
         Activity::NoTask => push_words(text, &[b"NO TASK"]),
@@ -171,7 +171,7 @@ fn push_activity<S: Store + Drop>(
 
 /// Adds a task's transaction, its number, and the number of its levels.
 fn push_task(text: &mut Vec<u8>, alloc: Global, task: Option<&Task>) -> Result<(), AllocError>
-    ensures { OnOk result (text.new.items ≡ text.old.items ++ spaced (task_words (option_copied task.entry))) }
+    ensures { OnOk result (text.new.items ≡ text.old.items ++ with_blanks (task_words (option_copied task.entry))) }
 {
     let Some(task) = task else {
         return Ok(());

@@ -4,17 +4,17 @@ use Rattle.std.specs.List.{flat_map, list_all}
 use Rattle.std.specs.Option.{option_map_or}
 use Rattle.std.specs.Str.{byte}
 use Rattle.cx_ebcdic.specs.Characters.{code_of, shown_as}
-use Rattle.cx_text.specs.Digits.{spelled}
-use Rattle.cx_text.specs.Texts.{shown, trimmed}
+use Rattle.cx_base_text.specs.Digits.{hex_digits}
+use Rattle.cx_base_text.specs.Texts.{shown_text, trim}
 
 -- ---- lines
--- words, each behind a blank
-abbrev pub spaced : List (List ℕ) → List ℕ
-spaced words = flat_map (λ word. byte " " ∷ word) words
+-- words, each after a blank
+abbrev pub with_blanks : List (List ℕ) → List ℕ
+with_blanks words = flat_map (λ word. byte " " ∷ word) words
 
--- a line of a look: its words behind `>`, and LF
+-- a line of a look: its words after `>`, and LF
 abbrev pub look_line : List (List ℕ) → List ℕ
-look_line words = codes ">" ++ spaced words ++ codes "\n"
+look_line words = codes ">" ++ with_blanks words ++ codes "\n"
 
 -- the line of a look that finds nothing
 abbrev pub none_line : List ℕ → List ℕ
@@ -24,11 +24,11 @@ abbrev pub or_none : List ℕ → List ℕ → List ℕ
 or_none word text = if length text == 0 then none_line word else text
 
 -- ---- bytes and names
--- a byte that is the code of a character: one that isn't is shown by another's
+-- a byte that is the code of a character: one that isn't is shown by the code of one that is
 abbrev pub has_character : ℕ → Bool
 has_character b = option_map_or (λ code. code == b) (code_of (shown_as b)) false
 
--- a byte that stands between apostrophes as itself
+-- a byte that is written between apostrophes as itself
 abbrev pub is_plain : ℕ → Bool
 is_plain b = has_character b && not (shown_as b == byte "'")
 
@@ -37,12 +37,12 @@ in_apostrophes text = codes "'" ++ text ++ codes "'"
 
 -- bytes in hexadecimal: X'..'
 abbrev pub in_hexadecimal : List ℕ → List ℕ
-in_hexadecimal bytes = codes "X" ++ in_apostrophes (spelled bytes)
+in_hexadecimal bytes = codes "X" ++ in_apostrophes (hex_digits bytes)
 
 -- bytes as characters between apostrophes; in hexadecimal where one of them has no character, or is an apostrophe
 unfoldable pub written_bytes : List ℕ → List ℕ
-written_bytes bytes = if list_all is_plain bytes then in_apostrophes (shown bytes) else in_hexadecimal bytes
+written_bytes bytes = if list_all is_plain bytes then in_apostrophes (shown_text bytes) else in_hexadecimal bytes
 
--- a name: as bytes, but without the blanks that fill it
+-- a name: as bytes, without the blanks that fill it
 unfoldable pub written_name : List ℕ → List ℕ
-written_name name = if list_all is_plain name then in_apostrophes (trimmed (shown name)) else in_hexadecimal name
+written_name name = if list_all is_plain name then in_apostrophes (trim (shown_text name)) else in_hexadecimal name

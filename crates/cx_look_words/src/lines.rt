@@ -2,11 +2,11 @@
 ghost use Rattle.std.specs.Prelude.{◌≡◌, ◌∷◌, ◌++◌, IfOk, OnOk, map};
 ghost use Rattle.std.specs.Fmt.{decimal};
 ghost use Rattle.std.specs.Str.{byte};
-ghost use Rattle.cx_look_words.specs.Words.{look_line, or_none, spaced};
+ghost use Rattle.cx_look_words.specs.Words.{look_line, or_none, with_blanks};
 
 use std::alloc::{AllocError, Global};
 
-/// Adds a word behind a blank.
+/// Adds a word after a blank.
 ///
 /// An error comes only where memory for it was refused; then the blank may be there.
 pub fn push_word(text: &mut Vec<u8>, word: &[u8]) -> Result<(), AllocError>
@@ -17,11 +17,11 @@ pub fn push_word(text: &mut Vec<u8>, word: &[u8]) -> Result<(), AllocError>
     Ok(())
 }
 
-/// Adds words, each behind a blank.
+/// Adds words, each after a blank.
 ///
 /// An error comes only where memory for them was refused; then some of them may be there.
 pub fn push_words(text: &mut Vec<u8>, words: &[&[u8]]) -> Result<(), AllocError>
-    ensures { OnOk result (text.new.items ≡ text.old.items ++ spaced (map (λ word. word.now) words.now)) }
+    ensures { OnOk result (text.new.items ≡ text.old.items ++ with_blanks (map (λ word. word.now) words.now)) }
 {
     for word in words {
         push_word(text, word)?;
@@ -29,7 +29,7 @@ pub fn push_words(text: &mut Vec<u8>, words: &[&[u8]]) -> Result<(), AllocError>
     Ok(())
 }
 
-/// A line of a look: `>`, the words, each behind a blank, and LF.
+/// A line of a look: `>`, the words, each after a blank, and LF.
 ///
 /// An error comes only where memory for it was refused.
 pub fn look_line(alloc: Global, words: &[&[u8]]) -> Result<Vec<u8>, AllocError>
@@ -41,7 +41,7 @@ pub fn look_line(alloc: Global, words: &[&[u8]]) -> Result<Vec<u8>, AllocError>
     Ok(text)
 }
 
-/// A text, or the line that tells that a look found nothing.
+/// A text, or the line that says that a look found nothing.
 ///
 /// An error comes only where memory for it was refused.
 pub fn or_none(alloc: Global, word: &[u8], text: Vec<u8>) -> Result<Vec<u8>, AllocError>

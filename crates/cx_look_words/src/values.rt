@@ -1,11 +1,11 @@
 //! Bytes and names as a source writes them.
 ghost use Rattle.std.specs.Prelude.{◌≡◌, ◌++◌, IfOk, OnOk};
 ghost use Rattle.std.specs.List.{list_all};
-ghost use Rattle.cx_text.specs.Digits.{spelled};
+ghost use Rattle.cx_base_text.specs.Digits.{hex_digits};
 ghost use Rattle.cx_look_words.specs.Words.{has_character, in_apostrophes, in_hexadecimal, is_plain, written_bytes, written_name};
 
+use cx_base_text::{hexadecimal, shown, trimmed};
 use cx_ebcdic::{display, to_ebcdic};
-use cx_text::{hexadecimal, shown, trimmed};
 use std::alloc::{AllocError, Global};
 
 /// Whether a byte is the code of a character.
@@ -18,14 +18,14 @@ fn has_character(byte: u8) -> bool
     }
 }
 
-/// Whether a byte stands between apostrophes as itself.
+/// Whether a byte is written between apostrophes as itself.
 fn is_plain(byte: u8) -> bool
     ensures { result ≡ is_plain byte }
 {
     has_character(byte) && display(byte) != '\''
 }
 
-/// Whether each byte stands between apostrophes as itself.
+/// Whether each byte is written between apostrophes as itself.
 fn are_plain(bytes: &[u8]) -> bool
     ensures { result ≡ list_all is_plain bytes.now }
 {
@@ -48,7 +48,7 @@ pub fn in_apostrophes(alloc: Global, text: &[u8]) -> Result<Vec<u8>, AllocError>
 ///
 /// An error comes only where memory for them was refused.
 pub fn spelled(alloc: Global, bytes: &[u8]) -> Result<Vec<u8>, AllocError>
-    ensures { IfOk result (λ text. text.items ≡ spelled bytes.now) }
+    ensures { IfOk result (λ text. text.items ≡ hex_digits bytes.now) }
 {
     let mut text = Vec::new(alloc);
     for byte in bytes {
@@ -82,7 +82,7 @@ pub fn written_bytes(alloc: Global, bytes: &[u8]) -> Result<Vec<u8>, AllocError>
     in_apostrophes(alloc, text.as_slice())
 }
 
-/// A name as bytes, but without the blanks that fill it.
+/// A name as bytes, without the blanks that fill it.
 ///
 /// An error comes only where memory for it was refused.
 #[tactic(auto, unfolding(crate::specs::Words::written_name))]

@@ -3,7 +3,7 @@ use Rattle.std.specs.Prelude.{ℕ, Bool, List, [], ◌∷◌, drop, length}
 use Rattle.std.specs.Option.{option_to_list}
 use Rattle.std.proofs.Common.{◌≡◌, ◌≤◌, refl}
 use Rattle.std.proofs.Math.ListN.{drop_of_length-le}
-use Rattle.cx_terms.specs.Names.{symbol_name}
+use Rattle.cx_asm_expressions.specs.Names.{symbol_name}
 use Rattle.cx_look_xref.specs.References.{names_from}
 
 ends_there : (run text : List ℕ) → names_from run text [] ≡ option_to_list (symbol_name run)

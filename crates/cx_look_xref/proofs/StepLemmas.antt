@@ -7,9 +7,9 @@ use Rattle.std.specs.Option.{option_map_or}
 use Rattle.std.specs.Ordering.{nat_cmp}
 use Rattle.std.specs.Str.{bytes_eq}
 use Rattle.std.proofs.lemmas.List.{drop_all, drop_more}
-use Rattle.cx_pools.specs.Pools.{literal_text}
-use Rattle.cx_terms.specs.Names.{is_same}
-use Rattle.cx_second.specs.Statements.{Stated}
+use Rattle.cx_asm_pools.specs.Pools.{literal_text}
+use Rattle.cx_asm_expressions.specs.Names.{is_same}
+use Rattle.cx_asm_pass2.specs.Statements.{PlacedStatement}
 use Rattle.cx_look_xref.specs.Literals.{uses_literal}
 use Rattle.cx_look_xref.specs.Parts.Uses.{uses_part, with_line}
 use Rattle.cx_look_xref.specs.declared.references.Reference.{Reference}
@@ -56,10 +56,10 @@ parts_done number text pool line all i old lines past so_far =
     sym (no_use (nat_eq number pool) line old) ∙ ap (λ ps. with_line (uses_part number text pool (texts ps)) line old) (sym (drop_all i all past)) ∙ so_far
 
 -- ---- statements
-abbrev lines_in : ℕ → List ℕ → List Stated → List ℕ
+abbrev lines_in : ℕ → List ℕ → List PlacedStatement → List ℕ
 lines_in number text statements = map (λ s. s.line) (filter (uses_literal number text) statements)
 
-pub statement_step : (number : ℕ) (text : List ℕ) (all : List Stated) (i : ℕ) (s d : Stated) (old new lines : List ℕ)
+pub statement_step : (number : ℕ) (text : List ℕ) (all : List PlacedStatement) (i : ℕ) (s d : PlacedStatement) (old new lines : List ℕ)
     → i < length all → s ≡ get_or all i d → new ≡ with_line (uses_literal number text s) s.line old
     → fold (insert_key nat_cmp) old (lines_in number text (drop i all)) ≡ lines
     → fold (insert_key nat_cmp) new (lines_in number text (drop (i + 1) all)) ≡ lines
@@ -68,7 +68,7 @@ statement_step number text all i s d old new lines within is put so_far =
     ∙ one_more_statement number text s (drop (i + 1) all) old
     ∙ ap (λ ss. fold (insert_key nat_cmp) old (lines_in number text ss)) (sym (next all i s d within is)) ∙ so_far
 
-pub statements_done : (number : ℕ) (text : List ℕ) (all : List Stated) (i : ℕ) (old lines : List ℕ) → length all ≤ i
+pub statements_done : (number : ℕ) (text : List ℕ) (all : List PlacedStatement) (i : ℕ) (old lines : List ℕ) → length all ≤ i
     → fold (insert_key nat_cmp) old (lines_in number text (drop i all)) ≡ lines → old ≡ lines
 statements_done number text all i old lines past so_far =
     ap (λ ss. fold (insert_key nat_cmp) old (lines_in number text ss)) (sym (drop_all i all past)) ∙ so_far

@@ -1,19 +1,19 @@
--- What places tell is what the whole source tells.
+-- What is known from places is what is known from the whole source.
 use Rattle.std.proofs.Common.{◌≡◌, ℕ, Option, Some, None, List, option_map, refl, ◌∙◌, ap}
 use Rattle.std.proofs.Math.Path.{fun_ext}
 use Rattle.cx_source.specs.declared.source.Source.{Source}
-use Rattle.cx_terms.specs.declared.values.Value.{Value}
-use Rattle.cx_pools.specs.Pools.{Placed}
-use Rattle.cx_places.specs.Placed.{IsPlaced, known_of}
-use Rattle.cx_places.specs.declared.place.ControlSection.{ControlSection}
-use Rattle.cx_places.specs.declared.places.Places.{Places}
-use Rattle.cx_second.specs.Whole.{whole, whole_of, told_by}
+use Rattle.cx_asm_expressions.specs.declared.values.Value.{Value}
+use Rattle.cx_asm_pools.specs.Pools.{PlacedLiterals}
+use Rattle.cx_asm_pass1.specs.Placed.{IsPlaced, known_of}
+use Rattle.cx_asm_pass1.specs.declared.place.ControlSection.{ControlSection}
+use Rattle.cx_asm_pass1.specs.declared.places.Places.{Places}
+use Rattle.cx_asm_pass2.specs.Whole.{whole, whole_of, told_by}
 
 named_back : (control : Option (List ℕ)) (length : ℕ) → option_map (λ (c : ControlSection). c.name) (option_map (λ name. record { name = name; length = length }) control) ≡ control
 named_back None length = refl
 named_back (Some name) length = refl
 
-same : (f g : List ℕ → Option Value) (ps qs : List Placed) (c d : Option (List ℕ)) → f ≡ g → ps ≡ qs → c ≡ d → whole f ps c ≡ whole g qs d
+same : (f g : List ℕ → Option Value) (ps qs : List PlacedLiterals) (c d : Option (List ℕ)) → f ≡ g → ps ≡ qs → c ≡ d → whole f ps c ≡ whole g qs d
 same f g ps qs c d e1 e2 e3 = rw (e1, e2, e3) refl
 
 pub told_is : (source : Source) (places : Places) → IsPlaced (known_of source) places → told_by places ≡ whole_of source

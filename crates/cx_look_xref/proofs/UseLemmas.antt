@@ -13,9 +13,9 @@ use Rattle.std.specs.declared.cmp.Ordering.TheVariants.{Less, Equal, Greater}
 use Rattle.std.proofs.lemmas.Bool.{cases_Bool, cond-true, cond-false, true≢false}
 use Rattle.std.proofs.lemmas.Cmp.{nat_list_eq_equiv}
 use Rattle.indexmap.specs.IndexMap.{insert_entry}
-use Rattle.cx_tables.specs.Facts.Tables.{insert_entry_present}
-use Rattle.cx_terms.specs.Names.{is_same}
-use Rattle.cx_second.specs.Statements.{Stated}
+use Rattle.cx_base_lists.specs.Facts.Tables.{insert_entry_present}
+use Rattle.cx_asm_expressions.specs.Names.{is_same}
+use Rattle.cx_asm_pass2.specs.Statements.{PlacedStatement}
 use Rattle.cx_look_xref.specs.Literals.{uses_literal}
 use Rattle.cx_look_xref.specs.Parts.Uses.{is_literal, lines_for, with_line}
 use Rattle.cx_look_xref.specs.declared.literals.PoolText.{PoolText}
@@ -109,7 +109,7 @@ no_use false line lines = refl
 itself : (line : ℕ) → nat_cmp line line ≡ Equal
 itself line = tied_itself nat_cmp_total line
 
--- a line stands once in a set
+-- a line is in a set once
 again : (lines : List ℕ) (line : ℕ) → insert_key nat_cmp (insert_key nat_cmp lines line) line ≡ insert_key nat_cmp lines line
 again [] line = rw (itself line) refl
 again (x ∷ lines) line = go (nat_cmp line x) refl (again lines line)
@@ -128,12 +128,12 @@ one_more_use true true true line lines = again lines line
 one_more_use true true false line lines = refl
 one_more_use true false more line lines = refl
 
-pub one_more_statement : (number : ℕ) (text : List ℕ) (s : Stated) (rest : List Stated) (lines : List ℕ)
+pub one_more_statement : (number : ℕ) (text : List ℕ) (s : PlacedStatement) (rest : List PlacedStatement) (lines : List ℕ)
     → fold (insert_key nat_cmp) (with_line (uses_literal number text s) s.line lines) (map (λ s. s.line) (filter (uses_literal number text) rest))
     ≡ fold (insert_key nat_cmp) lines (map (λ s. s.line) (filter (uses_literal number text) (s ∷ rest)))
 one_more_statement number text s rest lines = go (uses_literal number text s)
   where
-    others : List Stated
+    others : List PlacedStatement
     others = filter (uses_literal number text) rest
 
     go : (uses : Bool) → fold (insert_key nat_cmp) (with_line uses s.line lines) (map (λ s. s.line) others)

@@ -5,4 +5,4 @@ pub mod Usings
 pub mod Texts
 pub mod Parts
 pub mod Facts
-pub use Rattle.cx_look_names.specs.Texts as SymbolTexts
+pub use Rattle.cx_look_symbols.specs.Texts as SymbolTexts

@@ -5,16 +5,16 @@ use Rattle.std.specs.List.{filter, flat_map, prefix_len}
 use Rattle.std.specs.Option.{option_map_or, option_to_list}
 use Rattle.std.specs.Ordering.{nat_cmp}
 use Rattle.cx_source.specs.Lines.{is_name_character}
-use Rattle.cx_source.specs.Marks.{outside}
+use Rattle.cx_source.specs.Marks.{outside_apostrophes}
 use Rattle.cx_source.specs.declared.source.Source.{Source}
 use Rattle.cx_source.specs.declared.source.Stmt.{Stmt}
-use Rattle.cx_terms.specs.Names.{is_same, symbol_name}
-use Rattle.cx_operations.specs.Operations.{operation_named}
-use Rattle.cx_operations.specs.declared.operations.Operation.{Operation}
-use Rattle.cx_operations.specs.declared.operations.Operation.TheVariants as operation
-use Rattle.cx_operations.specs.declared.operations.Directive.TheVariants as directive
-use Rattle.cx_pools.specs.Pools.{literal_text}
-use Rattle.cx_places.specs.Known.{parts_in}
+use Rattle.cx_asm_expressions.specs.Names.{is_same, symbol_name}
+use Rattle.cx_asm_operations.specs.Operations.{operation_named}
+use Rattle.cx_asm_operations.specs.declared.operations.Operation.{Operation}
+use Rattle.cx_asm_operations.specs.declared.operations.Operation.TheVariants as operation
+use Rattle.cx_asm_operations.specs.declared.operations.Directive.TheVariants as directive
+use Rattle.cx_asm_pools.specs.Pools.{literal_text}
+use Rattle.cx_asm_pass1.specs.PassState.{parts_in}
 use Rattle.cx_look_xref.specs.declared.references.Reference.{Reference}
 
 -- ---- a text
@@ -22,8 +22,8 @@ use Rattle.cx_look_xref.specs.declared.references.Reference.{Reference}
 abbrev pub name_ended : List ℕ → ℕ → List (List ℕ)
 name_ended run next = if next == 39 then [] else option_to_list (symbol_name run)
 
--- The names in a text, of whose characters those lie outside apostrophes: the longest runs of letters and digits there. `run` is what
--- stands of one already.
+-- The names in a text, of whose characters those lie outside apostrophes: the longest runs of letters and digits there.
+-- `run` is what there is of one already.
 abbrev pub names_from : List ℕ → List ℕ → List Bool → List (List ℕ)
 names_from run (c ∷ after) (lies_outside ∷ more) =
     if lies_outside && is_name_character c then names_from (run ++ c ∷ []) after more
@@ -31,7 +31,7 @@ names_from run (c ∷ after) (lies_outside ∷ more) =
 names_from run after more = option_to_list (symbol_name run)
 
 abbrev pub names_in : List ℕ → List (List ℕ)
-names_in text = names_from [] text (outside text)
+names_in text = names_from [] text (outside_apostrophes text)
 
 -- ---- an operand
 -- A constant begins with its duplication factor, its type and its length modifier, which are no name.

@@ -4,18 +4,18 @@ use Rattle.std.specs.Fmt.{decimal}
 use Rattle.std.specs.List.{filter, flat_map}
 use Rattle.std.specs.Result.{result_ok}
 use Rattle.std.specs.Str.{byte}
-use Rattle.cx_text.specs.Digits.{digits, spelled}
+use Rattle.cx_base_text.specs.Digits.{digits, hex_digits}
 use Rattle.cx_source.specs.declared.source.Source.{Source}
-use Rattle.cx_pools.specs.Pools.{Placed}
-use Rattle.cx_pools.specs.declared.closed.Literal.{Literal}
-use Rattle.cx_places.specs.Known.{parts_in}
-use Rattle.cx_second.specs.Statements.{Stated, operation_of, statements_of}
-use Rattle.cx_second.specs.Whole.{Whole, whole_of}
+use Rattle.cx_asm_pools.specs.Pools.{PlacedLiterals}
+use Rattle.cx_asm_pools.specs.declared.closed.Literal.{Literal}
+use Rattle.cx_asm_pass1.specs.PassState.{parts_in}
+use Rattle.cx_asm_pass2.specs.Statements.{PlacedStatement, operation_of, statements_of}
+use Rattle.cx_asm_pass2.specs.Whole.{Whole, whole_of}
 use Rattle.cx_asm.specs.Assembly.{AssemblyParts, assembly_of, last_line}
-use Rattle.cx_look_words.specs.Words.{look_line, or_none, spaced, written_name}
-use Rattle.cx_look_names.specs.Symbols.{Named, named_of, translated_in}
-use Rattle.cx_look_names.specs.Texts.{in_order}
-use Rattle.cx_look_names.specs.declared.rows.Symbol.{Symbol}
+use Rattle.cx_look_words.specs.Words.{look_line, or_none, with_blanks, written_name}
+use Rattle.cx_look_symbols.specs.Symbols.{SourceSymbols, named_of, translated_in}
+use Rattle.cx_look_symbols.specs.Texts.{in_order}
+use Rattle.cx_look_symbols.specs.declared.rows.Symbol.{Symbol}
 use Rattle.cx_look_xref.specs.References.{lines_using, references_of}
 use Rattle.cx_look_xref.specs.Literals.{lines_with, literal_bytes}
 use Rattle.cx_look_xref.specs.Usings.{base_registers, use_end}
@@ -25,7 +25,7 @@ abbrev pub line_words : List ℕ → List (List ℕ)
 line_words lines = if length lines == 0 then codes "NONE" ∷ [] else map decimal lines
 
 abbrev pub used_word : List ℕ → List ℕ
-used_word lines = codes "USED" ++ spaced (line_words lines)
+used_word lines = codes "USED" ++ with_blanks (line_words lines)
 
 -- ---- symbols
 -- a symbol: the line that defines it, and those that use it
@@ -40,7 +40,7 @@ one_line text = filter (λ c. not (c == byte "\n")) text
 
 -- bytes in hexadecimal digits; hyphens where there are none
 abbrev pub bytes_word : List ℕ → List ℕ
-bytes_word bytes = if length bytes == 0 then codes "--" else spelled bytes
+bytes_word bytes = if length bytes == 0 then codes "--" else hex_digits bytes
 
 -- a literal in the pool of a number: its offset in the control section, its text, its bytes there, and the lines that use it
 abbrev pub literal_line : List ℕ → (ℕ → List ℕ → List ℕ) → ℕ → List ℕ × Literal → List ℕ
@@ -49,32 +49,32 @@ literal_line section used pool (text, literal) =
     ∷ bytes_word (literal_bytes section text literal) ∷ used_word (used pool text) ∷ [])
 
 -- those of all pools from the one of a number on
-abbrev pub literals_from : List ℕ → (ℕ → List ℕ → List ℕ) → ℕ → List Placed → List ℕ
+abbrev pub literals_from : List ℕ → (ℕ → List ℕ → List ℕ) → ℕ → List PlacedLiterals → List ℕ
 literals_from section used number [] = []
 literals_from section used number (pool ∷ pools) = flat_map (literal_line section used number) pool ++ literals_from section used (number + 1) pools
 
 -- ---- base registers
 -- A register that a USING names: the first line and the last of its use, and the place as the USING writes it. `after` are the statements
 -- after the USING.
-abbrev pub using_line : Whole → ℕ → Stated → List Stated → ℕ → List ℕ
+abbrev pub using_line : Whole → ℕ → PlacedStatement → List PlacedStatement → ℕ → List ℕ
 using_line told last s after register =
     look_line (codes "XREF" ∷ codes "USING" ∷ decimal register ∷ codes "FROM" ∷ decimal s.line
     ∷ codes "TO" ∷ decimal (use_end told last register after) ∷ one_line (unwrap_or (slice_get (parts_in s.stmt) 0) []) ∷ [])
 
-abbrev pub usings_from : Whole → ℕ → List Stated → List ℕ
+abbrev pub usings_from : Whole → ℕ → List PlacedStatement → List ℕ
 usings_from told last [] = []
 usings_from told last (s ∷ after) = flat_map (using_line told last s after) (base_registers told s (operation_of s)) ++ usings_from told last after
 
 -- ---- all
 -- A source with these names, whose control section has this text: its symbols in the order of their names, its literals, and its base
 -- registers.
-abbrev pub xref_made : Source → List ℕ → Named → List ℕ
+abbrev pub xref_made : Source → List ℕ → SourceSymbols → List ℕ
 xref_made source section named =
     flat_map (name_line (lines_using (references_of source))) (in_order named.rows)
     ++ literals_from section (lines_with (statements_of source)) 0 (whole_of source).pools
     ++ usings_from (whole_of source) (last_line source) (statements_of source)
 
-abbrev pub xref_named : Source → List ℕ → Option Named → List ℕ
+abbrev pub xref_named : Source → List ℕ → Option SourceSymbols → List ℕ
 xref_named source section None = []
 xref_named source section (Some named) = xref_made source section named
 

@@ -1,7 +1,7 @@
 //! The cross-reference of a source.
 ghost use Rattle.std.specs.Prelude.{◌≡◌, IfOk, None};
-ghost use Rattle.cx_places.specs.Placed.{IsPlaced, known_of};
-ghost use Rattle.cx_look_names.specs.Symbols.{named_of, translated_in};
+ghost use Rattle.cx_asm_pass1.specs.Placed.{IsPlaced, known_of};
+ghost use Rattle.cx_look_symbols.specs.Symbols.{named_of, translated_in};
 ghost use Rattle.std.specs.Result.{result_ok};
 ghost use Rattle.cx_asm.specs.Assembly.{assembly_of, last_line};
 ghost use Rattle.cx_look_xref.specs.Texts.{xref_among, xref_assembled, xref_named};
@@ -11,9 +11,9 @@ use crate::references::references_of;
 use crate::symbols::push_symbols;
 use crate::usings::push_usings;
 use cx_asm::{AsmFault, assemble};
-use cx_look_names::{in_order, names_of_places, translated_in};
-use cx_places::{Places, place_all};
-use cx_second::{placed_lines, stated};
+use cx_asm_pass1::{Places, place_all};
+use cx_asm_pass2::{placed_lines, stated};
+use cx_look_symbols::{in_order, names_of_places, translated_in};
 use cx_source::{Source, Text};
 use std::alloc::{AllocError, Global};
 

@@ -1,7 +1,7 @@
 //! The numbers of the lines that use something.
 ghost use Rattle.std.specs.Prelude.{◌≡◌, ◌++◌, IfOk, OnOk, map};
 ghost use Rattle.std.specs.Fmt.{decimal};
-ghost use Rattle.cx_look_words.specs.Words.{spaced};
+ghost use Rattle.cx_look_words.specs.Words.{with_blanks};
 ghost use Rattle.cx_look_xref.specs.Texts.{used_word};
 
 use cx_look_words::{decimal, push_word};
@@ -9,7 +9,7 @@ use std::alloc::{AllocError, Global};
 
 /// Adds the numbers of lines, each after a blank.
 fn push_lines(alloc: Global, text: &mut Vec<u8>, lines: &[usize]) -> Result<(), AllocError>
-    ensures { OnOk result (text.new.items ≡ text.old.items ++ spaced (map decimal lines.now)) }
+    ensures { OnOk result (text.new.items ≡ text.old.items ++ with_blanks (map decimal lines.now)) }
 {
     for line in lines {
         push_word(text, &decimal(alloc, *line)?)?;

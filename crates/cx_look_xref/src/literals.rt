@@ -3,20 +3,20 @@ ghost use Rattle.std.specs.Prelude.{◌≡◌, ◌++◌, ◌==◌, ◌&&◌, IfO
 ghost use Rattle.std.specs.List.{flat_map};
 ghost use Rattle.std.specs.Option.{option_map_or};
 ghost use Rattle.std.specs.Str.{bytes_eq};
-ghost use Rattle.cx_pools.specs.Pools.{literal_size, literal_text};
+ghost use Rattle.cx_asm_pools.specs.Pools.{literal_size, literal_text};
 ghost use Rattle.cx_look_xref.specs.Literals.{lines_with, literal_bytes, uses_literal};
 ghost use Rattle.cx_look_xref.specs.Parts.Uses.{lines_of_literal, uses_part, with_line};
 ghost use Rattle.cx_look_xref.specs.Texts.{bytes_word, literal_line, literals_from, one_line};
 
 use crate::lines::used_word;
 use crate::uses::{lines_for, put};
+use cx_asm_expressions::Constant;
+use cx_asm_pass1::Role;
+use cx_asm_pass2::Statement;
+use cx_asm_pools::{Literal, Pool, literal_text};
+use cx_base_text::hexadecimal;
 use cx_look_words::{look_line, spelled};
-use cx_places::Role;
-use cx_pools::{Literal, Pool, literal_text};
-use cx_second::Statement;
-use cx_source::{Mark, cut};
-use cx_terms::Constant;
-use cx_text::hexadecimal;
+use cx_source::{Delimiter, cut};
 use indexmap::IndexMap;
 use std::alloc::{AllocError, Global};
 use std::collections::BTreeSet;
@@ -81,7 +81,11 @@ fn put_statement<'a>(
     let Role::Instruction(_) = statement.role() else {
         return Ok(());
     };
-    let parts = cut(alloc, statement.stmt().operand.as_slice(), Mark::TopComma)?;
+    let parts = cut(
+        alloc,
+        statement.stmt().operand.as_slice(),
+        Delimiter::TopComma,
+    )?;
     let pool = statement.place().pool;
     put_parts(alloc, table, pool, statement.line(), parts.as_slice())?;
     Ok(())
@@ -111,7 +115,7 @@ fn literal_size(text: &[u8]) -> u128
     }
 }
 
-/// The bytes of a text from an offset on, at most so many.
+/// The bytes of a text from an offset on, at most `count`.
 fn bytes_at(text: &[u8], at: u128, count: u128) -> &[u8]
     ensures { result.now ≡ take count (drop at text.now) }
 {
@@ -180,7 +184,7 @@ fn literal_line(
     look_line(alloc, &[b"XREF", b"LITERAL", &offset, &word, &bytes, &used])
 }
 
-/// Adds the line of a literal of the pool of a number, if the pool has so many.
+/// Adds the line of a literal of the pool of a number, if the pool has that many.
 fn push_literal(
     alloc: Global,
     lines: &mut Vec<u8>,

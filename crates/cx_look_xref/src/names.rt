@@ -3,16 +3,16 @@ ghost use Rattle.std.specs.Prelude.{◌≡◌, ◌++◌, ◌≤◌, [], IfOk, On
 ghost use Rattle.std.specs.List.{flat_map, prefix_len};
 ghost use Rattle.std.specs.Option.{option_to_list};
 ghost use Rattle.cx_source.specs.Lines.{is_name_character};
-ghost use Rattle.cx_terms.specs.Names.{symbol_name};
-ghost use Rattle.cx_operations.specs.Operations.{operation_named};
-ghost use Rattle.cx_places.specs.Known.{parts_in};
+ghost use Rattle.cx_asm_expressions.specs.Names.{symbol_name};
+ghost use Rattle.cx_asm_operations.specs.Operations.{operation_named};
+ghost use Rattle.cx_asm_pass1.specs.PassState.{parts_in};
 ghost use Rattle.cx_look_xref.specs.References.{name_ended, names_from, names_in, names_of_constant, names_of_part, names_used};
 
+use cx_asm_expressions::symbol_name;
+use cx_asm_operations::{Directive, Operation};
+use cx_asm_pools::literal_text;
 use cx_ebcdic::Name8;
-use cx_operations::{Directive, Operation};
-use cx_pools::literal_text;
-use cx_source::{Mark, Stmt, cut, is_name_character, outside};
-use cx_terms::symbol_name;
+use cx_source::{Delimiter, Stmt, cut, is_name_character, outside};
 use std::alloc::{AllocError, Global};
 
 /// Adds the name that characters are, if they are one.
@@ -165,7 +165,7 @@ pub(crate) fn names_used(alloc: Global, stmt: &Stmt) -> Result<Vec<Name8>, Alloc
     ensures { let operation = operation_named stmt.now.operation in
         IfOk result (λ names. names.items ≡ names_used operation (parts_in stmt.now)) }
 {
-    let parts = cut(alloc, stmt.operand.as_slice(), Mark::TopComma)?;
+    let parts = cut(alloc, stmt.operand.as_slice(), Delimiter::TopComma)?;
     let operation = Operation::from_name(stmt.operation.as_slice());
     let mut names = Vec::new(alloc);
     push_used(alloc, &mut names, operation, parts.as_slice())?;

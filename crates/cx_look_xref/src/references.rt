@@ -1,6 +1,6 @@
 //! The names that a source uses, with their lines.
 ghost use Rattle.std.specs.Prelude.{◌≡◌, ◌++◌, IfOk, List, OnOk, map, ℕ};
-ghost use Rattle.cx_terms.specs.Names.{is_same};
+ghost use Rattle.cx_asm_expressions.specs.Names.{is_same};
 ghost use Rattle.cx_look_xref.specs.References.{lines_using, reference, references_of, references_on};
 ghost use Rattle.cx_look_xref.specs.Parts.Uses.{lines_of_name, with_line};
 

@@ -9,7 +9,7 @@ use crate::lines::used_word;
 use crate::references::{Reference, lines_by_name};
 use crate::uses::lines_for;
 use cx_ebcdic::Name8;
-use cx_look_names::Symbol;
+use cx_look_symbols::Symbol;
 use cx_look_words::{decimal, look_line, written_name};
 use indexmap::IndexMap;
 use std::alloc::{AllocError, Global};

@@ -2,21 +2,21 @@
 ghost use Rattle.std.specs.Prelude.{◌≡◌, ◌++◌, ◌==◌, IfOk, OnOk, [], drop, map, slice_get, unwrap_or};
 ghost use Rattle.std.specs.List.{filter_map, flat_map, list_any};
 ghost use Rattle.std.specs.Result.{result_ok};
-ghost use Rattle.cx_operands.specs.Bases.{none_in_use};
-ghost use Rattle.cx_operands.specs.Context.{number_at_most, register_in};
-ghost use Rattle.cx_places.specs.Known.{parts_in};
-ghost use Rattle.cx_second.specs.Statements.{operation_of};
-ghost use Rattle.cx_second.specs.Whole.{directive_context, told_by};
+ghost use Rattle.cx_asm_operands.specs.Bases.{none_in_use};
+ghost use Rattle.cx_asm_operands.specs.Context.{number_at_most, register_in};
+ghost use Rattle.cx_asm_pass1.specs.PassState.{parts_in};
+ghost use Rattle.cx_asm_pass2.specs.Statements.{operation_of};
+ghost use Rattle.cx_asm_pass2.specs.Whole.{directive_context, told_by};
 ghost use Rattle.cx_look_xref.specs.Usings.{base_registers, ends_use, registers_named, use_end};
 ghost use Rattle.cx_look_xref.specs.Texts.{one_line, using_line, usings_from};
 
 use crate::literals::one_line;
+use cx_asm_expressions::{TermFault, Value, value_of};
+use cx_asm_operations::{Directive, Operation};
+use cx_asm_pass1::Places;
+use cx_asm_pass2::{Statement, counter_of};
 use cx_look_words::{decimal, look_line};
-use cx_operations::{Directive, Operation};
-use cx_places::Places;
-use cx_second::{Statement, counter_of};
-use cx_source::{Mark, cut};
-use cx_terms::{TermFault, Value, value_of};
+use cx_source::{Delimiter, cut};
 use std::alloc::{AllocError, Global};
 
 /// The register that a value is.
@@ -30,7 +30,7 @@ fn register_at(value: Value) -> Option<usize>
 }
 
 /// The register that a statement's operand names.
-#[tactic(auto, unfolding(cx_operands::specs::Context::number_in))]
+#[tactic(auto, unfolding(cx_asm_operands::specs::Context::number_in))]
 fn register_in(
     alloc: Global,
     places: &Places<'_>,
@@ -76,7 +76,11 @@ fn using_registers(
     ensures { IfOk result (λ registers. registers.items
         ≡ registers_named (told_by places.now) statement.now (drop 1 (parts_in statement.now.stmt))) }
 {
-    let parts = cut(alloc, statement.stmt().operand.as_slice(), Mark::TopComma)?;
+    let parts = cut(
+        alloc,
+        statement.stmt().operand.as_slice(),
+        Delimiter::TopComma,
+    )?;
     let (_, after) = parts.as_slice().split_at(parts.len().min(1));
     registers_named(alloc, places, statement, after)
 }
@@ -90,7 +94,11 @@ fn drop_registers(
     ensures { IfOk result (λ registers. registers.items
         ≡ registers_named (told_by places.now) statement.now (parts_in statement.now.stmt)) }
 {
-    let parts = cut(alloc, statement.stmt().operand.as_slice(), Mark::TopComma)?;
+    let parts = cut(
+        alloc,
+        statement.stmt().operand.as_slice(),
+        Delimiter::TopComma,
+    )?;
     registers_named(alloc, places, statement, parts.as_slice())
 }
 
@@ -165,7 +173,11 @@ fn first_operand(alloc: Global, statement: &Statement<'_>) -> Result<Vec<u8>, Al
     ensures { IfOk result (λ text. text.items
         ≡ one_line (unwrap_or (slice_get (parts_in statement.now.stmt) 0) [])) }
 {
-    let parts = cut(alloc, statement.stmt().operand.as_slice(), Mark::TopComma)?;
+    let parts = cut(
+        alloc,
+        statement.stmt().operand.as_slice(),
+        Delimiter::TopComma,
+    )?;
     match parts.as_slice().first() {
         Some(part) => one_line(alloc, part),
         None => Ok(Vec::new(alloc)),

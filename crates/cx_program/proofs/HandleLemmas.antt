@@ -4,11 +4,11 @@ use Rattle.std.proofs.Common.{ℕ, ◌<◌, List, ◌∷◌, length, get_or, sym
 use Rattle.std.proofs.lemmas.List.{ext_get_or, get_or-set_other, get_or-set_same}
 use Rattle.cx_ebcdic.specs.Characters.{code_of, table}
 use Rattle.cx_ebcdic.specs.Names.{is_name_character, name_code, name_of}
-use Rattle.cx_command.specs.Conditions.{abend_code_of, handled, place_of}
-use Rattle.cx_command.specs.declared.conditions.Condition.{Condition}
-use Rattle.cx_command.specs.declared.conditions.Condition.TheVariants.{Normal, Error}
-use Rattle.cx_program.specs.declared.entries.Entry.{Entry}
-use Rattle.cx_program.specs.declared.entries.Entry.TheVariants.{NoEntry}
+use Rattle.cx_base_commands.specs.Conditions.{abend_code_of, handled_conditions, place_of}
+use Rattle.cx_base_commands.specs.declared.conditions.Condition.{Condition}
+use Rattle.cx_base_commands.specs.declared.conditions.Condition.TheVariants.{Normal, Error}
+use Rattle.cx_program.specs.declared.entries.Handler.{Handler}
+use Rattle.cx_program.specs.declared.entries.Handler.TheVariants.{NoEntry}
 use Rattle.cx_program.specs.declared.entries.Entries.{Entries}
 use Rattle.cx_program.specs.Entries.{entry_for, with_entry}
 use Rattle.cx_program.specs.Handles.{waits}
@@ -18,36 +18,36 @@ pub has_code_or_waits : (condition : Condition) → condition ≢ Normal → con
 unfolding abend_code_of name_of name_code is_name_character code_of table
 has_code_or_waits condition exceptional not_error = grind (arith, exceptional, not_error)
 
--- each condition stands at its place
-at_place : (condition : Condition) → get_or (Normal ∷ handled) (place_of condition) Normal ≡ condition
+-- each condition is at its place
+at_place : (condition : Condition) → get_or (Normal ∷ handled_conditions) (place_of condition) Normal ≡ condition
 at_place condition = grind arith
 
 -- each place is that of the condition there
-place_at : (i : ℕ) → i < length (Normal ∷ handled) → place_of (get_or (Normal ∷ handled) i Normal) ≡ i
+place_at : (i : ℕ) → i < length (Normal ∷ handled_conditions) → place_of (get_or (Normal ∷ handled_conditions) i Normal) ≡ i
 place_at i less = grind (arith, less)
 
 place_once : (a b : Condition) → place_of a ≡ place_of b → a ≡ b
-place_once a b same = sym (at_place a) ∙ ap (λ i. get_or (Normal ∷ handled) i Normal) same ∙ at_place b
+place_once a b same = sym (at_place a) ∙ ap (λ i. get_or (Normal ∷ handled_conditions) i Normal) same ∙ at_place b
 
-place_within : (condition : Condition) → place_of condition < length (Normal ∷ handled)
+place_within : (condition : Condition) → place_of condition < length (Normal ∷ handled_conditions)
 place_within condition = grind arith
 
 -- a condition has the entry that it was given
-pub entry_for_same : (entries : Entries) (condition : Condition) (entry : Entry) → length entries.of ≡ length (Normal ∷ handled) → entry_for (with_entry entries condition entry) condition ≡ entry
+pub entry_for_same : (entries : Entries) (condition : Condition) (entry : Handler) → length entries.of ≡ length (Normal ∷ handled_conditions) → entry_for (with_entry entries condition entry) condition ≡ entry
 unfolding entry_for with_entry
 entry_for_same entries condition entry ten = get_or-set_same entries.of (place_of condition) entry NoEntry (omega (arith, place_within condition, ten))
 
 -- every other condition keeps its entry
-pub entry_for_other : (entries : Entries) (condition other : Condition) (entry : Entry) → other ≢ condition → entry_for (with_entry entries condition entry) other ≡ entry_for entries other
+pub entry_for_other : (entries : Entries) (condition other : Condition) (entry : Handler) → other ≢ condition → entry_for (with_entry entries condition entry) other ≡ entry_for entries other
 unfolding entry_for with_entry
 entry_for_other entries condition other entry apart = get_or-set_other entries.of (place_of condition) (place_of other) entry NoEntry (λ same. apart (place_once other condition same))
 
 -- the entries are what they answer for each condition
-pub entries_same : (a b : Entries) → length a.of ≡ length (Normal ∷ handled) → length b.of ≡ length (Normal ∷ handled) → ((condition : Condition) → entry_for a condition ≡ entry_for b condition) → a ≡ b
+pub entries_same : (a b : Entries) → length a.of ≡ length (Normal ∷ handled_conditions) → length b.of ≡ length (Normal ∷ handled_conditions) → ((condition : Condition) → entry_for a condition ≡ entry_for b condition) → a ≡ b
 unfolding entry_for
 entries_same a b a_ten b_ten same =
     ap
-    (λ (of : List Entry). record { of = of })
+    (λ (of : List Handler). record { of = of })
     (ext_get_or NoEntry a.of b.of (a_ten ∙ sym b_ten) (λ i less.
-    let here : place_of (get_or (Normal ∷ handled) i Normal) ≡ i = place_at i (omega (arith, less, a_ten)) in
-    subst (λ (k : ℕ). get_or a.of k NoEntry ≡ get_or b.of k NoEntry) here (same (get_or (Normal ∷ handled) i Normal))))
+    let here : place_of (get_or (Normal ∷ handled_conditions) i Normal) ≡ i = place_at i (omega (arith, less, a_ten)) in
+    subst (λ (k : ℕ). get_or a.of k NoEntry ≡ get_or b.of k NoEntry) here (same (get_or (Normal ∷ handled_conditions) i Normal))))

@@ -4,12 +4,12 @@ use Rattle.std.proofs.Common.{refl, ◌∙◌, arith}
 use Rattle.cx_program.specs.declared.level.Level.{Level}
 use Rattle.cx_program.specs.Levels.{IsNearestExit, has_exit, has_exit_at}
 
--- behind some levels stands the one that follows them
+-- after some levels comes the one that follows them
 has_exit_at-last : (levels : List Level) (level : Level) → has_exit_at (levels ++ level ∷ []) (length levels) ≡ has_exit level
 has_exit_at-last [] level = refl
 has_exit_at-last (first ∷ rest) level = has_exit_at-last rest level
 
--- and nothing behind that one
+-- and nothing after that one
 has_exit_at-past : (levels : List Level) (level : Level) (j : ℕ) → length levels < j → has_exit_at (levels ++ level ∷ []) j ≡ false
 has_exit_at-past [] level zero past = absurd (omega arith)
 has_exit_at-past [] level (suc j) past = refl

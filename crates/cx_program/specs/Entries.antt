@@ -1,22 +1,22 @@
 -- What a level's program has asked to be done for each condition, and on an abend
 -- (Application Programmer's Reference Manual, SC33-0077, HANDLE CONDITION, IGNORE CONDITION, HANDLE ABEND).
 use Rattle.std.specs.Prelude.{ℕ, Option, Some, None, ◌∷◌, get_or, length, replicate, slice_set}
-use Rattle.cx_command.specs.Conditions.{handled, place_of}
-use Rattle.cx_command.specs.declared.conditions.Condition.{Condition}
-use Rattle.cx_command.specs.declared.conditions.Condition.TheVariants.{Normal}
-use Rattle.cx_program.specs.declared.entries.Entry.{Entry}
-use Rattle.cx_program.specs.declared.entries.Entry.TheVariants.{NoEntry}
+use Rattle.cx_base_commands.specs.Conditions.{handled_conditions, place_of}
+use Rattle.cx_base_commands.specs.declared.conditions.Condition.{Condition}
+use Rattle.cx_base_commands.specs.declared.conditions.Condition.TheVariants.{Normal}
+use Rattle.cx_program.specs.declared.entries.Handler.{Handler}
+use Rattle.cx_program.specs.declared.entries.Handler.TheVariants.{NoEntry}
 use Rattle.cx_program.specs.declared.entries.Exit.{Exit}
 use Rattle.cx_program.specs.declared.entries.Exit.TheVariants.{NoExit, Off, On}
 use Rattle.cx_program.specs.declared.entries.Entries.{Entries}
 use Rattle.cx_program.specs.declared.entries.Handling.{Handling}
 
 -- a condition's entry
-unfoldable pub entry_for : Entries → Condition → Entry
+unfoldable pub entry_for : Entries → Condition → Handler
 entry_for entries condition = get_or entries.of (place_of condition) NoEntry
 
--- the entries, but for one condition this entry
-unfoldable pub with_entry : Entries → Condition → Entry → Entries
+-- the entries, with this entry for one condition
+unfoldable pub with_entry : Entries → Condition → Handler → Entries
 with_entry entries condition entry = record entries { of = slice_set entries.of (place_of condition) entry }
 
 -- HANDLE ABEND CANCEL: the exit is off; without one nothing happens
@@ -36,4 +36,4 @@ label_on _ = None
 
 -- no entry for any condition, and no exit
 abbrev pub nothing_asked : Handling
-nothing_asked = record { entries = record { of = replicate (length (Normal ∷ handled)) NoEntry }; exit = NoExit }
+nothing_asked = record { entries = record { of = replicate (length (Normal ∷ handled_conditions)) NoEntry }; exit = NoExit }

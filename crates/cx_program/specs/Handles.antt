@@ -1,11 +1,11 @@
 -- The handles of one level (Application Programmer's Reference Manual, SC33-0077, PUSH HANDLE, POP HANDLE), and the choice
 -- for a condition ("Exceptional conditions").
 use Rattle.std.specs.Prelude.{ℕ, Bool, true, false, if◌then◌else◌, List, [], ◌∷◌, Option, Some, None, unwrap_or}
-use Rattle.cx_command.specs.Conditions.{abend_code_of}
-use Rattle.cx_command.specs.declared.conditions.Condition.{Condition}
-use Rattle.cx_command.specs.declared.conditions.Condition.TheVariants.{Error, Nospace, Nostg, Enqbusy}
-use Rattle.cx_program.specs.declared.entries.Entry.{Entry}
-use Rattle.cx_program.specs.declared.entries.Entry.TheVariants as entry
+use Rattle.cx_base_commands.specs.Conditions.{abend_code_of}
+use Rattle.cx_base_commands.specs.declared.conditions.Condition.{Condition}
+use Rattle.cx_base_commands.specs.declared.conditions.Condition.TheVariants.{Error, Nospace, Nostg, Enqbusy}
+use Rattle.cx_program.specs.declared.entries.Handler.{Handler}
+use Rattle.cx_program.specs.declared.entries.Handler.TheVariants as entry
 use Rattle.cx_program.specs.declared.entries.Exit.{Exit}
 use Rattle.cx_program.specs.declared.entries.Entries.{Entries}
 use Rattle.cx_program.specs.declared.entries.Handling.{Handling}
@@ -22,12 +22,12 @@ pub record Handles : Type 0 where
 abbrev pub no_handles : Handles
 no_handles = record { active = nothing_asked; kept = [] }
 
--- the handles, but for one condition this entry
-abbrev pub put_entry : Handles → Condition → Entry → Handles
+-- the handles, with this entry for one condition
+abbrev pub put_entry : Handles → Condition → Handler → Handles
 put_entry handles condition entry =
     record handles { active = record handles.active { entries = with_entry handles.active.entries condition entry } }
 
--- the handles with another exit
+-- the handles with a new exit
 abbrev pub put_exit : Handles → Exit → Handles
 put_exit handles exit = record handles { active = record handles.active { exit = exit } }
 
@@ -52,7 +52,7 @@ abbrev pub abend_code : Condition → List ℕ
 abend_code condition = unwrap_or (abend_code_of condition) []
 
 -- by an entry: its label takes control, or the program goes on; without one this is done
-abbrev pub choice_by_entry : Entry → Choice → Choice
+abbrev pub choice_by_entry : Handler → Choice → Choice
 choice_by_entry (entry.Label label) otherwise = Label label
 choice_by_entry entry.Ignored otherwise = GoOn
 choice_by_entry entry.NoEntry otherwise = otherwise

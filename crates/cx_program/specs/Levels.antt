@@ -18,8 +18,8 @@ abbrev pub highest : Level → Levels
 highest level = record { callers = []; current = level }
 
 -- LINK: a level under the current one, which has called it
-abbrev pub under : Levels → Level → Levels
-under levels level = record { callers = levels.current ∷ levels.callers; current = level }
+abbrev pub with_called_level : Levels → Level → Levels
+with_called_level levels level = record { callers = levels.current ∷ levels.callers; current = level }
 
 -- the levels with another as the current one
 abbrev pub with_current : Levels → Level → Levels

@@ -2,13 +2,13 @@
 ghost use Rattle.std.specs.Prelude.{◌≡◌};
 ghost use Rattle.cx_program.specs.Entries.{entry_for, label_on, turned_off, turned_on, with_entry};
 
-use cx_command::{CONDITIONS, Condition};
+use cx_base_commands::{CONDITIONS, Condition};
 
 /// What is to be done where a command meets a condition.
 ///
 /// Application Programmer's Reference Manual, SC33-0077, HANDLE CONDITION and IGNORE CONDITION.
 #[derive(Clone, Copy, Debug, PartialEq, Eq, Default)]
-pub enum Entry {
+pub enum Handler {
     /// The program has asked for nothing, or has put the condition back.
     #[default]
     NoEntry,
@@ -69,7 +69,7 @@ impl Exit {
 #[derive(Clone, Copy, Debug, PartialEq, Eq)]
 pub struct Entries {
     /// The entries in the order of the conditions' numbers.
-    pub of: [Entry; CONDITIONS],
+    pub of: [Handler; CONDITIONS],
 }
 
 impl Default for Entries {
@@ -80,7 +80,7 @@ impl Default for Entries {
     /// No entry for any condition.
     fn default() -> Entries {
         Entries {
-            of: [Entry::NoEntry; CONDITIONS],
+            of: [Handler::NoEntry; CONDITIONS],
         }
     }
 }
@@ -88,15 +88,15 @@ impl Default for Entries {
 impl Entries {
     /// A condition's entry.
     #[tactic(auto, unfolding(crate::specs::Entries::entry_for))]
-    pub fn entry_for(&self, condition: Condition) -> Entry
+    pub fn entry_for(&self, condition: Condition) -> Handler
         ensures { result ≡ entry_for self.now condition }
     {
         self.of[condition.place()]
     }
 
-    /// Gives a condition another entry.
+    /// Gives a condition a new entry.
     #[tactic(auto, unfolding(crate::specs::Entries::with_entry))]
-    pub(crate) fn put(&mut self, condition: Condition, entry: Entry)
+    pub(crate) fn put(&mut self, condition: Condition, entry: Handler)
         ensures { self.new ≡ with_entry self.old condition entry }
     {
         self.of[condition.place()] = entry;

@@ -4,10 +4,10 @@ ghost use Rattle.cx_program.specs.Entries.{label_on, turned_off, turned_on};
 ghost use Rattle.cx_program.specs.Handles.{abend_code, after_pop, after_push, choice, choice_by_entry, no_handles, put_entry, put_exit, waits};
 
 use crate::choice::Choice;
-use crate::entries::{Entry, Exit, Handling};
+use crate::entries::{Exit, Handler, Handling};
 use crate::faults::ProgramFault;
 use arrayvec::ArrayVec;
-use cx_command::Condition;
+use cx_base_commands::Condition;
 use cx_ebcdic::Name4;
 use std::marker::Model;
 use std::mem;
@@ -49,23 +49,23 @@ impl HandleTable {
     /// HANDLE CONDITION with a label: the instruction at that address takes control where a command meets
     /// the condition.
     pub fn set(&mut self, condition: Condition, label: u32)
-        ensures { self.new ≡ put_entry self.old condition (Entry.Label label) }
+        ensures { self.new ≡ put_entry self.old condition (Handler.Label label) }
     {
-        self.active.entries.put(condition, Entry::Label(label));
+        self.active.entries.put(condition, Handler::Label(label));
     }
 
     /// IGNORE CONDITION: the program goes on after a command that meets the condition.
     pub fn ignore(&mut self, condition: Condition)
-        ensures { self.new ≡ put_entry self.old condition Entry.Ignored }
+        ensures { self.new ≡ put_entry self.old condition Handler.Ignored }
     {
-        self.active.entries.put(condition, Entry::Ignored);
+        self.active.entries.put(condition, Handler::Ignored);
     }
 
     /// HANDLE CONDITION without a label: the condition has no entry any more.
     pub fn default(&mut self, condition: Condition)
-        ensures { self.new ≡ put_entry self.old condition Entry.NoEntry }
+        ensures { self.new ≡ put_entry self.old condition Handler.NoEntry }
     {
-        self.active.entries.put(condition, Entry::NoEntry);
+        self.active.entries.put(condition, Handler::NoEntry);
     }
 
     /// HANDLE ABEND LABEL: sets the exit at that address, and turns it on.
@@ -154,15 +154,15 @@ impl HandleTable {
     {
         let entries = &self.active.entries;
         match entries.entry_for(condition) {
-            Entry::Label(label) => Choice::Label(label),
-            Entry::Ignored => Choice::GoOn,
-            Entry::NoEntry => without_entry(condition, entries.entry_for(Condition::Error)),
+            Handler::Label(label) => Choice::Label(label),
+            Handler::Ignored => Choice::GoOn,
+            Handler::NoEntry => without_entry(condition, entries.entry_for(Condition::Error)),
         }
     }
 }
 
 /// What is done for a condition without an entry of its own, by ERROR's entry.
-fn without_entry(condition: Condition, error: Entry) -> Choice
+fn without_entry(condition: Condition, error: Handler) -> Choice
     requires exceptional { condition ≢ Condition.Normal }
     requires not_error { condition ≢ Condition.Error }
     ensures { result
@@ -170,9 +170,9 @@ fn without_entry(condition: Condition, error: Entry) -> Choice
 {
     match (condition, error) {
         (Condition::Nospace | Condition::Nostg | Condition::Enqbusy, _) => Choice::Wait,
-        (_, Entry::Label(label)) => Choice::Label(label),
-        (_, Entry::Ignored) => Choice::GoOn,
-        (_, Entry::NoEntry) => Choice::Abend(abend_code(condition)),
+        (_, Handler::Label(label)) => Choice::Label(label),
+        (_, Handler::Ignored) => Choice::GoOn,
+        (_, Handler::NoEntry) => Choice::Abend(abend_code(condition)),
     }
 }
 

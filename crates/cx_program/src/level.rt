@@ -36,7 +36,7 @@ impl Default for Level {
       handles = no_handles;
     } };
 
-    /// What stands in an unused place of a stack: a level of no program, of which nothing is kept.
+    /// What is in an unused place of a stack: a level of no program, of which nothing is kept.
     fn default() -> Level {
         Level {
             program: Name8::from_bytes([0x40; 8]),

@@ -12,7 +12,7 @@ mod stack;
 
 pub use choice::Choice;
 pub use condition_code::ConditionCode;
-pub use entries::{Entries, Entry, Exit, Handling};
+pub use entries::{Entries, Exit, Handler, Handling};
 pub use faults::ProgramFault;
 pub use handles::HandleTable;
 pub use level::Level;

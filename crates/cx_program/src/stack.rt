@@ -3,7 +3,7 @@ ghost use Rattle.std.specs.Prelude.{◌≡◌, ◌+◌, ◌<◌, ◌≤◌, ◌�
 ghost use Rattle.std.specs.Borrow.{sem};
 ghost use Rattle.std.specs.Option.{option_copied};
 ghost use Rattle.cx_program.specs.Lending.{LendsCurrent};
-ghost use Rattle.cx_program.specs.Levels.{IsNearestExit, all_levels, highest, under};
+ghost use Rattle.cx_program.specs.Levels.{IsNearestExit, all_levels, highest, with_called_level};
 
 use crate::faults::ProgramFault;
 use crate::level::Level;
@@ -86,7 +86,7 @@ impl LevelStack {
     /// nothing has changed.
     pub fn enter(&mut self, level: Level) -> Result<(), (Level, ProgramFault)>
         ensures room { IsOk result ↔ (length (all_levels self.old) < 16) }
-        ensures entered { OnOk result (self.new ≡ under self.old level) }
+        ensures entered { OnOk result (self.new ≡ with_called_level self.old level) }
         ensures fault { IfErr result (λ refused. refused.1 ≡ ProgramFault.TooDeep) }
         ensures level_returned { IfErr result (λ refused. refused.0 ≡ level) }
         ensures err { OnErr result (self.new ≡ self.old) }

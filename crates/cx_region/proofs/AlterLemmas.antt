@@ -8,13 +8,13 @@ use Rattle.cx_storage.specs.Facts.Sound.{covers_cases}
 use Rattle.cx_storage.specs.Storage.{Storage, with_byte, IsSound as IsSoundStorage}
 use Rattle.cx_service.specs.Queues.{AreSoundQueues}
 use Rattle.cx_service.specs.Resources.{AreSoundResources}
-use Rattle.cx_state.specs.State.{SharedState, StationState, TaskState}
+use Rattle.cx_region_state.specs.State.{SharedState, TerminalEntryState, TaskState}
 use Rattle.cx_region.specs.declared.changes.Change.{Change}
 use Rattle.cx_region.specs.declared.changes.AlterReply.{AlterReply}
 use Rattle.cx_region.specs.declared.changes.AlterReply.TheVariants as alter
 use Rattle.cx_region.specs.State.{RegionState, TerminalState, shared_of, terminal_with}
 use Rattle.cx_ebcdic.specs.Names.{is_name}
-use Rattle.cx_region.specs.Turn.{reach_of}
+use Rattle.cx_region.specs.Turn.{context_of}
 use Rattle.cx_region.specs.Alter.{Alters, alter_refusal, altered_at, altered_region, ends_task}
 use Rattle.cx_region.specs.Parts.Altering.{AlteredAt, AlteredIn, AlteredNowhere, AlteredThere, HeldAltered, PartAltered, PartStays}
 use Rattle.cx_region.specs.Parts.Turning.{Terminals}
@@ -23,7 +23,7 @@ use Rattle.cx_region.proofs.TurnLemmas.{same_parts, with_parts}
 use Rattle.cx_region.specs.Facts.SoundAlter.{sound_altered}
 
 -- ---- bytes
--- behind storage there is no byte to be set
+-- past the end of storage there is no byte to be set
 pub byte_unset : (s : Storage) (a v : ℕ) → IsSoundStorage s → 2 ^ 24 ≤ a → with_byte s a v ≡ s
 unfolding with_byte IsSoundStorage
 byte_unset [] a v ok high = refl
@@ -33,16 +33,16 @@ byte_unset (h ∷ hs) a v ok high = elim (covers_cases h.area a) [
 ]
 
 -- ---- a task that is held, or dropped
-pub altered_on : (change : Change) (shared after : SharedState) (station left : StationState) (o held kept : Option TaskState)
-    → HeldAltered change shared station o after left held → kept ≡ (if ends_task change then None else held) → AlteredAt change shared (terminal_with station o) after (terminal_with left kept)
+pub altered_on : (change : Change) (shared after : SharedState) (terminal_entry left : TerminalEntryState) (o held kept : Option TaskState)
+    → HeldAltered change shared terminal_entry o after left held → kept ≡ (if ends_task change then None else held) → AlteredAt change shared (terminal_with terminal_entry o) after (terminal_with left kept)
 unfolding HeldAltered AlteredAt
-altered_on change shared after station left None held kept h is =
+altered_on change shared after terminal_entry left None held kept h is =
     record { shared_stays = h.shared_stays; terminal_stays = rw (h.station_stays, is, h.none, same_either (ends_task change)) refl }
   where
     same_either : (b : Bool) → ◌≡◌ {A = Option TaskState} (if b then None else None) None
     same_either true = refl
     same_either false = refl
-altered_on change shared after station left (Some task) held kept h is =
+altered_on change shared after terminal_entry left (Some task) held kept h is =
     record { shared_is = h.shared_is; terminal_is = rw (h.station_is, is, h.held_is) refl }
 
 -- ---- the alteration by the parts that change
@@ -55,7 +55,7 @@ altered_whole r name change shared terminals done = by_terminal (lookup (is_name
     new = with_parts r shared terminals
 
     by_task : (t left : TerminalState) → lookup (is_name name) r.terminals ≡ Some t → terminals ≡ set_value (is_name name) r.terminals left → (o : Option TaskState)
-        → MatchOption o (PartStays (shared_of r) t shared left) (λ task. PartAltered change (reach_of r t task) shared left)
+        → MatchOption o (PartStays (shared_of r) t shared left) (λ task. PartAltered change (context_of r t task) shared left)
         → new ≡ option_map_or (altered_at r name change t) o r
     by_task t left there back None stays = same_parts r shared terminals stays.shared_stays (back ∙ ap (set_value (is_name name) r.terminals) stays.terminal_stays ∙ set_value_same (is_name name) r.terminals t there)
     by_task t left there back (Some task) done = rw (done.shared_is, back, done.terminal_is) refl

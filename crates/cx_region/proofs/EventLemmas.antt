@@ -1,4 +1,4 @@
--- An event that was answered by want of memory may take some.
+-- An event that was answered with Memory may take memory.
 use Rattle.std.proofs.Common.{◌≡◌, ℕ, Bool, true, false, cond, List, None, Some, Option, Result, Ok, Err, MatchOption, IsOkUnless, IsErrOf, OnErr, refl, ap, subst}
 use Rattle.cx_ebcdic.specs.declared.aids.Aid.{Aid}
 use Rattle.std.specs.declared.alloc.AllocError.{AllocError}
@@ -12,7 +12,7 @@ use Rattle.cx_region.specs.declared.replies.DefineFault.TheVariants.{Duplicate, 
 use Rattle.cx_region.specs.declared.replies.Event.{Event}
 use Rattle.cx_region.specs.declared.replies.Event.TheVariants as event
 
--- no refusal is want of memory
+-- no refusal is Memory
 three : (a b c : Bool) → cond a (Some Duplicate) (cond b (Some Full) (cond c (Some NoProgram) None)) ≡ Some Memory → ⊥
 three true b c e = cc
 three false true c e = cc

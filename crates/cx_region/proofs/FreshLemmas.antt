@@ -19,6 +19,6 @@ cwa_place s start empty place =
     let is : start ≡ Some 0x001000 = place_decides [] 0x001000 0x0011FF 512 start (Some 0x001000) place_in least in
     rw (empty, is) refl
 
--- a place found is no want of one
+-- where a place is found there is room
 pub room : (s : Storage) (first last len : ℕ) (place : Option ℕ) → is_some place ≡ true → IsLeastPlace s first last len place → IsLeastPlace s first last len None → ⊥
 room s first last len place some least none = let e = place_decides s first last len place None least none in cc

@@ -5,13 +5,13 @@ use Rattle.std.specs.Option.{option_map_or}
 use Rattle.std.specs.Map.{lookup, set_value}
 use Rattle.cx_storage.specs.Storage.{Storage, IsSound as IsSoundStorage}
 use Rattle.cx_load.specs.declared.program.Loaded.{Loaded}
-use Rattle.cx_command.specs.Eib.{eib_len}
-use Rattle.cx_call.specs.Eib.{Content, fields_at_attach}
+use Rattle.cx_base_commands.specs.Eib.{eib_len}
+use Rattle.cx_region_call.specs.Eib.{Content, fields_at_attach}
 use Rattle.cx_ebcdic.specs.declared.aids.Aid.{Aid}
 use Rattle.cx_ebcdic.specs.Aids.{key_of}
-use Rattle.cx_state.specs.declared.verdict.NewLevel.{NewLevel}
-use Rattle.cx_state.specs.Areas.{IsTaskPlace, system_owner}
-use Rattle.cx_state.specs.State.{Input, SharedState, TaskState}
+use Rattle.cx_region_state.specs.declared.verdict.NewLevel.{NewLevel}
+use Rattle.cx_region_state.specs.Areas.{IsTaskPlace, system_owner}
+use Rattle.cx_region_state.specs.State.{Input, SharedState, TaskState}
 use Rattle.cx_region.specs.declared.asking.Asked.TheVariants.{Answer}
 use Rattle.cx_region.specs.declared.asking.Start.{Start}
 use Rattle.cx_region.specs.declared.replies.KeyReply.{KeyReply}
@@ -19,7 +19,7 @@ use Rattle.cx_region.specs.declared.replies.KeyReply.TheVariants as key
 use Rattle.cx_region.specs.State.{RegionState, TerminalState, shared_of}
 use Rattle.cx_ebcdic.specs.Names.{is_name}
 use Rattle.cx_region.specs.Tables.{program_of, terminal_of, transaction_of, with_terminal}
-use Rattle.cx_region.specs.Attach.{ArePlaced, Attached, Attaches, Gives, HasNoPlaces, Keyed, OnlyAnswers, Starts, commarea_kept, eib_at_attach, filled, next_number, transaction_named, with_task, with_task_areas}
+use Rattle.cx_region.specs.Attach.{ArePlaced, AttachesTask, Attaches, Gives, HasNoPlaces, TakesKey, OnlyAnswers, Starts, commarea_kept, eib_at_attach, with_areas_filled, next_number, transaction_named, with_task, with_task_areas}
 use Rattle.cx_region.specs.declared.asking.Places.{Places}
 use Rattle.cx_region.specs.Parts.Asking.{KeyGrows, asked, asked_at, input_asked, level_of, start_asked, start_of, task_of_start}
 use Rattle.cx_region.specs.declared.attach.StartFault.{StartFault}
@@ -28,8 +28,8 @@ use Rattle.cx_region.specs.Sound.{IsSound}
 use Rattle.cx_region.specs.Facts.SoundAttach.{Giving, Starting, of_found, of_none, of_some, sound_attached, sound_given}
 
 -- ---- what a key that is asked for so does
-pub keyed_answer : (r : RegionState) (name : List ℕ) (input : Input) (due : KeyReply) → asked r name input.bytes ≡ Answer due → Keyed r name input due r
-unfolding Keyed asked start_asked
+pub keyed_answer : (r : RegionState) (name : List ℕ) (input : Input) (due : KeyReply) → asked r name input.bytes ≡ Answer due → TakesKey r name input due r
+unfolding TakesKey asked start_asked
 keyed_answer r name input due is = by_terminal (terminal_of r name) is
   where
     same : (a : KeyReply) → Answer a ≡ Answer due → due ≡ a
@@ -64,8 +64,8 @@ keyed_answer r name input due is = by_terminal (terminal_of r name) is
     by_terminal None h = (same key.NoSuchTerminal h, refl)
     by_terminal (Some t) h = by_task t t.task h
 
-pub keyed_given : (r new : RegionState) (name : List ℕ) (input : Input) (giving : Giving r name) → new ≡ with_terminal r name (record giving.terminal { input = Some input }) → Keyed r name input key.Given new
-unfolding Keyed
+pub keyed_given : (r new : RegionState) (name : List ℕ) (input : Input) (giving : Giving r name) → new ≡ with_terminal r name (record giving.terminal { input = Some input }) → TakesKey r name input key.Given new
+unfolding TakesKey
 keyed_given r new name input giving is =
     of_some _ (λ t. MatchOption t.task (Starts r name t input (transaction_named t.following input.bytes) key.Given new) (λ task. Gives r name t input key.Given new)) (terminal_of r name) giving.terminal giving.there
     (of_some _ (λ task. Gives r name giving.terminal input key.Given new) giving.terminal.task giving.task giving.live
@@ -77,8 +77,8 @@ given_grows r name bytes giving =
     rw giving.there (of_some _ (λ task. giving.terminal.input ≡ None) giving.terminal.task giving.task giving.live giving.none)
 
 pub keyed_start : (r new : RegionState) (name : List ℕ) (input : Input) (start : Start) (starting : Starting r name input.bytes start) (reply : KeyReply)
-    → Attaches r name starting.terminal input start.tran start.program start.loaded reply new → Keyed r name input reply new
-unfolding Keyed
+    → Attaches r name starting.terminal input start.tran start.program start.loaded reply new → TakesKey r name input reply new
+unfolding TakesKey
 keyed_start r new name input start starting reply h =
     of_some _ (λ t. MatchOption t.task (Starts r name t input (transaction_named t.following input.bytes) reply new) (λ task. Gives r name t input reply new)) (terminal_of r name) starting.terminal starting.there
     (of_none _ (λ task. Gives r name starting.terminal input reply new) starting.terminal.task starting.idle
@@ -102,9 +102,9 @@ no_places r name bytes start starting none = rw (← starting.slot, ← starting
 -- ---- what attach leaves
 pub attached_is : (r v : RegionState) (name bytes : List ℕ) (start : Start) (starting : Starting v name bytes start) (input : Input) (places : Places) (number : ℕ) (s : Storage) (ts : List (List ℕ × TerminalState))
     → r ≡ v → number ≡ next_number r.counter → ArePlaced r.storage (system_owner start.slot) start.calen start.loaded.stg_len places
-    → s ≡ filled (with_task_areas r.storage (system_owner start.slot) start.calen start.loaded.stg_len places) places (eib_at_attach r name start.tran start.calen input.aid) (commarea_kept starting.terminal.following) (level_of start places)
+    → s ≡ with_areas_filled (with_task_areas r.storage (system_owner start.slot) start.calen start.loaded.stg_len places) places (eib_at_attach r name start.tran start.calen input.aid) (commarea_kept starting.terminal.following) (level_of start places)
     → ts ≡ set_value (is_name name) r.terminals (with_task starting.terminal input (task_of_start start (next_number r.counter) places))
-    → Attached v name starting.terminal input start.tran start.program start.loaded (record r { storage = s; terminals = ts; counter = number })
+    → AttachesTask v name starting.terminal input start.tran start.program start.loaded (record r { storage = s; terminals = ts; counter = number })
 attached_is r v name bytes start starting input places number s ts e n placed is is_ts =
     record {
       areas = places;
@@ -112,13 +112,13 @@ attached_is r v name bytes start starting input places number s ts e n placed is
       after = rw (is, is_ts, n, e, ← starting.slot, ← starting.calen) refl;
     }
 
--- the fields that the code lists are those that stand in the EIB
+-- the fields that the code lists are those in the EIB
 pub fields_are : (r : RegionState) (name tran terminal : List ℕ) (number code : ℕ) (start : Start) (aid : Aid) → tran ≡ start.tran → terminal ≡ name → number ≡ next_number r.counter → code ≡ (key_of aid).code
     → fields_at_attach (record { time = r.time; date = r.date; tran = tran; number = number; terminal = terminal; calen = start.calen; aid = code }) ≡ eib_at_attach r name start.tran start.calen aid
 fields_are r name tran terminal number code start aid at on n by = rw (at, on, n, by) refl
 
-pub storage_at : (s t u : Storage) (places : Places) (fields shown : List Content) (commarea : List ℕ) (level now : NewLevel) → u ≡ filled t places fields commarea level → t ≡ s → fields ≡ shown → level ≡ now
-    → u ≡ filled s places shown commarea now
+pub storage_at : (s t u : Storage) (places : Places) (fields shown : List Content) (commarea : List ℕ) (level now : NewLevel) → u ≡ with_areas_filled t places fields commarea level → t ≡ s → fields ≡ shown → level ≡ now
+    → u ≡ with_areas_filled s places shown commarea now
 storage_at s t u places fields shown commarea level now is e f g = is ∙ rw (e, f, g) refl
 
 pub entries_at : (terminals : List (List ℕ × TerminalState)) (counter : ℕ) (name : List ℕ) (terminal : TerminalState) (start : Start) (held input : Input) (task : TaskState) (number : ℕ) (places : Places) (ts : List (List ℕ × TerminalState))
@@ -152,18 +152,18 @@ rest_same r mid after terminals number counter e f n =
     λ i. record r { storage = after.storage; programs = programs i; queues = queues i; resources = resources i; terminals = terminals; counter = n i }
 
 record AttachedParts (r : RegionState) (name bytes : List ℕ) (start : Start) (terminal : TerminalState) (input : Input) (fields : List Content) (places : Places) (level : NewLevel) (after : Storage) (ts : List (List ℕ × TerminalState)) : Type 0 where
-  pub storage : after ≡ filled (with_task_areas r.storage (system_owner start.slot) start.calen start.loaded.stg_len places) places fields (commarea_kept terminal.following) level
+  pub storage : after ≡ with_areas_filled (with_task_areas r.storage (system_owner start.slot) start.calen start.loaded.stg_len places) places fields (commarea_kept terminal.following) level
   pub terminals : ts ≡ set_value (is_name name) r.terminals (with_task terminal input (task_of_start start (next_number r.counter) places))
 
 parts_of : (r : RegionState) (name bytes : List ℕ) (start : Start) (starting : Starting r name bytes start) (input held : Input) (fields : List Content) (places : Places) (level : NewLevel) (task : TaskState) (number : ℕ) (mid after : Storage) (ts : List (List ℕ × TerminalState))
     → IsReady r.storage start number input places level task held mid → number ≡ next_number r.counter
-    → MatchOption (lookup (is_name name) r.terminals) ⊤ (λ terminal. after ≡ filled mid places fields (commarea_kept terminal.following) level)
+    → MatchOption (lookup (is_name name) r.terminals) ⊤ (λ terminal. after ≡ with_areas_filled mid places fields (commarea_kept terminal.following) level)
     → MatchOption (lookup (is_name name) r.terminals) ⊤ (λ terminal. ts ≡ set_value (is_name name) r.terminals (with_task terminal held task))
     → AttachedParts r name bytes start starting.terminal input fields places level after ts
 parts_of r name bytes start starting input held fields places level task number mid after ts ready n is is_ts =
     record {
-      storage = of_found (λ terminal. after ≡ filled mid places fields (commarea_kept terminal.following) level) (lookup (is_name name) r.terminals) starting.terminal starting.there is
-          ∙ ap (λ (s : Storage). filled s places fields (commarea_kept starting.terminal.following) level) ready.made;
+      storage = of_found (λ terminal. after ≡ with_areas_filled mid places fields (commarea_kept terminal.following) level) (lookup (is_name name) r.terminals) starting.terminal starting.there is
+          ∙ ap (λ (s : Storage). with_areas_filled s places fields (commarea_kept starting.terminal.following) level) ready.made;
       terminals = entries_at r.terminals r.counter name starting.terminal start held input task number places ts
           (of_found (λ terminal. ts ≡ set_value (is_name name) r.terminals (with_task terminal held task)) (lookup (is_name name) r.terminals) starting.terminal starting.there is_ts)
           ready.input_is ready.task_is n;
@@ -172,7 +172,7 @@ parts_of r name bytes start starting input held fields places level task number 
 pub sound_attach : (r : RegionState) (name bytes : List ℕ) (start : Start) (starting : Starting r name bytes start) (input held : Input) (fields : List Content) (places : Places) (level : NewLevel) (task : TaskState) (number : ℕ) (mid after : SharedState) (ts : List (List ℕ × TerminalState))
     → IsSound r → IsSoundStorage after.storage → IsReady r.storage start number input places level task held mid.storage → number ≡ next_number r.counter
     → mid ≡ record (shared_of r) { storage = mid.storage } → after ≡ record mid { storage = after.storage }
-    → MatchOption (lookup (is_name name) r.terminals) ⊤ (λ terminal. after.storage ≡ filled mid.storage places fields (commarea_kept terminal.following) level)
+    → MatchOption (lookup (is_name name) r.terminals) ⊤ (λ terminal. after.storage ≡ with_areas_filled mid.storage places fields (commarea_kept terminal.following) level)
     → MatchOption (lookup (is_name name) r.terminals) ⊤ (λ terminal. ts ≡ set_value (is_name name) r.terminals (with_task terminal held task))
     → IsSound (with_shared r after ts number)
 sound_attach r name bytes start starting input held fields places level task number mid after ts ok sound ready n e f is is_ts =
@@ -187,29 +187,29 @@ fields_begun r start tran terminal number code =
 pub keyed_attach : (r : RegionState) (name : List ℕ) (start : Start) (input held : Input) (starting : Starting r name input.bytes start) (tran terminal : List ℕ) (code : ℕ) (places : Places) (level : NewLevel) (task : TaskState) (number : ℕ) (mid after : SharedState) (ts : List (List ℕ × TerminalState))
     → IsReady r.storage start number input places level task held mid.storage → number ≡ next_number r.counter → tran ≡ start.tran → terminal ≡ name → code ≡ (key_of input.aid).code
     → mid ≡ record (shared_of r) { storage = mid.storage } → after ≡ record mid { storage = after.storage }
-    → MatchOption (lookup (is_name name) r.terminals) ⊤ (λ t. after.storage ≡ filled mid.storage places (fields_begun r start tran terminal number code) (commarea_kept t.following) level)
+    → MatchOption (lookup (is_name name) r.terminals) ⊤ (λ t. after.storage ≡ with_areas_filled mid.storage places (fields_begun r start tran terminal number code) (commarea_kept t.following) level)
     → MatchOption (lookup (is_name name) r.terminals) ⊤ (λ t. ts ≡ set_value (is_name name) r.terminals (with_task t held task))
-    → Keyed r name input key.Attached (with_shared r after ts number)
+    → TakesKey r name input key.Attached (with_shared r after ts number)
 keyed_attach r name start input held starting tran terminal code places level task number mid after ts ready n at on by e f is is_ts =
     let fields = fields_begun r start tran terminal number code in
     let fields_is : fields ≡ eib_at_attach r name start.tran start.calen input.aid = fields_are r name tran terminal number code start input.aid at on n by in
     let parts = parts_of r name input.bytes start starting input held fields places level task number mid.storage after.storage ts ready n is is_ts in
-    let storage = parts.storage ∙ ap (λ (fs : List Content). filled (with_task_areas r.storage (system_owner start.slot) start.calen start.loaded.stg_len places) places fs (commarea_kept starting.terminal.following) level) fields_is
-    ∙ ap (λ (l : NewLevel). filled (with_task_areas r.storage (system_owner start.slot) start.calen start.loaded.stg_len places) places (eib_at_attach r name start.tran start.calen input.aid) (commarea_kept starting.terminal.following) l) ready.level_is in
+    let storage = parts.storage ∙ ap (λ (fs : List Content). with_areas_filled (with_task_areas r.storage (system_owner start.slot) start.calen start.loaded.stg_len places) places fs (commarea_kept starting.terminal.following) level) fields_is
+    ∙ ap (λ (l : NewLevel). with_areas_filled (with_task_areas r.storage (system_owner start.slot) start.calen start.loaded.stg_len places) places (eib_at_attach r name start.tran start.calen input.aid) (commarea_kept starting.terminal.following) l) ready.level_is in
     keyed_start r (with_shared r after ts number) name input start starting key.Attached
-    (subst (λ (v : RegionState). Attached r name starting.terminal input start.tran start.program start.loaded v) (sym (rest_same r mid after ts number number e f refl))
+    (subst (λ (v : RegionState). AttachesTask r name starting.terminal input start.tran start.program start.loaded v) (sym (rest_same r mid after ts number number e f refl))
     (attached_is r r name input.bytes start starting input places number after.storage ts refl n ready.placed storage parts.terminals))
 
 pub keyed_unplaced : (r : RegionState) (name : List ℕ) (start : Start) (input : Input) (starting : Starting r name input.bytes start) (mid : SharedState)
     → HasNoPlaces r.storage (system_owner start.slot) start.calen start.loaded.stg_len → mid ≡ record (shared_of r) { storage = mid.storage } → mid.storage ≡ r.storage
-    → Keyed r name input key.NoStorage (with_shared r mid r.terminals r.counter)
+    → TakesKey r name input key.NoStorage (with_shared r mid r.terminals r.counter)
 keyed_unplaced r name start input starting mid none e s =
     let same : with_shared r mid r.terminals r.counter ≡ r = rest_same r mid mid r.terminals r.counter r.counter e refl refl ∙ (λ i. record r { storage = s i }) in
     keyed_start r (with_shared r mid r.terminals r.counter) name input start starting key.NoStorage (no_places r name input.bytes start starting none, same)
 
 pub keyed_give : (r : RegionState) (name : List ℕ) (giving : Giving r name) (held input : Input) (ts : List (List ℕ × TerminalState))
     → MatchOption (lookup (is_name name) r.terminals) ⊤ (λ terminal. ts ≡ set_value (is_name name) r.terminals (record terminal { input = Some held })) → held ≡ input
-    → Keyed r name input key.Given (record r { terminals = ts })
+    → TakesKey r name input key.Given (record r { terminals = ts })
 keyed_give r name giving held input ts is same =
     let put = of_found (λ terminal. ts ≡ set_value (is_name name) r.terminals (record terminal { input = Some held })) (lookup (is_name name) r.terminals) giving.terminal giving.there is in
     let put_is : ts ≡ set_value (is_name name) r.terminals (record giving.terminal { input = Some input }) = put ∙ ap (λ (x : Input). set_value (is_name name) r.terminals (record giving.terminal { input = Some x })) same in
@@ -222,8 +222,8 @@ sound_give r name giving held ts ok is =
     sound_given r name held ts ok giving (of_found (λ terminal. ts ≡ set_value (is_name name) r.terminals (record terminal { input = Some held })) (lookup (is_name name) r.terminals) giving.terminal giving.there is)
 
 -- of a region that is seen so
-pub keyed_seen : (r v : RegionState) (name : List ℕ) (input : Input) (reply : KeyReply) (new : RegionState) → r ≡ v → Keyed r name input reply new → Keyed v name input reply new
-keyed_seen r v name input reply new e h = subst (λ (k : RegionState). Keyed k name input reply new) e h
+pub keyed_seen : (r v : RegionState) (name : List ℕ) (input : Input) (reply : KeyReply) (new : RegionState) → r ≡ v → TakesKey r name input reply new → TakesKey v name input reply new
+keyed_seen r v name input reply new e h = subst (λ (k : RegionState). TakesKey k name input reply new) e h
 
 pub grows_seen : (r v : RegionState) (name bytes : List ℕ) → r ≡ v → KeyGrows r name bytes → KeyGrows v name bytes
 grows_seen r v name bytes e h = subst (λ (k : RegionState). KeyGrows k name bytes) e h

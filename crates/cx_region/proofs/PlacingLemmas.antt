@@ -10,11 +10,11 @@ use Rattle.cx_region.specs.declared.asking.Start.{Start}
 use Rattle.cx_region.specs.declared.attach.StartFault.{StartFault}
 use Rattle.cx_region.specs.declared.attach.StartFault.TheVariants.{Memory, NoStorage}
 use Rattle.cx_region.specs.Parts.Placing.{AreFaultsOf, IsCopyFault, IsPlaceFault, IsSlotFree}
-use Rattle.cx_command.specs.Eib.{eib_len}
-use Rattle.cx_state.specs.Areas.{IsTaskPlace, first_of_tasks, last_of_tasks, system_owner}
+use Rattle.cx_base_commands.specs.Eib.{eib_len}
+use Rattle.cx_region_state.specs.Areas.{IsTaskPlace, first_of_tasks, last_of_tasks, system_owner}
 use Rattle.cx_region.specs.Attach.{ArePlaced, HasNoPlaces, IsCopyPlace, with_eib_area, with_kept_area, with_task_areas}
 use Rattle.cx_region.specs.declared.asking.Places.{Places}
-use Rattle.cx_state.specs.Facts.Areas.{freed_put, kept_all}
+use Rattle.cx_region_state.specs.Facts.Areas.{freed_put, kept_all}
 
 -- no area is put in where there is no place
 pub no_area : (s : Storage) (len : ℕ) (owner : Owner) → with_area s None len owner ≡ s

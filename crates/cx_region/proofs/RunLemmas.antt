@@ -5,7 +5,7 @@ use Rattle.std.proofs.lemmas.Option.{slice_get-get_or}
 use Rattle.cx_region.specs.declared.replies.Event.{Event}
 use Rattle.cx_region.specs.declared.replies.Reply.{Reply}
 use Rattle.cx_region.specs.State.{RegionState}
-use Rattle.cx_region.specs.Events.{Happens, MayTakeMemory, Run, RunStopped}
+use Rattle.cx_region.specs.Events.{Applies, MayTakeMemory, Run, RunStopped}
 
 -- no event
 pub run_none : (r : RegionState) (events : List Event) → Run r (take 0 events) [] r
@@ -14,10 +14,10 @@ run_none r [] = refl
 run_none r (e ∷ events) = refl
 
 -- one more, the last
-run_last : (old mid new : RegionState) (events : List Event) (event : Event) (replies : List Reply) (reply : Reply) → Run old events replies mid → Happens mid event reply new
+run_last : (old mid new : RegionState) (events : List Event) (event : Event) (replies : List Reply) (reply : Reply) → Run old events replies mid → Applies mid event reply new
     → Run old (events ++ event ∷ []) (replies ++ reply ∷ []) new
 unfolding Run
-run_last old mid new [] event [] reply run happens = (new, subst (λ (r : RegionState). Happens r event reply new) run happens, refl)
+run_last old mid new [] event [] reply run happens = (new, subst (λ (r : RegionState). Applies r event reply new) run happens, refl)
 run_last old mid new [] event (r ∷ replies) reply run happens = absurd run
 run_last old mid new (e ∷ events) event [] reply run happens = absurd run
 run_last old mid new (e ∷ events) event (r ∷ replies) reply run happens = (run.0, run.1, run_last run.0 mid new events event replies reply run.2 happens)
@@ -28,7 +28,7 @@ take_last (e ∷ events) zero d below = refl
 take_last (e ∷ events) (suc k) d below = let more : suc k + 1 ≡ suc (k + 1) = omega arith in rw (more, take_last events k d (omega arith)) refl
 
 pub run_more : (old mid new : RegionState) (events : List Event) (k : ℕ) (event : Event) (replies : List Reply) (reply : Reply) → k < length events → event ≡ get_or events k event
-    → Run old (take k events) replies mid → Happens mid event reply new → Run old (take (k + 1) events) (replies ++ reply ∷ []) new
+    → Run old (take k events) replies mid → Applies mid event reply new → Run old (take (k + 1) events) (replies ++ reply ∷ []) new
 run_more old mid new events k event replies reply below is run happens =
     let last = run_last old mid new (take k events) event replies reply run happens in
     rw (take_last events k event below, ← is) last

@@ -6,17 +6,17 @@ use Rattle.std.proofs.lemmas.Map.Steps.{set_value_same}
 use Rattle.cx_storage.specs.Storage.{IsSound as IsSoundStorage}
 use Rattle.cx_service.specs.Queues.{AreSoundQueues}
 use Rattle.cx_service.specs.Resources.{AreSoundResources}
-use Rattle.cx_state.specs.declared.replies.TurnReply.{TurnReply}
-use Rattle.cx_state.specs.declared.replies.TurnReply.TheVariants as turn
-use Rattle.cx_state.specs.Replies.{is_over}
-use Rattle.cx_state.specs.State.{SharedState, StationState, TaskState, reach}
-use Rattle.cx_task.specs.Laws.HalfTurns.{HalfTurnsKeep}
-use Rattle.cx_task.specs.Turn.{HalfTurn}
-use Rattle.cx_task.specs.declared.cause.Trouble.{Trouble}
+use Rattle.cx_region_state.specs.declared.replies.TurnReply.{TurnReply}
+use Rattle.cx_region_state.specs.declared.replies.TurnReply.TheVariants as turn
+use Rattle.cx_region_state.specs.Replies.{is_over}
+use Rattle.cx_region_state.specs.State.{SharedState, TerminalEntryState, TaskState, context}
+use Rattle.cx_region_task.specs.Laws.HalfTurns.{HalfTurnsKeep}
+use Rattle.cx_region_task.specs.Turn.{HalfTurn}
+use Rattle.cx_region_task.specs.declared.cause.Trouble.{Trouble}
 use Rattle.cx_region.specs.State.{RegionState, TerminalState, shared_of, terminal_with}
 use Rattle.cx_ebcdic.specs.Names.{is_name}
-use Rattle.cx_region.specs.Causes.{TurnTroubled}
-use Rattle.cx_region.specs.Turn.{TaskTurned, Turned}
+use Rattle.cx_region.specs.Causes.{TurnHasTrouble}
+use Rattle.cx_region.specs.Turn.{TaskTakesTurn, TakesTurn}
 use Rattle.cx_region.specs.declared.replies.Event.TheVariants as event
 use Rattle.cx_region.specs.Events.{MayTakeMemory}
 use Rattle.cx_region.specs.Parts.Turning.{GrowsAt, PartIdle, PartTurned, Terminals, TroubledAt, TurnedAt}
@@ -41,27 +41,27 @@ put_same r name t left shared later puts e f =
     same_parts r shared later e (puts.1 ∙ ap (set_value (is_name name) r.terminals) f ∙ set_value_same (is_name name) r.terminals t puts.0)
 
 turned_whole : (r : RegionState) (name : List ℕ) (t left : TerminalState) (reply : TurnReply) (shared : SharedState) (later : Terminals) → Puts r name t left later
-    → TurnedAt (shared_of r) t reply shared left → Turned r name reply (with_parts r shared later)
-unfolding Turned TurnedAt
+    → TurnedAt (shared_of r) t reply shared left → TakesTurn r name reply (with_parts r shared later)
+unfolding TakesTurn TurnedAt
 turned_whole r name t left reply shared later puts turned = rw puts.0 (by_task t.task turned)
   where
     new : RegionState
     new = with_parts r shared later
 
     by_task : (o : Option TaskState) → MatchOption o (PartIdle (shared_of r) t reply shared left) (λ task. PartTurned (shared_of r) t task reply shared left)
-        → MatchOption o ((reply ≡ turn.Idle) × (new ≡ r)) (λ task. TaskTurned r name t task reply new)
+        → MatchOption o ((reply ≡ turn.Idle) × (new ≡ r)) (λ task. TaskTakesTurn r name t task reply new)
     by_task None idle = (idle.answer, put_same r name t left shared later puts idle.shared_stays idle.terminal_stays)
     by_task (Some task) done =
         record { reached = done.reached; half_turn = done.half_turn; after = rw (done.shared_is, puts.1, done.terminal_is) refl }
 
 -- ---- the terminal itself
-pub turned_on : (shared after : SharedState) (t : TerminalState) (station left : StationState) (task final : TaskState) (kept : Option TaskState) (reply : TurnReply)
-    → terminal_with station (Some task) ≡ t → HalfTurn (reach shared station task) reply (reach after left final) → kept ≡ (if is_over reply then None else Some final)
+pub turned_on : (shared after : SharedState) (t : TerminalState) (terminal_entry left : TerminalEntryState) (task final : TaskState) (kept : Option TaskState) (reply : TurnReply)
+    → terminal_with terminal_entry (Some task) ≡ t → HalfTurn (context shared terminal_entry task) reply (context after left final) → kept ≡ (if is_over reply then None else Some final)
     → TurnedAt shared t reply after (terminal_with left kept)
 unfolding TurnedAt
-turned_on shared after t station left task final kept reply e turned is =
+turned_on shared after t terminal_entry left task final kept reply e turned is =
     subst (λ (k : TerminalState). TurnedAt shared k reply after (terminal_with left kept)) e
-    (record { reached = reach after left final; half_turn = turned; shared_is = refl; terminal_is = ap (terminal_with left) is })
+    (record { reached = context after left final; half_turn = turned; shared_is = refl; terminal_is = ap (terminal_with left) is })
 
 -- ---- either way of a turn
 pub sound_turn : {A E : Type 0} (reply_in : A → TurnReply) (law : HalfTurnsKeep) (r : RegionState) (name : List ℕ) (t left : TerminalState) (result : Result A E) (shared : SharedState) (later : Terminals)
@@ -75,14 +75,14 @@ sound_turn reply_in law r name t left (Err e) shared later puts ok turned err st
 
 pub turned_seen : {A E : Type 0} (reply_in : A → TurnReply) (r v : RegionState) (name : List ℕ) (t left : TerminalState) (result : Result A E) (shared : SharedState) (later : Terminals)
     → Puts r name t left later → r ≡ v
-    → IfOk result (λ a. TurnedAt (shared_of r) t (reply_in a) shared left) → IfOk result (λ a. Turned v name (reply_in a) (with_parts r shared later))
+    → IfOk result (λ a. TurnedAt (shared_of r) t (reply_in a) shared left) → IfOk result (λ a. TakesTurn v name (reply_in a) (with_parts r shared later))
 turned_seen reply_in r v name t left (Ok a) shared later puts e turned =
-    subst (λ (k : RegionState). Turned k name (reply_in a) (with_parts r shared later)) e (turned_whole r name t left (reply_in a) shared later puts turned)
+    subst (λ (k : RegionState). TakesTurn k name (reply_in a) (with_parts r shared later)) e (turned_whole r name t left (reply_in a) shared later puts turned)
 turned_seen reply_in r v name t left (Err refused) shared later puts e turned = tt
 
 pub troubled_seen : {E : Type 0} (r v : RegionState) (name : List ℕ) (t : TerminalState) (result : Result (TurnReply × Option Trouble) E) → lookup (is_name name) r.terminals ≡ Some t → r ≡ v
-    → IfOk result (λ told. TroubledAt (shared_of r) t told.1) → IfOk result (λ told. TurnTroubled v name told.1)
-unfolding TurnTroubled TroubledAt
+    → IfOk result (λ told. TroubledAt (shared_of r) t told.1) → IfOk result (λ told. TurnHasTrouble v name told.1)
+unfolding TurnHasTrouble TroubledAt
 troubled_seen r v name t (Ok told) there e troubled = rw (← e) (rw there troubled)
 troubled_seen r v name t (Err refused) there e troubled = tt
 

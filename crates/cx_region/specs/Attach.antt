@@ -6,17 +6,17 @@ use Rattle.std.specs.Int.{w16, to_be_bytes}
 use Rattle.cx_ebcdic.specs.declared.aids.Aid.{Aid}
 use Rattle.cx_ebcdic.specs.declared.aids.Aid.TheVariants.{Clear, Pa1, Pa2}
 use Rattle.cx_ebcdic.specs.Aids.{key_of}
-use Rattle.cx_ebcdic.specs.Names.{padded}
+use Rattle.cx_ebcdic.specs.Names.{pad}
 use Rattle.cx_storage.specs.declared.areas.Owner.{Owner}
-use Rattle.cx_storage.specs.Storage.{Storage, with_area, written}
+use Rattle.cx_storage.specs.Storage.{Storage, with_area, after_write}
 use Rattle.cx_load.specs.declared.program.Loaded.{Loaded}
 use Rattle.cx_program.specs.Levels.{highest}
-use Rattle.cx_command.specs.declared.eib.EibField.TheVariants as field
-use Rattle.cx_command.specs.Eib.{eib_len}
-use Rattle.cx_call.specs.Eib.{Content, content, packed, with_fields}
-use Rattle.cx_state.specs.declared.verdict.NewLevel.{NewLevel}
-use Rattle.cx_state.specs.State.{Input, Following, TaskState}
-use Rattle.cx_state.specs.Areas.{IsTaskPlace, entry_level, registers_of, system_owner, with_cap}
+use Rattle.cx_base_commands.specs.declared.eib.EibField.TheVariants as field
+use Rattle.cx_base_commands.specs.Eib.{eib_len}
+use Rattle.cx_region_call.specs.Eib.{Content, content, packed_decimal, with_fields}
+use Rattle.cx_region_state.specs.declared.verdict.NewLevel.{NewLevel}
+use Rattle.cx_region_state.specs.State.{Input, NextTransaction, TaskState}
+use Rattle.cx_region_state.specs.Areas.{IsTaskPlace, entry_level, registers_of, system_owner, with_cap}
 use Rattle.cx_region.specs.declared.asking.Places.{Places}
 use Rattle.cx_region.specs.declared.replies.KeyReply.{KeyReply}
 use Rattle.cx_region.specs.declared.replies.KeyReply.TheVariants as key
@@ -36,14 +36,14 @@ input_from aid bytes = record { aid = aid; bytes = if sends_data aid then bytes 
 
 -- a transaction by the bytes of an input before its first blank, at most four
 unfoldable pub first_word : List ℕ → List ℕ
-first_word bytes = padded 4 (take (min 4 (unwrap_or (position (λ byte. byte == 0x40) bytes) (length bytes))) bytes)
+first_word bytes = pad 4 (take (min 4 (unwrap_or (position (λ byte. byte == 0x40) bytes) (length bytes))) bytes)
 
 -- the transaction: the terminal's next one, or the input's first word
-abbrev pub transaction_named : Option Following → List ℕ → List ℕ
+abbrev pub transaction_named : Option NextTransaction → List ℕ → List ℕ
 transaction_named following bytes = option_map_or (λ next. next.tran) following (first_word bytes)
 
 -- the COMMAREA kept for it; no bytes where there is none
-abbrev pub commarea_kept : Option Following → List ℕ
+abbrev pub commarea_kept : Option NextTransaction → List ℕ
 commarea_kept following = option_map_or (λ next. next.commarea) following []
 
 -- ---- areas: the EIB, the copy of the COMMAREA where there is one, the DFHEISTG of the program
@@ -74,7 +74,7 @@ pub record HasNoPlaces (storage : Storage) (owner : Owner) (len stg_len : ℕ) :
   pub none : (areas : Places) → ArePlaced storage owner len stg_len areas → ⊥
 
 -- ---- the task
--- the level with which a task begins: its program, where that stands, the copy of its COMMAREA, and its DFHEISTG
+-- the level with which a task begins: its program, where that is, the copy of its COMMAREA, and its DFHEISTG
 abbrev pub first_level : List ℕ → Loaded → ℕ → Places → NewLevel
 first_level program loaded len areas =
     record { program = program; loaded = loaded; commarea = option_map (λ at. record { place = at; len = len }) areas.commarea; stg = areas.stg }
@@ -96,47 +96,48 @@ fresh_task tran number eib level =
 abbrev pub next_number : ℕ → ℕ
 next_number counter = if counter == 9999999 then 1 else counter + 1
 
--- what stands in the task's EIB: the clock, the transaction, the task's number, the terminal, the length of the COMMAREA, the key
+-- what is in the task's EIB: the clock, the transaction, the task's number, the terminal, the length of the COMMAREA,
+-- the key
 abbrev pub eib_at_attach : RegionState → List ℕ → List ℕ → ℕ → Aid → List Content
 eib_at_attach region name tran len aid =
-    content field.Time (packed region.time) ∷ content field.Date (packed region.date) ∷ content field.Trnid tran
-    ∷ content field.Taskn (packed (next_number region.counter)) ∷ content field.Trmid name ∷ content field.Calen (to_be_bytes w16 len)
+    content field.Time (packed_decimal region.time) ∷ content field.Date (packed_decimal region.date) ∷ content field.Trnid tran
+    ∷ content field.Taskn (packed_decimal (next_number region.counter)) ∷ content field.Trmid name ∷ content field.Calen (to_be_bytes w16 len)
     ∷ content field.Aid ((key_of aid).code ∷ []) ∷ []
 
 -- the bytes of the COMMAREA in its copy, where there is one
 unfoldable pub with_copy : Storage → Option ℕ → List ℕ → Storage
 with_copy storage None bytes = storage
-with_copy storage (Some place) bytes = written storage place bytes
+with_copy storage (Some place) bytes = after_write storage place bytes
 
 -- storage with the EIB's fields, the copy of the COMMAREA, and DFHEICAP of DFHEISTG filled
-unfoldable pub filled : Storage → Places → List Content → List ℕ → NewLevel → Storage
-filled storage areas fields commarea level = with_cap (with_copy (with_fields storage areas.eib fields) areas.commarea commarea) level
+unfoldable pub with_areas_filled : Storage → Places → List Content → List ℕ → NewLevel → Storage
+with_areas_filled storage areas fields commarea level = with_cap (with_copy (with_fields storage areas.eib fields) areas.commarea commarea) level
 
 -- the terminal when its task starts: the next transaction is cleared, and the whole input is held
 abbrev pub with_task : TerminalState → Input → TaskState → TerminalState
 with_task terminal input task = record terminal { input = Some input; following = None; task = Some task }
 
 -- the region with a task attached at a terminal: of this transaction, at the entry of its program
-abbrev pub attached : RegionState → List ℕ → TerminalState → Input → List ℕ → List ℕ → Loaded → Places → RegionState
-attached region name terminal input tran program loaded areas =
+abbrev pub with_task_attached : RegionState → List ℕ → TerminalState → Input → List ℕ → List ℕ → Loaded → Places → RegionState
+with_task_attached region name terminal input tran program loaded areas =
     let kept = commarea_kept terminal.following in
     let level = first_level program loaded (length kept) areas in
     record (with_terminal region name (with_task terminal input (fresh_task tran (next_number region.counter) areas.eib level))) {
-      storage = filled (with_task_areas region.storage (system_owner terminal.slot) (length kept) loaded.stg_len areas) areas
+      storage = with_areas_filled (with_task_areas region.storage (system_owner terminal.slot) (length kept) loaded.stg_len areas) areas
           (eib_at_attach region name tran (length kept) input.aid) kept level;
       counter = next_number region.counter;
     }
 
 -- ---- the key
 -- the task is attached, with its areas in their places
-pub record Attached (old : RegionState) (name : List ℕ) (terminal : TerminalState) (input : Input) (tran program : List ℕ) (loaded : Loaded) (new : RegionState) : Type 0 where
+pub record AttachesTask (old : RegionState) (name : List ℕ) (terminal : TerminalState) (input : Input) (tran program : List ℕ) (loaded : Loaded) (new : RegionState) : Type 0 where
   pub areas : Places
   pub placed : ArePlaced old.storage (system_owner terminal.slot) (length (commarea_kept terminal.following)) loaded.stg_len areas
-  pub after : new ≡ attached old name terminal input tran program loaded areas
+  pub after : new ≡ with_task_attached old name terminal input tran program loaded areas
 
 -- a task is attached where there are places for its areas; else the answer is NoStorage, and all is as before
 abbrev pub Attaches : RegionState → List ℕ → TerminalState → Input → List ℕ → List ℕ → Loaded → KeyReply → RegionState → Type 0
-Attaches old name terminal input tran program loaded key.Attached new = Attached old name terminal input tran program loaded new
+Attaches old name terminal input tran program loaded key.Attached new = AttachesTask old name terminal input tran program loaded new
 Attaches old name terminal input tran program loaded key.NoStorage new =
     HasNoPlaces old.storage (system_owner terminal.slot) (length (commarea_kept terminal.following)) loaded.stg_len × (new ≡ old)
 Attaches old name terminal input tran program loaded _ new = ⊥
@@ -159,8 +160,8 @@ Gives old name terminal input reply new =
     (λ held. OnlyAnswers key.AlreadyHeldInput old reply new)
 
 -- a key of a terminal with its input
-unfoldable pub Keyed : RegionState → List ℕ → Input → KeyReply → RegionState → Type 0
-Keyed old name input reply new =
+unfoldable pub TakesKey : RegionState → List ℕ → Input → KeyReply → RegionState → Type 0
+TakesKey old name input reply new =
     MatchOption (terminal_of old name) (OnlyAnswers key.NoSuchTerminal old reply new) (λ terminal.
     MatchOption terminal.task (Starts old name terminal input (transaction_named terminal.following input.bytes) reply new)
     (λ task. Gives old name terminal input reply new))

@@ -12,7 +12,7 @@ use Rattle.cx_region.specs.State.{RegionState}
 use Rattle.cx_ebcdic.specs.Names.{is_name}
 use Rattle.cx_region.specs.Tables.{fresh_terminal, program_of, transaction_of, terminal_of}
 
--- the first refusal: the name is defined, so many are, or another
+-- the first refusal: the name is defined, the table is full, or any other
 abbrev pub entry_fault : Bool → ℕ → ℕ → Option DefineFault → Option DefineFault
 entry_fault defined count most other = if defined then Some Duplicate else if nat_le most count then Some Full else other
 
@@ -20,7 +20,7 @@ entry_fault defined count most other = if defined then Some Duplicate else if na
 unfoldable pub program_fault : RegionState → List ℕ → Option DefineFault
 program_fault region name = entry_fault (is_some (program_of region name)) (length region.programs) 64 None
 
--- loading it: it stands in storage and is defined; or storage has no place for it, and all is as before
+-- loading it: it is put in storage and is defined; or storage has no place for it, and all is as before
 abbrev pub Loads : RegionState → List ℕ → Image → Result Loaded DefineFault → RegionState → Type 0
 Loads old name image (Ok loaded) new = IsLoaded old.storage image loaded new.storage
     × (new ≡ record old { programs = insert_entry is_name old.programs name loaded; storage = new.storage })
@@ -55,7 +55,7 @@ DefinesTerminal old name result new =
     × (new ≡ record old { terminals = insert_entry is_name old.terminals name (fresh_terminal (length old.terminals + 1)) }))
     (λ fault. (result ≡ Err fault) × (new ≡ old))
 
--- ---- a region as it begins: the common work area stands, 512 bytes of the region's own, and nothing is defined
+-- ---- a region as it begins: there is the common work area, 512 bytes of the region's own, and nothing is defined
 abbrev pub fresh_region : RegionState
 fresh_region =
     record {

@@ -5,32 +5,32 @@ use Rattle.cx_region.specs.declared.replies.Event.{Event}
 use Rattle.cx_region.specs.declared.replies.Event.TheVariants as event
 use Rattle.cx_region.specs.declared.replies.Reply.{Reply}
 use Rattle.cx_region.specs.declared.replies.Reply.TheVariants as reply
-use Rattle.cx_command.specs.Eib.{eib_len}
+use Rattle.cx_base_commands.specs.Eib.{eib_len}
 use Rattle.cx_load.specs.Program.{IsProgramPlace}
-use Rattle.cx_state.specs.Areas.{IsTaskPlace}
-use Rattle.cx_task.specs.Turn.{Grows}
+use Rattle.cx_region_state.specs.Areas.{IsTaskPlace}
+use Rattle.cx_region_task.specs.Turn.{TakesMemory}
 use Rattle.cx_region.specs.State.{RegionState}
 use Rattle.cx_region.specs.Tables.{program_of, terminal_of, transaction_of}
 use Rattle.cx_region.specs.Defining.{DefinesProgram, DefinesTransaction, DefinesTerminal, program_fault, transaction_fault, terminal_fault}
-use Rattle.cx_region.specs.Attach.{Keyed, input_from, transaction_named}
-use Rattle.cx_region.specs.Turn.{Turned, reach_of}
+use Rattle.cx_region.specs.Attach.{TakesKey, input_from, transaction_named}
+use Rattle.cx_region.specs.Turn.{TakesTurn, context_of}
 use Rattle.cx_region.specs.Alter.{Alters, IsAllowedChange}
 
 -- one event: its reply and the region after it
-unfoldable pub Happens : RegionState → Event → Reply → RegionState → Type 0
-Happens old (event.Program name image) (reply.Program result) new = DefinesProgram old name image result new
-Happens old (event.Transaction tran program) (reply.Transaction result) new = DefinesTransaction old tran program result new
-Happens old (event.Terminal name) (reply.Terminal result) new = DefinesTerminal old name result new
-Happens old (event.Clock time date) reply.Clock new = new ≡ record old { time = time; date = date }
-Happens old (event.Key name aid bytes) (reply.Key answer) new = Keyed old name (input_from aid bytes) answer new
-Happens old (event.Turn name) (reply.Turn answer) new = Turned old name answer new
-Happens old (event.Alter name change) (reply.Alter answer) new = Alters old name change answer new
-Happens old _ _ new = ⊥
+unfoldable pub Applies : RegionState → Event → Reply → RegionState → Type 0
+Applies old (event.Program name image) (reply.Program result) new = DefinesProgram old name image result new
+Applies old (event.Transaction tran program) (reply.Transaction result) new = DefinesTransaction old tran program result new
+Applies old (event.Terminal name) (reply.Terminal result) new = DefinesTerminal old name result new
+Applies old (event.Clock time date) reply.Clock new = new ≡ record old { time = time; date = date }
+Applies old (event.Key name aid bytes) (reply.Key answer) new = TakesKey old name (input_from aid bytes) answer new
+Applies old (event.Turn name) (reply.Turn answer) new = TakesTurn old name answer new
+Applies old (event.Alter name change) (reply.Alter answer) new = Alters old name change answer new
+Applies old _ _ new = ⊥
 
 -- events one after another, with their replies
 unfoldable pub Run : RegionState → List Event → List Reply → RegionState → Type 0
 Run old [] [] new = new ≡ old
-Run old (event ∷ events) (reply ∷ replies) new = (between : RegionState) × Happens old event reply between × Run between events replies new
+Run old (event ∷ events) (reply ∷ replies) new = (between : RegionState) × Applies old event reply between × Run between events replies new
 Run old _ _ new = ⊥
 
 -- An event may take memory: a definition only where no refusal meets it, and a program only where storage has a place for it;
@@ -47,16 +47,16 @@ MayTakeMemory region (event.Key name aid bytes) =
     (IsSomeAnd (option_and_then (program_of region) (transaction_of region tran)) (λ loaded. IsTaskPlace region.storage eib_len None → ⊥))
     (λ task. terminal.input ≡ None))
 MayTakeMemory region (event.Turn name) =
-    IsSomeAnd (terminal_of region name) (λ terminal. IsSomeAnd terminal.task (λ task. Grows (reach_of region terminal task)))
+    IsSomeAnd (terminal_of region name) (λ terminal. IsSomeAnd terminal.task (λ task. TakesMemory (context_of region terminal task)))
 MayTakeMemory region _ = ⊥
 
 -- What the one door for events promises: it is answered; or it was refused memory that it may take, and all is as before.
 pub record IsDone (old : RegionState) (event : Event) (result : Result Reply AllocError) (new : RegionState) : Type 0 where
-  pub happens : IfOk result (λ reply. Happens old event reply new)
+  pub happens : IfOk result (λ reply. Applies old event reply new)
   pub memory : OnErr result (MayTakeMemory old event)
   pub err : OnErr result (new ≡ old)
 
--- A run that stopped after so many events, and left the region as these did: in front of all of them, or at an event
+-- A run that stopped after `done` events, and left the region as these did: in front of all of them, or at an event
 -- that may take memory.
 pub record RunStopped (old : RegionState) (events : List Event) (done : ℕ) (new : RegionState) : Type 0 where
   pub within : done < length events

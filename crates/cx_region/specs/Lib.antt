@@ -12,16 +12,16 @@ pub mod Looking
 pub mod Sound
 pub mod Facts
 pub mod Parts
-pub use Rattle.cx_call.specs.Eib
-pub use Rattle.cx_command.specs.Commands
-pub use Rattle.cx_command.specs.Conditions
-pub use Rattle.cx_command.specs.Legal
-pub use Rattle.cx_state.specs.Areas
-pub use Rattle.cx_state.specs.Replies as TurnReplies
-pub use Rattle.cx_state.specs.State as Stations
+pub use Rattle.cx_region_call.specs.Eib
+pub use Rattle.cx_base_commands.specs.Commands
+pub use Rattle.cx_base_commands.specs.Conditions
+pub use Rattle.cx_base_commands.specs.Legal
+pub use Rattle.cx_region_state.specs.Areas
+pub use Rattle.cx_region_state.specs.Replies as TurnReplies
+pub use Rattle.cx_region_state.specs.State as Stations
 pub use Rattle.cx_storage.specs.Address
 pub use Rattle.cx_storage.specs.Storage
-pub use Rattle.cx_task.specs.Abends as Abends
-pub use Rattle.cx_task.specs.Ways as Ways
-pub use Rattle.cx_task.specs.Turn as HalfTurns
-pub use Rattle.cx_task.specs.Sound as SoundTasks
+pub use Rattle.cx_region_task.specs.Abends as Abends
+pub use Rattle.cx_region_task.specs.Continuations as Continuations
+pub use Rattle.cx_region_task.specs.Turn as HalfTurns
+pub use Rattle.cx_region_task.specs.Sound as SoundTasks

@@ -1,6 +1,6 @@
 -- What can be seen of a region (this product's own).
 use Rattle.std.specs.Prelude.{◌≡◌, suc, length}
-use Rattle.cx_state.specs.State.{TaskState}
+use Rattle.cx_region_state.specs.State.{TaskState}
 use Rattle.cx_region.specs.declared.replies.TaskInfo.{TaskInfo}
 
 -- what is shown of a task is what it is

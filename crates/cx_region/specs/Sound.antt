@@ -8,8 +8,8 @@ use Rattle.cx_storage.specs.declared.areas.Kind.TheVariants.{Fixed}
 use Rattle.cx_storage.specs.Storage.{Storage, area_at, IsSound as IsSoundStorage}
 use Rattle.cx_service.specs.Queues.{AreSoundQueues}
 use Rattle.cx_service.specs.Resources.{AreSoundResources}
-use Rattle.cx_state.specs.Areas.{IsSoundProgram}
-use Rattle.cx_task.specs.Sound.{IsSoundTask}
+use Rattle.cx_region_state.specs.Areas.{IsSoundProgram}
+use Rattle.cx_region_task.specs.Sound.{IsSoundTask}
 use Rattle.cx_region.specs.State.{TerminalState, RegionState}
 use Rattle.cx_ebcdic.specs.Names.{is_name}
 

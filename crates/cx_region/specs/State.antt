@@ -5,7 +5,7 @@ use Rattle.cx_storage.specs.Storage.{Storage}
 use Rattle.cx_load.specs.declared.program.Loaded.{Loaded}
 use Rattle.cx_service.specs.Queues.{Queues}
 use Rattle.cx_service.specs.Resources.{Resources}
-use Rattle.cx_state.specs.State.{Following, Input, SharedState, StationState, TaskState}
+use Rattle.cx_region_state.specs.State.{NextTransaction, Input, SharedState, TerminalEntryState, TaskState}
 
 -- A terminal: its position among the terminals, counted from 1, by which its task owns areas and resources; its
 -- screen, its held input, its next transaction, and its task.
@@ -13,7 +13,7 @@ pub record TerminalState : Type 0 where
   pub slot : ℕ
   pub screen : List (List ℕ)
   pub input : Option Input
-  pub following : Option Following
+  pub following : Option NextTransaction
   pub task : Option TaskState
 
 -- A region. The time is hhmmss and the date yyddd, for the tasks attached later; the counter is the last task's number.
@@ -33,10 +33,10 @@ abbrev pub shared_of : RegionState → SharedState
 shared_of region = record { storage = region.storage; programs = region.programs; queues = region.queues; resources = region.resources }
 
 -- a terminal without its task
-abbrev pub station_of : TerminalState → StationState
+abbrev pub station_of : TerminalState → TerminalEntryState
 station_of terminal = record { slot = terminal.slot; screen = terminal.screen; input = terminal.input; following = terminal.following }
 
 -- the terminal that is this station, with that task
-abbrev pub terminal_with : StationState → Option TaskState → TerminalState
-terminal_with station task =
-    record { slot = station.slot; screen = station.screen; input = station.input; following = station.following; task = task }
+abbrev pub terminal_with : TerminalEntryState → Option TaskState → TerminalState
+terminal_with terminal_entry task =
+    record { slot = terminal_entry.slot; screen = terminal_entry.screen; input = terminal_entry.input; following = terminal_entry.following; task = task }

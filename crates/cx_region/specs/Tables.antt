@@ -3,7 +3,7 @@ use Rattle.std.specs.Prelude.{ℕ, List, Option, None}
 use Rattle.std.specs.Option.{option_and_then}
 use Rattle.std.specs.Map.{lookup, set_value}
 use Rattle.cx_load.specs.declared.program.Loaded.{Loaded}
-use Rattle.cx_state.specs.State.{TaskState, fresh_station}
+use Rattle.cx_region_state.specs.State.{TaskState, fresh_station}
 use Rattle.cx_region.specs.State.{RegionState, TerminalState, terminal_with}
 use Rattle.cx_ebcdic.specs.Names.{is_name}
 
@@ -11,7 +11,7 @@ use Rattle.cx_ebcdic.specs.Names.{is_name}
 abbrev pub fresh_terminal : ℕ → TerminalState
 fresh_terminal slot = terminal_with (fresh_station slot) None
 
--- where the program of a name stands
+-- where the program of a name is
 abbrev pub program_of : RegionState → List ℕ → Option Loaded
 program_of region name = lookup (is_name name) region.programs
 
@@ -27,6 +27,6 @@ terminal_of region name = lookup (is_name name) region.terminals
 abbrev pub task_of : RegionState → List ℕ → Option TaskState
 task_of region name = option_and_then (λ terminal. terminal.task) (terminal_of region name)
 
--- the region with another terminal under the name
+-- the region with a new terminal under the name
 abbrev pub with_terminal : RegionState → List ℕ → TerminalState → RegionState
 with_terminal region name terminal = record region { terminals = set_value (is_name name) region.terminals terminal }

@@ -1,22 +1,22 @@
 -- A turn of a terminal: one half-turn of its task (this product's own).
 use Rattle.std.specs.Prelude.{◌≡◌, ℕ, List, Option, Some, None, if◌then◌else◌, MatchOption}
-use Rattle.cx_state.specs.declared.replies.TurnReply.{TurnReply}
-use Rattle.cx_state.specs.declared.replies.TurnReply.TheVariants as turn
-use Rattle.cx_state.specs.Replies.{is_over}
-use Rattle.cx_state.specs.State.{Reach, TaskState, reach}
-use Rattle.cx_task.specs.Turn.{HalfTurn}
+use Rattle.cx_region_state.specs.declared.replies.TurnReply.{TurnReply}
+use Rattle.cx_region_state.specs.declared.replies.TurnReply.TheVariants as turn
+use Rattle.cx_region_state.specs.Replies.{is_over}
+use Rattle.cx_region_state.specs.State.{TaskContext, TaskState, context}
+use Rattle.cx_region_task.specs.Turn.{HalfTurn}
 use Rattle.cx_region.specs.State.{RegionState, TerminalState, shared_of, station_of, terminal_with}
 use Rattle.cx_region.specs.Tables.{terminal_of, with_terminal}
 
 -- what a half-turn of a terminal's task reaches
-abbrev pub reach_of : RegionState → TerminalState → TaskState → Reach
-reach_of region terminal task = reach (shared_of region) (station_of terminal) task
+abbrev pub context_of : RegionState → TerminalState → TaskState → TaskContext
+context_of region terminal task = context (shared_of region) (station_of terminal) task
 
 -- the region with what was reached put back, and the task that is left: what tasks share and the terminal are as there, all
 -- else is as before
-abbrev pub put_back : RegionState → List ℕ → Reach → Option TaskState → RegionState
+abbrev pub put_back : RegionState → List ℕ → TaskContext → Option TaskState → RegionState
 put_back old name reached task =
-    record (with_terminal old name (terminal_with reached.station task)) {
+    record (with_terminal old name (terminal_with reached.terminal_entry task)) {
       storage = reached.shared.storage;
       programs = reached.shared.programs;
       queues = reached.shared.queues;
@@ -28,13 +28,13 @@ abbrev pub task_after : TurnReply → TaskState → Option TaskState
 task_after reply task = if is_over reply then None else Some task
 
 -- the turn of a terminal with a task
-pub record TaskTurned (old : RegionState) (name : List ℕ) (terminal : TerminalState) (task : TaskState) (reply : TurnReply) (new : RegionState) : Type 0 where
-  pub reached : Reach
-  pub half_turn : HalfTurn (reach_of old terminal task) reply reached
+pub record TaskTakesTurn (old : RegionState) (name : List ℕ) (terminal : TerminalState) (task : TaskState) (reply : TurnReply) (new : RegionState) : Type 0 where
+  pub reached : TaskContext
+  pub half_turn : HalfTurn (context_of old terminal task) reply reached
   pub after : new ≡ put_back old name reached (task_after reply reached.task)
 
 -- a turn of a terminal
-unfoldable pub Turned : RegionState → List ℕ → TurnReply → RegionState → Type 0
-Turned old name reply new =
+unfoldable pub TakesTurn : RegionState → List ℕ → TurnReply → RegionState → Type 0
+TakesTurn old name reply new =
     MatchOption (terminal_of old name) ((reply ≡ turn.NoSuchTerminal) × (new ≡ old)) (λ terminal.
-    MatchOption terminal.task ((reply ≡ turn.Idle) × (new ≡ old)) (λ task. TaskTurned old name terminal task reply new))
+    MatchOption terminal.task ((reply ≡ turn.Idle) × (new ≡ old)) (λ task. TaskTakesTurn old name terminal task reply new))

@@ -2,9 +2,9 @@
 ghost use Rattle.std.specs.Prelude.{◌≡◌, ◌≤◌, None, Some, if◌then◌else◌};
 ghost use Rattle.std.specs.Option.{option_map_or};
 ghost use Rattle.cx_storage.specs.Storage.{with_byte};
-ghost use Rattle.cx_state.specs.State.{reach};
-ghost use Rattle.cx_task.specs.Ways.{gone_on};
-ghost use Rattle.cx_region.specs.Alter.{Alters, IsAllowedChange, alter_refusal, altered, change_refusal, ends_task, with_register};
+ghost use Rattle.cx_region_state.specs.State.{context};
+ghost use Rattle.cx_region_task.specs.Continuations.{gone_on};
+ghost use Rattle.cx_region.specs.Alter.{Alters, IsAllowedChange, alter_refusal, after_change, change_refusal, ends_task, with_register};
 ghost use Rattle.cx_region.specs.Parts.Altering.{AlteredAt, AlteredIn, HeldAltered};
 ghost use Rattle.cx_region.specs.Sound.{IsSound};
 ghost use Rattle.cx_region.specs.State.{station_of, terminal_with};
@@ -14,19 +14,19 @@ use crate::looking::byte_of;
 use crate::state::{Region, Terminal};
 use crate::turn::{drop_if, services_are_sound};
 use cx_ebcdic::Name4;
-use cx_state::{Shared, Station, Task};
+use cx_region_state::{Shared, Task, TerminalEntry};
+use cx_region_task::end_by_abend;
 use cx_storage::{Store, address_in};
-use cx_task::end_by_abend;
 use indexmap::IndexMap;
 
 /// The refusal of a change of a task, where one is due.
 fn change_refusal<S: Store + Drop>(
     change: &Change,
     shared: &Shared<S>,
-    station: &Station,
+    terminal_entry: &TerminalEntry,
     task: &Task,
 ) -> Option<AlterReply>
-    ensures { result ≡ change_refusal change.now (reach shared.now station.now task.now) }
+    ensures { result ≡ change_refusal change.now (context shared.now terminal_entry.now task.now) }
 {
     match change {
         Change::Byte(address, _) => match byte_of(&shared.store, *address) {
@@ -51,12 +51,12 @@ fn task_refusal<S: Store + Drop>(
     shared: &Shared<S>,
     terminal: &Terminal,
 ) -> Option<AlterReply>
-    ensures { let station = station_of terminal.now in let none = Some AlterReply.NoTask in
+    ensures { let terminal_entry = station_of terminal.now in let none = Some AlterReply.NoTask in
         let held = terminal.now.task in
-        result ≡ option_map_or (λ task. change_refusal change.now (reach shared.now station task)) held none }
+        result ≡ option_map_or (λ task. change_refusal change.now (context shared.now terminal_entry task)) held none }
 {
     match &terminal.task {
-        Some(task) => change_refusal(change, shared, &terminal.station, task),
+        Some(task) => change_refusal(change, shared, &terminal.terminal_entry, task),
         None => Some(AlterReply::NoTask),
     }
 }
@@ -84,7 +84,7 @@ fn set_byte<S: Store>(store: &mut S, address: u32, value: u8)
     store.set(address, value);
 }
 
-/// Drops the command that is due: the program goes on behind it.
+/// Drops the command that is due: the program goes on after it.
 fn drop_command(task: &mut Task)
     ensures { task.new ≡ gone_on task.old }
 {
@@ -93,21 +93,22 @@ fn drop_command(task: &mut Task)
 }
 
 /// Changes what a task reaches.
-#[tactic(auto, unfolding(crate::specs::Alter::altered))]
+#[tactic(auto, unfolding(crate::specs::Alter::after_change))]
 fn alter_task<S: Store + Drop>(
     change: &Change,
     shared: &mut Shared<S>,
-    station: &mut Station,
+    terminal_entry: &mut TerminalEntry,
     task: &mut Task,
 )
     requires { IsAllowedChange change.now }
-    ensures { reach shared.new station.new task.new ≡ altered change.now (reach shared.old station.old task.old) }
+    ensures { context shared.new terminal_entry.new task.new
+        ≡ after_change change.now (context shared.old terminal_entry.old task.old) }
 {
     match change {
         Change::Register(r, value) => set_register(task, *r, *value),
         Change::Byte(address, value) => set_byte(&mut shared.store, *address, *value),
         Change::Nop => drop_command(task),
-        Change::Abend => end_by_abend(shared, station, task),
+        Change::Abend => end_by_abend(shared, terminal_entry, task),
     }
 }
 
@@ -116,16 +117,16 @@ fn alter_task<S: Store + Drop>(
 fn alter_held<S: Store + Drop>(
     change: &Change,
     shared: &mut Shared<S>,
-    station: &mut Station,
+    terminal_entry: &mut TerminalEntry,
     held: &mut Option<Task>,
 )
     requires { IsAllowedChange change.now }
-    ensures { HeldAltered change.now shared.old station.old held.old shared.new station.new held.new }
+    ensures { HeldAltered change.now shared.old terminal_entry.old held.old shared.new terminal_entry.new held.new }
 {
     let Some(task) = held else {
         return;
     };
-    alter_task(change, shared, station, task);
+    alter_task(change, shared, terminal_entry, task);
 }
 
 /// Whether the change ends the task.
@@ -143,14 +144,14 @@ fn ends_task(change: &Change) -> bool
 fn alter_parts<S: Store + Drop>(
     change: &Change,
     shared: &mut Shared<S>,
-    station: &mut Station,
+    terminal_entry: &mut TerminalEntry,
     held: &mut Option<Task>,
 )
     requires { IsAllowedChange change.now }
-    ensures { let before = terminal_with station.old held.old in
-        AlteredAt change.now shared.old before shared.new (terminal_with station.new held.new) }
+    ensures { let before = terminal_with terminal_entry.old held.old in
+        AlteredAt change.now shared.old before shared.new (terminal_with terminal_entry.new held.new) }
 {
-    alter_held(change, shared, station, held);
+    alter_held(change, shared, terminal_entry, held);
     drop_if(ends_task(change), held);
 }
 
@@ -159,7 +160,12 @@ fn alter_terminal<S: Store + Drop>(change: &Change, shared: &mut Shared<S>, term
     requires { IsAllowedChange change.now }
     ensures { AlteredAt change.now shared.old terminal.old shared.new terminal.new }
 {
-    alter_parts(change, shared, &mut terminal.station, &mut terminal.task);
+    alter_parts(
+        change,
+        shared,
+        &mut terminal.terminal_entry,
+        &mut terminal.task,
+    );
 }
 
 /// Changes what the task of the terminal of a name reaches, where there is one.
@@ -192,7 +198,7 @@ impl<S: Store + Drop> Region<S> {
     }
 
     /// Alters a terminal's task: a register (0 to 15), a byte of storage, the command that is due, or that there is a task at
-    /// all. `Change` tells what each does; no exit takes the abend of `Change::Abend`.
+    /// all. `Change` says what each does; no exit takes the abend of `Change::Abend`.
     ///
     /// It is refused by the first that applies of: no such terminal, no task, no command due for `Change::Nop`, no byte at
     /// the address for `Change::Byte` (from 2^24 on there is none). Then all is as before. It takes no memory.

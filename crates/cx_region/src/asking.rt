@@ -12,7 +12,7 @@ pub struct Start {
     pub tran: Name4,
     /// The transaction's program.
     pub program: Name8,
-    /// Where the program stands.
+    /// Where the program is.
     pub loaded: Loaded,
     /// The length of the COMMAREA kept for it; 0 where there is none.
     pub calen: u16,
@@ -29,7 +29,7 @@ pub enum Asked {
     Attach(Start),
 }
 
-/// Where the areas of a task stand.
+/// Where the areas of a task are.
 #[derive(Drop)]
 pub struct Places {
     /// The address of the EIB.

@@ -3,13 +3,13 @@ ghost use Rattle.std.specs.Prelude.{◌≡◌, ◌≢◌, ◌<◌, ◌≤◌, �
 ghost use Rattle.std.specs.List.{AllByRecursion};
 ghost use Rattle.std.specs.Option.{option_copied, option_map};
 ghost use Rattle.std.specs.Map.{lookup, set_value};
-ghost use Rattle.cx_ebcdic.specs.Names.{is_name, padded};
+ghost use Rattle.cx_ebcdic.specs.Names.{is_name, pad};
 ghost use Rattle.cx_storage.specs.Storage.{IsSound as IsSoundStorage, is_of_other_slot, with_area, with_areas_kept};
-ghost use Rattle.cx_call.specs.Eib.{fields_at_attach};
-ghost use Rattle.cx_state.specs.Areas.{IsSoundProgram, IsTaskPlace, system_owner};
-ghost use Rattle.cx_state.specs.State.{TaskState};
+ghost use Rattle.cx_region_call.specs.Eib.{fields_at_attach};
+ghost use Rattle.cx_region_state.specs.Areas.{IsSoundProgram, IsTaskPlace, system_owner};
+ghost use Rattle.cx_region_state.specs.State.{TaskState};
 ghost use Rattle.cx_region.specs.Tables.{program_of, terminal_of, transaction_of};
-ghost use Rattle.cx_region.specs.Attach.{ArePlaced, IsCopyPlace, Keyed, commarea_kept, eib_at_attach, filled, first_word, fresh_task, input_from, next_number, sends_data, transaction_named, with_copy, with_task, with_task_areas};
+ghost use Rattle.cx_region.specs.Attach.{ArePlaced, IsCopyPlace, TakesKey, commarea_kept, eib_at_attach, with_areas_filled, first_word, fresh_task, input_from, next_number, sends_data, transaction_named, with_copy, with_task, with_task_areas};
 ghost use Rattle.cx_region.specs.Parts.Asking.{KeyGrows, asked, asked_at, input_asked, level_of, start_asked, start_of, task_of_start};
 ghost use Rattle.cx_region.specs.Parts.Placing.{AreFaultsOf, ArePlacesBelow, IsCopyFault, IsPlaceFault, IsReady, IsSlotFree, input_of};
 ghost use Rattle.cx_region.specs.Events.{MayTakeMemory};
@@ -19,17 +19,17 @@ ghost use Rattle.cx_region.specs.Sound.{IsSound};
 use crate::asking::{Asked, Places, Start};
 use crate::replies::KeyReply;
 use crate::state::{Region, Terminal};
-use cx_call::Piece;
-use cx_call::eib::{Begun, begin};
+use cx_base_lists::List;
 use cx_ebcdic::{Aid, Name4, Name8};
 use cx_exec::Cpu;
 use cx_load::Loaded;
 use cx_program::LevelStack;
-use cx_state::{FIRST_OF_TASKS, Following, Input, LAST_OF_TASKS, NewLevel, Shared, Task};
+use cx_region_call::StorageSpan;
+use cx_region_call::eib::{Begun, begin};
+use cx_region_state::{FIRST_OF_TASKS, Following, Input, LAST_OF_TASKS, NewLevel, Shared, Task};
+use cx_region_task::{entry_level, entry_registers, put_cap};
 use cx_storage::laws::store_is_sound;
 use cx_storage::{Kind, Owner, Store};
-use cx_tables::List;
-use cx_task::{entry_level, entry_registers, put_cap};
 use indexmap::IndexMap;
 use std::alloc::{AllocError, Global};
 
@@ -68,7 +68,7 @@ fn first_blank(bytes: &[u8]) -> Option<usize>
 /// Bytes filled with blanks on the right.
 fn padded(word: &[u8]) -> [u8; 4]
     requires { length word.now ≤ 4 }
-    ensures { result ≡ padded 4 word.now }
+    ensures { result ≡ pad 4 word.now }
 {
     let mut filled = [BLANK; 4];
     for (i, byte) in word.iter().enumerate() {
@@ -103,7 +103,7 @@ fn commarea_kept(following: &Option<Following>) -> &[u8]
 pub enum StartFault {
     /// Storage has no place for its areas.
     NoStorage,
-    /// A growth was refused.
+    /// An allocation failed.
     Memory(AllocError),
 }
 
@@ -120,9 +120,9 @@ impl From<AllocError> for StartFault {
 /// The length of an EIB.
 const EIB_LEN: u32 = 88;
 
-/// Makes an area of a task. NoStorage comes exactly where there is no place; then, and where a growth was refused, all
+/// Makes an area of a task. NoStorage comes exactly where there is no place; then, and where an allocation failed, all
 /// is as before.
-#[tactic(auto, using(cx_storage::specs::Facts::Places::place_decides, cx_state::specs::Facts::Areas::place_below, crate::proofs::PlacingLemmas::no_area))]
+#[tactic(auto, using(cx_storage::specs::Facts::Places::place_decides, cx_region_state::specs::Facts::Areas::place_below, crate::proofs::PlacingLemmas::no_area))]
 fn get_task_area<S: Store>(store: &mut S, len: u32, owner: Owner) -> Result<u32, StartFault>
     requires { 0 < len }
     ensures place { IfOk result (λ start. IsTaskPlace (S.storage store.old) len (Some start)) }
@@ -214,7 +214,7 @@ fn level_of(start: &Start, places: &Places) -> NewLevel
     NewLevel {
         program: start.program,
         loaded: start.loaded,
-        commarea: places.commarea.map(|place| Piece { place, len }),
+        commarea: places.commarea.map(|place| StorageSpan { place, len }),
         stg: places.stg,
     }
 }
@@ -347,12 +347,12 @@ fn prepare<S: Store + Drop>(
 }
 
 /// Fills the areas of a task that begins.
-#[tactic(auto, unfolding(crate::specs::Attach::filled, crate::specs::Attach::with_copy))]
+#[tactic(auto, unfolding(crate::specs::Attach::with_areas_filled, crate::specs::Attach::with_copy))]
 fn fill<S: Store>(store: &mut S, places: &Places, begun: &Begun, commarea: &[u8], level: &NewLevel)
     requires below { ArePlacesBelow places.now }
     requires short { length commarea.now ≤ 32767 }
     ensures { S.storage store.new
-        ≡ filled (S.storage store.old) places.now (fields_at_attach begun.now) commarea.now level.now }
+        ≡ with_areas_filled (S.storage store.old) places.now (fields_at_attach begun.now) commarea.now level.now }
 {
     begin(store, places.eib, begun);
     if let Some(place) = places.commarea {
@@ -374,7 +374,7 @@ fn fill_from<S: Store + Drop>(
         let before = shared.old.storage in let places = ready.now.places in let level = ready.now.level in
         let terminal = lookup (is_name name) terminals.now.entries in
         let after = shared.new.storage in
-        MatchOption terminal ⊤ (λ it. after ≡ filled before places fields (commarea_kept it.following) level) }
+        MatchOption terminal ⊤ (λ it. after ≡ with_areas_filled before places fields (commarea_kept it.following) level) }
     ensures rest { shared.new ≡ record shared.old { storage = shared.new.storage } }
     ensures sound { IsSoundStorage shared.new.storage }
 {
@@ -386,7 +386,7 @@ fn fill_from<S: Store + Drop>(
         &mut shared.store,
         &ready.places,
         begun,
-        commarea_kept(&terminal.station.following),
+        commarea_kept(&terminal.terminal_entry.following),
         &ready.level,
     );
     store_is_sound(&shared.store);
@@ -400,8 +400,8 @@ fn start_at(terminals: &mut IndexMap<Name4, Terminal>, name: Name4, input: Input
     let Some(terminal) = terminals.get_mut(&name) else {
         return;
     };
-    terminal.station.input = Some(input);
-    terminal.station.following = None;
+    terminal.terminal_entry.input = Some(input);
+    terminal.terminal_entry.following = None;
     terminal.task = Some(task);
 }
 
@@ -413,10 +413,10 @@ fn give_at(terminals: &mut IndexMap<Name4, Terminal>, name: Name4, input: Input)
     let Some(terminal) = terminals.get_mut(&name) else {
         return;
     };
-    terminal.station.input = Some(input);
+    terminal.terminal_entry.input = Some(input);
 }
 
-/// The number of the task after so many.
+/// The number of the task after this one.
 fn next_number(counter: u32) -> u32
     requires { counter ≤ 9999999 }
     ensures { result ≡ next_number counter }
@@ -432,7 +432,7 @@ impl Terminal {
         if self.task.is_none() {
             return None;
         }
-        if self.station.input.is_some() {
+        if self.terminal_entry.input.is_some() {
             return Some(Asked::Answer(KeyReply::AlreadyHeldInput));
         }
         Some(Asked::Give)
@@ -442,7 +442,7 @@ impl Terminal {
     fn transaction_named(&self, bytes: &[u8]) -> Name4
         ensures { result ≡ transaction_named self.now.following bytes.now }
     {
-        transaction_named(&self.station.following, bytes)
+        transaction_named(&self.terminal_entry.following, bytes)
     }
 
     /// A task to be attached.
@@ -450,11 +450,11 @@ impl Terminal {
         ensures { result ≡ start_of self.now tran program loaded }
     {
         Asked::Attach(Start {
-            slot: self.station.slot,
+            slot: self.terminal_entry.slot,
             tran,
             program,
             loaded,
-            calen: commarea_kept(&self.station.following).len() as u16,
+            calen: commarea_kept(&self.terminal_entry.following).len() as u16,
         })
     }
 }
@@ -497,7 +497,7 @@ impl<S: Store + Drop> Region<S> {
         self.transactions.get(&tran).copied()
     }
 
-    /// Where the program of a name stands.
+    /// Where the program of a name is.
     fn program(&self, name: Name8) -> Option<Loaded>
         ensures { result ≡ program_of self.now name }
     {
@@ -528,7 +528,7 @@ impl<S: Store + Drop> Region<S> {
     ) -> Result<KeyReply, AllocError>
         requires asked { asked self.old name bytes.now ≡ Asked.Attach start.now }
         requires few { length bytes.now ≤ 1920 }
-        ensures keyed { IfOk result (λ reply. Keyed self.old name (input_of aid bytes.now) reply self.new) }
+        ensures keyed { IfOk result (λ reply. TakesKey self.old name (input_of aid bytes.now) reply self.new) }
         ensures grows { OnErr result (KeyGrows self.old name bytes.now) }
         ensures err { OnErr result (self.new ≡ self.old) }
         ensures sound { IsSound self.new }
@@ -559,7 +559,7 @@ impl<S: Store + Drop> Region<S> {
     fn give(&mut self, name: Name4, aid: Aid, bytes: &[u8]) -> Result<(), AllocError>
         requires asked { asked self.old name bytes.now ≡ Asked.Give }
         requires few { length bytes.now ≤ 1920 }
-        ensures keyed { OnOk result (Keyed self.old name (input_of aid bytes.now) KeyReply.Given self.new) }
+        ensures keyed { OnOk result (TakesKey self.old name (input_of aid bytes.now) KeyReply.Given self.new) }
         ensures grows { OnErr result (KeyGrows self.old name bytes.now) }
         ensures err { OnErr result (self.new ≡ self.old) }
         ensures sound { IsSound self.new }
@@ -576,12 +576,12 @@ impl<S: Store + Drop> Region<S> {
     /// a task the input is held for it: Given; or AlreadyHeldInput. NoSuchTerminal where there is no such terminal. All
     /// answers but Attached and Given leave all as before.
     ///
-    /// An error comes only where a growth was refused; then no answer that names or held input give is due, the EIB of a
-    /// task to be attached has a place, and all is as before.
+    /// An error comes only where an allocation failed; then no answer that names or held input give is due, the EIB of
+    /// a task to be attached has a place, and all is as before.
     #[tactic(auto, using(crate::proofs::KeyLemmas::keyed_answer, crate::proofs::EventLemmas::key_memory), unfolding(crate::specs::Attach::input_from))]
     pub fn key(&mut self, name: Name4, aid: Aid, bytes: &[u8]) -> Result<KeyReply, AllocError>
         requires { length bytes.now ≤ 1920 }
-        ensures keyed { IfOk result (λ reply. Keyed self.old name (input_from aid bytes.now) reply self.new) }
+        ensures keyed { IfOk result (λ reply. TakesKey self.old name (input_from aid bytes.now) reply self.new) }
         ensures grows { OnErr result (MayTakeMemory self.old (event.Key name aid bytes.now)) }
         ensures err { OnErr result (self.new ≡ self.old) }
         ensures sound { IsSound self.new }

@@ -1,20 +1,20 @@
-//! Turns that tell why their task abends.
+//! Turns that report why their task abends.
 ghost use Rattle.std.specs.Prelude.{◌≡◌, IfOk, OnErr};
-ghost use Rattle.cx_rows.specs.Common.{AreSoundPrograms};
-ghost use Rattle.cx_region.specs.Causes.{TurnTroubled};
+ghost use Rattle.cx_region_commands.specs.Common.{AreSoundPrograms};
+ghost use Rattle.cx_region.specs.Causes.{TurnHasTrouble};
 ghost use Rattle.cx_region.specs.Events.{MayTakeMemory};
 ghost use Rattle.cx_region.specs.Parts.Turning.{GrowsAt, TroubledAt, TurnedAt};
 ghost use Rattle.cx_region.specs.Sound.{IsSound};
-ghost use Rattle.cx_region.specs.Turn.{Turned};
+ghost use Rattle.cx_region.specs.Turn.{TakesTurn};
 ghost use Rattle.cx_region.specs.declared.replies.Event.TheVariants as event;
 
 use crate::state::{Region, Terminal};
 use crate::turn::{drop_over, services_are_sound};
 use cx_ebcdic::Name4;
-use cx_state::{Shared, TurnReply};
+use cx_region_state::{Shared, TurnReply};
+use cx_region_task::laws::half_turns_keep;
+use cx_region_task::{Trouble, half_turn_with_cause};
 use cx_storage::Store;
-use cx_task::laws::half_turns_keep;
-use cx_task::{Trouble, half_turn_with_cause};
 use std::alloc::AllocError;
 
 /// A half-turn of a terminal's task, where it has one. A task that is over is dropped.
@@ -32,23 +32,23 @@ fn turn_terminal<S: Store + Drop>(
     let Some(task) = &mut terminal.task else {
         return Ok((TurnReply::Idle, None));
     };
-    let (reply, trouble) = half_turn_with_cause(shared, &mut terminal.station, task)?;
+    let (reply, trouble) = half_turn_with_cause(shared, &mut terminal.terminal_entry, task)?;
     drop_over(&reply, &mut terminal.task);
     Ok((reply, trouble))
 }
 
 impl<S: Store + Drop> Region<S> {
-    /// A turn of a terminal, as `turn`, that tells why it leads to an abend, where it does.
+    /// A turn of a terminal, as `turn`, that reports why it leads to an abend, where it does.
     ///
-    /// An error comes only where a growth was refused, and only where the change that the command makes takes memory and
-    /// no refusal, wait or abend applies. Then all is as before.
-    #[tactic(auto, unfolding(crate::specs::Turn::Turned, crate::specs::Causes::TurnTroubled))]
+    /// An error comes only where an allocation failed, and only where the change that the command makes takes memory
+    /// and no refusal, wait or abend applies. Then all is as before.
+    #[tactic(auto, unfolding(crate::specs::Turn::TakesTurn, crate::specs::Causes::TurnHasTrouble))]
     pub fn turn_with_cause(
         &mut self,
         name: Name4,
     ) -> Result<(TurnReply, Option<Trouble>), AllocError>
-        ensures turned { IfOk result (λ told. Turned self.old name told.0 self.new) }
-        ensures troubled { IfOk result (λ told. TurnTroubled self.old name told.1) }
+        ensures turned { IfOk result (λ told. TakesTurn self.old name told.0 self.new) }
+        ensures troubled { IfOk result (λ told. TurnHasTrouble self.old name told.1) }
         ensures grows { OnErr result (MayTakeMemory self.old (event.Turn name)) }
         ensures err { OnErr result (self.new ≡ self.old) }
         ensures sound { IsSound self.new }

@@ -9,7 +9,7 @@ pub enum Change {
     Register(u8, u32),
     /// The byte at an address gets this value.
     Byte(u32, u8),
-    /// The command that is due is dropped: the program goes on behind it, at the address in bits 8 to 31 of R14.
+    /// The command that is due is dropped: the program goes on after it, at the address in bits 8 to 31 of R14.
     Nop,
     /// The task ends by an abend, XEDF, which no exit takes.
     Abend,

@@ -10,7 +10,7 @@ ghost use Rattle.cx_ebcdic.specs.Names.{is_name};
 ghost use Rattle.cx_region.specs.Defining.{DefinesProgram, fresh_region, program_fault, terminal_fault, transaction_fault};
 ghost use Rattle.cx_region.specs.Parts.Loading.{MatchLoadRefusal};
 ghost use Rattle.cx_load.specs.Fault.{IsFit};
-ghost use Rattle.cx_state.specs.Areas.{IsSoundProgram};
+ghost use Rattle.cx_region_state.specs.Areas.{IsSoundProgram};
 ghost use Rattle.cx_region.specs.Events.{MayTakeMemory};
 ghost use Rattle.cx_region.specs.declared.replies.Event.TheVariants as event;
 ghost use Rattle.cx_region.specs.Sound.{IsSound};
@@ -20,8 +20,8 @@ use crate::replies::DefineFault;
 use crate::state::{Region, Terminal};
 use cx_ebcdic::{Name4, Name8};
 use cx_load::{CheckedImage, Loaded, load};
+use cx_region_state::Shared;
 use cx_service::{Enqueues, Queues};
-use cx_state::Shared;
 use cx_storage::laws::store_is_sound;
 use cx_storage::{Kind, Owner, Store};
 use indexmap::IndexMap;
@@ -49,9 +49,9 @@ const REGION_OWNER: Owner = Owner {
 
 impl<S: Store + Drop> Region<S> {
     /// A region without programs, transactions and terminals, over an empty store. The common work area of 512 bytes
-    /// stands at X'001000'; the clock is 000000 and 00000.
+    /// is at X'001000'; the clock is 000000 and 00000.
     ///
-    /// An error comes only where a growth was refused; the store is dropped then.
+    /// An error comes only where an allocation failed; the store is dropped then.
     pub fn new(alloc: Global, store: S) -> Result<Region<S>, AllocError>
         requires { S.storage store ≡ [] }
         ensures fresh { IfOk result (λ region. region ≡ fresh_region) }
@@ -92,8 +92,9 @@ impl<S: Store + Drop> Region<S> {
 
     /// Loads a program and defines it by its name. It stays, and all tasks share it.
     ///
-    /// Duplicate comes where the name is defined; then Full where 64 programs are; then NoRoom where storage has no
-    /// place for it from X'010000' to X'1FFFFF'; then Memory where a growth was refused. Then all is as before.
+    /// Duplicate comes where the name is defined; then Full where 64 programs are defined; then NoRoom where
+    /// storage has no place for it from X'010000' to X'1FFFFF'; then Memory where an allocation failed. Then all is
+    /// as before.
     #[tactic(auto, unfolding(crate::specs::Defining::DefinesProgram, crate::specs::Events::MayTakeMemory))]
     pub fn define_program(
         &mut self,
@@ -129,8 +130,8 @@ impl<S: Store + Drop> Region<S> {
 
     /// Defines a transaction by its name and that of its program.
     ///
-    /// Duplicate comes where the name is defined; then Full where 64 transactions are; then NoProgram where the program
-    /// isn't defined; then Memory where a growth was refused. Then all is as before.
+    /// Duplicate comes where the name is defined; then Full where 64 transactions are defined; then NoProgram where the
+    /// program isn't defined; then Memory where an allocation failed. Then all is as before.
     pub fn define_transaction(&mut self, name: Name4, program: Name8) -> Result<(), DefineFault>
         ensures defined { let transactions = insert_entry is_name self.old.transactions name program in
             OnOk result (self.new ≡ record self.old { transactions = transactions }) }
@@ -163,8 +164,8 @@ impl<S: Store + Drop> Region<S> {
 
     /// Defines a terminal by its name: with a blank screen, no input, no next transaction and no task.
     ///
-    /// Duplicate comes where the name is defined; then Full where 16 terminals are; then Memory where a growth was
-    /// refused. Then all is as before.
+    /// Duplicate comes where the name is defined; then Full where 16 terminals are defined; then Memory
+    /// where an allocation failed. Then all is as before.
     pub fn define_terminal(&mut self, name: Name4) -> Result<(), DefineFault>
         ensures defined { OnOk result (self.new ≡ record self.old {
           terminals = insert_entry is_name self.old.terminals name (fresh_terminal (length self.old.terminals + 1));

@@ -13,10 +13,10 @@ impl<S: Store + Drop> Region<S> {
     /// Does one event: the call that it names. What that call takes is asked of it: a clock as for `set_clock`, at most
     /// 1,920 bytes of a key, a register as for `alter`. A refusal of the call is its reply.
     ///
-    /// An error comes only where a growth was refused, no refusal is due, and the event may take memory. Then all is as
+    /// An error comes only where an allocation failed, no refusal is due, and the event may take memory. Then all is as
     /// before.
-    #[tactic(auto, using(crate::proofs::EventLemmas::transaction_memory, crate::proofs::EventLemmas::terminal_memory), unfolding(crate::specs::Events::Happens, crate::specs::Defining::DefinesTransaction, crate::specs::Defining::DefinesTerminal))]
-    pub fn happen(&mut self, event: &Event) -> Result<Reply, AllocError>
+    #[tactic(auto, using(crate::proofs::EventLemmas::transaction_memory, crate::proofs::EventLemmas::terminal_memory), unfolding(crate::specs::Events::Applies, crate::specs::Defining::DefinesTransaction, crate::specs::Defining::DefinesTerminal))]
+    pub fn apply(&mut self, event: &Event) -> Result<Reply, AllocError>
         requires { IsAllowed event.now }
         ensures done { IsDone self.old event.now result self.new }
         ensures sound { IsSound self.new }
@@ -55,8 +55,8 @@ impl<S: Store + Drop> Region<S> {
     /// Does events in order, and answers their replies. What each call takes is asked of each event: a clock as for
     /// `set_clock`, at most 1,920 bytes of a key, a register as for `alter`.
     ///
-    /// It stops where a growth was refused: in front of the first event, where there is no memory for the replies, else at
-    /// an event that may take memory. The region is as the events done left it.
+    /// It stops where an allocation failed: in front of the first event, where there is no memory for the replies, else
+    /// at an event that may take memory. The region is as the events done left it.
     pub fn run(&mut self, events: &[Event]) -> Result<Vec<Reply>, RunStop>
         requires { AllByRecursion IsAllowed events.now }
         ensures ok { IfOk result (λ replies. Run self.old events.now replies.items self.new) }
@@ -67,7 +67,7 @@ impl<S: Store + Drop> Region<S> {
             return Err(RunStop { done: 0 });
         };
         for (i, event) in events.iter().enumerate() {
-            let Ok(reply) = self.happen(event) else {
+            let Ok(reply) = self.apply(event) else {
                 return Err(RunStop { done: i });
             };
             replies.push_reserved(reply);

@@ -16,11 +16,11 @@ mod turn;
 #[doc(hidden)]
 pub use asking::{Asked, Places, Start};
 pub use changes::{AlterReply, Change};
-pub use cx_call::{Call, CallFault, read_call};
-pub use cx_state::TurnReply;
+pub use cx_region_call::{Call, CallFault, read_call};
+pub use cx_region_state::TurnReply;
 #[doc(hidden)]
-pub use cx_state::{Following, Input, Shared, Station, Task};
-pub use cx_task::{Cause, Trouble};
+pub use cx_region_state::{Following, Input, Shared, Task, TerminalEntry};
+pub use cx_region_task::{Cause, Trouble};
 pub use looking::command_name;
 pub use replies::{DefineFault, Event, KeyReply, Reply, RunStop, TaskInfo};
 pub use state::Region;

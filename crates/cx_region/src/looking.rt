@@ -1,8 +1,8 @@
 //! What can be seen of a region. No call takes memory.
 ghost use Rattle.std.specs.Prelude.{◌≡◌, ◌≢◌, ℕ, None, Some, MatchOption, IsSomeAnd, option_map};
 ghost use Rattle.std.specs.Option.{option_copied};
-ghost use Rattle.cx_command.specs.declared.commands.Command.{Command as TheCommand};
-ghost use Rattle.cx_command.specs.Commands.{row_of};
+ghost use Rattle.cx_base_commands.specs.declared.commands.Command.{Command as TheCommand};
+ghost use Rattle.cx_base_commands.specs.Commands.{row_of};
 ghost use Rattle.cx_storage.specs.Storage.{byte_at};
 ghost use Rattle.cx_region.specs.State.{shared_of, station_of};
 ghost use Rattle.cx_region.specs.Tables.{task_of, terminal_of};
@@ -10,11 +10,11 @@ ghost use Rattle.cx_region.specs.Looking.{Shows};
 
 use crate::replies::TaskInfo;
 use crate::state::{Region, Terminal};
-use cx_command::Command;
+use cx_base_commands::Command;
 use cx_ebcdic::{Name4, Name8};
 use cx_exec::Cpu;
+use cx_region_state::{Shared, Task, TerminalEntry};
 use cx_service::Screen;
-use cx_state::{Shared, Station, Task};
 use cx_storage::Store;
 use indexmap::IndexMap;
 
@@ -51,10 +51,10 @@ impl Terminal {
     }
 
     /// The terminal without its task.
-    pub fn station(&self) -> &Station
+    pub fn terminal_entry(&self) -> &TerminalEntry
         ensures { result.now ≡ station_of self.now }
     {
-        &self.station
+        &self.terminal_entry
     }
 
     /// Its live task; None where it has none.
@@ -68,7 +68,7 @@ impl Terminal {
     fn screen(&self) -> &Screen
         ensures { result.now ≡ self.now.screen }
     {
-        &self.station.screen
+        &self.terminal_entry.screen
     }
 }
 

@@ -8,7 +8,7 @@ use cx_code::Bytes;
 use cx_ebcdic::{Aid, Name4, Name8};
 use cx_exec::Cpu;
 use cx_load::{CheckedImage, LoadFault, Loaded};
-use cx_state::TurnReply;
+use cx_region_state::TurnReply;
 use std::alloc::{AllocError, AllocFailed};
 use std::fmt::{Display, Formatter, Write};
 use thiserror::Error;
@@ -24,7 +24,7 @@ pub enum DefineFault {
     NoProgram,
     /// Storage has no place for the program.
     NoRoom,
-    /// A growth was refused.
+    /// An allocation failed.
     Memory,
 }
 
@@ -135,7 +135,7 @@ pub enum Event {
 /// What an event is answered.
 #[derive(Clone, Copy, Debug, PartialEq, Eq)]
 pub enum Reply {
-    /// Where the program stands, or why it was refused.
+    /// Where the program is, or why it was refused.
     Program(Result<Loaded, DefineFault>),
     /// Whether the transaction was defined.
     Transaction(Result<(), DefineFault>),
@@ -151,7 +151,7 @@ pub enum Reply {
     Alter(AlterReply),
 }
 
-/// A run was stopped by want of memory.
+/// A run stopped because memory ran out.
 #[derive(Clone, Copy, Debug, PartialEq, Eq, Error)]
 #[error("out of memory")]
 pub struct RunStop {

@@ -2,7 +2,7 @@
 ghost use Rattle.std.specs.Prelude.{◌≡◌};
 
 use cx_ebcdic::{Name4, Name8};
-use cx_state::{Shared, Station, Task};
+use cx_region_state::{Shared, Task, TerminalEntry};
 use cx_storage::Store;
 use indexmap::IndexMap;
 use std::alloc::Global;
@@ -11,7 +11,7 @@ use std::marker::Model;
 /// A terminal.
 #[derive(Drop)]
 pub struct Terminal {
-    pub(crate) station: Station,
+    pub(crate) terminal_entry: TerminalEntry,
     pub(crate) task: Option<Task>,
 }
 
@@ -20,7 +20,7 @@ impl Model for Terminal {
 
     ghost Value = { TerminalState };
 
-    ghost view = { λ terminal. record { slot = terminal.station.slot; screen = terminal.station.screen; input = terminal.station.input; following = terminal.station.following; task = terminal.task } };
+    ghost view = { λ terminal. record { slot = terminal.terminal_entry.slot; screen = terminal.terminal_entry.screen; input = terminal.terminal_entry.input; following = terminal.terminal_entry.following; task = terminal.task } };
 }
 
 impl Terminal {
@@ -31,7 +31,7 @@ impl Terminal {
         ensures { result ≡ fresh_terminal slot }
     {
         Terminal {
-            station: Station::new(slot),
+            terminal_entry: TerminalEntry::new(slot),
             task: None,
         }
     }

@@ -1,24 +1,24 @@
 //! Turns of terminals.
 ghost use Rattle.std.specs.Prelude.{◌≡◌, if◌then◌else◌, IfOk, OnErr, None};
-ghost use Rattle.cx_state.specs.Replies.{is_over};
+ghost use Rattle.cx_region_state.specs.Replies.{is_over};
 ghost use Rattle.cx_storage.specs.Storage.{IsSound as IsSoundStorage};
 ghost use Rattle.cx_service.specs.Queues.{AreSoundQueues};
 ghost use Rattle.cx_service.specs.Resources.{AreSoundResources};
-ghost use Rattle.cx_rows.specs.Common.{AreSoundPrograms};
+ghost use Rattle.cx_region_commands.specs.Common.{AreSoundPrograms};
 ghost use Rattle.cx_region.specs.Parts.Turning.{GrowsAt, TurnedAt};
-ghost use Rattle.cx_region.specs.Turn.{Turned};
+ghost use Rattle.cx_region.specs.Turn.{TakesTurn};
 ghost use Rattle.cx_region.specs.Events.{MayTakeMemory};
 ghost use Rattle.cx_region.specs.declared.replies.Event.TheVariants as event;
 ghost use Rattle.cx_region.specs.Sound.{IsSound};
 
 use crate::state::{Region, Terminal};
 use cx_ebcdic::{Name4, Name8};
+use cx_region_state::{Shared, Task, TurnReply};
+use cx_region_task::half_turn;
+use cx_region_task::laws::half_turns_keep;
 use cx_service::ResourceName;
-use cx_state::{Shared, Task, TurnReply};
 use cx_storage::Store;
 use cx_storage::laws::store_is_sound;
-use cx_task::half_turn;
-use cx_task::laws::half_turns_keep;
 use std::alloc::AllocError;
 
 /// Drops a task that is over.
@@ -51,7 +51,7 @@ fn turn_terminal<S: Store + Drop>(
     let Some(task) = &mut terminal.task else {
         return Ok(TurnReply::Idle);
     };
-    let reply = half_turn(shared, &mut terminal.station, task)?;
+    let reply = half_turn(shared, &mut terminal.terminal_entry, task)?;
     drop_over(&reply, &mut terminal.task);
     Ok(reply)
 }
@@ -71,11 +71,11 @@ impl<S: Store + Drop> Region<S> {
     /// A turn of a terminal: its task runs up to its next command, an interruption or the limit of 65,536 instructions;
     /// or the command that is due is performed.
     ///
-    /// An error comes only where a growth was refused, and only where the change that the command makes takes memory and
-    /// no refusal, wait or abend applies. Then all is as before.
-    #[tactic(auto, unfolding(crate::specs::Turn::Turned))]
+    /// An error comes only where an allocation failed, and only where the change that the command makes takes memory
+    /// and no refusal, wait or abend applies. Then all is as before.
+    #[tactic(auto, unfolding(crate::specs::Turn::TakesTurn))]
     pub fn turn(&mut self, name: Name4) -> Result<TurnReply, AllocError>
-        ensures turned { IfOk result (λ reply. Turned self.old name reply self.new) }
+        ensures turned { IfOk result (λ reply. TakesTurn self.old name reply self.new) }
         ensures grows { OnErr result (MayTakeMemory self.old (event.Turn name)) }
         ensures err { OnErr result (self.new ≡ self.old) }
         ensures sound { IsSound self.new }

@@ -8,8 +8,8 @@ use Rattle.cx_storage.specs.Facts.Writes.{areas_after_set, byte_after_set_elsewh
 use Rattle.cx_storage.specs.Storage.{Storage, byte_at, is_of_other_slot, with_areas_kept, with_byte}
 use Rattle.cx_service.specs.Resources.{without_owner}
 use Rattle.cx_program.specs.Levels.{with_current}
-use Rattle.cx_state.specs.State.{Reach, TaskState}
-use Rattle.cx_task.specs.Abends.{AbendsAt}
+use Rattle.cx_region_state.specs.State.{TaskContext, TaskState}
+use Rattle.cx_region_task.specs.Abends.{AbendsAt}
 use Rattle.cx_region.specs.declared.changes.Change.{Change}
 use Rattle.cx_region.specs.declared.changes.Change.TheVariants.{Register, Byte, Nop, Abend}
 use Rattle.cx_region.specs.declared.changes.AlterReply.{AlterReply}
@@ -17,8 +17,8 @@ use Rattle.cx_region.specs.declared.changes.AlterReply.TheVariants as alter
 use Rattle.cx_region.specs.State.{RegionState, TerminalState}
 use Rattle.cx_ebcdic.specs.Names.{is_name}
 use Rattle.cx_region.specs.Tables.{terminal_of}
-use Rattle.cx_region.specs.Turn.{reach_of}
-use Rattle.cx_region.specs.Alter.{Alters, alter_refusal, altered, altered_at, altered_region, ends_task, with_register}
+use Rattle.cx_region.specs.Turn.{context_of}
+use Rattle.cx_region.specs.Alter.{Alters, alter_refusal, after_change, altered_at, altered_region, ends_task, with_register}
 use Rattle.cx_region_laws.specs.Laws.Alterations.{AbendsKeepOthers, AbendsLookAtNoExit, AlterKeeps, AlterKeepsLevels, AlterKeepsOthers, AlterKeepsStorage, AlterationsKeepLevels, AlterationsKeepStorage, AlterationsKeepToTheirTask, KeepsWhereDue}
 use Rattle.cx_region_laws.proofs.KeepsLemmas.{other_stays}
 use Rattle.cx_region.specs.Facts.SoundAlter.{kept_twice, released_twice}
@@ -45,15 +45,15 @@ by_way P old name change reply new each h = by_refusal (alter_refusal old name c
     by_refusal None done = subst P (sym done.1) (by_terminal (terminal_of old name) refl)
     by_refusal (Some refusal) h = subst P (sym h.1) each.stays
 
-programs_stay : (change : Change) (before : Reach) → (altered change before).shared.programs ≡ before.shared.programs
-unfolding altered
+programs_stay : (change : Change) (before : TaskContext) → (after_change change before).shared.programs ≡ before.shared.programs
+unfolding after_change
 programs_stay (Register r v) before = refl
 programs_stay (Byte a v) before = refl
 programs_stay Nop before = refl
 programs_stay Abend before = refl
 
-queues_stay : (change : Change) (before : Reach) → (altered change before).shared.queues ≡ before.shared.queues
-unfolding altered
+queues_stay : (change : Change) (before : TaskContext) → (after_change change before).shared.queues ≡ before.shared.queues
+unfolding after_change
 queues_stay (Register r v) before = refl
 queues_stay (Byte a v) before = refl
 queues_stay Nop before = refl
@@ -66,12 +66,12 @@ alterations_keep old name change reply new h =
       changes = λ t task there. record {
         others = λ other differ. other_stays name other old.terminals _ differ;
         names = keys-set_value (is_name name) old.terminals _;
-        programs = programs_stay change (reach_of old t task);
+        programs = programs_stay change (context_of old t task);
         transactions = refl;
         time = refl;
         date = refl;
         counter = refl;
-        queues = queues_stay change (reach_of old t task);
+        queues = queues_stay change (context_of old t task);
       };
     }) h
 
@@ -79,7 +79,7 @@ byte_elsewhere : (s : Storage) (a v x : ℕ) → x == a ≡ false → byte_at (w
 byte_elsewhere s a v x apart = byte_after_set_elsewhere s a v x (λ e. true≢false (sym (eq-eqb x a e) ∙ apart))
 
 live_keeps : (change : Change) (old : RegionState) (name : List ℕ) (t : TerminalState) (task : TaskState) → ends_task change ≡ false → AlterKeepsStorage old change (altered_at old name change t task)
-unfolding altered
+unfolding after_change
 live_keeps (Register r v) old name t task on = record { areas = refl; bytes = λ x other. refl; resources = refl }
 live_keeps (Byte a v) old name t task on =
     record { areas = areas_after_set old.storage a v; bytes = byte_elsewhere old.storage a v; resources = refl }
@@ -101,7 +101,7 @@ at_terminal : (P : Type 0) (Q : TerminalState → Type 0) (o : Option TerminalSt
 at_terminal P Q o t there q = subst (λ (x : Option TerminalState). MatchOption x P Q) (sym there) q
 
 pub abends_keep_others : AbendsKeepOthers
-unfolding altered
+unfolding after_change
 abends_keep_others old name reply new h =
     by_way (AlterKeepsOthers old name) old name Abend reply new (record {
       stays = record {
@@ -116,7 +116,7 @@ abends_keep_others old name reply new h =
 
 -- ---- the abend
 pub abends_look_at_no_exit : AbendsLookAtNoExit
-unfolding altered AbendsAt
+unfolding after_change AbendsAt
 abends_look_at_no_exit before = record { exit = None; takes = refl; ends = (refl, refl) }
 
 -- ---- levels
@@ -135,7 +135,7 @@ register_kept task r v = record { callers = callers task.due; kept = λ kept due
     by_due kept due = rw due (ap (λ (regs : List ℕ). slice_set regs r v) (kept due).0, (kept due).1)
 
 pub alterations_keep_levels : AlterationsKeepLevels
-unfolding altered
+unfolding after_change
 alterations_keep_levels (Register r v) before = register_kept before.task r v
 alterations_keep_levels (Byte a v) before = same_levels before.task before.task refl
 alterations_keep_levels Nop before = record { callers = refl; kept = λ kept due. cc }

@@ -20,19 +20,19 @@ use Rattle.cx_region.specs.declared.replies.KeyReply.{KeyReply}
 use Rattle.cx_region.specs.declared.replies.KeyReply.TheVariants as key
 use Rattle.cx_region.specs.declared.replies.Reply.{Reply}
 use Rattle.cx_region.specs.declared.replies.Reply.TheVariants as reply
-use Rattle.cx_state.specs.declared.replies.TurnReply.{TurnReply}
-use Rattle.cx_state.specs.declared.replies.TurnReply.TheVariants as turn
+use Rattle.cx_region_state.specs.declared.replies.TurnReply.{TurnReply}
+use Rattle.cx_region_state.specs.declared.replies.TurnReply.TheVariants as turn
 use Rattle.cx_region.specs.State.{RegionState, TerminalState}
-use Rattle.cx_state.specs.State.{Input, Reach, TaskState}
+use Rattle.cx_region_state.specs.State.{Input, TaskContext, TaskState}
 use Rattle.cx_region.specs.Tables.{fresh_terminal, program_of, terminal_of, transaction_of, with_terminal}
 use Rattle.cx_region.specs.Defining.{DefinesProgram, DefinesTerminal, DefinesTransaction, Loads, program_fault, terminal_fault, transaction_fault}
-use Rattle.cx_command.specs.Eib.{eib_len}
-use Rattle.cx_region.specs.Attach.{ArePlaced, Attached, Attaches, Gives, HasNoPlaces, IsCopyPlace, Keyed, OnlyAnswers, Starts, attached, commarea_kept, input_from, transaction_named, with_eib_area, with_kept_area}
+use Rattle.cx_base_commands.specs.Eib.{eib_len}
+use Rattle.cx_region.specs.Attach.{ArePlaced, AttachesTask, Attaches, Gives, HasNoPlaces, IsCopyPlace, TakesKey, OnlyAnswers, Starts, with_task_attached, commarea_kept, input_from, transaction_named, with_eib_area, with_kept_area}
 use Rattle.cx_region.specs.declared.asking.Places.{Places}
-use Rattle.cx_state.specs.Areas.{IsTaskPlace, first_of_tasks, last_of_tasks, system_owner}
-use Rattle.cx_task.specs.Laws.HalfTurns.{HalfTurnsDecide}
-use Rattle.cx_region.specs.Turn.{TaskTurned, Turned, put_back, reach_of, task_after}
-use Rattle.cx_region.specs.Events.{Happens, Run}
+use Rattle.cx_region_state.specs.Areas.{IsTaskPlace, first_of_tasks, last_of_tasks, system_owner}
+use Rattle.cx_region_task.specs.Laws.HalfTurns.{HalfTurnsDecide}
+use Rattle.cx_region.specs.Turn.{TaskTakesTurn, TakesTurn, put_back, context_of, task_after}
+use Rattle.cx_region.specs.Events.{Applies, Run}
 use Rattle.cx_region_laws.specs.Facts.Alterations.{alter_reply, alterations_decide}
 use Rattle.cx_region_laws.specs.Laws.Regions.{EventsDecide, RunsDecide}
 
@@ -41,7 +41,7 @@ abbrev pub LoadingDecides : Type 0
 LoadingDecides = (storage after later : Storage) (image : Image) (one other : Loaded)
     → IsLoaded storage image one after → IsLoaded storage image other later → (one ≡ other) × (after ≡ later)
 
--- two outcomes that are both the one that is told
+-- two outcomes that are both the given one
 told : {A B : Type 0} (r s x : A) (a b y : B) → (r ≡ x) × (a ≡ y) → (s ≡ x) × (b ≡ y) → (r ≡ s) × (a ≡ b)
 told r s x a b y h k = (h.0 ∙ sym k.0, h.1 ∙ sym k.1)
 
@@ -130,7 +130,7 @@ places_decide storage owner len stg_len p q h k =
 -- what an attach answers: a task with places for its areas, or that there are none
 abbrev Answered : RegionState → List ℕ → TerminalState → Input → List ℕ → List ℕ → Loaded → KeyReply → RegionState → Type 0
 Answered old name terminal input tran program loaded answer new =
-    ((answer ≡ key.Attached) × Attached old name terminal input tran program loaded new)
+    ((answer ≡ key.Attached) × AttachesTask old name terminal input tran program loaded new)
     ⊎ ((answer ≡ key.NoStorage) × HasNoPlaces old.storage (system_owner terminal.slot) (length (commarea_kept terminal.following)) loaded.stg_len × (new ≡ old))
 
 attach_answers : (old : RegionState) (name : List ℕ) (terminal : TerminalState) (input : Input) (tran program : List ℕ) (loaded : Loaded) (answer : KeyReply) (new : RegionState)
@@ -146,7 +146,7 @@ attach_decides old name terminal input tran program loaded r s a b h k =
       | inl one ↦ elim (attach_answers old name terminal input tran program loaded s b k) [
         | inl two ↦
             let same = places_decide old.storage (system_owner terminal.slot) (length (commarea_kept terminal.following)) loaded.stg_len one.1.areas two.1.areas one.1.placed two.1.placed in
-            (one.0 ∙ sym two.0, one.1.after ∙ ap (λ (p : Places). attached old name terminal input tran program loaded p) same ∙ sym two.1.after)
+            (one.0 ∙ sym two.0, one.1.after ∙ ap (λ (p : Places). with_task_attached old name terminal input tran program loaded p) same ∙ sym two.1.after)
         | inr two ↦ absurd (two.1.none one.1.areas one.1.placed)
       ]
       | inr one ↦ elim (attach_answers old name terminal input tran program loaded s b k) [
@@ -156,8 +156,8 @@ attach_decides old name terminal input tran program loaded r s a b h k =
     ]
 
 pub key_decides : (old : RegionState) (name : List ℕ) (input : Input) (r s : KeyReply) (a b : RegionState)
-    → Keyed old name input r a → Keyed old name input s b → Alike r s a b
-unfolding Keyed
+    → TakesKey old name input r a → TakesKey old name input s b → Alike r s a b
+unfolding TakesKey
 key_decides old name input r s a b h k = at_terminal (terminal_of old name) h k
   where
     at_program : (t : TerminalState) (tran program : List ℕ) (o : Option Loaded)
@@ -197,19 +197,19 @@ key_decides old name input r s a b h k = at_terminal (terminal_of old name) h k
 -- ---- turns
 task_turn_decides : HalfTurnsDecide → (old : RegionState) (name : List ℕ) (terminal : TerminalState) (task : TaskState)
     (r s : TurnReply) (a b : RegionState)
-    → TaskTurned old name terminal task r a → TaskTurned old name terminal task s b → Alike r s a b
+    → TaskTakesTurn old name terminal task r a → TaskTakesTurn old name terminal task s b → Alike r s a b
 task_turn_decides law old name terminal task r s a b h k =
-    let same = law (reach_of old terminal task) h.reached k.reached r s h.half_turn k.half_turn in (
+    let same = law (context_of old terminal task) h.reached k.reached r s h.half_turn k.half_turn in (
       same.0,
-      h.after ∙ ap (λ (answer : TurnReply). put_back old name h.reached (task_after answer h.reached.task)) same.0 ∙ ap (λ (x : Reach). put_back old name x (task_after s x.task)) same.1 ∙ sym k.after,
+      h.after ∙ ap (λ (answer : TurnReply). put_back old name h.reached (task_after answer h.reached.task)) same.0 ∙ ap (λ (x : TaskContext). put_back old name x (task_after s x.task)) same.1 ∙ sym k.after,
     )
 
 abbrev MatchTask : RegionState → List ℕ → TurnReply → RegionState → TerminalState → Option TaskState → Type 0
-MatchTask old name answer new terminal o = MatchOption o ((answer ≡ turn.Idle) × (new ≡ old)) (λ task. TaskTurned old name terminal task answer new)
+MatchTask old name answer new terminal o = MatchOption o ((answer ≡ turn.Idle) × (new ≡ old)) (λ task. TaskTakesTurn old name terminal task answer new)
 
 pub turn_decides : HalfTurnsDecide → (old : RegionState) (name : List ℕ) (r s : TurnReply) (a b : RegionState)
-    → Turned old name r a → Turned old name s b → Alike r s a b
-unfolding Turned
+    → TakesTurn old name r a → TakesTurn old name s b → Alike r s a b
+unfolding TakesTurn
 turn_decides law old name r s a b h k = at_terminal (terminal_of old name) h k
   where
     at_task : (terminal : TerminalState) (o : Option TaskState) → MatchTask old name r a terminal o → MatchTask old name s b terminal o → Alike r s a b
@@ -224,39 +224,39 @@ turn_decides law old name r s a b h k = at_terminal (terminal_of old name) h k
     at_terminal (Some terminal) one two = at_task terminal terminal.task one two
 
 -- ---- events
-pub program_reply : (old : RegionState) (name : List ℕ) (image : Image) (r : Reply) (new : RegionState) → Happens old (event.Program name image) r new
+pub program_reply : (old : RegionState) (name : List ℕ) (image : Image) (r : Reply) (new : RegionState) → Applies old (event.Program name image) r new
     → (result : Result Loaded DefineFault) × (r ≡ reply.Program result) × DefinesProgram old name image result new
-unfolding Happens
+unfolding Applies
 program_reply old name image (reply.Program result) new h = (result, refl, h)
 program_reply old name image _ new h = absurd h
 
-pub transaction_reply : (old : RegionState) (tran program : List ℕ) (r : Reply) (new : RegionState) → Happens old (event.Transaction tran program) r new
+pub transaction_reply : (old : RegionState) (tran program : List ℕ) (r : Reply) (new : RegionState) → Applies old (event.Transaction tran program) r new
     → (result : Result (Unit {0}) DefineFault) × (r ≡ reply.Transaction result) × DefinesTransaction old tran program result new
-unfolding Happens
+unfolding Applies
 transaction_reply old tran program (reply.Transaction result) new h = (result, refl, h)
 transaction_reply old tran program _ new h = absurd h
 
-pub terminal_reply : (old : RegionState) (name : List ℕ) (r : Reply) (new : RegionState) → Happens old (event.Terminal name) r new
+pub terminal_reply : (old : RegionState) (name : List ℕ) (r : Reply) (new : RegionState) → Applies old (event.Terminal name) r new
     → (result : Result (Unit {0}) DefineFault) × (r ≡ reply.Terminal result) × DefinesTerminal old name result new
-unfolding Happens
+unfolding Applies
 terminal_reply old name (reply.Terminal result) new h = (result, refl, h)
 terminal_reply old name _ new h = absurd h
 
-pub clock_reply : (old : RegionState) (time date : ℕ) (r : Reply) (new : RegionState) → Happens old (event.Clock time date) r new
+pub clock_reply : (old : RegionState) (time date : ℕ) (r : Reply) (new : RegionState) → Applies old (event.Clock time date) r new
     → (r ≡ reply.Clock) × (new ≡ record old { time = time; date = date })
-unfolding Happens
+unfolding Applies
 clock_reply old time date reply.Clock new h = (refl, h)
 clock_reply old time date _ new h = absurd h
 
-pub key_reply : (old : RegionState) (name : List ℕ) (aid : Aid) (bytes : List ℕ) (r : Reply) (new : RegionState) → Happens old (event.Key name aid bytes) r new
-    → (answer : KeyReply) × (r ≡ reply.Key answer) × Keyed old name (input_from aid bytes) answer new
-unfolding Happens
+pub key_reply : (old : RegionState) (name : List ℕ) (aid : Aid) (bytes : List ℕ) (r : Reply) (new : RegionState) → Applies old (event.Key name aid bytes) r new
+    → (answer : KeyReply) × (r ≡ reply.Key answer) × TakesKey old name (input_from aid bytes) answer new
+unfolding Applies
 key_reply old name aid bytes (reply.Key answer) new h = (answer, refl, h)
 key_reply old name aid bytes _ new h = absurd h
 
-pub turn_reply : (old : RegionState) (name : List ℕ) (r : Reply) (new : RegionState) → Happens old (event.Turn name) r new
-    → (answer : TurnReply) × (r ≡ reply.Turn answer) × Turned old name answer new
-unfolding Happens
+pub turn_reply : (old : RegionState) (name : List ℕ) (r : Reply) (new : RegionState) → Applies old (event.Turn name) r new
+    → (answer : TurnReply) × (r ≡ reply.Turn answer) × TakesTurn old name answer new
+unfolding Applies
 turn_reply old name (reply.Turn answer) new h = (answer, refl, h)
 turn_reply old name _ new h = absurd h
 

@@ -13,13 +13,13 @@ use Rattle.cx_region.specs.declared.replies.DefineFault.{DefineFault}
 use Rattle.cx_region.specs.declared.replies.DefineFault.TheVariants.{NoRoom}
 use Rattle.cx_region.specs.declared.replies.KeyReply.{KeyReply}
 use Rattle.cx_region.specs.declared.replies.KeyReply.TheVariants as key
-use Rattle.cx_state.specs.declared.replies.TurnReply.{TurnReply}
-use Rattle.cx_state.specs.declared.replies.TurnReply.TheVariants as turn
-use Rattle.cx_state.specs.State.{Input, Reach, TaskState}
+use Rattle.cx_region_state.specs.declared.replies.TurnReply.{TurnReply}
+use Rattle.cx_region_state.specs.declared.replies.TurnReply.TheVariants as turn
+use Rattle.cx_region_state.specs.State.{Input, TaskContext, TaskState}
 use Rattle.cx_service.specs.Resources.{without_owner}
-use Rattle.cx_tables.specs.Facts.Tables.{found_meets}
-use Rattle.cx_task.specs.Turn.{HalfTurn}
-use Rattle.cx_task.specs.Laws.HalfTurns.{HalfTurnKeeps, HalfTurnStays, HalfTurnsKeep, HalfTurnsStay, WaitsLeave, is_of_task, others_areas}
+use Rattle.cx_base_lists.specs.Facts.Tables.{found_meets}
+use Rattle.cx_region_task.specs.Turn.{HalfTurn}
+use Rattle.cx_region_task.specs.Laws.HalfTurns.{HalfTurnKeeps, HalfTurnStays, HalfTurnsKeep, HalfTurnsStay, WaitsLeave, is_of_task, others_areas}
 use Rattle.cx_region.specs.Sound.{IsSoundTerminal}
 use Rattle.cx_region.specs.Facts.SoundAttach.{of_some}
 use Rattle.cx_region.specs.Facts.SoundTurned.{task_of_terminal}
@@ -27,9 +27,9 @@ use Rattle.cx_region.specs.State.{RegionState, TerminalState}
 use Rattle.cx_ebcdic.specs.Names.{is_name}
 use Rattle.cx_region.specs.Tables.{fresh_terminal, program_of, terminal_of, transaction_of, with_terminal}
 use Rattle.cx_region.specs.Defining.{DefinesProgram, DefinesTerminal, DefinesTransaction, Loads, program_fault, terminal_fault, transaction_fault}
-use Rattle.cx_region.specs.Attach.{Attaches, Gives, Keyed, OnlyAnswers, Starts, attached, transaction_named}
+use Rattle.cx_region.specs.Attach.{Attaches, Gives, TakesKey, OnlyAnswers, Starts, with_task_attached, transaction_named}
 use Rattle.cx_region.specs.declared.asking.Places.{Places}
-use Rattle.cx_region.specs.Turn.{TaskTurned, Turned, put_back, reach_of, task_after}
+use Rattle.cx_region.specs.Turn.{TaskTakesTurn, TakesTurn, put_back, context_of, task_after}
 use Rattle.cx_region_laws.specs.Laws.Regions.{KeyKeeps, KeysKeepToTheirTerminal, RefusedProgramsLeaveTheRegion, RefusedTerminalsLeaveTheRegion, RefusedTransactionsLeaveTheRegion, StillKeysLeaveTheRegion, StillTurnsLeaveTheRegion, TurnKeeps, TurnKeepsOthers, TurnsKeepOthers, TurnsKeepToTheirTask, changes_nothing, counter_after}
 
 -- ---- names
@@ -70,8 +70,8 @@ turn_nothing old name new same = subst (λ (r : RegionState). TurnKeeps old name
   counter = refl;
 })
 
-after_keeps : (old : RegionState) (name : List ℕ) (terminal : TerminalState) (task : TaskState) (reply : TurnReply) (after : Reach)
-    → HalfTurnStays (reach_of old terminal task) reply after → TurnKeeps old name (put_back old name after (task_after reply after.task))
+after_keeps : (old : RegionState) (name : List ℕ) (terminal : TerminalState) (task : TaskState) (reply : TurnReply) (after : TaskContext)
+    → HalfTurnStays (context_of old terminal task) reply after → TurnKeeps old name (put_back old name after (task_after reply after.task))
 after_keeps old name terminal task reply after stays = record {
   others = λ other differ. other_stays name other old.terminals _ differ;
   names = keys-set_value (is_name name) old.terminals _;
@@ -83,18 +83,18 @@ after_keeps old name terminal task reply after stays = record {
 }
 
 pub turned_keeps : HalfTurnsStay → TurnsKeepToTheirTask
-unfolding Turned
+unfolding TakesTurn
 turned_keeps law old name reply new h = at_terminal (terminal_of old name) h
   where
-    turned : (terminal : TerminalState) (task : TaskState) → TaskTurned old name terminal task reply new → TurnKeeps old name new
+    turned : (terminal : TerminalState) (task : TaskState) → TaskTakesTurn old name terminal task reply new → TurnKeeps old name new
     turned terminal task h =
-        subst (λ (r : RegionState). TurnKeeps old name r) (sym h.after) (after_keeps old name terminal task reply h.reached (law (reach_of old terminal task) h.reached reply h.half_turn))
+        subst (λ (r : RegionState). TurnKeeps old name r) (sym h.after) (after_keeps old name terminal task reply h.reached (law (context_of old terminal task) h.reached reply h.half_turn))
 
-    at_task : (terminal : TerminalState) (o : Option TaskState) → MatchOption o ((reply ≡ turn.Idle) × (new ≡ old)) (λ task. TaskTurned old name terminal task reply new) → TurnKeeps old name new
+    at_task : (terminal : TerminalState) (o : Option TaskState) → MatchOption o ((reply ≡ turn.Idle) × (new ≡ old)) (λ task. TaskTakesTurn old name terminal task reply new) → TurnKeeps old name new
     at_task terminal None idle = turn_nothing old name new idle.1
     at_task terminal (Some task) h = turned terminal task h
 
-    at_terminal : (o : Option TerminalState) → MatchOption o ((reply ≡ turn.NoSuchTerminal) × (new ≡ old)) (λ terminal. MatchOption terminal.task ((reply ≡ turn.Idle) × (new ≡ old)) (λ task. TaskTurned old name terminal task reply new)) → TurnKeeps old name new
+    at_terminal : (o : Option TerminalState) → MatchOption o ((reply ≡ turn.NoSuchTerminal) × (new ≡ old)) (λ terminal. MatchOption terminal.task ((reply ≡ turn.Idle) × (new ≡ old)) (λ task. TaskTakesTurn old name terminal task reply new)) → TurnKeeps old name new
     at_terminal None none = turn_nothing old name new none.1
     at_terminal (Some terminal) found = at_task terminal terminal.task found
 
@@ -113,30 +113,30 @@ others_nothing old name new same = subst (λ (r : RegionState). TurnKeepsOthers 
     whole : TurnKeepsOthers old name old
     whole = record { areas = areas_same (terminal_of old name); resources = resources_same (terminal_of old name) }
 
-others_kept : (old : RegionState) (name : List ℕ) (terminal : TerminalState) (task : TaskState) (reply : TurnReply) (after : Reach) → terminal_of old name ≡ Some terminal
-    → HalfTurnKeeps (reach_of old terminal task) reply after → TurnKeepsOthers old name (put_back old name after (task_after reply after.task))
+others_kept : (old : RegionState) (name : List ℕ) (terminal : TerminalState) (task : TaskState) (reply : TurnReply) (after : TaskContext) → terminal_of old name ≡ Some terminal
+    → HalfTurnKeeps (context_of old terminal task) reply after → TurnKeepsOthers old name (put_back old name after (task_after reply after.task))
 others_kept old name terminal task reply after there keeps = record {
   areas = of_some _ (λ t. others_areas t.slot after.shared.storage ≡ others_areas t.slot old.storage) (terminal_of old name) terminal there keeps.areas;
   resources = of_some _ (λ t. without_owner after.shared.resources t.slot ≡ without_owner old.resources t.slot) (terminal_of old name) terminal there keeps.resources;
 }
 
 pub turned_keeps_others : HalfTurnsKeep → TurnsKeepOthers
-unfolding Turned
+unfolding TakesTurn
 turned_keeps_others law old name reply new ok h = at_terminal (terminal_of old name) refl h
   where
-    turned : (terminal : TerminalState) (task : TaskState) → terminal_of old name ≡ Some terminal → terminal.task ≡ Some task → TaskTurned old name terminal task reply new → TurnKeepsOthers old name new
+    turned : (terminal : TerminalState) (task : TaskState) → terminal_of old name ≡ Some terminal → terminal.task ≡ Some task → TaskTakesTurn old name terminal task reply new → TurnKeepsOthers old name new
     turned terminal task there at h =
         let own = task_of_terminal old.storage terminal task at (found_meets (IsSoundTerminal old.storage) (is_name name) old.terminals terminal ok.tasks there) in
-        let keeps = law (reach_of old terminal task) h.reached reply ok.storage ok.programs_sound ok.queues_sound own h.half_turn in
+        let keeps = law (context_of old terminal task) h.reached reply ok.storage ok.programs_sound ok.queues_sound own h.half_turn in
         subst (λ (r : RegionState). TurnKeepsOthers old name r) (sym h.after) (others_kept old name terminal task reply h.reached there keeps)
 
     at_task : (terminal : TerminalState) → terminal_of old name ≡ Some terminal → (o : Option TaskState) → terminal.task ≡ o
-        → MatchOption o ((reply ≡ turn.Idle) × (new ≡ old)) (λ task. TaskTurned old name terminal task reply new) → TurnKeepsOthers old name new
+        → MatchOption o ((reply ≡ turn.Idle) × (new ≡ old)) (λ task. TaskTakesTurn old name terminal task reply new) → TurnKeepsOthers old name new
     at_task terminal there None at idle = others_nothing old name new idle.1
     at_task terminal there (Some task) at h = turned terminal task there at h
 
     at_terminal : (o : Option TerminalState) → terminal_of old name ≡ o
-        → MatchOption o ((reply ≡ turn.NoSuchTerminal) × (new ≡ old)) (λ terminal. MatchOption terminal.task ((reply ≡ turn.Idle) × (new ≡ old)) (λ task. TaskTurned old name terminal task reply new)) → TurnKeepsOthers old name new
+        → MatchOption o ((reply ≡ turn.NoSuchTerminal) × (new ≡ old)) (λ terminal. MatchOption terminal.task ((reply ≡ turn.Idle) × (new ≡ old)) (λ task. TaskTakesTurn old name terminal task reply new)) → TurnKeepsOthers old name new
     at_terminal None there none = others_nothing old name new none.1
     at_terminal (Some terminal) there found = at_task terminal there terminal.task refl found
 
@@ -152,7 +152,7 @@ set_same test (e ∷ es) value found = elim (cases_Bool (test e.0)) [
 
 -- what was reached, put back unchanged
 put_back_same : (old : RegionState) (name : List ℕ) (terminal : TerminalState) (task : TaskState) → terminal_of old name ≡ Some terminal → terminal.task ≡ Some task
-    → put_back old name (reach_of old terminal task) (task_after turn.Waiting (reach_of old terminal task).task) ≡ old
+    → put_back old name (context_of old terminal task) (task_after turn.Waiting (context_of old terminal task).task) ≡ old
 put_back_same old name terminal task found has =
     let whole : record terminal { task = Some task } ≡ terminal = λ i. record terminal { task = sym has i } in
     let entries : set_value (is_name name) old.terminals (record terminal { task = Some task }) ≡ old.terminals =
@@ -160,16 +160,16 @@ put_back_same old name terminal task found has =
     λ i. record old { terminals = entries i }
 
 pub still_turns_leave : HalfTurnsStay → WaitsLeave → StillTurnsLeaveTheRegion
-unfolding Turned
+unfolding TakesTurn
 still_turns_leave stay law old name reply new h still = at_terminal (terminal_of old name) refl h
   where
-    waited : (terminal : TerminalState) (task : TaskState) → terminal_of old name ≡ Some terminal → terminal.task ≡ Some task → TaskTurned old name terminal task reply new → reply ≡ turn.Waiting → new ≡ old
+    waited : (terminal : TerminalState) (task : TaskState) → terminal_of old name ≡ Some terminal → terminal.task ≡ Some task → TaskTakesTurn old name terminal task reply new → reply ≡ turn.Waiting → new ≡ old
     waited terminal task found has h is =
-        let same : h.reached ≡ reach_of old terminal task = law (reach_of old terminal task) h.reached (subst (λ (r : TurnReply). HalfTurn (reach_of old terminal task) r h.reached) is h.half_turn) in
+        let same : h.reached ≡ context_of old terminal task = law (context_of old terminal task) h.reached (subst (λ (r : TurnReply). HalfTurn (context_of old terminal task) r h.reached) is h.half_turn) in
         h.after ∙ ap (λ (answer : TurnReply). put_back old name h.reached (task_after answer h.reached.task)) is
-        ∙ ap (λ (x : Reach). put_back old name x (task_after turn.Waiting x.task)) same ∙ put_back_same old name terminal task found has
+        ∙ ap (λ (x : TaskContext). put_back old name x (task_after turn.Waiting x.task)) same ∙ put_back_same old name terminal task found has
 
-    by_reply : (terminal : TerminalState) (task : TaskState) → terminal_of old name ≡ Some terminal → terminal.task ≡ Some task → TaskTurned old name terminal task reply new
+    by_reply : (terminal : TerminalState) (task : TaskState) → terminal_of old name ≡ Some terminal → terminal.task ≡ Some task → TaskTakesTurn old name terminal task reply new
         → (told : TurnReply) → reply ≡ told → changes_nothing told ≡ true → is_of_task told ≡ true → new ≡ old
     by_reply terminal task found has h turn.Idle is nothing of = absurd (true≢false (sym of))
     by_reply terminal task found has h turn.NoSuchTerminal is nothing of = absurd (true≢false (sym of))
@@ -184,13 +184,13 @@ still_turns_leave stay law old name reply new h still = at_terminal (terminal_of
     by_reply terminal task found has h turn.Ended is nothing of = absurd (true≢false (sym nothing))
 
     at_task : (terminal : TerminalState) → terminal_of old name ≡ Some terminal → (o : Option TaskState) → terminal.task ≡ o
-        → MatchOption o ((reply ≡ turn.Idle) × (new ≡ old)) (λ task. TaskTurned old name terminal task reply new) → new ≡ old
+        → MatchOption o ((reply ≡ turn.Idle) × (new ≡ old)) (λ task. TaskTakesTurn old name terminal task reply new) → new ≡ old
     at_task terminal found None has idle = idle.1
     at_task terminal found (Some task) has h =
-        by_reply terminal task found has h reply refl still (stay (reach_of old terminal task) h.reached reply h.half_turn).answers
+        by_reply terminal task found has h reply refl still (stay (context_of old terminal task) h.reached reply h.half_turn).answers
 
     at_terminal : (o : Option TerminalState) → terminal_of old name ≡ o
-        → MatchOption o ((reply ≡ turn.NoSuchTerminal) × (new ≡ old)) (λ terminal. MatchOption terminal.task ((reply ≡ turn.Idle) × (new ≡ old)) (λ task. TaskTurned old name terminal task reply new)) → new ≡ old
+        → MatchOption o ((reply ≡ turn.NoSuchTerminal) × (new ≡ old)) (λ terminal. MatchOption terminal.task ((reply ≡ turn.Idle) × (new ≡ old)) (λ task. TaskTakesTurn old name terminal task reply new)) → new ≡ old
     at_terminal None found none = none.1
     at_terminal (Some terminal) found h = at_task terminal found terminal.task refl h
 
@@ -241,7 +241,7 @@ given_keeps old name terminal = record {
 }
 
 attached_keeps : (old : RegionState) (name : List ℕ) (terminal : TerminalState) (input : Input) (tran program : List ℕ) (loaded : Loaded) (areas : Places)
-    → KeyKeeps old name key.Attached (attached old name terminal input tran program loaded areas)
+    → KeyKeeps old name key.Attached (with_task_attached old name terminal input tran program loaded areas)
 attached_keeps old name terminal input tran program loaded areas = record {
   others = λ other differ. other_stays name other old.terminals _ differ;
   names = keys-set_value (is_name name) old.terminals _;
@@ -269,8 +269,8 @@ record EachWay (P : KeyReply → RegionState → Type 0) (old : RegionState) (na
   gives : (terminal : TerminalState) (reply : KeyReply) (new : RegionState) → reply ≡ key.Given → new ≡ with_terminal old name terminal → P reply new
   attaches : (terminal : TerminalState) (tran program : List ℕ) (loaded : Loaded) (reply : KeyReply) (new : RegionState) → Attaches old name terminal input tran program loaded reply new → P reply new
 
-by_way : (P : KeyReply → RegionState → Type 0) (old : RegionState) (name : List ℕ) (input : Input) (reply : KeyReply) (new : RegionState) → EachWay P old name input → Keyed old name input reply new → P reply new
-unfolding Keyed is_refusal
+by_way : (P : KeyReply → RegionState → Type 0) (old : RegionState) (name : List ℕ) (input : Input) (reply : KeyReply) (new : RegionState) → EachWay P old name input → TakesKey old name input reply new → P reply new
+unfolding TakesKey is_refusal
 by_way P old name input reply new each h = at_terminal (terminal_of old name) h
   where
     at_program : (terminal : TerminalState) (tran program : List ℕ) (o : Option Loaded)
@@ -306,7 +306,7 @@ keyed_keeps old name input reply new h =
       attaches = λ terminal tran program loaded reply new attaches. attaches_keeps old name terminal input tran program loaded reply new attaches;
     }) h
 
--- what is left as it was, but for two answers
+-- what is left as it was, except by two answers
 abbrev IsStill : RegionState → KeyReply → RegionState → Type 0
 IsStill old reply new = (reply ≡ key.Attached → ⊥) → (reply ≡ key.Given → ⊥) → new ≡ old
 

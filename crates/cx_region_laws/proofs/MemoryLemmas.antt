@@ -6,13 +6,13 @@ use Rattle.std.specs.declared.alloc.AllocError.{AllocError}
 use Rattle.cx_region.specs.declared.replies.Event.{Event}
 use Rattle.cx_region.specs.declared.replies.Reply.{Reply}
 use Rattle.cx_region.specs.State.{RegionState}
-use Rattle.cx_region.specs.Events.{Happens, IsDone, Run}
+use Rattle.cx_region.specs.Events.{Applies, IsDone, Run}
 use Rattle.cx_region_laws.specs.Laws.Memory.{RefusedEventsAreNone, StoppedRunsGoOn}
 use Rattle.cx_region_laws.specs.Laws.Regions.{EventsDecide}
 use Rattle.cx_region_laws.proofs.RunLawLemmas.{runs_join}
 
-same_answer : EventsDecide → (old new after : RegionState) (e : Event) (result : Result Reply AllocError) (reply : Reply) → IfOk result (λ given. Happens old e given new)
-    → Happens old e reply after → IfOk result (λ given. (given ≡ reply) × (new ≡ after))
+same_answer : EventsDecide → (old new after : RegionState) (e : Event) (result : Result Reply AllocError) (reply : Reply) → IfOk result (λ given. Applies old e given new)
+    → Applies old e reply after → IfOk result (λ given. (given ≡ reply) × (new ≡ after))
 same_answer decide old new after e (Ok given) reply h k = decide old e given reply new after h k
 same_answer decide old new after e (Err fault) reply h k = tt
 

@@ -8,8 +8,8 @@ use Rattle.std.proofs.lemmas.Option.{none-some, same_Some, slice_get_past}
 use Rattle.indexmap.specs.IndexMap.{insert_entry}
 use Rattle.cx_ebcdic.specs.Names.{is_name}
 use Rattle.cx_code.specs.declared.image.Image.{Image}
-use Rattle.cx_command.specs.declared.conditions.Condition.{Condition}
-use Rattle.cx_command.specs.Eib.{eib_len}
+use Rattle.cx_base_commands.specs.declared.conditions.Condition.{Condition}
+use Rattle.cx_base_commands.specs.Eib.{eib_len}
 use Rattle.cx_storage.specs.declared.areas.Owner.{Owner}
 use Rattle.cx_storage.specs.Storage.{Held, Storage, end_of}
 use Rattle.cx_storage.specs.Place.{CanPlace, IsLeastPlace, Misses}
@@ -18,27 +18,27 @@ use Rattle.cx_load.specs.declared.program.Loaded.{Loaded}
 use Rattle.cx_load.specs.Program.{IsProgramPlace, first_of_programs, last_of_programs}
 use Rattle.cx_program.specs.declared.level.Level.{Level}
 use Rattle.cx_program.specs.Levels.{IsNearestExit, Levels, all_levels, has_exit_at}
-use Rattle.cx_call.specs.Call.{Call, call_of}
-use Rattle.cx_call.specs.declared.outputs.Output.{Output}
-use Rattle.cx_state.specs.Areas.{IsTaskPlace, first_of_tasks, last_of_tasks, system_owner}
-use Rattle.cx_state.specs.State.{Input, Reach, TaskState}
-use Rattle.cx_state.specs.declared.replies.TurnReply.{TurnReply}
-use Rattle.cx_state.specs.declared.replies.TurnReply.TheVariants as turn
-use Rattle.cx_state.specs.declared.verdict.Change.{Change}
-use Rattle.cx_state.specs.declared.verdict.Change.TheVariants.{Nothing, Makes, Ends, Gets, Enters, Replaces, LevelEnds, TaskEnds, AbendsWith}
-use Rattle.cx_state.specs.declared.verdict.Made.{Made}
-use Rattle.cx_state.specs.declared.verdict.Made.TheVariants as made
-use Rattle.cx_state.specs.declared.verdict.Verdict.{Verdict}
-use Rattle.cx_state.specs.declared.verdict.Verdict.TheVariants.{Refuses, Waits as VerdictWaits, Meets}
-use Rattle.cx_task.specs.declared.way.Way.{Way}
-use Rattle.cx_task.specs.declared.way.Way.TheVariants.{GoesOn, TakesLabel, Waits, Abends, Enters as WayEnters, Replaces as WayReplaces, LevelEnds as WayLevelEnds, TaskEnds as WayTaskEnds}
-use Rattle.cx_task.specs.Abends.{Abends as AbendsWithCode, AbendsAt, IsExit, abended, exit_taken, task_ended}
-use Rattle.cx_task.specs.Answers.{Answers, Does, MeetsWith, has_room, may_grow, way_at}
-use Rattle.cx_task.specs.Changes.{Grown, change_grows, finished, given, report_of, reported}
-use Rattle.cx_call.specs.Inputs.{are_inputs_there}
-use Rattle.cx_task.specs.Performing.{Called, Commanded, list_of}
-use Rattle.cx_task.specs.Turn.{Grows, HalfTurn}
-use Rattle.cx_task.specs.Ways.{Goes, at_label, entered, is_wait, on_its_way, replaced, returned}
+use Rattle.cx_region_call.specs.Call.{Call, call_of}
+use Rattle.cx_region_call.specs.declared.outputs.Output.{Output}
+use Rattle.cx_region_state.specs.Areas.{IsTaskPlace, first_of_tasks, last_of_tasks, system_owner}
+use Rattle.cx_region_state.specs.State.{Input, TaskContext, TaskState}
+use Rattle.cx_region_state.specs.declared.replies.TurnReply.{TurnReply}
+use Rattle.cx_region_state.specs.declared.replies.TurnReply.TheVariants as turn
+use Rattle.cx_region_state.specs.declared.verdict.TaskChange.{TaskChange}
+use Rattle.cx_region_state.specs.declared.verdict.TaskChange.TheVariants.{Nothing, Makes, Ends, Gets, Enters, Replaces, LevelEnds, TaskEnds, AbendsWith}
+use Rattle.cx_region_state.specs.declared.verdict.Made.{Made}
+use Rattle.cx_region_state.specs.declared.verdict.Made.TheVariants as made
+use Rattle.cx_region_state.specs.declared.verdict.Verdict.{Verdict}
+use Rattle.cx_region_state.specs.declared.verdict.Verdict.TheVariants.{Refuses, Waits as VerdictWaits, Meets}
+use Rattle.cx_region_task.specs.declared.continuation.Continuation.{Continuation}
+use Rattle.cx_region_task.specs.declared.continuation.Continuation.TheVariants.{GoesOn, TakesLabel, Waits, Abends, Enters as WayEnters, Replaces as WayReplaces, LevelEnds as WayLevelEnds, TaskEnds as WayTaskEnds}
+use Rattle.cx_region_task.specs.Abends.{Abends as AbendsWithCode, AbendsAt, IsExit, end_without_next, exit_taken, task_ended}
+use Rattle.cx_region_task.specs.Answers.{Answers, Does, MeetsWith, has_room, may_take_memory, continuation_at}
+use Rattle.cx_region_task.specs.Changes.{AppliesBefore, change_takes_memory, apply_after, write_outputs, report_of, write_report}
+use Rattle.cx_region_call.specs.Inputs.{are_inputs_there}
+use Rattle.cx_region_task.specs.Performing.{PerformsCall, PerformsCommand, list_of}
+use Rattle.cx_region_task.specs.Turn.{TakesMemory, HalfTurn}
+use Rattle.cx_region_task.specs.Continuations.{Goes, at_label, enter_level, is_wait, on_its_way, replace_level, return_to_caller}
 use Rattle.cx_region.specs.declared.replies.Event.{Event}
 use Rattle.cx_region.specs.declared.replies.Event.TheVariants as event
 use Rattle.cx_region.specs.declared.replies.KeyReply.{KeyReply}
@@ -47,10 +47,10 @@ use Rattle.cx_region.specs.declared.replies.Reply.TheVariants as reply
 use Rattle.cx_region.specs.State.{RegionState, TerminalState}
 use Rattle.cx_region.specs.Tables.{fresh_terminal, program_of, terminal_of, transaction_of, with_terminal}
 use Rattle.cx_region.specs.Defining.{DefinesProgram, DefinesTerminal, DefinesTransaction, program_fault}
-use Rattle.cx_region.specs.Attach.{ArePlaced, Attaches, Gives, HasNoPlaces, IsCopyPlace, Keyed, Starts, attached, commarea_kept, input_from, transaction_named, with_eib_area, with_kept_area}
+use Rattle.cx_region.specs.Attach.{ArePlaced, Attaches, Gives, HasNoPlaces, IsCopyPlace, TakesKey, Starts, with_task_attached, commarea_kept, input_from, transaction_named, with_eib_area, with_kept_area}
 use Rattle.cx_region.specs.declared.asking.Places.{Places}
-use Rattle.cx_region.specs.Turn.{Turned, put_back, reach_of, task_after}
-use Rattle.cx_region.specs.Events.{Happens, MayTakeMemory}
+use Rattle.cx_region.specs.Turn.{TakesTurn, put_back, context_of, task_after}
+use Rattle.cx_region.specs.Events.{Applies, MayTakeMemory}
 use Rattle.cx_region_laws.specs.Laws.Outcomes.{EventsHaveOutcomes, HalfTurnsHaveEnds, HasOutcome}
 use Rattle.cx_region_laws.specs.Laws.Sound.{IsChecked}
 use Rattle.cx_region_laws.proofs.DecideLemmas.{copy_place_once, task_place_once}
@@ -151,7 +151,7 @@ found_place s first last len = go (least (λ b. CanPlace s first last len b) (λ
     go (inr none) = (None, λ b can. none b (bounded b can) can)
 
 -- ---- the nearest exit, or none
--- the greatest number below another at which a test is true, or none
+-- the greatest number below a limit at which a test is true, or none
 abbrev Greatest : (ℕ → Bool) → ℕ → Option ℕ → Type 0
 Greatest p n None = (i : ℕ) → i < n → p i ≡ false
 Greatest p n (Some i) = (p i ≡ true) × ((j : ℕ) → i < j → j < n → p j ≡ false)
@@ -191,46 +191,46 @@ nearest levels = go (greatest (has_exit_at levels) (length levels))
     go (Some i, found) = (Some i, (found.0, λ j above. at j (λ below. found.1 j above below)))
 
 -- ---- the end of a half-turn
-abbrev Ended : (TurnReply → Reach → Type 0) → Type 0
-Ended P = (reply : TurnReply) × (after : Reach) × P reply after
+abbrev Ended : (TurnReply → TaskContext → Type 0) → Type 0
+Ended P = (reply : TurnReply) × (after : TaskContext) × P reply after
 
-abends_at : (exit : Option ℕ) (code : List ℕ) (before : Reach) → Ended (AbendsAt exit code before)
+abends_at : (exit : Option ℕ) (code : List ℕ) (before : TaskContext) → Ended (AbendsAt exit code before)
 unfolding AbendsAt
-abends_at None code before = (turn.Abended code, abended before, (refl, refl))
+abends_at None code before = (turn.Abended code, end_without_next before, (refl, refl))
 abends_at (Some index) code before = (turn.TookExit code, exit_taken index before, (refl, refl))
 
 exit_for : (cancel : Bool) (levels : Levels) → (exit : Option ℕ) × IsExit cancel levels exit
 exit_for true levels = (None, refl)
 exit_for false levels = nearest (all_levels levels)
 
-abends_somehow : (code : List ℕ) (cancel : Bool) (before : Reach) → Ended (AbendsWithCode code cancel before)
+abends_somehow : (code : List ℕ) (cancel : Bool) (before : TaskContext) → Ended (AbendsWithCode code cancel before)
 abends_somehow code cancel before =
     let exit = exit_for cancel before.task.levels in
     let end = abends_at exit.0 code before in
     (end.0, end.1, record { exit = exit.0; takes = exit.1; ends = end.2 })
 
-goes_somehow : (way : Way) (condition : Condition) (settled : Reach) → Ended (Goes way condition settled)
+goes_somehow : (continuation : Continuation) (condition : Condition) (settled : TaskContext) → Ended (Goes continuation condition settled)
 unfolding Goes
 goes_somehow GoesOn condition settled = (turn.Performed condition, on_its_way settled, (refl, refl))
 goes_somehow (TakesLabel label) condition settled = (turn.TookLabel condition, at_label label settled, (refl, refl))
 goes_somehow Waits condition settled = (turn.Waiting, settled, (refl, refl))
 goes_somehow (Abends code cancel) condition settled = abends_somehow code cancel settled
-goes_somehow (WayEnters level) condition settled = (turn.Entered, entered level settled, (refl, refl))
-goes_somehow (WayReplaces level) condition settled = (turn.Entered, replaced level settled, (refl, refl))
-goes_somehow WayLevelEnds condition settled = (turn.Returned, returned settled, (refl, refl))
+goes_somehow (WayEnters level) condition settled = (turn.Entered, enter_level level settled, (refl, refl))
+goes_somehow (WayReplaces level) condition settled = (turn.Entered, replace_level level settled, (refl, refl))
+goes_somehow WayLevelEnds condition settled = (turn.Returned, return_to_caller settled, (refl, refl))
 goes_somehow WayTaskEnds condition settled = (turn.Ended, task_ended settled, (refl, refl))
 
 -- what a change that may take memory makes
-made_somehow : (it : Made) (before : Reach) → change_grows (Makes it) ≡ true → (after : Reach) × Grown (Makes it) before after
-unfolding Grown
+made_somehow : (it : Made) (before : TaskContext) → change_takes_memory (Makes it) ≡ true → (after : TaskContext) × AppliesBefore (Makes it) before after
+unfolding AppliesBefore
 made_somehow (made.ItemLast name piece) before grows = (_, refl)
 made_somehow (made.ItemAt name n piece) before grows = (_, refl)
 made_somehow (made.Enqueues resource) before grows = (_, refl)
 made_somehow (made.Shows piece erase) before grows = absurd (true≢false (sym grows))
 made_somehow (made.Handles request) before grows = absurd (true≢false (sym grows))
 
-grown_somehow : (change : Change) (before : Reach) → change_grows change ≡ true → (after : Reach) × Grown change before after
-unfolding Grown
+grown_somehow : (change : TaskChange) (before : TaskContext) → change_takes_memory change ≡ true → (after : TaskContext) × AppliesBefore change before after
+unfolding AppliesBefore
 grown_somehow (Makes it) before grows = made_somehow it before grows
 grown_somehow (Gets got) before grows = (_, refl)
 grown_somehow (Enters level) before grows = (_, refl)
@@ -241,12 +241,12 @@ grown_somehow (Ends it) before grows = absurd (true≢false (sym grows))
 grown_somehow LevelEnds before grows = absurd (true≢false (sym grows))
 grown_somehow (AbendsWith code cancel) before grows = absurd (true≢false (sym grows))
 
-does_somehow : (call : Call) (condition : Condition) (outputs : List Output) (change : Change) (before : Reach) → change_grows change ≡ true
+does_somehow : (call : Call) (condition : Condition) (outputs : List Output) (change : TaskChange) (before : TaskContext) → change_takes_memory change ≡ true
     → Ended (Does call condition outputs change before)
 does_somehow call condition outputs change before grows =
     let made = grown_somehow change before grows in
-    let settled = finished change (reported call (report_of call condition change before) (given call outputs change made.0)) in
-    let end = goes_somehow (way_at call condition change before) condition settled in
+    let settled = apply_after change (write_report call (report_of call condition change before) (write_outputs call outputs change made.0)) in
+    let end = goes_somehow (continuation_at call condition change before) condition settled in
     (end.0, end.1, record { settled = settled; settles = record { made = made.0; grown = made.1; settled = refl }; goes = end.2 })
 
 both : (a b c : Bool) → (a && b && not c) ≡ true → (a ≡ true) × (b ≡ true) × (c ≡ false)
@@ -255,22 +255,22 @@ both true true true e = absurd (true≢false (sym e))
 both true false c e = absurd (true≢false (sym e))
 both false b c e = absurd (true≢false (sym e))
 
-met_somehow : (call : Call) (condition : Condition) (outputs : List Output) (change : Change) (before : Reach) → has_room call outputs change before ≡ true
-    → is_wait (way_at call condition change before) ≡ false → Ended (Does call condition outputs change before)
+met_somehow : (call : Call) (condition : Condition) (outputs : List Output) (change : TaskChange) (before : TaskContext) → has_room call outputs change before ≡ true
+    → is_wait (continuation_at call condition change before) ≡ false → Ended (Does call condition outputs change before)
     → Ended (MeetsWith call condition outputs change before)
 unfolding MeetsWith
 met_somehow call condition outputs change before room goes end = (end.0, end.1, rw (room, goes) end.2)
 
-answers_somehow : (verdict : Verdict) (call : Call) (before : Reach) → may_grow verdict call before ≡ true → Ended (Answers verdict call before)
-unfolding Answers may_grow
+answers_somehow : (verdict : Verdict) (call : Call) (before : TaskContext) → may_take_memory verdict call before ≡ true → Ended (Answers verdict call before)
+unfolding Answers may_take_memory
 answers_somehow (Refuses abend) call before grows = absurd (true≢false (sym grows))
 answers_somehow VerdictWaits call before grows = absurd (true≢false (sym grows))
 answers_somehow (Meets condition outputs change) call before grows =
-    let parts = both (change_grows change) (has_room call outputs change before) (is_wait (way_at call condition change before)) grows in
+    let parts = both (change_takes_memory change) (has_room call outputs change before) (is_wait (continuation_at call condition change before)) grows in
     met_somehow call condition outputs change before parts.1 parts.2 (does_somehow call condition outputs change before parts.0)
 
 pub half_turns_have_ends : HalfTurnsHaveEnds
-unfolding HalfTurn Commanded Called
+unfolding HalfTurn PerformsCommand PerformsCall
 half_turns_have_ends before grows =
     let end = answers_somehow grows.verdict grows.call before grows.takes in
     record {
@@ -352,7 +352,7 @@ attaches_somehow old name terminal input tran program loaded =
   where
     go : PlacesOrNone old.storage (system_owner terminal.slot) (length (commarea_kept terminal.following)) loaded.stg_len
         → Answered (Attaches old name terminal input tran program loaded)
-    go (inl found) = (key.Attached, attached old name terminal input tran program loaded found.0, record { areas = found.0; placed = found.1; after = refl })
+    go (inl found) = (key.Attached, with_task_attached old name terminal input tran program loaded found.0, record { areas = found.0; placed = found.1; after = refl })
     go (inr none) = (key.NoStorage, old, (none, refl))
 
 starts_somehow : (old : RegionState) (name : List ℕ) (terminal : TerminalState) (input : Input) (tran : List ℕ)
@@ -391,39 +391,39 @@ terminal_keyed old name input terminal grows = go terminal.task refl grows
         (key.Given, with_terminal old name (record terminal { input = Some input }), by_some _ _ terminal.task task is (by_none _ _ terminal.input due (refl, refl)))
 
 keyed_somehow : (old : RegionState) (name : List ℕ) (input : Input)
-    → IsSomeAnd (terminal_of old name) (λ terminal. TerminalGrows old terminal input.bytes terminal.task) → Answered (Keyed old name input)
-unfolding Keyed
+    → IsSomeAnd (terminal_of old name) (λ terminal. TerminalGrows old terminal input.bytes terminal.task) → Answered (TakesKey old name input)
+unfolding TakesKey
 keyed_somehow old name input grows = go (terminal_of old name) refl grows
   where
-    go : (found : Option TerminalState) → terminal_of old name ≡ found → IsSomeAnd found (λ terminal. TerminalGrows old terminal input.bytes terminal.task) → Answered (Keyed old name input)
+    go : (found : Option TerminalState) → terminal_of old name ≡ found → IsSomeAnd found (λ terminal. TerminalGrows old terminal input.bytes terminal.task) → Answered (TakesKey old name input)
     go None is due = absurd due
     go (Some terminal) is due =
         let end = terminal_keyed old name input terminal due in
         (end.0, end.1, by_some _ _ (terminal_of old name) terminal is end.2)
 
 abbrev TurnEnds : RegionState → List ℕ → Type 0
-TurnEnds old name = (reply : TurnReply) × (new : RegionState) × Turned old name reply new
+TurnEnds old name = (reply : TurnReply) × (new : RegionState) × TakesTurn old name reply new
 
 turned_somehow : (old : RegionState) (name : List ℕ)
-    → IsSomeAnd (terminal_of old name) (λ terminal. IsSomeAnd terminal.task (λ task. Grows (reach_of old terminal task))) → TurnEnds old name
-unfolding Turned
+    → IsSomeAnd (terminal_of old name) (λ terminal. IsSomeAnd terminal.task (λ task. TakesMemory (context_of old terminal task))) → TurnEnds old name
+unfolding TakesTurn
 turned_somehow old name grows = go (terminal_of old name) refl grows
   where
     by_task : (terminal : TerminalState) (task : Option TaskState) → terminal.task ≡ task → terminal_of old name ≡ Some terminal
-        → IsSomeAnd task (λ t. Grows (reach_of old terminal t)) → TurnEnds old name
+        → IsSomeAnd task (λ t. TakesMemory (context_of old terminal t)) → TurnEnds old name
     by_task terminal None is found due = absurd due
     by_task terminal (Some task) is found due =
-        let end = half_turns_have_ends (reach_of old terminal task) due in
+        let end = half_turns_have_ends (context_of old terminal task) due in
         (end.reply, put_back old name end.after (task_after end.reply end.after.task), by_some _ _ (terminal_of old name) terminal found (by_some _ _ terminal.task task is (record { reached = end.after; half_turn = end.half_turn; after = refl })))
 
     go : (found : Option TerminalState) → terminal_of old name ≡ found
-        → IsSomeAnd found (λ terminal. IsSomeAnd terminal.task (λ task. Grows (reach_of old terminal task))) → TurnEnds old name
+        → IsSomeAnd found (λ terminal. IsSomeAnd terminal.task (λ task. TakesMemory (context_of old terminal task))) → TurnEnds old name
     go None found due = absurd due
     go (Some terminal) found due = by_task terminal terminal.task refl found due
 
 program_somehow : ImagesAreLoaded → (old : RegionState) (name : List ℕ) (image : Image) → IsFit image → program_fault old name ≡ None
     → (IsProgramPlace old.storage (length image.text) None → ⊥) → HasOutcome old (event.Program name image)
-unfolding Happens DefinesProgram
+unfolding Applies DefinesProgram
 program_somehow loading old name image fit sound some = go (found_place old.storage first_of_programs last_of_programs (length image.text))
   where
     go : (place : Option ℕ) × IsProgramPlace old.storage (length image.text) place → HasOutcome old (event.Program name image)
@@ -433,7 +433,7 @@ program_somehow loading old name image fit sound some = go (found_place old.stor
         record { reply = reply.Program (Ok made.0); new = record old { programs = insert_entry is_name old.programs name made.0; storage = made.1 }; happens = rw sound (made.2, refl) }
 
 may_take_outcome : ImagesAreLoaded → (old : RegionState) (e : Event) → IsChecked e → MayTakeMemory old e → HasOutcome old e
-unfolding MayTakeMemory Happens DefinesTransaction DefinesTerminal
+unfolding MayTakeMemory Applies DefinesTransaction DefinesTerminal
 may_take_outcome loading old (event.Program name image) fit due = program_somehow loading old name image fit due.0 due.1
 may_take_outcome loading old (event.Transaction tran program) fit due =
     record { reply = reply.Transaction (Ok tt); new = record old { transactions = insert_entry is_name old.transactions tran program }; happens = rw due (refl, refl) }

@@ -7,9 +7,9 @@ use Rattle.cx_code.specs.declared.image.Image.{Image}
 use Rattle.cx_ebcdic.specs.Facts.Names.{is_name-laws}
 use Rattle.cx_load.specs.declared.program.Loaded.{Loaded}
 use Rattle.cx_load.specs.Fault.{IsFit}
-use Rattle.cx_state.specs.State.{Input, TaskState}
-use Rattle.cx_tables.specs.Facts.Tables.{distinct-insert_entry}
-use Rattle.cx_task.specs.Laws.HalfTurns.{HalfTurnsKeep}
+use Rattle.cx_region_state.specs.State.{Input, TaskState}
+use Rattle.cx_base_lists.specs.Facts.Tables.{distinct-insert_entry}
+use Rattle.cx_region_task.specs.Laws.HalfTurns.{HalfTurnsKeep}
 use Rattle.cx_region.specs.declared.changes.AlterReply.{AlterReply}
 use Rattle.cx_region.specs.declared.changes.AlterReply.TheVariants as alter
 use Rattle.cx_region.specs.declared.changes.Change.{Change}
@@ -23,7 +23,7 @@ use Rattle.cx_region.specs.State.{RegionState, TerminalState}
 use Rattle.cx_ebcdic.specs.Names.{is_name}
 use Rattle.cx_region.specs.Tables.{fresh_terminal, program_of, terminal_of, transaction_of, with_terminal}
 use Rattle.cx_region.specs.Defining.{DefinesProgram, DefinesTerminal, DefinesTransaction, Loads, program_fault, terminal_fault, transaction_fault}
-use Rattle.cx_region.specs.Attach.{Attaches, Gives, Keyed, OnlyAnswers, Starts, attached, commarea_kept, eib_at_attach, input_from, next_number, transaction_named, with_task}
+use Rattle.cx_region.specs.Attach.{Attaches, Gives, TakesKey, OnlyAnswers, Starts, with_task_attached, commarea_kept, eib_at_attach, input_from, next_number, transaction_named, with_task}
 use Rattle.cx_region.specs.Alter.{Alters, alter_refusal, altered_region}
 use Rattle.cx_region.specs.Sound.{IsSound}
 use Rattle.cx_region.specs.Parts.Asking.{level_of, task_of_start}
@@ -113,7 +113,7 @@ attach_kept old new name t input program loaded key.Attached ok parts there idle
     let start = started t tran program loaded in
     let starting : Starting old name input.bytes start =
     record { terminal = t; there = there; idle = idle; slot = refl; tran = refl; defined = defined; program = found; calen = refl } in
-    let storage_is : new.storage ≡ (attached old name t input tran program loaded h.areas).storage = ap (λ (r : RegionState). r.storage) h.after in
+    let storage_is : new.storage ≡ (with_task_attached old name t input tran program loaded h.areas).storage = ap (λ (r : RegionState). r.storage) h.after in
     let ts = set_value (is_name name) old.terminals (with_task t input (task_of_start start (next_number old.counter) h.areas)) in
     let sound : IsSound (record old { storage = new.storage; terminals = ts; counter = next_number old.counter }) =
     sound_attached old name input.bytes start input h.areas (eib_at_attach old name tran (length kept) input.aid) kept (level_of start h.areas) new.storage ts
@@ -122,8 +122,8 @@ attach_kept old new name t input program loaded key.Attached ok parts there idle
 attach_kept old new name t input program loaded key.NoStorage ok parts there idle defined found h = subst IsSound (sym h.1) ok
 attach_kept old new name t input program loaded _ ok parts there idle defined found h = absurd h
 
-key_kept : (old new : RegionState) (name : List ℕ) (input : Input) (reply : KeyReply) → IsSound old → ArePartsSound new → Keyed old name input reply new → IsSound new
-unfolding Keyed
+key_kept : (old new : RegionState) (name : List ℕ) (input : Input) (reply : KeyReply) → IsSound old → ArePartsSound new → TakesKey old name input reply new → IsSound new
+unfolding TakesKey
 key_kept old new name input reply ok parts h = at_terminal (terminal_of old name) refl h
   where
     only : (due : KeyReply) → OnlyAnswers due old reply new → IsSound new

@@ -10,7 +10,7 @@ pub fn events_decide()
     ensures { EventsDecide }
 {
     cx_load::laws::loading_decides();
-    cx_task::laws::half_turns_decide();
+    cx_region_task::laws::half_turns_decide();
 }
 
 /// A region and what a call is given decide the call's answer and the region after it.
@@ -23,7 +23,7 @@ pub fn calls_decide()
     ensures alterations { AlterationsDecide }
 {
     cx_load::laws::loading_decides();
-    cx_task::laws::half_turns_decide();
+    cx_region_task::laws::half_turns_decide();
 }
 
 /// A region and a list of events decide their replies and the region after them.
@@ -33,18 +33,18 @@ pub fn runs_decide()
     events_decide();
 }
 
-/// A turn changes no terminal but its own, so no other task's registers, levels or due command; and no definition,
-/// neither the clock nor the counter of tasks. Of a sound region it changes no area and no resource that another task or
+/// A turn changes no terminal except its own, so no other task's registers, levels or due command; and no definition,
+/// nor the clock, nor the counter of tasks. Of a sound region it changes no area and no resource that another task or
 /// the region owns, both ways.
 pub fn a_turn_keeps_to_its_task()
     ensures task { TurnsKeepToTheirTask }
     ensures others { TurnsKeepOthers }
 {
-    cx_task::laws::half_turns_stay();
-    cx_task::laws::half_turns_keep();
+    cx_region_task::laws::half_turns_stay();
+    cx_region_task::laws::half_turns_keep();
 }
 
-/// An alteration changes no terminal but its own, and no definition or queue, neither the clock nor the counter of tasks.
+/// An alteration changes no terminal but its own, and no definition or queue, nor the clock, nor the counter of tasks.
 /// Where the task goes on it changes no area and no resource, and one byte at most. Where it ends the task it leaves the
 /// areas of all others, with their bytes, and their resources. It leaves the task's levels above the current one, and where a
 /// command is due the current level still keeps the registers and the code that its program has.
@@ -81,8 +81,8 @@ pub fn a_key_keeps_to_its_terminal()
 pub fn waiting_leaves_the_region()
     ensures { StillTurnsLeaveTheRegion }
 {
-    cx_task::laws::half_turns_stay();
-    cx_task::laws::waits_leave();
+    cx_region_task::laws::half_turns_stay();
+    cx_region_task::laws::waits_leave();
 }
 
 /// A key's answer other than Attached and Given leaves the region as it was.
@@ -109,7 +109,7 @@ pub fn runs_join()
 {}
 
 /// An event that was refused memory is none: the next one is done as if it had never come, with the answer that it would
-/// have had. A list that stopped for want of memory, and goes on with the events that weren't done, is the run of the whole.
+/// have had. A list that ran out of memory, and goes on with the events that weren't done, is the run of the whole.
 #[tactic(auto, using(crate::proofs::MemoryLemmas::stopped_runs_go_on))]
 pub fn a_refused_event_is_none()
     ensures event { RefusedEventsAreNone }
@@ -132,5 +132,5 @@ pub fn each_event_has_an_outcome()
 pub fn sound_is_kept()
     ensures { SoundIsKept }
 {
-    cx_task::laws::half_turns_keep();
+    cx_region_task::laws::half_turns_keep();
 }

@@ -7,14 +7,14 @@ use Rattle.cx_edf.specs.declared.answers.Answer.{Answer}
 use Rattle.cx_edf.specs.declared.answers.EdfEvent.{EdfEvent}
 use Rattle.cx_edf.specs.Laws.Edf.{EdfEventsDecide, TracesAreRuns}
 use Rattle.cx_edf.specs.State.{EdfState}
-use Rattle.cx_edf.specs.Steps.{EdfHappens}
+use Rattle.cx_edf.specs.Steps.{EdfApplies}
 use Rattle.cx_edf.specs.Runs.{EdfRun, Trace, last_state}
-use Rattle.cx_actions.specs.Effects.{Performs, Replies, ByFault}
-use Rattle.cx_actions.specs.Texts.{answer_text}
+use Rattle.cx_script_actions.specs.Effects.{Performs, Replies, ByFault}
+use Rattle.cx_script_actions.specs.Texts.{answer_text}
 use Rattle.cx_script.specs.Transcript.{Runs}
 use Rattle.cx_script.specs.Laws.Events.{AreTold, IsRun, IsToldBy, ScriptsRunTheirEvents, event_of, events_of, program_event, written_before}
-use Rattle.cx_actions.specs.declared.actions.Action.{Action}
-use Rattle.cx_actions.specs.declared.actions.Action.TheVariants as action
+use Rattle.cx_script_actions.specs.declared.actions.Action.{Action}
+use Rattle.cx_script_actions.specs.declared.actions.Action.TheVariants as action
 
 -- ---- one outcome
 replies_decide : EdfEventsDecide → (old : EdfState) (event : EdfEvent) (text other : List ℕ) (new another : EdfState)
@@ -45,7 +45,7 @@ actions_decide events old (action.Previous name k) text other new another p q = 
 -- what an action did, by the event that it gives and what it writes before
 abbrev Gives : Option EdfEvent → List ℕ → EdfState → List ℕ → EdfState → Type 0
 Gives None before old text new = new ≡ old
-Gives (Some event) before old text new = (given : Answer) × EdfHappens old event given new × (text ≡ before ++ answer_text event given)
+Gives (Some event) before old text new = (given : Answer) × EdfApplies old event given new × (text ≡ before ++ answer_text event given)
 
 image_gives : (fault : Option ImageFault) (old : EdfState) (name before : List ℕ) (image : Image) (own text : List ℕ) (new : EdfState)
     → ByFault fault old name image own new → text ≡ before ++ own → Gives (program_event fault name image) before old text new

@@ -1,25 +1,25 @@
 -- Which faults a script may have, by why no more of it was read.
 use Rattle.std.proofs.Common.{◌≡◌, ◌≢◌, ℕ, ◌+◌, Bool, true, false, List, [], ◌∷◌, None, Some, Option, Result, Ok, Err, cond, codes, refl, sym, ap, ◌∙◌}
-use Rattle.cx_blocks.specs.declared.blocks.Block.{Block}
+use Rattle.cx_script_blocks.specs.declared.blocks.Block.{Block}
 use Rattle.std.specs.Option.{ok_or, option_map}
 use Rattle.std.specs.Result.{result_map_both}
 use Rattle.std.specs.Str.{bytes_eq}
-use Rattle.cx_blocks.specs.declared.blocks.Body.{Body}
-use Rattle.cx_blocks.specs.declared.blocks.Body.TheVariants as kind
-use Rattle.cx_blocks.specs.Blocks.{continued, ended, located, step_at, step_in, step_of, with_line}
-use Rattle.cx_prepare.specs.Facts.Faults.{prepared_not_memory}
-use Rattle.cx_prepare.specs.Prepared.{prepared_of}
-use Rattle.cx_prepare.specs.declared.faults.PrepareFault.{PrepareFault}
-use Rattle.cx_prepare.specs.declared.faults.PrepareFault.TheVariants as prepare
-use Rattle.cx_prepare.specs.declared.program.Prepared.{Prepared}
-use Rattle.cx_lines.specs.Lines.{is_too_long, lines_met}
-use Rattle.cx_script.specs.Script.{Script, script_in, script_from, fault_at, before, led_to}
-use Rattle.cx_actions.specs.Language.{Language}
-use Rattle.cx_blocks.specs.declared.blocks.Step.{Step}
-use Rattle.cx_blocks.specs.declared.faults.RunFault.{RunFault}
-use Rattle.cx_blocks.specs.declared.faults.RunFault.TheVariants.{BadLine, Source, Read, Write, Memory, ReadBound}
-use Rattle.cx_lines.specs.declared.input.Ending.{Ending}
-use Rattle.cx_lines.specs.declared.input.Ending.TheVariants.{AtEnd, Failed, PastBound}
+use Rattle.cx_script_blocks.specs.declared.blocks.Body.{Body}
+use Rattle.cx_script_blocks.specs.declared.blocks.Body.TheVariants as kind
+use Rattle.cx_script_blocks.specs.Blocks.{block_step, block_end, fault_of_line, step_at, step_in, step_of, with_line}
+use Rattle.cx_asm_build.specs.Facts.Faults.{prepared_not_memory}
+use Rattle.cx_asm_build.specs.Prepared.{prepared_of}
+use Rattle.cx_asm_build.specs.declared.faults.PrepareFault.{PrepareFault}
+use Rattle.cx_asm_build.specs.declared.faults.PrepareFault.TheVariants as prepare
+use Rattle.cx_asm_build.specs.declared.program.Prepared.{Prepared}
+use Rattle.cx_script_io.specs.Lines.{is_too_long, lines_met}
+use Rattle.cx_script.specs.Script.{Script, script_in, script_from, fault_at, with_action_first, led_to}
+use Rattle.cx_script_actions.specs.Language.{Language}
+use Rattle.cx_script_blocks.specs.declared.blocks.LineStep.{LineStep}
+use Rattle.cx_script_blocks.specs.declared.faults.RunFault.{RunFault}
+use Rattle.cx_script_blocks.specs.declared.faults.RunFault.TheVariants.{BadLine, Source, Read, Write, Memory, ReadBound}
+use Rattle.cx_script_io.specs.declared.input.Ending.{Ending}
+use Rattle.cx_script_io.specs.declared.input.Ending.TheVariants.{AtEnd, Failed, PastBound}
 
 -- whether a script that was read so far may have this fault, or none
 abbrev pub may_have : Ending → Option RunFault → Bool
@@ -30,7 +30,7 @@ may_have Failed (Some Read) = true
 may_have PastBound (Some ReadBound) = true
 may_have _ _ = false
 
-pub fault_before : {A : Type 0} (action : Option A) (script : Script A) → (before action script).fault ≡ script.fault
+pub fault_before : {A : Type 0} (action : Option A) (script : Script A) → (with_action_first action script).fault ≡ script.fault
 fault_before action script = refl
 
 -- what a line's fault may be
@@ -40,30 +40,30 @@ is_own (Source n kind) = true
 is_own _ = false
 
 -- a step, or a fault that a line may have
-abbrev pub MayBeLed : {A : Type 0} → Result (Step A) RunFault → Type 0
+abbrev pub MayBeLed : {A : Type 0} → Result (LineStep A) RunFault → Type 0
 MayBeLed (Ok step) = Unit {0}
 MayBeLed (Err fault) = is_own fault ≡ true
 
-own_bad : {A : Type 0} (o : Option (Step A)) (number : ℕ) → MayBeLed (ok_or o (BadLine number))
+own_bad : {A : Type 0} (o : Option (LineStep A)) (number : ℕ) → MayBeLed (ok_or o (BadLine number))
 own_bad None number = refl
 own_bad (Some step) number = tt
 
--- what a source's end leads to: want of memory is no fault of a source
-own_source : {A : Type 0} (make : Prepared → Step A) (first : ℕ) (due : Result Prepared PrepareFault) → due ≢ Err prepare.Memory → MayBeLed (result_map_both make (located first) due)
+-- what a source's end leads to: Memory is no fault of a source
+own_source : {A : Type 0} (make : Prepared → LineStep A) (first : ℕ) (due : Result Prepared PrepareFault) → due ≢ Err prepare.Memory → MayBeLed (result_map_both make (fault_of_line first) due)
 own_source make first (Ok prepared) h = tt
 own_source make first (Err (prepare.At n k)) h = refl
 own_source make first (Err prepare.Memory) h = absurd (h refl)
 
-own_end : {A : Type 0} (language : Language A) (first : ℕ) (name : List ℕ) (has : Body) → MayBeLed (ended language first name has)
+own_end : {A : Type 0} (language : Language A) (first : ℕ) (name : List ℕ) (has : Body) → MayBeLed (block_end language first name has)
 own_end language first name (kind.Image stg_len text) = tt
 own_end language first name (kind.Lines lines) = tt
 own_end language first name (kind.Source wanted lines) =
     own_source _ first (prepared_of wanted.listing wanted.disassembly lines) (prepared_not_memory wanted.listing wanted.disassembly lines)
 
 own_within : {A : Type 0} (language : Language A) (number : ℕ) (block : Block) (text : List ℕ) (end : Bool)
-    → MayBeLed (cond end (ended language block.line block.name block.body) (ok_or (option_map continued (with_line block text)) (BadLine number)))
+    → MayBeLed (cond end (block_end language block.line block.name block.body) (ok_or (option_map block_step (with_line block text)) (BadLine number)))
 own_within language number block text true = own_end language block.line block.name block.body
-own_within language number block text false = own_bad (option_map continued (with_line block text)) number
+own_within language number block text false = own_bad (option_map block_step (with_line block text)) number
 
 own_in : {A : Type 0} (language : Language A) (number : ℕ) (block : Option Block) (text : List ℕ) (long : Bool) → MayBeLed (cond long (Err (BadLine number)) (step_in language number block text))
 own_in language number block text true = refl
@@ -82,7 +82,7 @@ own_may ending Write e = cc
 own_may ending Memory e = cc
 own_may ending ReadBound e = cc
 
-led_has : {A : Type 0} (ending : Ending) (due : Result (Step A) RunFault) (next : Option Block → Script A) → MayBeLed due
+led_has : {A : Type 0} (ending : Ending) (due : Result (LineStep A) RunFault) (next : Option Block → Script A) → MayBeLed due
     → ((block : Option Block) → may_have ending (next block).fault ≡ true) → may_have ending (led_to due next).fault ≡ true
 led_has ending (Err fault) next own h = own_may ending fault own
 led_has ending (Ok step) next own h = ap (may_have ending) (fault_before step.action (next step.block)) ∙ h step.block

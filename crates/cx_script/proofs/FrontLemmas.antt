@@ -2,29 +2,29 @@
 use Rattle.std.proofs.Common.{◌≡◌, ℕ, ◌+◌, inl, inr, Bool, true, false, cond, List, [], ◌∷◌, ◌++◌, None, Some, Option, Result, Ok, Err, refl, sym, ap, ◌∙◌, subst, length, arith}
 use Rattle.std.proofs.lemmas.List.{take_all}
 use Rattle.std.specs.Str.Lines.{strip_carriage_return}
-use Rattle.cx_blocks.specs.declared.blocks.Block.{Block}
-use Rattle.cx_blocks.specs.Blocks.{step_at}
-use Rattle.cx_lines.specs.Lines.{is_too_long, last_met, lines_met}
-use Rattle.cx_lines.specs.Facts.Lines.{BeginsLong, continues}
-use Rattle.cx_script.specs.Script.{Script, script_from, script_in, fault_at, before, led_to}
+use Rattle.cx_script_blocks.specs.declared.blocks.Block.{Block}
+use Rattle.cx_script_blocks.specs.Blocks.{step_at}
+use Rattle.cx_script_io.specs.Lines.{is_too_long, last_met, lines_met}
+use Rattle.cx_script_io.specs.Facts.Lines.{BeginsLong, continues}
+use Rattle.cx_script.specs.Script.{Script, script_from, script_in, fault_at, with_action_first, led_to}
 use Rattle.cx_script.specs.Laws.Fronts.{FrontsAreScripts, IsFrontOf}
-use Rattle.cx_actions.specs.Language.{Language}
-use Rattle.cx_blocks.specs.declared.blocks.Step.{Step}
-use Rattle.cx_blocks.specs.declared.faults.RunFault.{RunFault}
-use Rattle.cx_blocks.specs.declared.faults.RunFault.TheVariants.{BadLine}
-use Rattle.cx_lines.specs.declared.input.Ending.{Ending}
-use Rattle.cx_lines.specs.declared.input.Ending.TheVariants.{Failed}
+use Rattle.cx_script_actions.specs.Language.{Language}
+use Rattle.cx_script_blocks.specs.declared.blocks.LineStep.{LineStep}
+use Rattle.cx_script_blocks.specs.declared.faults.RunFault.{RunFault}
+use Rattle.cx_script_blocks.specs.declared.faults.RunFault.TheVariants.{BadLine}
+use Rattle.cx_script_io.specs.declared.input.Ending.{Ending}
+use Rattle.cx_script_io.specs.declared.input.Ending.TheVariants.{Failed}
 use Rattle.cx_script.proofs.PieceLemmas.{no_step}
 
 -- the same action in front of both
-acted : {A : Type 0} (action : Option A) (front whole : Script A) → IsFrontOf front whole → IsFrontOf (before action front) (before action whole)
+acted : {A : Type 0} (action : Option A) (front whole : Script A) → IsFrontOf front whole → IsFrontOf (with_action_first action front) (with_action_first action whole)
 acted None front whole h = h
 acted {A} (Some action) front whole h =
     record {
       actions = ap (λ (l : List A). action ∷ l) h.actions;
       fault = elim h.fault [
         | inl read ↦ inl read
-        | inr same ↦ inr (ap (before (Some action)) same)
+        | inr same ↦ inr (ap (with_action_first (Some action)) same)
       ];
     }
 
@@ -52,7 +52,7 @@ part_left language ending number block part more true e h =
     let same : script_from language ending number block more ≡ front = long_first language ending number block more (h e) ∙ sym (long_first language Failed number block (strip_carriage_return part ∷ []) e) in
     subst (IsFrontOf front) (sym same) (same_script front)
 
-by_step : {A : Type 0} (language : Language A) (ending : Ending) (number : ℕ) (block : Option Block) (line : List ℕ) (lines others : List (List ℕ)) (due : Result (Step A) RunFault)
+by_step : {A : Type 0} (language : Language A) (ending : Ending) (number : ℕ) (block : Option Block) (line : List ℕ) (lines others : List (List ℕ)) (due : Result (LineStep A) RunFault)
     → ((next : Option Block) → IsFrontOf (script_from language Failed (number + 1) next lines) (script_from language ending (number + 1) next others))
     → IsFrontOf (led_to due (λ next. script_from language Failed (number + 1) next lines)) (led_to due (λ next. script_from language ending (number + 1) next others))
 by_step language ending number block line lines others (Err fault) h = record { actions = refl; fault = inr refl }

@@ -4,19 +4,19 @@ use Rattle.std.specs.Io.KnownBytes.{Appends, Consumes}
 use Rattle.std.specs.Result.{result_err}
 use Rattle.std.proofs.lemmas.List.{append_cancel_right}
 use Rattle.cx_edf.specs.State.{EdfState}
-use Rattle.cx_lines.specs.Input.{Reads, is_failure, most_bytes}
+use Rattle.cx_script_io.specs.Input.{Reads, is_failure, most_bytes}
 use Rattle.cx_script.specs.Script.{script_in}
 use Rattle.cx_script.specs.Transcript.{Ends, Wrote}
-use Rattle.cx_actions.specs.Language.{Language, edf_language}
-use Rattle.cx_actions.specs.Effects.{Performs, fresh_state}
+use Rattle.cx_script_actions.specs.Language.{Language, edf_language}
+use Rattle.cx_script_actions.specs.Effects.{Performs, fresh_state}
 use Rattle.cx_script.specs.Outcome.{HasRead}
 use Rattle.cx_script.specs.Laws.Inputs.{was_stopped, InputsDecide, IsPastBound, IsTold, FailuresAreTold, PastTheBoundIsReadBound, ReadBoundIsPastTheBound, ReadIsAFailure}
-use Rattle.cx_actions.specs.declared.actions.Action.{Action}
-use Rattle.cx_blocks.specs.declared.faults.RunFault.{RunFault}
-use Rattle.cx_blocks.specs.declared.faults.RunFault.TheVariants.{BadLine, Source, Read, Write, Memory, ReadBound}
-use Rattle.cx_blocks.specs.declared.faults.Summary.{Summary}
-use Rattle.cx_lines.specs.declared.input.Ending.{Ending}
-use Rattle.cx_lines.specs.declared.input.Ending.TheVariants.{AtEnd, Failed, PastBound}
+use Rattle.cx_script_actions.specs.declared.actions.Action.{Action}
+use Rattle.cx_script_blocks.specs.declared.faults.RunFault.{RunFault}
+use Rattle.cx_script_blocks.specs.declared.faults.RunFault.TheVariants.{BadLine, Source, Read, Write, Memory, ReadBound}
+use Rattle.cx_script_blocks.specs.declared.faults.Summary.{Summary}
+use Rattle.cx_script_io.specs.declared.input.Ending.{Ending}
+use Rattle.cx_script_io.specs.declared.input.Ending.TheVariants.{AtEnd, Failed, PastBound}
 use Rattle.cx_script.proofs.FaultLemmas.{has_this, may_have}
 use Rattle.cx_script.proofs.WholeLemmas.{one_transcript}
 

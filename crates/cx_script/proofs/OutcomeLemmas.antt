@@ -2,18 +2,18 @@
 use Rattle.std.proofs.Common.{◌≡◌, inl, inr, ℕ, Bool, false, lit≤, List, [], Some, Option, Result, Ok, Err, refl, sym, ap, ◌∙◌, subst}
 use Rattle.std.specs.Io.KnownBytes.{Appends}
 use Rattle.std.proofs.KnownBytes.{Appends-nil}
-use Rattle.cx_lines.specs.Input.{Reads, most_bytes}
-use Rattle.cx_lines.specs.Lines.{lines_met}
-use Rattle.cx_lines.specs.Facts.Lines.{none_met, unbroken_nil}
+use Rattle.cx_script_io.specs.Input.{Reads, most_bytes}
+use Rattle.cx_script_io.specs.Lines.{lines_met}
+use Rattle.cx_script_io.specs.Facts.Lines.{none_met, unbroken_nil}
 use Rattle.cx_script.specs.Script.{script_from, fault_at}
 use Rattle.cx_script.specs.Transcript.{Ends, Runs, front_of}
-use Rattle.cx_actions.specs.Language.{Language}
+use Rattle.cx_script_actions.specs.Language.{Language}
 use Rattle.cx_script.specs.Outcome.{RanIn, HasRead}
-use Rattle.cx_blocks.specs.declared.faults.RunFault.{RunFault}
-use Rattle.cx_blocks.specs.declared.faults.RunFault.TheVariants.{BadLine, Source, Read, Write, Memory, ReadBound}
-use Rattle.cx_blocks.specs.declared.faults.Summary.{Summary}
-use Rattle.cx_lines.specs.declared.input.Ending.{Ending}
-use Rattle.cx_lines.specs.declared.input.Ending.TheVariants.{PastBound}
+use Rattle.cx_script_blocks.specs.declared.faults.RunFault.{RunFault}
+use Rattle.cx_script_blocks.specs.declared.faults.RunFault.TheVariants.{BadLine, Source, Read, Write, Memory, ReadBound}
+use Rattle.cx_script_blocks.specs.declared.faults.Summary.{Summary}
+use Rattle.cx_script_io.specs.declared.input.Ending.{Ending}
+use Rattle.cx_script_io.specs.declared.input.Ending.TheVariants.{PastBound}
 
 pub has_read : (r : Result Summary RunFault) (ending : Ending) (before after : Option (List ℕ)) (bytes : List ℕ) → Reads most_bytes ending before after bytes → HasRead r ending before after bytes
 has_read (Ok s) ending before after bytes p = p

@@ -2,16 +2,16 @@
 use Rattle.std.proofs.Common.{◌≡◌, ℕ, ◌≤◌, List, [], ◌∷◌, ◌++◌, length, None, Some, Option, Ok, IfSome, ◌==◌, refl, sym, ap, ◌∙◌, subst}
 use Rattle.std.specs.List.{slice_split}
 use Rattle.std.specs.Str.Lines.{lines, lines_of_parts as std_lines_of_parts, strip_carriage_return}
-use Rattle.cx_lines.specs.Lines.{lines_met, lines_of_parts}
+use Rattle.cx_script_io.specs.Lines.{lines_met, lines_of_parts}
 use Rattle.cx_script.specs.Transcript.{Runs, Ends}
-use Rattle.cx_lines.specs.Input.{Reads, most_bytes}
-use Rattle.cx_actions.specs.Language.{edf_language}
-use Rattle.cx_actions.specs.Effects.{Performs, fresh_state}
+use Rattle.cx_script_io.specs.Input.{Reads, most_bytes}
+use Rattle.cx_script_actions.specs.Language.{edf_language}
+use Rattle.cx_script_actions.specs.Effects.{Performs, fresh_state}
 use Rattle.cx_script.specs.Laws.WholeScripts.{IsTranscribed, OkIsTheWholeScript}
 use Rattle.cx_script.proofs.FaultLemmas.{never_faultless}
-use Rattle.cx_blocks.specs.declared.faults.Summary.{Summary}
-use Rattle.cx_lines.specs.declared.input.Ending.{Ending}
-use Rattle.cx_lines.specs.declared.input.Ending.TheVariants.{AtEnd, Failed, PastBound}
+use Rattle.cx_script_blocks.specs.declared.faults.Summary.{Summary}
+use Rattle.cx_script_io.specs.declared.input.Ending.{Ending}
+use Rattle.cx_script_io.specs.declared.input.Ending.TheVariants.{AtEnd, Failed, PastBound}
 
 same_parts : (parts : List (List ℕ)) → lines_of_parts AtEnd parts ≡ std_lines_of_parts parts
 same_parts [] = refl
@@ -22,7 +22,7 @@ pub same_lines_met : (bytes : List ℕ) → lines_met AtEnd bytes ≡ lines byte
 unfolding lines_met
 same_lines_met bytes = same_parts (slice_split (λ b. b == 10) bytes)
 
--- an Ok is the whole script, where the reader tells its bytes
+-- an Ok is the whole script, where the reader's bytes are known
 whole_by : (ending : Ending) (bytes : List ℕ) (left left_after written written_after : Option (List ℕ)) (summary : Summary)
     → Reads most_bytes ending left left_after bytes → length bytes ≤ most_bytes
     → Ends edf_language Performs fresh_state ending bytes (Ok summary) written written_after

@@ -1,13 +1,13 @@
--- What a run of a script answers, by the bytes that its devices tell (own).
+-- What a run of a script answers, by the bytes of its devices (own).
 use Rattle.std.specs.Prelude.{◌≡◌, ℕ, ◌≤◌, ◌⊎◌, Bool, List, [], length, Option, Result, Err}
-use Rattle.cx_lines.specs.Input.{Reads, is_failure, most_bytes}
+use Rattle.cx_script_io.specs.Input.{Reads, is_failure, most_bytes}
 use Rattle.cx_script.specs.Transcript.{Ends}
-use Rattle.cx_actions.specs.Language.{Language, edf_language}
-use Rattle.cx_actions.specs.Effects.{Performs, fresh_state}
-use Rattle.cx_blocks.specs.declared.faults.RunFault.{RunFault}
-use Rattle.cx_blocks.specs.declared.faults.RunFault.TheVariants.{Memory}
-use Rattle.cx_blocks.specs.declared.faults.Summary.{Summary}
-use Rattle.cx_lines.specs.declared.input.Ending.{Ending}
+use Rattle.cx_script_actions.specs.Language.{Language, edf_language}
+use Rattle.cx_script_actions.specs.Effects.{Performs, fresh_state}
+use Rattle.cx_script_blocks.specs.declared.faults.RunFault.{RunFault}
+use Rattle.cx_script_blocks.specs.declared.faults.RunFault.TheVariants.{Memory}
+use Rattle.cx_script_blocks.specs.declared.faults.Summary.{Summary}
+use Rattle.cx_script_io.specs.declared.input.Ending.{Ending}
 
 -- what was read; without memory it may be that nothing was
 abbrev pub HasRead : Result Summary RunFault → Ending → Option (List ℕ) → Option (List ℕ) → List ℕ → Type 0

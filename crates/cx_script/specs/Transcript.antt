@@ -1,15 +1,15 @@
 -- A run of a script: what its actions did in order, and the transcript (own).
 use Rattle.std.specs.Prelude.{◌≡◌, ℕ, ◌+◌, ◌<◌, ◌⊎◌, Option, Some, None, Result, Ok, Err, List, [], ◌∷◌, ◌++◌, length, take}
 use Rattle.std.specs.Io.KnownBytes.{Appends}
-use Rattle.cx_lines.specs.Devices.{WroteFront}
-use Rattle.cx_lines.specs.Lines.{lines_met}
-use Rattle.cx_lines.specs.declared.input.Ending.{Ending}
-use Rattle.cx_lines.specs.declared.input.Ending.TheVariants.{Failed}
+use Rattle.cx_script_io.specs.Devices.{WroteFront}
+use Rattle.cx_script_io.specs.Lines.{lines_met}
+use Rattle.cx_script_io.specs.declared.input.Ending.{Ending}
+use Rattle.cx_script_io.specs.declared.input.Ending.TheVariants.{Failed}
 use Rattle.cx_script.specs.Script.{Script, script_from, script_in}
-use Rattle.cx_actions.specs.Language.{Language}
-use Rattle.cx_blocks.specs.declared.faults.RunFault.{RunFault}
-use Rattle.cx_blocks.specs.declared.faults.RunFault.TheVariants.{BadLine, Read, Write, Memory}
-use Rattle.cx_blocks.specs.declared.faults.Summary.{Summary}
+use Rattle.cx_script_actions.specs.Language.{Language}
+use Rattle.cx_script_blocks.specs.declared.faults.RunFault.{RunFault}
+use Rattle.cx_script_blocks.specs.declared.faults.RunFault.TheVariants.{BadLine, Read, Write, Memory}
+use Rattle.cx_script_blocks.specs.declared.faults.Summary.{Summary}
 
 -- Actions one after another on some state, and the transcript: what each writes, in order. `performs` is one action: the
 -- state before, the action, what is written for it, and the state after.
@@ -19,7 +19,7 @@ Runs {S} performs old (action ∷ actions) text new =
     (between : S) × (first : List ℕ) × (rest : List ℕ)
     × performs old action first between × Runs performs between actions rest new × (text ≡ first ++ rest)
 
--- the transcript of these actions was written, so much of it as `Writes` says of what was written before and after it
+-- the transcript of these actions was written, as much of it as `Writes` says of what was written before and after it
 pub record Wrote {A S T : Type 0} (Writes : T → T → List ℕ → Type 0) (performs : S → A → List ℕ → S → Type 0)
     (old : S) (actions : List A) (before after : T) : Type 0 where
   pub text : List ℕ
@@ -27,7 +27,7 @@ pub record Wrote {A S T : Type 0} (Writes : T → T → List ℕ → Type 0) (pe
   pub runs : Runs performs old actions text new
   pub written : Writes before after text
 
--- what the first so many lines ask, as if no more could be read
+-- what the first n lines ask, as if no more could be read
 abbrev pub front_of : {A : Type 0} → Language A → List (List ℕ) → ℕ → Script A
 front_of language lines n = script_from language Failed 1 None (take n lines)
 
@@ -35,7 +35,7 @@ front_of language lines n = script_from language Failed 1 None (take n lines)
 -- and it isn't a bad one.
 pub record StoppedAt {A S : Type 0} (language : Language A) (performs : S → A → List ℕ → S → Type 0) (old : S)
     (lines : List (List ℕ)) (before after : Option (List ℕ)) : Type 0 where
-  -- how many stand in front of it
+  -- how many are in front of it
   pub line : ℕ
   pub within : (line < length lines) ⊎ (lines ≡ [])
   pub led : (front_of language lines line).fault ≡ Some Read

@@ -2,26 +2,26 @@
 
 ghost use Rattle.std.specs.Prelude.{◌≡◌, ℕ, List, Option, Ok, IfSome};
 ghost use Rattle.std.specs.Str.Lines.{lines};
-ghost use Rattle.cx_lines.specs.Lines.{lines_met};
-ghost use Rattle.cx_arrival.specs.Laws.Entry.{ReachesEntry};
-ghost use Rattle.cx_command_arrival.specs.Arriving.{CommandsArrive};
+ghost use Rattle.cx_script_io.specs.Lines.{lines_met};
+ghost use Rattle.cx_asm_arrival.specs.Laws.Entry.{ReachesEntry};
+ghost use Rattle.cx_asm_execution.specs.Arriving.{CommandsArrive};
 ghost use Rattle.cx_script.specs.Outcome.{RanScript};
 ghost use Rattle.cx_edf.specs.State.{EdfState};
-ghost use Rattle.cx_actions.specs.Effects.{Performs};
+ghost use Rattle.cx_script_actions.specs.Effects.{Performs};
 ghost use Rattle.cx_script.specs.Transcript.{Runs};
 ghost use Rattle.cx_script.specs.Laws.WholeScripts.{OkIsTheWholeScript};
 ghost use Rattle.cx_script.specs.Laws.Fronts.{FrontsAreScripts};
 ghost use Rattle.cx_script.specs.Laws.BadLines.{BadLinesAreBad};
 ghost use Rattle.cx_script.specs.Laws.Events.{ScriptsRunTheirEvents};
 ghost use Rattle.cx_script.specs.Laws.Inputs.{FailuresAreTold, InputsDecide, PastTheBoundIsReadBound, ReadBoundIsPastTheBound, ReadIsAFailure};
-ghost use Rattle.cx_actions.specs.declared.actions.Action.{Action};
-ghost use Rattle.cx_blocks.specs.declared.faults.Summary.{Summary};
-ghost use Rattle.cx_lines.specs.declared.input.Ending.TheVariants.{AtEnd};
+ghost use Rattle.cx_script_actions.specs.declared.actions.Action.{Action};
+ghost use Rattle.cx_script_blocks.specs.declared.faults.Summary.{Summary};
+ghost use Rattle.cx_script_io.specs.declared.input.Ending.TheVariants.{AtEnd};
 
-use cx_actions::ScriptAction;
+use cx_script_actions::ScriptAction;
 
 /// The lines of a script that is read to its end are those that the standard library cuts a text into: an LF
-/// ends each, one CR before it is dropped, and bytes behind the last LF are a line too.
+/// ends each, one CR before it is dropped, and bytes after the last LF are a line too.
 pub fn lines_are_lines()
     ensures { (bytes : List ℕ) → lines_met AtEnd bytes ≡ lines bytes }
 {}
@@ -32,9 +32,10 @@ pub fn ok_is_the_whole_script()
     ensures { OkIsTheWholeScript }
 {}
 
-/// What the reader has and where it fails decide the answer and the transcript, unless want of memory or the writer
-/// stops the run. ReadBound comes exactly where the reader has more than 16,777,216 bytes and no fault stands in these; Read
-/// only where a read failed; and where one failed, the answer tells it, or the fault that stands in front of it.
+/// What the reader has and where it fails decide the answer and the transcript, unless lack of memory or the writer
+/// stops the run. ReadBound comes exactly where the reader has more than 16,777,216 bytes and there is no fault in
+/// these; Read only where a read failed; and where one failed, the answer reports it, or the fault that is in front
+/// of it.
 pub fn the_input_decides()
     ensures decide { InputsDecide }
     ensures bound { ReadBoundIsPastTheBound }
@@ -51,8 +52,8 @@ pub fn fronts_are_scripts<A: ScriptAction>()
     ensures { FrontsAreScripts A.language }
 {}
 
-/// A line that is told as BadLine is one of the script's: bad where it stands, or the beginning of a block that the script's
-/// end leaves open. No line in front of it is bad, and exactly what these complete is done.
+/// A line that is reported as BadLine is one of the script's: bad at its place, or the beginning of a block that the
+/// script's end leaves open. No line in front of it is bad, and exactly what these complete is done.
 pub fn bad_lines_are_bad<A: ScriptAction>()
     ensures { BadLinesAreBad A.language }
 {}
@@ -62,10 +63,10 @@ pub fn an_action_has_one_outcome()
     ensures { (old : EdfState) (action : Action) (text other : List ℕ) (new another : EdfState) →
         Performs old action text new → Performs old action other another → (text ≡ other) × (new ≡ another) }
 {
-    cx_edf::edf_laws::edf_events_decide();
+    cx_edf::laws::edf_events_decide();
 }
 
-/// The transcript of actions on a region under EDF is one, and so is the state behind them.
+/// The transcript of actions on a region under EDF is one, and so is the state after them.
 pub fn a_transcript_is_one()
     ensures { (old : EdfState) (actions : List Action) (text other : List ℕ) (new another : EdfState)
         → Runs Performs old actions text new → Runs Performs old actions other another
@@ -74,12 +75,12 @@ pub fn a_transcript_is_one()
     an_action_has_one_outcome();
 }
 
-/// A run of a script's actions is a run of its events under EDF: the state behind it is that behind the events that the
+/// A run of a script's actions is a run of its events under EDF: the state after it is that after the events that the
 /// actions give, in order, and each answer is the one that was written.
 pub fn a_script_runs_its_events()
     ensures { ScriptsRunTheirEvents }
 {
-    cx_edf::edf_laws::traces_are_runs();
+    cx_edf::laws::traces_are_runs();
 }
 
 /// The instructions made of an EXEC statement lead to the entry, with the argument list that is read as the statement's
@@ -87,7 +88,7 @@ pub fn a_script_runs_its_events()
 pub fn reaches_entry()
     ensures { ReachesEntry }
 {
-    cx_arrival::laws::reaches_entry();
+    cx_asm_arrival::laws::reaches_entry();
 }
 
 /// Each EXEC statement of a source that is translated, assembled and loaded arrives as its command: these instructions are
@@ -96,5 +97,5 @@ pub fn reaches_entry()
 pub fn commands_arrive()
     ensures { CommandsArrive }
 {
-    cx_command_arrival::laws::commands_arrive();
+    cx_asm_execution::laws::commands_arrive();
 }

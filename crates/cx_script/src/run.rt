@@ -2,22 +2,22 @@
 
 ghost use Rattle.std.specs.Prelude.{◌≡◌, ◌+◌, ◌++◌, ◌<◌, ◌≤◌, ◌^◌, ℕ, List, IfOk, IfErr, IfSome, IsOkAnd, OnOk, OnErr, MatchOption, Err, None, [], true, false, length};
 ghost use Rattle.std.specs.Str.Lines.{strip_carriage_return};
-ghost use Rattle.cx_blocks.specs.Blocks.{step_at};
-ghost use Rattle.cx_lines.specs.Input.{is_failure};
-ghost use Rattle.cx_lines.specs.Lines.{is_too_long, lines_met};
+ghost use Rattle.cx_script_blocks.specs.Blocks.{step_at};
+ghost use Rattle.cx_script_io.specs.Input.{is_failure};
+ghost use Rattle.cx_script_io.specs.Lines.{is_too_long, lines_met};
 ghost use Rattle.cx_script.specs.Outcome.{RanIn};
 ghost use Rattle.cx_script.specs.Script.{fault_at};
-ghost use Rattle.cx_blocks.specs.Faults.{is_read, is_write};
+ghost use Rattle.cx_script_blocks.specs.Faults.{is_read, is_write};
 ghost use Rattle.cx_script.specs.Parts.Progress.{Acted, Came, Closes, Stopped, TakesLine};
-ghost use Rattle.cx_lines.specs.Devices.{told};
-ghost use Rattle.cx_lines.specs.Unbroken.{IsUnbroken};
-ghost use Rattle.cx_blocks.specs.declared.faults.RunFault.TheVariants.{BadLine};
+ghost use Rattle.cx_script_io.specs.Devices.{device_output};
+ghost use Rattle.cx_script_io.specs.Unbroken.{IsUnbroken};
+ghost use Rattle.cx_script_blocks.specs.declared.faults.RunFault.TheVariants.{BadLine};
 
 use arrayvec::ArrayVec;
-use cx_actions::Stage;
-use cx_blocks::{Block, RunFault, Summary, step_at};
-use cx_lines::{
-    Ending, ScriptIn, ScriptOut, Waiting, in_front, is_too_long, last_line, split_line,
+use cx_script_actions::Performer;
+use cx_script_blocks::{Block, RunFault, Summary, step_at};
+use cx_script_io::{
+    Ending, OutputBuffer, ScriptIn, ScriptOut, in_front, is_too_long, last_line, split_line,
     strip_carriage_return,
 };
 use std::alloc::{AllocError, Global};
@@ -31,27 +31,27 @@ const MOST_KEPT: usize = 4_097;
 /// The most bytes that a script may have.
 const MOST_BYTES: usize = 16_777_216;
 
-/// Performs the action of a line, where it has one, and puts its text behind what waits to be written.
-#[tactic(auto, unfolding(crate::specs::Parts::Progress::Acted), using(cx_lines::specs::Facts::Devices::sends_nil))]
-fn act<P: Stage, W: ScriptOut>(
-    stage: &mut P,
+/// Performs the action of a line, where it has one, and puts its text after what waits to be written.
+#[tactic(auto, unfolding(crate::specs::Parts::Progress::Acted), using(cx_script_io::specs::Facts::Devices::sends_nil))]
+fn act<P: Performer, W: ScriptOut>(
+    performer: &mut P,
     alloc: Global,
-    waiting: &mut Waiting,
+    waiting: &mut OutputBuffer,
     writer: &mut W,
     action: Option<P::Action>,
 ) -> Result<(), RunFault>
     requires allowed { IfSome action P.Action.allowed }
     requires failure { W.has_failed writer.old ≡ false }
-    ensures acted { let before = told (W.written writer.old) waiting.old in
-        let after = told (W.written writer.new) waiting.new in
-        Acted P.performs action stage.old before result stage.new after }
+    ensures acted { let before = device_output (W.written writer.old) waiting.old in
+        let after = device_output (W.written writer.new) waiting.new in
+        Acted P.performs action performer.old before result performer.new after }
     ensures failure { W.has_failed writer.new ≡ is_write result }
     ensures unread { is_read result ≡ false }
 {
     let Some(action) = action else {
         return Ok(());
     };
-    let text = stage.perform(alloc, action)?;
+    let text = performer.perform(alloc, action)?;
     match waiting.put(writer, text.as_slice()) {
         Ok(()) => Ok(()),
         Err(_) => Err(RunFault::Write),
@@ -62,14 +62,14 @@ fn act<P: Stage, W: ScriptOut>(
 /// that the next one is in.
 #[derive(Drop)]
 pub struct Progress<P> {
-    stage: P,
-    waiting: Waiting,
+    performer: P,
+    waiting: OutputBuffer,
     lines: usize,
     block: Option<Block>,
 }
 
-impl<P: Stage + Drop> Progress<P> {
-    /// Takes one complete line: does what it asks, and puts its text behind what waits.
+impl<P: Performer + Drop> Progress<P> {
+    /// Takes one complete line: does what it asks, and puts its text after what waits.
     #[tactic(auto, using(crate::proofs::TakeLemmas::line_faulty, crate::proofs::TakeLemmas::line_acted))]
     fn take_line<W: ScriptOut>(
         &mut self,
@@ -81,9 +81,9 @@ impl<P: Stage + Drop> Progress<P> {
         requires failure { W.has_failed writer.old ≡ false }
         ensures taken { let number = self.old.lines + 1 in
             let due = step_at P.Action.language number self.old.block line.now in
-            let before = told (W.written writer.old) self.old.waiting in
-            let after = told (W.written writer.new) self.new.waiting in
-            TakesLine P.performs number due self.old.stage before result self.new.stage after self.new.block }
+            let before = device_output (W.written writer.old) self.old.waiting in
+            let after = device_output (W.written writer.new) self.new.waiting in
+            TakesLine P.performs number due self.old.performer before result self.new.performer after self.new.block }
         ensures lines { self.new.lines ≡ self.old.lines + 1 }
         ensures failure { W.has_failed writer.new ≡ is_write result }
         ensures unread { is_read result ≡ false }
@@ -95,7 +95,7 @@ impl<P: Stage + Drop> Progress<P> {
         };
         self.block = step.block;
         act(
-            &mut self.stage,
+            &mut self.performer,
             alloc,
             &mut self.waiting,
             writer,
@@ -116,8 +116,8 @@ impl<P: Stage + Drop> Progress<P> {
         requires failure { W.has_failed writer.old ≡ false }
         ensures taken { let number = self.old.lines + 1 in
             let due = step_at P.Action.language number self.old.block line.now in
-            let before = told (W.written writer.old) [] in let after = told (W.written writer.new) [] in
-            TakesLine P.performs number due self.old.stage before result self.new.stage after self.new.block }
+            let before = device_output (W.written writer.old) [] in let after = device_output (W.written writer.new) [] in
+            TakesLine P.performs number due self.old.performer before result self.new.performer after self.new.block }
         ensures lines { self.new.lines ≡ self.old.lines + 1 }
         ensures failure { W.has_failed writer.new ≡ is_write result }
         ensures unread { is_read result ≡ false }
@@ -152,24 +152,24 @@ impl<P: Stage + Drop> Progress<P> {
 
 /// A run of a script: the lines that were taken so far, and the bytes of the next one that were read.
 #[derive(Drop)]
-pub struct Run<P> {
+pub struct ScriptRun<P> {
     progress: Progress<P>,
     part: ArrayVec<u8, MOST_KEPT>,
 }
 
-impl<P: Stage + Drop> Run<P> {
+impl<P: Performer + Drop> ScriptRun<P> {
     /// A run that has taken no line.
-    pub fn new(stage: P) -> Run<P>
-        ensures stage { result.progress.stage ≡ stage }
+    pub fn new(performer: P) -> ScriptRun<P>
+        ensures performer { result.progress.performer ≡ performer }
         ensures waits { result.progress.waiting ≡ [] }
         ensures lines { result.progress.lines ≡ 0 }
         ensures block { result.progress.block ≡ None }
         ensures part { result.part.items ≡ [] }
     {
-        Run {
+        ScriptRun {
             progress: Progress {
-                stage,
-                waiting: Waiting::new(),
+                performer,
+                waiting: OutputBuffer::new(),
                 lines: 0,
                 block: None,
             },
@@ -190,9 +190,9 @@ impl<P: Stage + Drop> Run<P> {
         ensures taken { let old = self.old.progress in let new = self.new.progress in let number = old.lines + 1 in
             let line = strip_carriage_return (self.old.part.items ++ bytes.now) in
             let due = step_at P.Action.language number old.block line in
-            let before = told (W.written writer.old) old.waiting in
-            let after = told (W.written writer.new) new.waiting in
-            TakesLine P.performs number due old.stage before result new.stage after new.block }
+            let before = device_output (W.written writer.old) old.waiting in
+            let after = device_output (W.written writer.new) new.waiting in
+            TakesLine P.performs number due old.performer before result new.performer after new.block }
         ensures lines { self.new.progress.lines ≡ self.old.progress.lines + 1 }
         ensures part { OnOk result (self.new.part.items ≡ []) }
         ensures failure { W.has_failed writer.new ≡ is_write result }
@@ -211,7 +211,7 @@ impl<P: Stage + Drop> Run<P> {
     }
 
     /// Keeps bytes of a line that is not ended yet; a bad line where they are too many already.
-    #[tactic(auto, using(cx_lines::specs::Facts::Lines::long_bytes))]
+    #[tactic(auto, using(cx_script_io::specs::Facts::Lines::long_bytes))]
     fn keep(&mut self, bytes: &[u8]) -> Result<(), RunFault>
         requires { self.old.progress.lines < 2 ^ 32 }
         ensures part { OnOk result (self.new.part.items ≡ self.old.part.items ++ bytes.now) }
@@ -229,8 +229,8 @@ impl<P: Stage + Drop> Run<P> {
         Ok(())
     }
 
-    /// Takes the lines that end in a piece of the script, and keeps the bytes behind the last.
-    #[tactic(auto, using(cx_lines::specs::Facts::Lines::unbroken_nil, cx_lines::specs::Facts::Lines::unbroken_append))]
+    /// Takes the lines that end in a piece of the script, and keeps the bytes after the last.
+    #[tactic(auto, using(cx_script_io::specs::Facts::Lines::unbroken_nil, cx_script_io::specs::Facts::Lines::unbroken_append))]
     fn take_piece<W: ScriptOut>(
         &mut self,
         alloc: Global,
@@ -242,18 +242,18 @@ impl<P: Stage + Drop> Run<P> {
         requires failure { W.has_failed writer.old ≡ false }
         ensures came { let old = self.old.progress in let new = self.new.progress in
             let ahead = self.old.part.items ++ piece.now in
-            let before = told (W.written writer.old) old.waiting in
-            let after = told (W.written writer.new) new.waiting in
-            OnOk result (Came P.Action.language P.performs old.stage old.lines old.block ahead before
-            new.stage new.lines new.block self.new.part.items after) }
+            let before = device_output (W.written writer.old) old.waiting in
+            let after = device_output (W.written writer.new) new.waiting in
+            OnOk result (Came P.Action.language P.performs old.performer old.lines old.block ahead before
+            new.performer new.lines new.block self.new.part.items after) }
         ensures unbroken { OnOk result (IsUnbroken self.new.part.items) }
         ensures short { OnOk result (is_too_long (strip_carriage_return self.new.part.items) ≡ false) }
         ensures lines { OnOk result (self.new.progress.lines ≤ self.old.progress.lines + length piece.now) }
         ensures err { let old = self.old.progress in let ahead = self.old.part.items ++ piece.now in
-            let before = told (W.written writer.old) old.waiting in
-            let after = told (W.written writer.new) self.new.progress.waiting in
+            let before = device_output (W.written writer.old) old.waiting in
+            let after = device_output (W.written writer.new) self.new.progress.waiting in
             let language = P.Action.language in
-            IfErr result (λ fault. Stopped language P.performs old.stage old.lines old.block ahead fault before after) }
+            IfErr result (λ fault. Stopped language P.performs old.performer old.lines old.block ahead fault before after) }
         ensures failure { W.has_failed writer.new ≡ is_write result }
         ensures unread { is_read result ≡ false }
     {
@@ -280,17 +280,17 @@ impl<P: Stage + Drop> Run<P> {
         requires failure { W.has_failed writer.old ≡ false }
         ensures came { let old = self.old.progress in let new = self.new.progress in
             let ahead = self.old.part.items ++ piece.now in
-            let before = told (W.written writer.old) [] in let after = told (W.written writer.new) [] in
-            OnOk result (Came P.Action.language P.performs old.stage old.lines old.block ahead before
-            new.stage new.lines new.block self.new.part.items after) }
+            let before = device_output (W.written writer.old) [] in let after = device_output (W.written writer.new) [] in
+            OnOk result (Came P.Action.language P.performs old.performer old.lines old.block ahead before
+            new.performer new.lines new.block self.new.part.items after) }
         ensures unbroken { OnOk result (IsUnbroken self.new.part.items) }
         ensures short { OnOk result (is_too_long (strip_carriage_return self.new.part.items) ≡ false) }
         ensures lines { OnOk result (self.new.progress.lines ≤ self.old.progress.lines + length piece.now) }
         ensures waits { OnOk result (self.new.progress.waiting ≡ []) }
         ensures err { let old = self.old.progress in let ahead = self.old.part.items ++ piece.now in
-            let before = told (W.written writer.old) [] in let after = told (W.written writer.new) [] in
+            let before = device_output (W.written writer.old) [] in let after = device_output (W.written writer.new) [] in
             let language = P.Action.language in
-            IfErr result (λ fault. Stopped language P.performs old.stage old.lines old.block ahead fault before after) }
+            IfErr result (λ fault. Stopped language P.performs old.performer old.lines old.block ahead fault before after) }
         ensures failure { W.has_failed writer.new ≡ is_write result }
         ensures unread { is_read result ≡ false }
     {
@@ -317,8 +317,8 @@ impl<P: Stage + Drop> Run<P> {
         requires waits { self.progress.waiting ≡ [] }
         requires failure { W.has_failed writer.old ≡ false }
         ensures ends { let old = self.progress in let lines = lines_met ending self.part.items in
-            let before = told (W.written writer.old) [] in let after = told (W.written writer.new) [] in
-            Closes P.Action.language P.performs old.stage ending old.lines old.block lines result before after }
+            let before = device_output (W.written writer.old) [] in let after = device_output (W.written writer.new) [] in
+            Closes P.Action.language P.performs old.performer ending old.lines old.block lines result before after }
         ensures failure { W.has_failed writer.new ≡ is_write result }
         ensures read { is_read result ≡ is_failure ending }
     {
@@ -346,7 +346,7 @@ impl<P: Stage + Drop> Run<P> {
         requires writer { W.has_failed writer.old ≡ false }
         ensures ran { let left = R.left reader.old in let left_after = R.left reader.new in
             let failed = R.has_failed reader.new in let written = W.written writer.old in
-            let start = self.progress.stage in let written_after = W.written writer.new in
+            let start = self.progress.performer in let written_after = W.written writer.new in
             RanIn P.Action.language P.performs start left left_after failed result written written_after }
         ensures read { R.has_failed reader.new ≡ is_read result }
         ensures write { W.has_failed writer.new ≡ is_write result }

@@ -1,17 +1,17 @@
 //! A script from its reader to its transcript.
 
 ghost use Rattle.std.specs.Prelude.{◌≡◌, IfOk, false};
-ghost use Rattle.cx_actions.specs.Effects.{fresh_state};
+ghost use Rattle.cx_script_actions.specs.Effects.{fresh_state};
 ghost use Rattle.cx_script.specs.Outcome.{RanIn, RanScript};
-ghost use Rattle.cx_blocks.specs.Faults.{is_read, is_write};
+ghost use Rattle.cx_script_blocks.specs.Faults.{is_read, is_write};
 
-use crate::run::Run;
-use cx_actions::Stage;
-use cx_blocks::{RunFault, Summary};
+use crate::run::ScriptRun;
 use cx_edf::Debugged;
-use cx_lines::{ScriptIn, ScriptOut};
-use cx_pages::PagedStore;
 use cx_region::Region;
+use cx_script_actions::Performer;
+use cx_script_blocks::{RunFault, Summary};
+use cx_script_io::{ScriptIn, ScriptOut};
+use cx_storage_pages::PagedStore;
 use std::alloc::{AllocError, Global};
 
 /// What a script of `cicsedf` is performed on: a region under EDF.
@@ -19,7 +19,7 @@ pub type EdfStage = Debugged<PagedStore>;
 
 /// The stage on which a script of `cicsedf` begins: a fresh region, with EDF Off at each terminal.
 pub fn edf_stage(alloc: Global) -> Result<EdfStage, AllocError>
-    ensures { IfOk result (λ stage. stage ≡ fresh_state) }
+    ensures { IfOk result (λ performer. performer ≡ fresh_state) }
 {
     let region = Region::new(alloc, PagedStore::new(alloc))?;
     Ok(Debugged::new(alloc, region))
@@ -32,13 +32,13 @@ pub fn edf_stage(alloc: Global) -> Result<EdfStage, AllocError>
 ///
 /// Neither device may have failed. The fault that comes first in the script is answered, and everything
 /// in front of it is done and written: BadLine with the line's number; Read where a read failed, and
-/// ReadBound where the script has more than 16,777,216 bytes, behind the complete lines. Write comes where
+/// ReadBound where the script has more than 16,777,216 bytes, after the complete lines. Write comes where
 /// a write failed or took no byte: what was written is then a front of a transcript. Memory comes only
-/// where a growth was refused, before anything was read or at a line that isn't a bad one: the lines in
+/// where an allocation failed, before anything was read or at a line that isn't a bad one: the lines in
 /// front of it have no fault, are done, and their transcript is written.
 #[tactic(auto, using(crate::proofs::OutcomeLemmas::ran_nothing))]
-pub fn run_script_on<P: Stage + Drop, R: ScriptIn, W: ScriptOut>(
-    stage: Result<P, AllocError>,
+pub fn run_script_on<P: Performer + Drop, R: ScriptIn, W: ScriptOut>(
+    performer: Result<P, AllocError>,
     alloc: Global,
     reader: &mut R,
     writer: &mut W,
@@ -48,15 +48,15 @@ pub fn run_script_on<P: Stage + Drop, R: ScriptIn, W: ScriptOut>(
     ensures ran { let left = R.left reader.old in let left_after = R.left reader.new in
         let failed = R.has_failed reader.new in
         let written = W.written writer.old in let written_after = W.written writer.new in
-        (start : P) → IfOk stage (λ made. made ≡ start)
+        (start : P) → IfOk performer (λ made. made ≡ start)
         → RanIn P.Action.language P.performs start left left_after failed result written written_after }
     ensures read { R.has_failed reader.new ≡ is_read result }
     ensures write { W.has_failed writer.new ≡ is_write result }
 {
-    let Ok(stage) = stage else {
+    let Ok(performer) = performer else {
         return Err(RunFault::Memory);
     };
-    Run::new(stage).run(alloc, reader, writer)
+    ScriptRun::new(performer).run(alloc, reader, writer)
 }
 
 /// Runs a script of `cicsedf` on a fresh region, as `run_script_on` does.

@@ -7,7 +7,7 @@ use Rattle.std.proofs.lemmas.Bool.{cond-true}
 use Rattle.std.proofs.lemmas.Option.{none-some, same_Some}
 use Rattle.std.proofs.lemmas.Map.{lookup-remove_entry}
 use Rattle.cx_service.specs.Lines.{parts_of, AreLinesOf, new_line}
-use Rattle.cx_service.specs.Screen.{filled, with_lines, cleared, ShowsText}
+use Rattle.cx_service.specs.Screen.{full_line, with_lines, screen_before_text, ShowsText}
 use Rattle.cx_ebcdic.specs.Names.{is_name}
 use Rattle.cx_service.specs.Queues.{Queue, Queues, AreSoundQueues, queue_of, queue_or_empty, last_read_of, write_fault, rewrite_fault, with_item, without_queue}
 use Rattle.cx_service.specs.Resources.{Resources, hold_of, hold_fault, enq_fault}
@@ -17,16 +17,16 @@ use Rattle.cx_service.specs.declared.faults.ServiceFault.{ServiceFault}
 use Rattle.cx_service.specs.declared.faults.ServiceFault.TheVariants.{Lengerr, Itemerr, Nospace, Qiderr, Enqbusy, Invreq, Memory}
 use Rattle.cx_service.proofs.LineLemmas.{one_lines, short_first, parts_whole}
 use Rattle.cx_ebcdic.specs.Facts.Names.{is_name-laws}
-use Rattle.cx_tables.specs.Facts.Lookups.{lookup-insert_entry-same}
+use Rattle.cx_base_lists.specs.Facts.Lookups.{lookup-insert_entry-same}
 
 pub short_text : (text : List ℕ) → position (λ byte. byte == new_line) text ≡ None → length text ≤ 80 → AreLinesOf text (text ∷ [])
 short_text text none short = short_first text text None [] (parts_whole text none) short refl
 
 pub one_shown : (old : List (List ℕ)) (text : List ℕ) (erase : Bool) (one other : List (List ℕ)) → ShowsText old text erase one → ShowsText old text erase other → one ≡ other
 one_shown old text erase one other p q =
-    p.over ∙ ap (with_lines (cleared old erase)) (one_lines (parts_of text) p.lines q.lines p.are_lines q.are_lines) ∙ sym q.over
+    p.over ∙ ap (with_lines (screen_before_text old erase)) (one_lines (parts_of text) p.lines q.lines p.are_lines q.are_lines) ∙ sym q.over
 
-pub in_place : (screen lines : List (List ℕ)) (row : ℕ) → row < length screen → MatchOption (slice_get lines row) (slice_get (with_lines screen lines) row ≡ slice_get screen row) (λ line. slice_get (with_lines screen lines) row ≡ Some (filled line))
+pub in_place : (screen lines : List (List ℕ)) (row : ℕ) → row < length screen → MatchOption (slice_get lines row) (slice_get (with_lines screen lines) row ≡ slice_get screen row) (λ line. slice_get (with_lines screen lines) row ≡ Some (full_line line))
 unfolding with_lines
 in_place [] lines row within = absurd (omega arith)
 in_place (top ∷ rest) [] row within = refl

@@ -1,4 +1,4 @@
--- A text's first line and the lines behind it; that each text has lines, and no two lists of them.
+-- A text's first line and the lines after it; that each text has lines, and no two lists of them.
 use Rattle.std.proofs.Common.{◌≡◌, ℕ, zero, suc, ◌+◌, ◌<◌, ◌≤◌, ◌⊎◌, Bool, true, false, cond, Option, Some, None, List, [], ◌∷◌, ◌++◌, length, take, drop, get_or, refl, sym, ◌∙◌, ap, subst, inl, inr, ⊎_elim, arith, add-one, nat_le, length-drop, length-take}
 use Rattle.std.specs.Prelude.{position, ◌==◌, not}
 use Rattle.std.specs.List.{slice_split, onto_first, position_or_len, AllByRecursion}
@@ -62,7 +62,7 @@ one_last part (Some a) None p q = absurd (q a p.0)
 one_last part (Some a) (Some b) p q = ap Some (let low = q.1 a p.0 in let high = p.1 b q.0 in omega arith)
 
 -- ---- the parts
--- the first part of a text, and the parts behind it
+-- the first part of a text, and the parts after it
 split_some : (p : ℕ → Bool) (xs : List ℕ) → (part : List ℕ) × (rest : List (List ℕ)) × (slice_split p xs ≡ part ∷ rest)
 split_some p [] = ([], [], refl)
 split_some p (x ∷ xs) = ⊎_elim
@@ -123,7 +123,7 @@ unfolding ArePartLines
 long_part part place lines long last more =
     rw (lt-leb _ _ long) (left_behind part place, record { place = place; last = last; before = refl; behind = refl }, more)
 
--- a first part that fits is a line before the lines behind it
+-- a first part that fits is a line before the lines after it
 pub short_first : (text part : List ℕ) (behind : Option (List ℕ)) (lines : List (List ℕ)) → IsFirstPart text part behind → length part ≤ 80 → AreLinesLeft behind lines → AreLinesOf text (part ∷ lines)
 unfolding AreLines
 short_first text part None lines first short more = rw first (part ∷ [], [], ap (λ ls. part ∷ ls) more, short_part part short, refl)

@@ -13,10 +13,10 @@ use Rattle.std.proofs.lemmas.Map.Entries.{sum_by-set_value, sum_by-remove_entry}
 use Rattle.indexmap.specs.IndexMap.{insert_entry}
 use Rattle.cx_ebcdic.specs.Names.{is_name}
 use Rattle.cx_ebcdic.specs.Facts.Names.{is_name-laws}
-use Rattle.cx_service.specs.Queues.{Queue, Queues, most_queues, most_items, most_data, is_item_length, queue_of, queue_or_empty, count_of, last_read_of, numbered, item_len_of, size_of, data_of, write_fault, rewrite_fault, read_fault, with_item, with_item_at, with_last_read, IsSoundQueue, AreSoundQueues}
-use Rattle.cx_tables.specs.Facts.Tables.{insert_entry_present, insert_entry_absent, found_meets, each-set_value, each-remove_entry, each-insert_entry, length-remove_entry, distinct-set_value, distinct-insert_entry}
+use Rattle.cx_service.specs.Queues.{Queue, Queues, most_queues, most_items, most_data, is_item_length, queue_of, queue_or_empty, count_of, last_read_of, item_numbered, item_len_of, size_of, data_of, write_fault, rewrite_fault, read_fault, with_item, with_item_at, with_last_read, IsSoundQueue, AreSoundQueues}
+use Rattle.cx_base_lists.specs.Facts.Tables.{insert_entry_present, insert_entry_absent, found_meets, each-set_value, each-remove_entry, each-insert_entry, length-remove_entry, distinct-set_value, distinct-insert_entry}
 
--- ---- what conditions tell
+-- ---- what conditions say
 pub no_fault : {F : Type 0} (b : Bool) (fault : F) (others : Option F) → cond b (Some fault) others ≡ None → (b ≡ false) × (others ≡ None)
 no_fault true fault others e = absurd (none-some fault (sym e))
 no_fault false fault others e = (refl, e)
@@ -149,7 +149,7 @@ record Numbers (queue : Queue) (n len : ℕ) : Type 0 where
   to : n ≤ length queue.items
   size : length (get_or queue.items (n - 1) []) ≡ len
 
-numbers : (queue : Queue) (n len : ℕ) → option_map length (numbered n queue) ≡ Some len → Numbers queue n len
+numbers : (queue : Queue) (n len : ℕ) → option_map length (item_numbered n queue) ≡ Some len → Numbers queue n len
 numbers queue n len there = by_test (n == 0) refl
   where
     found : (o : Option (List ℕ)) → slice_get queue.items (n - 1) ≡ o → option_map length o ≡ Some len → (item : List ℕ) × (slice_get queue.items (n - 1) ≡ Some item) × (length item ≡ len)
@@ -178,19 +178,19 @@ record Found (queues : Queues) (name : List ℕ) (n : ℕ) : Type 0 where
 found_item : (queues : Queues) (name : List ℕ) (n : ℕ) → is_none (item_len_of queues name n) ≡ false → Found queues name n
 found_item queues name n some = by_queue (queue_of queues name) refl some
   where
-    by_item : (queue : Queue) → queue_of queues name ≡ Some queue → (o : Option ℕ) → option_map length (numbered n queue) ≡ o → is_none o ≡ false → Found queues name n
+    by_item : (queue : Queue) → queue_of queues name ≡ Some queue → (o : Option ℕ) → option_map length (item_numbered n queue) ≡ o → is_none o ≡ false → Found queues name n
     by_item queue there None is has = absurd (true≢false has)
     by_item queue there (Some len) is has = record {
       queue = queue;
       there = there;
       len = len;
-      item = ap (λ o. option_map length (option_and_then (numbered n) o)) there ∙ is;
+      item = ap (λ o. option_map length (option_and_then (item_numbered n) o)) there ∙ is;
       at = numbers queue n len is;
     }
 
-    by_queue : (o : Option Queue) → queue_of queues name ≡ o → is_none (option_map length (option_and_then (numbered n) o)) ≡ false → Found queues name n
+    by_queue : (o : Option Queue) → queue_of queues name ≡ o → is_none (option_map length (option_and_then (item_numbered n) o)) ≡ false → Found queues name n
     by_queue None is has = absurd (true≢false has)
-    by_queue (Some queue) is has = by_item queue is (option_map length (numbered n queue)) refl has
+    by_queue (Some queue) is has = by_item queue is (option_map length (item_numbered n queue)) refl has
 
 or_empty : (queues : Queues) (name : List ℕ) (queue : Queue) → queue_of queues name ≡ Some queue → queue_or_empty queues name ≡ queue
 or_empty queues name queue there = ap (λ o. unwrap_or o (record { items = []; last_read = 0 })) there

@@ -7,16 +7,16 @@ use Rattle.std.proofs.lemmas.Bool.{cases_Bool, cond-true, cond-false, leb-false,
 use Rattle.std.proofs.lemmas.List.{length_push}
 use Rattle.std.proofs.lemmas.Map.{length-set_value}
 use Rattle.indexmap.specs.IndexMap.{insert_entry}
-use Rattle.cx_service.specs.Resources.{Resources, is_resource, most_resources, most_count, hold_of, hold_fault, enq_fault, count_at, enqueued, with_count_down, dequeued, without_owner, IsSoundHold, AreSoundResources}
+use Rattle.cx_service.specs.Resources.{Resources, is_resource, most_resources, most_count, hold_of, hold_fault, enq_fault, count_at, enqueue, with_count_down, dequeue, without_owner, IsSoundHold, AreSoundResources}
 use Rattle.cx_service.specs.declared.resources.ResourceName.{ResourceName}
 use Rattle.cx_service.specs.declared.resources.Hold.{Hold}
 use Rattle.cx_service.specs.declared.faults.ServiceFault.TheVariants.{Enqbusy, Invreq}
 use Rattle.cx_service.proofs.QueueSound.{no_fault}
-use Rattle.cx_tables.specs.Facts.Tables.{insert_entry_present, insert_entry_absent, found_meets, each-set_value, each-remove_entry, each-insert_entry, length-remove_entry, distinct-set_value, distinct-remove_entry, distinct-filter, each-filter, length-filter}
+use Rattle.cx_base_lists.specs.Facts.Tables.{insert_entry_present, insert_entry_absent, found_meets, each-set_value, each-remove_entry, each-insert_entry, length-remove_entry, distinct-set_value, distinct-remove_entry, distinct-filter, each-filter, length-filter}
 
 -- ---- ENQ
-pub enqueued_keeps : (resources : Resources) (slot : ℕ) (name : ResourceName) → AreSoundResources resources → enq_fault resources slot name ≡ None → IsDistinct is_resource (keys_of (enqueued resources slot name)) → AreSoundResources (enqueued resources slot name)
-unfolding enq_fault enqueued
+pub enqueued_keeps : (resources : Resources) (slot : ℕ) (name : ResourceName) → AreSoundResources resources → enq_fault resources slot name ≡ None → IsDistinct is_resource (keys_of (enqueue resources slot name)) → AreSoundResources (enqueue resources slot name)
+unfolding enq_fault enqueue
 enqueued_keeps resources slot name sound none apart = by_hold (hold_of resources name) refl none apart
   where
     by_hold : (o : Option Hold) → hold_of resources name ≡ o → hold_fault resources slot o ≡ None → IsDistinct is_resource (keys_of (insert_entry is_resource resources name (record { owner = slot; count = count_at (hold_of resources name) + 1 }))) → AreSoundResources (insert_entry is_resource resources name (record { owner = slot; count = count_at (hold_of resources name) + 1 }))
@@ -75,8 +75,8 @@ counted_down_keeps resources name hold sound is above =
       each = each-set_value IsSoundHold (is_resource name) resources new one sound.each;
     }
 
-pub dequeued_keeps : (resources : Resources) (slot : ℕ) (name : ResourceName) → AreSoundResources resources → AreSoundResources (dequeued resources slot name)
-unfolding dequeued
+pub dequeued_keeps : (resources : Resources) (slot : ℕ) (name : ResourceName) → AreSoundResources resources → AreSoundResources (dequeue resources slot name)
+unfolding dequeue
 dequeued_keeps resources slot name sound = by_hold (hold_of resources name) refl
   where
     by_hold : (o : Option Hold) → hold_of resources name ≡ o → AreSoundResources (with_count_down resources slot name o)
@@ -93,24 +93,24 @@ dequeued_keeps resources slot name sound = by_hold (hold_of resources name) refl
         (cases_Bool (not (hold.owner == slot)))
 
 -- what DEQ does, by who holds the resource
-pub dequeued_none : (resources : Resources) (slot : ℕ) (name : ResourceName) → hold_of resources name ≡ None → dequeued resources slot name ≡ resources
-unfolding dequeued
+pub dequeued_none : (resources : Resources) (slot : ℕ) (name : ResourceName) → hold_of resources name ≡ None → dequeue resources slot name ≡ resources
+unfolding dequeue
 dequeued_none resources slot name is = ap (with_count_down resources slot name) is
 
-pub dequeued_other : (resources : Resources) (slot : ℕ) (name : ResourceName) (hold : Hold) → hold_of resources name ≡ Some hold → (hold.owner ≡ slot → ⊥) → dequeued resources slot name ≡ resources
-unfolding dequeued
+pub dequeued_other : (resources : Resources) (slot : ℕ) (name : ResourceName) (hold : Hold) → hold_of resources name ≡ Some hold → (hold.owner ≡ slot → ⊥) → dequeue resources slot name ≡ resources
+unfolding dequeue
 dequeued_other resources slot name hold is another =
     ap (with_count_down resources slot name) is ∙ cond-true (not (hold.owner == slot)) _ _ (ap not (ne_eqb hold.owner slot another))
 
-pub dequeued_last : (resources : Resources) (slot : ℕ) (name : ResourceName) (hold : Hold) → hold_of resources name ≡ Some hold → hold.owner ≡ slot → hold.count ≡ 1 → dequeued resources slot name ≡ remove_entry (is_resource name) resources
-unfolding dequeued
+pub dequeued_last : (resources : Resources) (slot : ℕ) (name : ResourceName) (hold : Hold) → hold_of resources name ≡ Some hold → hold.owner ≡ slot → hold.count ≡ 1 → dequeue resources slot name ≡ remove_entry (is_resource name) resources
+unfolding dequeue
 dequeued_last resources slot name hold is own last =
     ap (with_count_down resources slot name) is
     ∙ cond-false (not (hold.owner == slot)) _ _ (ap not (eq-eqb hold.owner slot own))
     ∙ cond-true (hold.count == 1) _ _ (eq-eqb hold.count 1 last)
 
-pub dequeued_more : (resources : Resources) (slot : ℕ) (name : ResourceName) (hold : Hold) → hold_of resources name ≡ Some hold → hold.owner ≡ slot → (hold.count ≡ 1 → ⊥) → dequeued resources slot name ≡ set_value (is_resource name) resources (record hold { count = hold.count - 1 })
-unfolding dequeued
+pub dequeued_more : (resources : Resources) (slot : ℕ) (name : ResourceName) (hold : Hold) → hold_of resources name ≡ Some hold → hold.owner ≡ slot → (hold.count ≡ 1 → ⊥) → dequeue resources slot name ≡ set_value (is_resource name) resources (record hold { count = hold.count - 1 })
+unfolding dequeue
 dequeued_more resources slot name hold is own more =
     ap (with_count_down resources slot name) is
     ∙ cond-false (not (hold.owner == slot)) _ _ (ap not (eq-eqb hold.owner slot own))

@@ -6,7 +6,7 @@ use Rattle.std.proofs.lemmas.List.{length-replicate, append-nil, append_assoc, l
 use Rattle.cx_service.specs.Lines.{blank, columns, parts_of, AreLinesOf}
 use Rattle.cx_service.specs.Parts.LineSteps.{AreLinesLeft}
 use Rattle.cx_service.proofs.LineLemmas.{lines_fit, left_lines_exist}
-use Rattle.cx_service.specs.Screen.{rows, filled, with_lines, IsScreen, blank_screen, cleared, ShowsText}
+use Rattle.cx_service.specs.Screen.{rows, full_line, with_lines, IsScreen, blank_screen, screen_before_text, ShowsText}
 
 pub with_lines-none : (screen : List (List ℕ)) → with_lines screen [] ≡ screen
 unfolding with_lines
@@ -14,19 +14,19 @@ with_lines-none [] = refl
 with_lines-none (row ∷ rest) = refl
 
 -- one more line
-pub with_lines-push : (screen lines : List (List ℕ)) (line : List ℕ) → with_lines screen (lines ++ line ∷ []) ≡ slice_set (with_lines screen lines) (length lines) (filled line)
+pub with_lines-push : (screen lines : List (List ℕ)) (line : List ℕ) → with_lines screen (lines ++ line ∷ []) ≡ slice_set (with_lines screen lines) (length lines) (full_line line)
 unfolding with_lines
 with_lines-push [] [] line = refl
 with_lines-push [] (l ∷ lines) line = refl
-with_lines-push (row ∷ rest) [] line = ap (λ rs. filled line ∷ rs) (with_lines-none rest)
-with_lines-push (row ∷ rest) (l ∷ lines) line = ap (λ rs. filled l ∷ rs) (with_lines-push rest lines line)
+with_lines-push (row ∷ rest) [] line = ap (λ rs. full_line line ∷ rs) (with_lines-none rest)
+with_lines-push (row ∷ rest) (l ∷ lines) line = ap (λ rs. full_line l ∷ rs) (with_lines-push rest lines line)
 
 -- lines that the screen has no room for
 pub with_lines-past : (screen lines more : List (List ℕ)) → length screen ≤ length lines → with_lines screen (lines ++ more) ≡ with_lines screen lines
 unfolding with_lines
 with_lines-past [] lines more full = refl
 with_lines-past (row ∷ rest) [] more full = absurd (omega arith)
-with_lines-past (row ∷ rest) (l ∷ lines) more full = ap (λ rs. filled l ∷ rs) (with_lines-past rest lines more (omega arith))
+with_lines-past (row ∷ rest) (l ∷ lines) more full = ap (λ rs. full_line l ∷ rs) (with_lines-past rest lines more (omega arith))
 
 -- ---- 24 lines of 80 bytes
 
@@ -38,7 +38,7 @@ IsScreen-blank = (refl, all_blank rows)
     all_blank zero = tt
     all_blank (suc n) = (refl, all_blank n)
 
-pub length-filled : (line : List ℕ) → length line ≤ 80 → length (filled line) ≡ 80
+pub length-filled : (line : List ℕ) → length line ≤ 80 → length (full_line line) ≡ 80
 length-filled line short = rw (length-append, length-replicate) (omega arith)
 
 length-with_lines : (screen lines : List (List ℕ)) → length (with_lines screen lines) ≡ length screen
@@ -57,7 +57,7 @@ pub IsScreen-with_lines : (screen lines : List (List ℕ)) → IsScreen screen �
 unfolding IsScreen
 IsScreen-with_lines screen lines sound fit = (length-with_lines screen lines ∙ sound.0, columns-with_lines screen lines sound.1 fit)
 
-pub IsScreen-cleared : (screen : List (List ℕ)) (erase : Bool) → IsScreen screen → IsScreen (cleared screen erase)
+pub IsScreen-cleared : (screen : List (List ℕ)) (erase : Bool) → IsScreen screen → IsScreen (screen_before_text screen erase)
 IsScreen-cleared screen true sound = IsScreen-blank
 IsScreen-cleared screen false sound = sound
 
@@ -65,7 +65,7 @@ IsScreen-cleared screen false sound = sound
 pub IsScreen-shown : (old : List (List ℕ)) (text : List ℕ) (erase : Bool) (new : List (List ℕ)) → IsScreen old → ShowsText old text erase new → IsScreen new
 IsScreen-shown old text erase new sound shows =
     subst IsScreen (sym shows.over)
-    (IsScreen-with_lines (cleared old erase) shows.lines (IsScreen-cleared old erase sound) (lines_fit (parts_of text) shows.lines shows.are_lines))
+    (IsScreen-with_lines (screen_before_text old erase) shows.lines (IsScreen-cleared old erase sound) (lines_fit (parts_of text) shows.lines shows.are_lines))
 
 -- ---- the loop over the rows
 pub record HasShown (initial now : List (List ℕ)) (text : List ℕ) (left : Option (List ℕ)) (count : ℕ) : Type 0 where
@@ -77,13 +77,13 @@ pub record HasShown (initial now : List (List ℕ)) (text : List ℕ) (left : Op
 pub HasShown-none : (initial : List (List ℕ)) (text : List ℕ) → HasShown initial initial text (Some text) 0
 HasShown-none initial text = record { lines = []; counted = refl; over = sym (with_lines-none initial); goes_on = λ more h. h }
 
-pub HasShown-more : (initial now : List (List ℕ)) (text current line : List ℕ) (left : Option (List ℕ)) (count : ℕ) → HasShown initial now text (Some current) count → ((more : List (List ℕ)) → AreLinesLeft left more → AreLinesOf current (line ∷ more)) → HasShown initial (slice_set now count (filled line)) text left (count + 1)
+pub HasShown-more : (initial now : List (List ℕ)) (text current line : List ℕ) (left : Option (List ℕ)) (count : ℕ) → HasShown initial now text (Some current) count → ((more : List (List ℕ)) → AreLinesLeft left more → AreLinesOf current (line ∷ more)) → HasShown initial (slice_set now count (full_line line)) text left (count + 1)
 HasShown-more initial now text current line left count shown first = record {
   lines = shown.lines ++ line ∷ [];
   counted = length_push shown.lines line ∙ ap (λ n. n + 1) shown.counted;
   over =
-      ap (λ screen. slice_set screen count (filled line)) shown.over
-      ∙ ap (λ n. slice_set (with_lines initial shown.lines) n (filled line)) (sym shown.counted)
+      ap (λ screen. slice_set screen count (full_line line)) shown.over
+      ∙ ap (λ n. slice_set (with_lines initial shown.lines) n (full_line line)) (sym shown.counted)
       ∙ sym (with_lines-push initial shown.lines line);
   goes_on = λ more h. subst (AreLinesOf text) (sym (append_assoc shown.lines (line ∷ []) more)) (shown.goes_on (line ∷ more) (first more h));
 }

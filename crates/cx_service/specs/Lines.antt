@@ -35,7 +35,7 @@ abbrev pub line_before : List ℕ → Option ℕ → List ℕ
 line_before part None = take columns part
 line_before part (Some k) = take k part
 
--- what is left of the part behind the break, whose blank is dropped
+-- what is left of the part after the break, whose blank is dropped
 abbrev pub left_behind : List ℕ → Option ℕ → List ℕ
 left_behind part None = drop columns part
 left_behind part (Some k) = drop (k + 1) part

@@ -54,12 +54,12 @@ abbrev pub last_read_of : Queues → List ℕ → Option ℕ
 last_read_of queues name = option_map (λ queue. queue.last_read) (queue_of queues name)
 
 -- a queue's item number n, counted from 1
-abbrev pub numbered : ℕ → Queue → Option (List ℕ)
-numbered n queue = if n == 0 then None else slice_get queue.items (n - 1)
+abbrev pub item_numbered : ℕ → Queue → Option (List ℕ)
+item_numbered n queue = if n == 0 then None else slice_get queue.items (n - 1)
 
 -- item n of the queue of a name
 abbrev pub item_of : Queues → List ℕ → ℕ → Option (List ℕ)
-item_of queues name n = option_and_then (numbered n) (queue_of queues name)
+item_of queues name n = option_and_then (item_numbered n) (queue_of queues name)
 
 -- the number of its bytes
 abbrev pub item_len_of : Queues → List ℕ → ℕ → Option ℕ
@@ -74,7 +74,7 @@ abbrev pub data_of : Queues → ℕ
 data_of queues = sum_by size_of (values_of queues)
 
 -- ---- conditions: the first that applies, or None
--- WRITEQ TS of so many bytes
+-- WRITEQ TS of `len` bytes
 unfoldable pub write_fault : Queues → List ℕ → ℕ → Option ServiceFault
 write_fault queues name len =
     if not (is_item_length len) then Some Lengerr
@@ -83,7 +83,7 @@ write_fault queues name len =
     else if nat_lt most_data (data_of queues + len) then Some Nospace
     else None
 
--- WRITEQ TS with REWRITE of item n by so many bytes; the old item doesn't count
+-- WRITEQ TS with REWRITE of item n by `len` bytes; the old item doesn't count
 unfoldable pub rewrite_fault : Queues → List ℕ → ℕ → ℕ → Option ServiceFault
 rewrite_fault queues name n len =
     if not (is_item_length len) then Some Lengerr

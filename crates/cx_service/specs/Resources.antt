@@ -28,7 +28,8 @@ most_count = 65535
 abbrev pub hold_of : Resources → ResourceName → Option Hold
 hold_of resources name = lookup (is_resource name) resources
 
--- The condition that ENQ meets, by who holds the resource: it is another's, or would be one too many; or the count is full.
+-- The condition that ENQ meets, by who holds the resource: it is another task's, or would be one too many; or the count
+-- is full.
 abbrev pub hold_fault : Resources → ℕ → Option Hold → Option ServiceFault
 hold_fault resources slot None = if nat_le most_resources (length resources) then Some Enqbusy else None
 hold_fault resources slot (Some hold) =
@@ -43,10 +44,10 @@ count_at None = 0
 count_at (Some hold) = hold.count
 
 -- ENQ: the count rises; a resource that nobody owned goes last
-unfoldable pub enqueued : Resources → ℕ → ResourceName → Resources
-enqueued resources slot name = insert_entry is_resource resources name (record { owner = slot; count = count_at (hold_of resources name) + 1 })
+unfoldable pub enqueue : Resources → ℕ → ResourceName → Resources
+enqueue resources slot name = insert_entry is_resource resources name (record { owner = slot; count = count_at (hold_of resources name) + 1 })
 
--- DEQ, by who holds the resource: its owner's count falls, and at zero it is free; another's stays
+-- DEQ, by who holds the resource: its owner's count falls, and at zero it is free; another task's stays
 abbrev pub with_count_down : Resources → ℕ → ResourceName → Option Hold → Resources
 with_count_down resources slot name None = resources
 with_count_down resources slot name (Some hold) =
@@ -54,8 +55,8 @@ with_count_down resources slot name (Some hold) =
     else if hold.count == 1 then remove_entry (is_resource name) resources
     else set_value (is_resource name) resources (record hold { count = hold.count - 1 })
 
-unfoldable pub dequeued : Resources → ℕ → ResourceName → Resources
-dequeued resources slot name = with_count_down resources slot name (hold_of resources name)
+unfoldable pub dequeue : Resources → ℕ → ResourceName → Resources
+dequeue resources slot name = with_count_down resources slot name (hold_of resources name)
 
 -- the end of a task: what it owns is free
 unfoldable pub without_owner : Resources → ℕ → Resources

@@ -17,21 +17,21 @@ abbrev pub blank_screen : List (List ℕ)
 blank_screen = replicate rows (replicate columns blank)
 
 -- a line filled with blanks
-abbrev pub filled : List ℕ → List ℕ
-filled line = line ++ replicate (columns - length line) blank
+abbrev pub full_line : List ℕ → List ℕ
+full_line line = line ++ replicate (columns - length line) blank
 
 -- The screen with lines over its own from the top. What it has no room for isn't shown.
 unfoldable pub with_lines : List (List ℕ) → List (List ℕ) → List (List ℕ)
 with_lines [] lines = []
 with_lines (row ∷ rest) [] = row ∷ rest
-with_lines (row ∷ rest) (line ∷ lines) = filled line ∷ with_lines rest lines
+with_lines (row ∷ rest) (line ∷ lines) = full_line line ∷ with_lines rest lines
 
 -- the screen that the lines go on: blanked first by ERASE
-abbrev pub cleared : List (List ℕ) → Bool → List (List ℕ)
-cleared screen erase = if erase then blank_screen else screen
+abbrev pub screen_before_text : List (List ℕ) → Bool → List (List ℕ)
+screen_before_text screen erase = if erase then blank_screen else screen
 
 -- SEND TEXT: the lines of the text over the screen's
 pub record ShowsText (old : List (List ℕ)) (text : List ℕ) (erase : Bool) (new : List (List ℕ)) : Type 0 where
   pub lines : List (List ℕ)
   pub are_lines : AreLinesOf text lines
-  pub over : new ≡ with_lines (cleared old erase) lines
+  pub over : new ≡ with_lines (screen_before_text old erase) lines

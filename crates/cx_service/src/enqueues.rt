@@ -5,7 +5,7 @@ ghost use Rattle.std.specs.List.{IsDistinct};
 ghost use Rattle.std.specs.Map.{keys_of, set_value};
 ghost use Rattle.indexmap.specs.IndexMap.{insert_entry};
 ghost use Rattle.cx_service.specs.declared.resources.Hold.{Hold};
-ghost use Rattle.cx_service.specs.Resources.{is_resource, hold_of, count_at, hold_fault, enq_fault, enqueued, dequeued, without_owner, AreSoundResources};
+ghost use Rattle.cx_service.specs.Resources.{is_resource, hold_of, count_at, hold_fault, enq_fault, enqueue, dequeue, without_owner, AreSoundResources};
 
 use crate::faults::ServiceFault;
 use crate::resources::{Hold, ResourceName};
@@ -60,8 +60,8 @@ impl Enqueues {
         self.resources.get(name).copied()
     }
 
-    /// The condition that `enq` would meet, want of memory apart: Enqbusy where another owns the resource, or it would
-    /// be the 257th; Invreq where the owner's count is 65,535 (ENQ).
+    /// The condition that `enq` would meet, apart from Memory: Enqbusy where another task owns the resource, or it
+    /// would be the 257th; Invreq where the owner's count is 65,535 (ENQ).
     #[tactic(auto, using(std::proofs::lemmas::Bool::Decides::nat_tests), unfolding(crate::specs::Resources::enq_fault))]
     pub fn can_enq(&self, slot: u8, name: &ResourceName) -> Result<(), ServiceFault>
         ensures { result_err result ≡ enq_fault self.now slot name.now }
@@ -103,7 +103,7 @@ impl Enqueues {
     /// The conditions are those of `can_enq`, in that order, and then Memory. After any of them all is as before. The
     /// length of the name was tested when it was made.
     pub fn enq(&mut self, slot: u8, name: &ResourceName) -> Result<(), ServiceFault>
-        ensures enqueued { OnOk result (self.new ≡ enqueued self.old slot name.now) }
+        ensures enqueued { OnOk result (self.new ≡ enqueue self.old slot name.now) }
         ensures conditions { MatchOption (enq_fault self.old slot name.now)
             (IsOkUnless result ServiceFault.Memory) (IsErrOf result) }
         ensures err { OnErr result (self.new ≡ self.old) }
@@ -115,10 +115,10 @@ impl Enqueues {
         Ok(())
     }
 
-    /// Makes an owner's count of a resource one less; at zero the resource is free. A resource of another, or of none,
-    /// stays (DEQ).
+    /// Makes an owner's count of a resource one less; at zero the resource is free. A resource of another owner, or of
+    /// none, stays (DEQ).
     pub fn deq(&mut self, slot: u8, name: &ResourceName)
-        ensures dequeued { self.new ≡ dequeued self.old slot name.now }
+        ensures dequeued { self.new ≡ dequeue self.old slot name.now }
         ensures sound { AreSoundResources self.new }
     {
         take_off(&mut self.resources, slot, name);
@@ -150,7 +150,7 @@ fn put_hold(
 /// Makes an owner's count of a resource one less; at zero the resource is free.
 #[tactic(auto, using(crate::proofs::ResourceSound::dequeued_none, crate::proofs::ResourceSound::dequeued_other, crate::proofs::ResourceSound::dequeued_last, crate::proofs::ResourceSound::dequeued_more))]
 fn take_off(resources: &mut IndexMap<ResourceName, Hold>, slot: u8, name: &ResourceName)
-    ensures { resources.new.entries ≡ dequeued resources.old.entries slot name.now }
+    ensures { resources.new.entries ≡ dequeue resources.old.entries slot name.now }
 {
     let hold = match resources.get(name) {
         Some(hold) => *hold,
@@ -167,7 +167,7 @@ fn take_off(resources: &mut IndexMap<ResourceName, Hold>, slot: u8, name: &Resou
 }
 
 /// Sets the count of a resource that is held.
-#[tactic(auto, using(cx_tables::specs::Facts::Tables::set_value_absent))]
+#[tactic(auto, using(cx_base_lists::specs::Facts::Tables::set_value_absent))]
 fn set_count(resources: &mut IndexMap<ResourceName, Hold>, name: &ResourceName, count: u16)
     ensures { (hold : Hold) → hold_of resources.old.entries name.now ≡ Some hold
         → resources.new.entries ≡ set_value (is_resource name.now) resources.old.entries (record hold { count = count }) }

@@ -5,7 +5,7 @@ ghost use Rattle.cx_service.specs.declared.faults.ServiceFault.TheVariants.{Memo
 use std::alloc::{AllocError, AllocFailed};
 use thiserror::Error;
 
-/// A condition that a call of this crate meets, by its name in the commands; or want of memory.
+/// A condition that a call of this crate meets, by its name in the commands; or out of memory.
 #[derive(Clone, Copy, Debug, PartialEq, Eq, Error)]
 pub enum ServiceFault {
     /// LENGERR: a length outside its limits.
@@ -26,7 +26,7 @@ pub enum ServiceFault {
     /// INVREQ: the task has enqueued upon the resource too often.
     #[error("invalid request")]
     Invreq,
-    /// A growth was refused.
+    /// An allocation failed.
     #[error("out of memory")]
     Memory,
 }

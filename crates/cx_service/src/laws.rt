@@ -4,7 +4,7 @@ ghost use Rattle.std.specs.List.{AllByRecursion};
 ghost use Rattle.cx_service.specs.declared.faults.ServiceFault.TheVariants.{Memory};
 ghost use Rattle.cx_service.specs.declared.resources.ResourceName.{ResourceName};
 ghost use Rattle.cx_service.specs.Lines.{new_line, columns, AreLinesOf};
-ghost use Rattle.cx_service.specs.Screen.{filled, with_lines, IsScreen, ShowsText};
+ghost use Rattle.cx_service.specs.Screen.{full_line, with_lines, IsScreen, ShowsText};
 ghost use Rattle.cx_service.specs.Queues.{Queues, AreSoundQueues, last_read_of, write_fault, rewrite_fault, with_item, without_queue};
 ghost use Rattle.cx_service.specs.Resources.{Resources, is_resource, enq_fault, without_owner};
 
@@ -40,7 +40,7 @@ pub fn a_shown_text_leaves_a_screen()
 pub fn lines_are_shown_in_place()
     ensures { (screen lines : List (List ℕ)) (row : ℕ) → row < length screen
         → MatchOption (slice_get lines row) (slice_get (with_lines screen lines) row ≡ slice_get screen row)
-        (λ line. slice_get (with_lines screen lines) row ≡ Some (filled line)) }
+        (λ line. slice_get (with_lines screen lines) row ≡ Some (full_line line)) }
 {}
 
 /// Two names of resources are the same exactly where both are the same bytes or both the same address.
@@ -54,11 +54,12 @@ pub fn a_deleted_queue_begins_anew()
         → last_read_of (with_item (without_queue queues name) name bytes) name ≡ Some 0 }
 {}
 
-/// Want of memory is none of the conditions that are tested first.
+/// Memory is none of the conditions that are tested first.
 pub fn memory_is_no_condition()
     ensures write { (queues : Queues) (name : List ℕ) (len : ℕ) → write_fault queues name len ≢ Some Memory }
     ensures rewrite { (queues : Queues) (name : List ℕ) (n len : ℕ) → rewrite_fault queues name n len ≢ Some Memory }
-    ensures enq { (resources : Resources) (slot : ℕ) (name : ResourceName) → enq_fault resources slot name ≢ Some Memory }
+    ensures enq { (resources : Resources) (slot : ℕ) (name : ResourceName)
+        → enq_fault resources slot name ≢ Some Memory }
 {}
 
 /// At the end of a task none of its resources is left.

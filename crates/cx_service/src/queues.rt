@@ -2,11 +2,11 @@
 ghost use Rattle.std.specs.Prelude.{◌≡◌, ℕ, ◌+◌, ◌-◌, ◌<◌, ◌≤◌, ◌^◌, List, [], ◌∷◌, ◌++◌, length, slice_set, Option, None, Some, is_none, unwrap_or, IfOk, OnOk, OnErr, IsErrOf, IsOkUnless, IfSome, MatchOption};
 ghost use Rattle.std.specs.Option.{option_map, option_copied};
 ghost use Rattle.std.specs.Result.{result_err};
-ghost use Rattle.cx_service.specs.Queues.{is_item_length as is_length, queue_of, queue_or_empty, count_of, last_read_of, numbered, item_of, size_of, data_of, next_number, write_fault, rewrite_fault, read_fault, delete_fault, with_item, with_item_at, with_last_read, without_queue, AreSoundQueues};
+ghost use Rattle.cx_service.specs.Queues.{is_item_length as is_length, queue_of, queue_or_empty, count_of, last_read_of, item_numbered, item_of, size_of, data_of, next_number, write_fault, rewrite_fault, read_fault, delete_fault, with_item, with_item_at, with_last_read, without_queue, AreSoundQueues};
 
 use crate::faults::ServiceFault;
+use cx_base_lists::List;
 use cx_ebcdic::Name8;
-use cx_tables::List;
 use indexmap::IndexMap;
 use std::alloc::{AllocError, Global};
 use std::marker::Model;
@@ -69,7 +69,7 @@ impl Queue {
 
     /// Item number n, counted from 1; None where there is no such item.
     pub fn item(&self, n: usize) -> Option<&Item>
-        ensures { option_copied result ≡ numbered n self.now }
+        ensures { option_copied result ≡ item_numbered n self.now }
     {
         if n == 0 {
             return None;
@@ -190,7 +190,7 @@ impl Queues {
         self.item(name, n).map(|bytes| bytes.len())
     }
 
-    /// The condition that `write` of so many bytes would meet, want of memory apart:
+    /// The condition that `write` of `len` bytes would meet, apart from Memory:
     /// Lengerr where the length is below 1 or above 32,767; Itemerr where the queue has 32,767 items; Nospace where it
     /// would be a 257th queue, or the data of all queues more than 4,194,304 bytes (WRITEQ TS).
     #[tactic(auto, using(std::proofs::lemmas::Bool::Decides::nat_tests), unfolding(crate::specs::Queues::write_fault))]
@@ -230,7 +230,7 @@ impl Queues {
         Ok(number)
     }
 
-    /// The condition that `rewrite` of item n by so many bytes would meet, want of memory apart:
+    /// The condition that `rewrite` of item n by `len` bytes would meet, apart from Memory:
     /// Lengerr where the length is below 1 or above 32,767; Qiderr where there is no such queue; Itemerr where there is
     /// no such item; Nospace where the data of all queues, without the old item, would be more than 4,194,304 bytes.
     #[tactic(auto, using(std::proofs::lemmas::Bool::Decides::nat_tests), unfolding(crate::specs::Queues::rewrite_fault, crate::specs::Queues::read_fault))]
@@ -331,7 +331,7 @@ impl Queues {
     }
 }
 
-/// Whether an item may have so many bytes.
+/// Whether an item may have `len` bytes.
 fn is_item_length(len: usize) -> bool
     ensures { result ≡ is_length len }
 {
@@ -380,7 +380,7 @@ fn put_first(
 }
 
 /// Puts an item in the place of item n of a queue, where it is there.
-#[tactic(auto, using(cx_tables::specs::Facts::Tables::set_value_absent), unfolding(crate::specs::Queues::with_item_at))]
+#[tactic(auto, using(cx_base_lists::specs::Facts::Tables::set_value_absent), unfolding(crate::specs::Queues::with_item_at))]
 fn put_at(queues: &mut IndexMap<Name8, Queue>, name: Name8, n: usize, item: Item)
     ensures { queues.new.entries ≡ with_item_at queues.old.entries name n item }
 {
@@ -391,7 +391,7 @@ fn put_at(queues: &mut IndexMap<Name8, Queue>, name: Name8, n: usize, item: Item
 }
 
 /// Makes item n of a queue the one last read, where the queue is there.
-#[tactic(auto, using(cx_tables::specs::Facts::Tables::set_value_absent), unfolding(crate::specs::Queues::with_last_read))]
+#[tactic(auto, using(cx_base_lists::specs::Facts::Tables::set_value_absent), unfolding(crate::specs::Queues::with_last_read))]
 fn mark_read(queues: &mut IndexMap<Name8, Queue>, name: Name8, n: usize)
     ensures { queues.new.entries ≡ with_last_read queues.old.entries name n }
 {

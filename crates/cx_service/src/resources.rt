@@ -67,7 +67,8 @@ impl ResourceName {
     /// The name that these bytes are. Lengerr comes where there are none or more than 255 (ENQ and DEQ).
     pub fn from_bytes(bytes: &[u8]) -> Result<ResourceName, ServiceFault>
         ensures named { IfOk result (λ name. name ≡ ResourceName.Bytes bytes.now) }
-        ensures conditions { result_err result ≡ (if is_name_length (length bytes.now) then None else Some ServiceFault.Lengerr) }
+        ensures conditions { result_err result
+            ≡ (if is_name_length (length bytes.now) then None else Some ServiceFault.Lengerr) }
     {
         if bytes.is_empty() || bytes.len() > MOST_NAME {
             return Err(ServiceFault::Lengerr);
@@ -85,7 +86,7 @@ pub struct Hold {
     pub count: u16,
 }
 
-/// Bytes with zeros behind them.
+/// Bytes with zeros after them.
 fn padded(bytes: &[u8]) -> [u8; MOST_NAME]
     requires { length bytes.now ≤ MOST_NAME }
     ensures { result ≡ bytes.now ++ replicate (255 - length bytes.now) 0 }

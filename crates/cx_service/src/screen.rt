@@ -3,7 +3,7 @@ ghost use Rattle.std.specs.Prelude.{◌≡◌, ℕ, ◌==◌, ◌<◌, ◌≤◌
 ghost use Rattle.std.specs.Option.{option_map};
 ghost use Rattle.cx_service.specs.Lines.{new_line, IsLastBreak, AreLinesOf};
 ghost use Rattle.cx_service.specs.Parts.LineSteps.{IsFirstPart, AreLinesLeft};
-ghost use Rattle.cx_service.specs.Screen.{blank_screen, filled, IsScreen, ShowsText};
+ghost use Rattle.cx_service.specs.Screen.{blank_screen, full_line, IsScreen, ShowsText};
 
 use std::marker::Model;
 
@@ -92,7 +92,7 @@ fn show_lines(rows: &mut [[u8; COLUMNS]; ROWS], text: &[u8])
 /// A line filled with blanks.
 fn filled_line(line: &[u8]) -> [u8; COLUMNS]
     requires { length line.now ≤ COLUMNS }
-    ensures { result ≡ filled line.now }
+    ensures { result ≡ full_line line.now }
 {
     let mut filled = [BLANK; COLUMNS];
     for (i, byte) in line.iter().enumerate() {
@@ -101,7 +101,7 @@ fn filled_line(line: &[u8]) -> [u8; COLUMNS]
     filled
 }
 
-/// A text's first line, and the text behind it; None where the line is the last.
+/// A text's first line, and the text after it; None where the line is the last.
 fn first_line(text: &[u8]) -> (&[u8], Option<&[u8]>)
     ensures short { length result.0.now ≤ COLUMNS }
     ensures goes_on { (lines : List (List ℕ)) → AreLinesLeft (option_map (λ left. left.now) result.1) lines
@@ -117,7 +117,7 @@ fn first_line(text: &[u8]) -> (&[u8], Option<&[u8]>)
     }
 }
 
-/// A text's first part, and the text behind the new line that ends it; None where the part is the last.
+/// A text's first part, and the text after the new line that ends it; None where the part is the last.
 fn first_part(text: &[u8]) -> (&[u8], Option<&[u8]>)
     ensures within { length result.0.now ≤ length text.now }
     ensures first { IsFirstPart text.now result.0.now (option_map (λ left. left.now) result.1) }

@@ -1,8 +1,8 @@
--- What is wrong with a source: the first faulty line, and which fault that line has (GC33-4010, "Assembler Language Coding
--- Conventions"; the number of lines and the order of the faults are this product's own).
-use Rattle.std.specs.Prelude.{ℕ, ◌+◌, Bool, false, ◌&&◌, ◌||◌, not, ◌==◌, nat_lt, if◌then◌else◌, Option, Some, None, Result, Ok, Err, List, [], ◌∷◌, ◌++◌, length, map, is_none, codes}
+-- What is wrong with a source: the first faulty line, and which fault that line has (GC33-4010, "Assembler Language
+-- Coding Conventions"; the number of lines and the order of the faults are this product's own).
+use Rattle.std.specs.Prelude.{ℕ, ◌+◌, Bool, false, ◌&&◌, ◌||◌, ◌==◌, nat_lt, if◌then◌else◌, Option, Some, None, Result, Ok, Err, List, [], ◌∷◌, ◌++◌, length, map, is_none, slice_get, codes}
 use Rattle.std.specs.List.{list_any}
-use Rattle.std.specs.Option.{option_or, option_map_or, option_to_list}
+use Rattle.std.specs.Option.{option_map_or, option_to_list}
 use Rattle.std.specs.Str.Lines.{lines}
 use Rattle.cx_ebcdic.specs.Characters.{code_of}
 use Rattle.cx_source.specs.Lines.{columns, is_written, text_of, is_comment, is_name, entries_of}
@@ -20,41 +20,22 @@ fault_name (BadName number) = codes "BadName"
 fault_name (NoEnd number) = codes "NoEnd"
 fault_name Memory = codes "Memory"
 
--- What begins in column 1 of a statement's first line is a name, or nothing begins there.
-unfoldable pub is_well_named : List ℕ → Bool
-is_well_named text = is_comment text || length (entries_of text).name == 0 || is_name (entries_of text).name
-
 -- The fault of the line with this number, counted from 1, the first that applies: more than 80 columns, or past the
 -- 10,000th line; a character without a code in columns 1 to 72; a line that continues a statement and isn't blank in
--- columns 1 to 15; a line that begins one with something else than a name in column 1.
+-- columns 1 to 15; a line that begins one with something other than a name in column 1.
 unfoldable pub fault_of : Bool → ℕ → List ℕ → Option SourceFault
 fault_of continues number line =
+    let text = text_of line in let name = (entries_of text).name in
     if nat_lt 80 (length line) || nat_lt 10000 number then Some (TooLong number)
     else (if list_any (λ c. is_none (code_of c)) (columns 1 72 line) then Some (BadCharacter number)
     else (if continues && list_any is_written (columns 1 15 line) then Some (BadContinuation number)
-    else (if not continues && not (is_well_named (text_of line)) then Some (BadName number) else None)))
-
--- the fault of the first faulty line up to END's; without END, that of the line behind the last
-abbrev pub first_fault : Bool → ℕ → List (List ℕ) → Option SourceFault
-first_fault continues number [] = Some (NoEnd number)
-first_fault continues number (line ∷ more) =
-    option_or (fault_of continues number line)
-    (if is_last continues (text_of line) then None else first_fault (is_continued continues (text_of line)) (number + 1) more)
+    else (if continues || is_comment text || length name == 0 || is_name name then None else Some (BadName number))))
 
 -- the source whose lines, up to END's, have these texts
 abbrev pub source_from : List (List ℕ) → Source
 source_from texts = record { items = items_from false 1 texts }
 
--- the source that lines make, or its first fault
-unfoldable pub source_in : List (List ℕ) → Result Source SourceFault
-source_in all = option_map_or Err (first_fault false 1 all) (Ok (source_from (up_to_end false (map text_of all))))
-
--- The source that bytes make. A line ends with LF, and a CR before it is dropped; the last line may do without.
-unfoldable pub source_of : List ℕ → Result Source SourceFault
-source_of bytes = source_in (lines bytes)
-
--- ---- all faults
--- those of all lines up to END's, in their order; without END, last that of the line after them
+-- the faults of all lines up to END's, in their order; without END, last that of the line after them
 abbrev pub line_faults : Bool → ℕ → List (List ℕ) → List SourceFault
 line_faults continues number [] = NoEnd number ∷ []
 line_faults continues number (line ∷ more) =
@@ -69,3 +50,11 @@ unless_faulty (fault ∷ more) source = Err (fault ∷ more)
 -- the source that lines make, or all its faults
 unfoldable pub source_or_faults : List (List ℕ) → Result Source (List SourceFault)
 source_or_faults all = unless_faulty (line_faults false 1 all) (source_from (up_to_end false (map text_of all)))
+
+-- the source that lines make, or its first fault
+unfoldable pub source_in : List (List ℕ) → Result Source SourceFault
+source_in all = option_map_or Err (slice_get (line_faults false 1 all) 0) (Ok (source_from (up_to_end false (map text_of all))))
+
+-- The source that bytes make. A line ends with LF, and a CR before it is dropped; the last line needs none.
+unfoldable pub source_of : List ℕ → Result Source SourceFault
+source_of bytes = source_in (lines bytes)

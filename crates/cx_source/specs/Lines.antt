@@ -1,6 +1,6 @@
 -- The lines of a source (OS/VS-DOS/VSE-VM/370 Assembler Language, GC33-4010, "Assembler Language Coding Conventions").
-use Rattle.std.specs.Prelude.{ℕ, ◌-◌, Bool, true, ◌&&◌, ◌||◌, not, ◌==◌, nat_le, List, [], ◌∷◌, length, take, drop, slice_index}
-use Rattle.std.specs.List.{list_all, list_any, suffix_len, position_or_len, before_first}
+use Rattle.std.specs.Prelude.{ℕ, ◌-◌, Bool, ◌&&◌, ◌||◌, not, ◌==◌, nat_le, List, length, take, drop, slice_index}
+use Rattle.std.specs.List.{list_all, list_any, suffix_len, position_or_len, before_first, after_first}
 use Rattle.std.specs.Str.{byte}
 
 -- a blank
@@ -12,8 +12,8 @@ abbrev pub is_written : ℕ → Bool
 is_written c = not (is_blank c)
 
 -- without the blanks at its end
-abbrev pub trimmed : List ℕ → List ℕ
-trimmed text = take (length text - suffix_len is_blank text) text
+abbrev pub trim_blanks : List ℕ → List ℕ
+trim_blanks text = take (length text - suffix_len is_blank text) text
 
 -- without the blanks at its beginning
 abbrev pub skip_blanks : List ℕ → List ℕ
@@ -25,7 +25,7 @@ columns first last text = drop (first - 1) (take last text)
 
 -- A line's text: columns 1 to 72, without the blanks at their end.
 unfoldable pub text_of : List ℕ → List ℕ
-text_of line = trimmed (columns 1 72 line)
+text_of line = trim_blanks (columns 1 72 line)
 
 -- The continuation column, 72, isn't blank.
 unfoldable pub is_marked : List ℕ → Bool
@@ -33,8 +33,7 @@ is_marked text = list_any is_written (columns 72 72 text)
 
 -- A comment: an asterisk in column 1, or blank to column 72.
 unfoldable pub is_comment : List ℕ → Bool
-is_comment [] = true
-is_comment (c ∷ cs) = c == byte "*"
+is_comment text = length text == 0 || slice_index text 0 == byte "*"
 
 -- One of A to Z, @ # $.
 unfoldable pub is_letter : ℕ → Bool
@@ -48,18 +47,15 @@ is_name_character c = is_letter c || (nat_le (byte "0") c && nat_le c (byte "9")
 unfoldable pub is_name : List ℕ → Bool
 is_name text = is_letter (slice_index text 0) && list_all is_name_character text && nat_le (length text) 8
 
--- The entries of a statement's first line: the name from column 1 to the first blank, the operation, and what is behind it to column 71.
+-- The entries of a statement's first line: the name from column 1 to the first blank, the operation, and what follows
+-- it to column 71.
 pub record Entries : Type 0 where
   pub name : List ℕ
   pub operation : List ℕ
   pub behind : List ℕ
 
--- from the first blank on
-abbrev pub behind_word : List ℕ → List ℕ
-behind_word text = drop (position_or_len is_blank text) text
-
 unfoldable pub entries_of : List ℕ → Entries
 entries_of text =
     let body = columns 1 71 text in
-    let second = skip_blanks (behind_word body) in
-    record { name = before_first is_blank body; operation = before_first is_blank second; behind = behind_word second }
+    let second = skip_blanks (after_first is_blank body) in
+    record { name = before_first is_blank body; operation = before_first is_blank second; behind = after_first is_blank second }

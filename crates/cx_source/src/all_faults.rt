@@ -10,7 +10,7 @@ use crate::faults::fault_of;
 use crate::lines::text_of;
 use crate::source::{Items, Source, SourceFault, Text};
 use crate::statements::{is_continued, is_last, items_of};
-use cx_tables::List;
+use cx_base_lists::List;
 use std::alloc::{AllocError, Global};
 use std::collections::VecDeque;
 
@@ -42,9 +42,9 @@ fn unless_faulty(
 
 /// The source that lines make, given without their ends, or the faults of all faulty lines up to END's, in order.
 ///
-/// A line has at most one, the first that applies: TooLong, BadCharacter, BadContinuation, BadName. Whether the next line
-/// continues a statement is told by a faulty line's text too. Without END the last fault is NoEnd, with the number after the
-/// last line's. An error comes only where a growth was refused.
+/// A line has at most one, the first that applies: TooLong, BadCharacter, BadContinuation, BadName. Whether the next
+/// line continues a statement is known by a faulty line's text too. Without END the last fault is NoEnd, with the
+/// number after the last line's. An error comes only where an allocation failed.
 #[tactic(auto, unfolding(crate::specs::Faults::source_or_faults))]
 pub fn source_or_faults(
     alloc: Global,

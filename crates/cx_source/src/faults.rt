@@ -1,19 +1,19 @@
 //! What may be wrong with one line.
 
-ghost use Rattle.std.specs.Prelude.{◌≡◌, ◌≤◌, ◌&&◌, ◌||◌, IfNone, is_none, length, nat_lt};
+ghost use Rattle.std.specs.Prelude.{◌≡◌, ◌≤◌, ◌==◌, ◌&&◌, ◌||◌, IfNone, is_none, length, nat_lt};
 ghost use Rattle.std.specs.List.{list_any};
 ghost use Rattle.cx_ebcdic.specs.Characters.{code_of};
-ghost use Rattle.cx_source.specs.Lines.{columns, is_written};
-ghost use Rattle.cx_source.specs.Faults.{fault_of, is_well_named};
+ghost use Rattle.cx_source.specs.Lines.{columns, entries_of, is_comment, is_name, is_written};
+ghost use Rattle.cx_source.specs.Faults.{fault_of};
 
 use crate::lines::{columns, entries_of, has_written, is_comment, is_name, text_of};
 use crate::source::SourceFault;
 use cx_ebcdic::to_ebcdic;
 
-/// How many columns a line has at most.
+/// How many columns a line may have.
 const COLUMNS: usize = 80;
 
-/// How many lines a source has at most.
+/// How many lines a source may have.
 const LINES: usize = 10_000;
 
 /// The column that marks a line as continued.
@@ -22,7 +22,7 @@ const MARK: usize = 72;
 /// The last column that is blank on a line that continues a statement.
 const MARGIN: usize = 15;
 
-/// Whether a line has too many columns, or comes behind too many lines.
+/// Whether a line has too many columns, or comes after too many lines.
 fn is_too_long(number: usize, line: &[u8]) -> bool
     ensures { result ≡ (nat_lt 80 (length line.now) || nat_lt 10000 number) }
 {
@@ -46,9 +46,9 @@ fn has_bad_continuation(continues: bool, line: &[u8]) -> bool
 }
 
 /// Whether what begins in column 1 is a name, or nothing begins there.
-#[tactic(auto, unfolding(crate::specs::Faults::is_well_named))]
 fn is_well_named(text: &[u8]) -> bool
-    ensures { result ≡ is_well_named text.now }
+    ensures { let name = (entries_of text.now).name in
+        result ≡ (is_comment text.now || length name == 0 || is_name name) }
 {
     let name = entries_of(text).name;
     is_comment(text) || name.is_empty() || is_name(name)

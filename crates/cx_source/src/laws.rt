@@ -1,33 +1,34 @@
 //! What follows from the definitions of a source and of its reader.
 
-ghost use Rattle.std.specs.Prelude.{◌≡◌, ◌≢◌, ◌⊎◌, ◌++◌, ◌∷◌, [], ℕ, List, Err, Ok, false, fold, length, map};
+ghost use Rattle.std.specs.Prelude.{◌≡◌, ◌≢◌, ◌++◌, ◌∷◌, [], ℕ, List, Err, Ok, false, fold, length, map};
 ghost use Rattle.std.specs.List.{concat, range_with_len};
 ghost use Rattle.cx_source.specs.Lines.{text_of};
 ghost use Rattle.cx_source.specs.Statements.{up_to_end};
 ghost use Rattle.cx_source.specs.Faults.{source_in, source_of};
-ghost use Rattle.cx_source.specs.Reader.{IsNoEnd, Reading, at_start, finish, take_line, take_piece};
+ghost use Rattle.cx_source.specs.Reader.{Reading, at_start, finish, take_byte, take_line};
 ghost use Rattle.cx_source.specs.declared.reader.Progress.TheVariants.{Faulty};
 ghost use Rattle.cx_source.specs.declared.source.Item.{Item};
 ghost use Rattle.cx_source.specs.declared.source.Source.{Source};
 ghost use Rattle.cx_source.specs.declared.source.SourceFault.{SourceFault};
 ghost use Rattle.cx_source.specs.declared.source.SourceFault.TheVariants.{Memory, NoEnd};
 
-/// Two pieces are as good as one that is both.
+/// Two pieces are as good as the two joined into one.
 #[tactic(auto, using(crate::proofs::ReaderLemmas::two_pieces))]
 pub fn two_pieces_are_one()
-    ensures { (reading : Reading) (a b : List ℕ) → take_piece (take_piece reading a) b ≡ take_piece reading (a ++ b) }
+    ensures { (reading : Reading) (a b : List ℕ)
+        → fold take_byte (fold take_byte reading a) b ≡ fold take_byte reading (a ++ b) }
 {}
 
 /// What a reader answers in the end is what the lines of all that it was fed make.
 #[tactic(auto, using(crate::proofs::ReaderLemmas::whole_source))]
 pub fn reader_answers_the_source()
-    ensures { (bytes : List ℕ) → finish (take_piece at_start bytes) ≡ source_of bytes }
+    ensures { (bytes : List ℕ) → finish (fold take_byte at_start bytes) ≡ source_of bytes }
 {}
 
 /// So it doesn't matter in which pieces a source comes.
 #[tactic(auto, using(crate::proofs::ReaderLemmas::in_pieces))]
 pub fn pieces_do_not_matter()
-    ensures { (pieces : List (List ℕ)) → finish (fold take_piece at_start pieces) ≡ source_of (concat pieces) }
+    ensures { (pieces : List (List ℕ)) → finish (fold (fold take_byte) at_start pieces) ≡ source_of (concat pieces) }
 {}
 
 /// Nor whether it comes in bytes or line by line: lines that are fed one by one are the source that they make.
@@ -39,22 +40,22 @@ pub fn lines_one_by_one_are_the_source()
 /// A fault that a reader met is the source's, however it goes on.
 #[tactic(auto, using(crate::proofs::ReaderLemmas::early_fault))]
 pub fn an_early_fault_is_the_sources()
-    ensures { (front rest : List ℕ) (fault : SourceFault) → (take_piece at_start front).progress ≡ Faulty fault
+    ensures { (front rest : List ℕ) (fault : SourceFault) → (fold take_byte at_start front).progress ≡ Faulty fault
         → source_of (front ++ rest) ≡ Err fault }
 {}
 
-/// And a line's fault is met as soon as the line is complete: behind a line feed a reader knows each
-/// fault of what it was fed, but for the want of END.
+/// And a line's fault is met as soon as the line is complete: after a line feed a reader knows each
+/// fault of what it was fed, except that END is missing.
 #[tactic(auto, using(crate::proofs::ReaderLemmas::complete_fault))]
 pub fn a_complete_lines_fault_is_met()
     ensures { (bytes : List ℕ) (fault : SourceFault) → source_of (bytes ++ 10 ∷ []) ≡ Err fault
-        → IsNoEnd fault ⊎ ((take_piece at_start (bytes ++ 10 ∷ [])).progress ≡ Faulty fault) }
+        → ((n : ℕ) → fault ≢ NoEnd n) → (fold take_byte at_start (bytes ++ 10 ∷ [])).progress ≡ Faulty fault }
 {}
 
-/// The want of END is met at the end alone, and a refused growth is no line's fault.
+/// A missing END is met at the end alone, and a failed allocation is no line's fault.
 pub fn no_end_is_met_at_the_end()
-    ensures { (bytes : List ℕ) (n : ℕ) → ((take_piece at_start bytes).progress ≢ Faulty (NoEnd n))
-        × ((take_piece at_start bytes).progress ≢ Faulty Memory) }
+    ensures { (bytes : List ℕ) (n : ℕ) → ((fold take_byte at_start bytes).progress ≢ Faulty (NoEnd n))
+        × ((fold take_byte at_start bytes).progress ≢ Faulty Memory) }
 {}
 
 /// A source has one item for each line up to END's, in order, with its text; they are numbered from 1.

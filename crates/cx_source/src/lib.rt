@@ -14,7 +14,7 @@ pub use all_faults::source_or_faults;
 pub use lines::{
     begins_with_letter, is_letter, is_name, is_name_character, skip_blanks, text_of, trimmed,
 };
-pub use marks::{Mark, cut, first_mark, outside};
+pub use marks::{Delimiter, cut, first_mark, outside};
 pub use reader::{SourceReader, read_source};
 pub use source::{Item, Items, Source, SourceFault, Stmt, Text};
 pub use statements::is_continued;

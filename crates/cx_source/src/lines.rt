@@ -1,9 +1,9 @@
 //! One line of a source.
 
 ghost use Rattle.std.specs.Prelude.{◌≡◌, ◌≤◌, codes, length, position, slice_index};
-ghost use Rattle.std.specs.List.{before_first, list_all, list_any, position_or_len};
+ghost use Rattle.std.specs.List.{after_first, before_first, list_all, list_any, position_or_len};
 ghost use Rattle.std.specs.Str.{bytes_eq};
-ghost use Rattle.cx_source.specs.Lines.{behind_word, columns, entries_of, is_blank, is_comment, is_letter, is_marked, is_name, is_name_character, is_written, skip_blanks, text_of, trimmed};
+ghost use Rattle.cx_source.specs.Lines.{columns, entries_of, is_blank, is_comment, is_letter, is_marked, is_name, is_name_character, is_written, skip_blanks, text_of, trim_blanks};
 
 /// A blank.
 pub(crate) const BLANK: u8 = b' ';
@@ -11,12 +11,12 @@ pub(crate) const BLANK: u8 = b' ';
 /// The column that marks a line as continued.
 const MARK: usize = 72;
 
-/// How many characters a name has at most.
+/// How many characters a name may have.
 const NAME_MAX: usize = 8;
 
 /// A text without the blanks at its end.
 pub fn trimmed(text: &[u8]) -> &[u8]
-    ensures { result.now ≡ trimmed text.now }
+    ensures { result.now ≡ trim_blanks text.now }
 {
     let mut len = text.len();
     while len > 0 && text[len - 1] == BLANK {
@@ -25,7 +25,7 @@ pub fn trimmed(text: &[u8]) -> &[u8]
     &text[..len]
 }
 
-/// How many characters stand before the first that isn't blank.
+/// How many characters precede the first that isn't blank.
 #[tactic(auto, using(crate::proofs::LineLemmas::first_or_length))]
 fn blanks_len(text: &[u8]) -> usize
     ensures value { result ≡ position_or_len is_written text.now }
@@ -41,7 +41,7 @@ fn first_written(text: &[u8]) -> Option<usize>
     text.iter().position(|c| *c != BLANK)
 }
 
-/// How many characters stand before the first blank.
+/// How many characters precede the first blank.
 #[tactic(auto, using(crate::proofs::LineLemmas::first_or_length))]
 fn word_len(text: &[u8]) -> usize
     ensures value { result ≡ position_or_len is_blank text.now }
@@ -116,7 +116,7 @@ pub fn is_letter(c: u8) -> bool
     matches!(c, b'A'..=b'Z' | b'@' | b'#' | b'$')
 }
 
-/// Whether a character may stand in a name: a letter or a digit (GC33-4010, "Symbols").
+/// Whether a character may be in a name: a letter or a digit (GC33-4010, "Symbols").
 #[tactic(auto, unfolding(crate::specs::Lines::is_name_character))]
 pub fn is_name_character(c: u8) -> bool
     ensures { result ≡ is_name_character c }
@@ -143,7 +143,7 @@ pub fn is_name(text: &[u8]) -> bool
     begins_with_letter(text) && has_name_characters(text) && text.len() <= NAME_MAX
 }
 
-/// Whether each character of a text may stand in a name.
+/// Whether each character of a text may be in a name.
 fn has_name_characters(text: &[u8]) -> bool
     ensures { result ≡ list_all is_name_character text.now }
 {
@@ -157,16 +157,19 @@ pub(crate) struct Entries<'a> {
     pub(crate) name: &'a [u8],
     /// The operation, or nothing where there is none.
     pub(crate) operation: &'a [u8],
-    /// What stands behind the operation, to column 71.
+    /// What follows the blank after the operation, to column 71.
     pub(crate) behind: &'a [u8],
 }
 
-/// A text up to its first blank, and from there on.
+/// What precedes a text's first blank, and what follows it.
 fn split_word(text: &[u8]) -> (&[u8], &[u8])
     ensures word { result.0.now ≡ before_first is_blank text.now }
-    ensures behind { result.1.now ≡ behind_word text.now }
+    ensures behind { result.1.now ≡ after_first is_blank text.now }
 {
-    text.split_at(word_len(text))
+    let len = word_len(text);
+    let (word, _) = text.split_at(len);
+    let (_, behind) = text.split_at(text.len().min(len.saturating_add(1)));
+    (word, behind)
 }
 
 /// The entries of a statement's first line.

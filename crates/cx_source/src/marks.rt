@@ -1,7 +1,7 @@
 //! Which characters of an operand lie outside apostrophes, and cutting an operand there.
 
 ghost use Rattle.std.specs.Prelude.{◌≡◌, ◌≤◌, ◌<◌, ◌+◌, ◌^◌, IfOk, length, map};
-ghost use Rattle.cx_source.specs.Marks.{at_start, first_mark, is_length_attribute, is_mark, lies_outside, outside, parts, passed, within_behind};
+ghost use Rattle.cx_source.specs.Marks.{at_start, first_mark, is_length_attribute, is_mark, lies_outside, outside_apostrophes, parts, scan_after, within_behind};
 
 use crate::lines::{BLANK, begins_with_letter, is_name_character};
 use std::alloc::{AllocError, Global};
@@ -12,7 +12,7 @@ const APOSTROPHE: u8 = b'\'';
 /// The state of a walk along an operand.
 #[derive(Clone, Copy, Debug)]
 pub struct Scan {
-    /// Whether the next character stands in a text.
+    /// Whether the next character is in a text.
     pub within: bool,
     /// How many parentheses are open.
     pub depth: usize,
@@ -24,8 +24,8 @@ pub struct Scan {
 
 /// Where an operand may be cut. Only characters outside apostrophes count.
 #[derive(Clone, Copy, Debug, PartialEq, Eq)]
-pub enum Mark {
-    /// At each comma that stands in no parentheses.
+pub enum Delimiter {
+    /// At each comma that is in no parentheses.
     TopComma,
     /// At each blank.
     Blank,
@@ -35,21 +35,21 @@ pub enum Mark {
     Closing,
 }
 
-impl Mark {
-    /// Whether a character behind so many open parentheses is such a mark.
+impl Delimiter {
+    /// Whether a character after `depth` open parentheses is such a mark.
     fn is_at(self, depth: usize, c: u8) -> bool
         ensures { result ≡ is_mark self depth c }
     {
         match self {
-            Mark::TopComma => c == b',' && depth == 0,
-            Mark::Blank => c == BLANK,
-            Mark::Parenthesis => c == b'(' || c == b')',
-            Mark::Closing => c == b')' && depth == 0,
+            Delimiter::TopComma => c == b',' && depth == 0,
+            Delimiter::Blank => c == BLANK,
+            Delimiter::Parenthesis => c == b'(' || c == b')',
+            Delimiter::Closing => c == b')' && depth == 0,
         }
     }
 }
 
-/// Whether an apostrophe is that of a length attribute, so that it opens no text: it stands between
+/// Whether an apostrophe is that of a length attribute, so that it opens no text: it is between
 /// an L that begins a term and a letter.
 #[tactic(auto, unfolding(crate::specs::Marks::is_length_attribute))]
 fn is_length_attribute(before: u8, last: u8, behind: &[u8]) -> bool
@@ -71,7 +71,7 @@ impl Scan {
         }
     }
 
-    /// Whether what stands behind the next character stands in a text.
+    /// Whether what follows the next character is in a text.
     #[tactic(auto, unfolding(crate::specs::Marks::within_behind))]
     fn within_behind(&self, c: u8, behind: &[u8]) -> bool
         ensures { result ≡ within_behind self.now c behind.now }
@@ -83,12 +83,12 @@ impl Scan {
         }
     }
 
-    /// Passes over the next character, with what stands behind it: whether it lies outside apostrophes.
+    /// Passes over the next character, with what follows it: whether it lies outside apostrophes.
     #[tactic(auto, unfolding(crate::specs::Marks::depth_behind))]
     fn pass(&mut self, c: u8, behind: &[u8]) -> bool
         requires { self.old.depth + 1 < 2 ^ 64 }
         ensures outside { result ≡ lies_outside self.old c behind.now }
-        ensures passed { self.new ≡ passed self.old c behind.now }
+        ensures passed { self.new ≡ scan_after self.old c behind.now }
         ensures depth { self.new.depth ≤ self.old.depth + 1 }
     {
         let within = self.within_behind(c, behind);
@@ -112,9 +112,9 @@ impl Scan {
 /// the apostrophes round a text. The apostrophe of `L'` before a letter (`@ # $` are letters), where L
 /// begins a term, lies outside.
 ///
-/// Memory comes only where a growth was refused.
+/// Memory comes only where an allocation failed.
 pub fn outside(alloc: Global, text: &[u8]) -> Result<Vec<bool>, AllocError>
-    ensures { IfOk result (λ found. found.items ≡ outside text.now) }
+    ensures { IfOk result (λ found. found.items ≡ outside_apostrophes text.now) }
 {
     let mut found = Vec::new(alloc);
     let mut scan = Scan::at_start();
@@ -127,7 +127,7 @@ pub fn outside(alloc: Global, text: &[u8]) -> Result<Vec<bool>, AllocError>
 
 /// The place of the first mark outside apostrophes, from 0; the length where there is none.
 /// It takes no memory.
-pub fn first_mark(text: &[u8], mark: Mark) -> usize
+pub fn first_mark(text: &[u8], mark: Delimiter) -> usize
     ensures place { result ≡ first_mark mark text.now }
     ensures bound { result ≤ length text.now }
 {
@@ -144,8 +144,8 @@ pub fn first_mark(text: &[u8], mark: Mark) -> usize
 
 /// The parts between the marks outside apostrophes, one more than there are marks; some may be empty.
 ///
-/// Memory comes only where a growth was refused.
-pub fn cut(alloc: Global, text: &[u8], mark: Mark) -> Result<Vec<&[u8]>, AllocError>
+/// Memory comes only where an allocation failed.
+pub fn cut(alloc: Global, text: &[u8], mark: Delimiter) -> Result<Vec<&[u8]>, AllocError>
     ensures { IfOk result (λ found. map (λ part. part.now) found.items ≡ parts mark text.now) }
 {
     let mut found = Vec::new(alloc);

@@ -1,23 +1,10 @@
 //! Reading a source, whole or piece by piece.
 
-ghost use Rattle.std.specs.Prelude.{
-  ◌≡◌,
-  ◌≢◌,
-  ◌+◌,
-  Err,
-  IfErr,
-  IfOk,
-  IsOk,
-  Ok,
-  OnErr,
-  OnOk,
-  length,
-  take,
-};
+ghost use Rattle.std.specs.Prelude.{◌≡◌, ◌≢◌, [], Err, IfErr, IfOk, IsOk, Ok, OnErr, OnOk, fold, if◌then◌else◌, length, take};
 ghost use Rattle.std.specs.Str.Lines.{strip_carriage_return};
-ghost use Rattle.cx_source.specs.Lines.{text_of};
 ghost use Rattle.cx_source.specs.Faults.{source_from, source_of};
-ghost use Rattle.cx_source.specs.Reader.{Answers, ReadsAs, Refuses, at_start, behind_line, finish, take_byte, take_line, take_piece, texts_with};
+ghost use Rattle.cx_source.specs.Statements.{is_continued, is_last};
+ghost use Rattle.cx_source.specs.Reader.{Reading, ReadsAs, Refuses, at_start, finish, take_byte, take_line, with_line};
 
 use crate::faults::fault_of;
 use crate::lines::text_of;
@@ -55,44 +42,41 @@ fn strip_carriage_return(line: &[u8]) -> &[u8]
     line
 }
 
-/// What the line with this number leads to.
-#[tactic(auto, unfolding(crate::specs::Reader::behind_line))]
-fn behind_line(continues: bool, number: usize, line: &[u8]) -> Progress
-    ensures { result ≡ behind_line continues number line.now }
+/// What a line of this text leads to.
+fn behind_line(continues: bool, text: &[u8]) -> Progress
+    ensures { result ≡ (if is_last continues text.now then Progress.Ended
+        else Progress.Expects (is_continued continues text.now)) }
 {
-    if let Some(fault) = fault_of(continues, number, line) {
-        return Progress::Faulty(fault);
-    }
-    let text = text_of(line);
     if is_last(continues, text) {
         return Progress::Ended;
     }
     Progress::Expects(is_continued(continues, text))
 }
 
-/// Takes a whole line: what it leads to. A faulty line isn't kept, and where a growth is refused none is.
+/// Takes a whole line: what it leads to. A faulty line isn't kept, and where an allocation fails none is.
 fn take_line(
     alloc: Global,
     texts: &mut VecDeque<Text>,
     continues: bool,
     line: &[u8],
 ) -> Result<Progress, AllocError>
-    ensures progress { let number = length texts.old.items + 1 in
-        IfOk result (λ progress. progress ≡ behind_line continues number line.now) }
-    ensures texts { IfOk result (λ progress. texts.new.items ≡ texts_with progress texts.old.items (text_of line.now)) }
+    ensures taken { let expected = Progress.Expects continues in
+        let old : Reading = record { texts = texts.old.items; unfinished = []; progress = expected } in
+        IfOk result (λ progress. with_line continues line.now old
+        ≡ record { texts = texts.new.items; unfinished = []; progress = progress }) }
     ensures err { OnErr result (texts.new.items ≡ texts.old.items) }
 {
-    let progress = behind_line(continues, texts.len() + 1, line);
-    if let Progress::Faulty(_) = progress {
-        return Ok(progress);
+    if let Some(fault) = fault_of(continues, texts.len() + 1, line) {
+        return Ok(Progress::Faulty(fault));
     }
-    texts.push_back(Text::from_slice(alloc, text_of(line))?)?;
-    Ok(progress)
+    let text = text_of(line);
+    texts.push_back(Text::from_slice(alloc, text)?)?;
+    Ok(behind_line(continues, text))
 }
 
 /// The source whose lines have these texts.
 fn source_from(alloc: Global, texts: VecDeque<Text>) -> Result<Source, SourceFault>
-    ensures { Answers (Ok (source_from texts.items)) result }
+    ensures { ReadsAs (Ok (source_from texts.items)) result }
 {
     Ok(Source {
         items: Items::from_vec(items_of(alloc, texts)?),
@@ -107,21 +91,25 @@ fn finish_line(
     continues: bool,
     line: &[u8],
 ) -> Result<Source, SourceFault>
-    ensures { let progress = Progress.Expects continues in
-        Answers (finish (record { texts = texts.items; unfinished = line.now; progress = progress })) result }
+    ensures reads { let progress = Progress.Expects continues in
+        ReadsAs (finish (record { texts = texts.items; unfinished = line.now; progress = progress })) result }
+    ensures faulty { let progress = Progress.Expects continues in
+        let due = finish (record { texts = texts.items; unfinished = line.now; progress = progress }) in
+        IfErr due (λ fault. result ≡ Err fault) }
 {
     let number = texts.len() + 1;
     if line.is_empty() {
         return Err(SourceFault::NoEnd(number));
     }
-    match behind_line(continues, number, line) {
-        Progress::Expects(_) => Err(SourceFault::NoEnd(number + 1)),
-        Progress::Ended => {
-            texts.push_back(Text::from_slice(alloc, text_of(line))?)?;
-            source_from(alloc, texts)
-        }
-        Progress::Faulty(fault) => Err(fault),
+    if let Some(fault) = fault_of(continues, number, line) {
+        return Err(fault);
     }
+    let text = text_of(line);
+    if !is_last(continues, text) {
+        return Err(SourceFault::NoEnd(number + 1));
+    }
+    texts.push_back(Text::from_slice(alloc, text)?)?;
+    source_from(alloc, texts)
 }
 
 /// A reader of a source that comes in pieces.
@@ -159,13 +147,13 @@ impl SourceReader {
     /// Takes the next piece of the source, of any length.
     ///
     /// A fault is answered at the first call after which a line that is complete with its line feed
-    /// is faulty; the reader keeps it, and every later call answers it. Lines behind END's are taken
-    /// and not judged. NoEnd never comes. Memory comes only where a growth was refused, and the reader
+    /// is faulty; the reader keeps it, and every later call answers it. Lines after END's are taken
+    /// and not judged. NoEnd never comes. Memory comes only where an allocation failed, and the reader
     /// is then as it was.
     pub fn feed(&mut self, piece: &[u8]) -> Result<(), SourceFault>
-        ensures taken { OnOk result (self.new ≡ take_piece self.old piece.now) }
+        ensures taken { OnOk result (self.new ≡ fold take_byte self.old piece.now) }
         ensures sound { OnOk result ((fault : SourceFault) → self.new.progress ≢ Progress.Faulty fault) }
-        ensures refused { IfErr result (λ fault. Refuses fault self.old (take_piece self.old piece.now) self.new) }
+        ensures refused { IfErr result (λ fault. Refuses fault self.old (fold take_byte self.old piece.now) self.new) }
         ensures kept { (fault : SourceFault) → self.old.progress ≡ Progress.Faulty fault
             → (result ≡ Err fault) × (self.new ≡ self.old) }
         ensures ended { self.old.progress ≡ Progress.Ended → IsOk result }
@@ -180,9 +168,9 @@ impl SourceReader {
     /// Takes a piece where no fault was met.
     fn feed_more(&mut self, piece: &[u8]) -> Result<(), SourceFault>
         requires { (fault : SourceFault) → self.old.progress ≢ Progress.Faulty fault }
-        ensures taken { OnOk result (self.new ≡ take_piece self.old piece.now) }
+        ensures taken { OnOk result (self.new ≡ fold take_byte self.old piece.now) }
         ensures sound { OnOk result ((fault : SourceFault) → self.new.progress ≢ Progress.Faulty fault) }
-        ensures refused { IfErr result (λ fault. Refuses fault self.old (take_piece self.old piece.now) self.new) }
+        ensures refused { IfErr result (λ fault. Refuses fault self.old (fold take_byte self.old piece.now) self.new) }
     {
         let (count, progress) = (self.texts.len(), self.progress);
         let unfinished = Vec::from_slice(self.alloc, self.unfinished.as_slice())?;
@@ -198,10 +186,10 @@ impl SourceReader {
         }
     }
 
-    /// Takes bytes one by one. Where a growth is refused the lines from before are still there.
+    /// Takes bytes one by one. Where an allocation fails the lines from before are still there.
     #[tactic(auto, using(crate::proofs::ReaderLemmas::texts_kept))]
     fn take_bytes(&mut self, piece: &[u8]) -> Result<(), AllocError>
-        ensures ok { OnOk result (self.new ≡ take_piece self.old piece.now) }
+        ensures ok { OnOk result (self.new ≡ fold take_byte self.old piece.now) }
         ensures err { OnErr result (take (length self.old.texts) self.new.texts ≡ self.old.texts) }
     {
         for byte in piece {
@@ -230,11 +218,11 @@ impl SourceReader {
         Ok(())
     }
 
-    /// Takes one complete line without its end; what is unfinished is its beginning. It is taken as it stands: no
+    /// Takes one complete line without its end; what is unfinished is its beginning. It is taken as it is: no
     /// carriage return is dropped, and a line feed in it is a character without a code.
     ///
-    /// It answers as `feed` does: the line's fault, which the reader keeps, and every later call answers; lines behind
-    /// END's are taken and not judged. Memory comes only where a growth was refused, and the reader is then as it was.
+    /// It answers as `feed` does: the line's fault, which the reader keeps, and every later call answers; lines after
+    /// END's are taken and not judged. Memory comes only where an allocation failed, and the reader is then as it was.
     pub fn feed_line(&mut self, line: &[u8]) -> Result<(), SourceFault>
         ensures taken { OnOk result (self.new ≡ take_line self.old line.now) }
         ensures sound { OnOk result ((fault : SourceFault) → self.new.progress ≢ Progress.Faulty fault) }
@@ -285,11 +273,12 @@ impl SourceReader {
 
     /// The source that the pieces make. A last line without a line feed is a line too.
     ///
-    /// A fault is that of the first faulty line; without END it is NoEnd, with the number behind the
-    /// last line's. Memory comes only where a growth was refused, and never for a faulty source.
+    /// A fault is that of the first faulty line; without END it is NoEnd, with the number after the
+    /// last line's. Memory comes only where an allocation failed, and never for a faulty source.
     #[tactic(auto, unfolding(crate::specs::Reader::finish))]
     pub fn finish(self) -> Result<Source, SourceFault>
-        ensures { Answers (finish self) result }
+        ensures reads { ReadsAs (finish self) result }
+        ensures faulty { IfErr (finish self) (λ fault. result ≡ Err fault) }
     {
         let SourceReader {
             alloc,
@@ -310,8 +299,8 @@ impl SourceReader {
 /// The source that bytes make: its lines up to END's, and the statements that begin on them.
 ///
 /// The fault is that of the first faulty line, and of that line the first that applies: TooLong,
-/// BadCharacter, BadContinuation, BadName. Without END it is NoEnd, with the number behind the last
-/// line's. Memory comes only where a growth was refused.
+/// BadCharacter, BadContinuation, BadName. Without END it is NoEnd, with the number after the last
+/// line's. Memory comes only where an allocation failed.
 ///
 /// OS/VS-DOS/VSE-VM/370 Assembler Language, GC33-4010, "Assembler Language Coding Conventions".
 #[tactic(auto, using(crate::proofs::ReaderLemmas::whole_source))]

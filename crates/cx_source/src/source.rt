@@ -3,7 +3,7 @@
 ghost use Rattle.std.specs.Prelude.{◌≡◌, IfOk};
 ghost use Rattle.cx_source.specs.Faults.{fault_name};
 
-use cx_tables::List;
+use cx_base_lists::List;
 use std::alloc::{AllocError, AllocFailed, Global};
 use thiserror::Error;
 
@@ -27,7 +27,7 @@ pub struct Stmt {
 impl Stmt {
     /// The same statement, with texts of its own.
     ///
-    /// An error comes only where a growth was refused.
+    /// An error comes only where an allocation failed.
     pub fn copied(&self, alloc: Global) -> Result<Stmt, AllocError>
         ensures { IfOk result (λ copy. copy ≡ self.now) }
     {
@@ -53,7 +53,7 @@ pub struct Item {
 impl Item {
     /// The same line, with texts of its own.
     ///
-    /// An error comes only where a growth was refused.
+    /// An error comes only where an allocation failed.
     pub fn copied(&self, alloc: Global) -> Result<Item, AllocError>
         ensures { IfOk result (λ copy. copy ≡ self.now) }
     {
@@ -94,7 +94,7 @@ pub enum SourceFault {
     /// No END; the line is the one after the last.
     #[error("line {0}: {name}", name = self.name())]
     NoEnd(usize),
-    /// A growth was refused.
+    /// An allocation failed.
     #[error("{name}", name = self.name())]
     Memory,
 }

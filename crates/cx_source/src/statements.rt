@@ -5,17 +5,17 @@ ghost use Rattle.cx_source.specs.Lines.{is_comment, is_marked};
 ghost use Rattle.cx_source.specs.Statements.{is_continued, is_last, items_from, operand_in, statement_of, written_on};
 
 use crate::lines::{columns, entries_of, is_comment, is_end, is_marked, skip_blanks, trimmed};
-use crate::marks::{Mark, first_mark};
+use crate::marks::{Delimiter, first_mark};
 use crate::source::{Item, Stmt, Text};
-use cx_tables::List;
+use cx_base_lists::List;
 use std::alloc::{AllocError, Global};
 use std::collections::VecDeque;
 
 /// The columns of a continuation line on which its statement goes on.
 const CONTINUED: (usize, usize) = (16, 71);
 
-/// Whether the next line continues this one's statement: column 72 isn't blank, and the line either continues a statement
-/// itself (`continues`) or is no comment.
+/// Whether the next line continues this one's statement: column 72 isn't blank, and the line either continues a
+/// statement itself (`continues`) or is no comment.
 #[tactic(auto, unfolding(crate::specs::Statements::is_continued))]
 pub fn is_continued(continues: bool, text: &[u8]) -> bool
     ensures { result ≡ is_continued continues text.now }
@@ -31,7 +31,7 @@ pub(crate) fn is_last(continues: bool, text: &[u8]) -> bool
     !continues && !is_comment(text) && is_end(text)
 }
 
-/// What is written behind a statement's operation: on its first line, and on those that continue it.
+/// What is written after a statement's operation: on its first line, and on those that continue it.
 fn written(
     alloc: Global,
     behind: &[u8],
@@ -54,7 +54,7 @@ fn written(
     Ok(written)
 }
 
-/// The operand among what is written behind an operation.
+/// The operand among what is written after an operation.
 #[tactic(auto, unfolding(crate::specs::Statements::operand_in))]
 fn operand_in<'a>(operation: &[u8], written: &'a [u8]) -> &'a [u8]
     ensures { result.now ≡ operand_in operation.now written.now }
@@ -63,11 +63,11 @@ fn operand_in<'a>(operation: &[u8], written: &'a [u8]) -> &'a [u8]
     if operation == b"EXEC".as_slice() {
         return text;
     }
-    let (operand, _) = text.split_at(first_mark(text, Mark::Blank));
+    let (operand, _) = text.split_at(first_mark(text, Delimiter::Blank));
     operand
 }
 
-/// The statement that begins on a line, with the lines behind it.
+/// The statement that begins on a line, with the lines after it.
 #[tactic(auto, unfolding(crate::specs::Statements::statement_of))]
 fn statement_of(alloc: Global, first: &[u8], more: &VecDeque<Text>) -> Result<Stmt, AllocError>
     ensures { IfOk result (λ stmt. stmt ≡ statement_of first.now more.now.items) }

@@ -29,7 +29,7 @@ place_of_areas s t first last len None e none = λ b can. none b (can_place_of_a
 place_of_areas s t first last len (Some a) e least =
     (can_place_of_areas s t first last len a e least.0, λ b can. least.1 b (can_place_of_areas t s first last len b (sym e) can))
 
--- no byte stands where an area may be placed, and where none stands one may
+-- there is no byte where an area may be placed, and where there is none one may
 pub misses_absent : (s : Storage) (len b x : ℕ) → AllByRecursion (Misses len b) s → b ≤ x → x < b + len → byte_at s x ≡ None
 unfolding byte_at
 misses_absent [] len b x all low high = refl

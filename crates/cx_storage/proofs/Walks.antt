@@ -66,7 +66,7 @@ pub next_end : (s : Storage) (i from : ℕ) → length s ≤ i → next_area (dr
 unfolding next_area
 next_end s i from l = rw (drop_all i s l) refl
 
--- the addresses of an area aren't covered by one before it or behind it
+-- the addresses of an area aren't covered by one before it or after it
 covers-behind : (h : Held) (hs : Storage) (a v : ℕ) → a < end_of h.area → AllByRecursion (λ later. end_of h.area ≤ later.area.start) hs → with_byte hs a v ≡ hs
 unfolding with_byte
 covers-behind h [] a v below apart = refl
@@ -141,7 +141,7 @@ span_held s i h ok l e (suc (suc n)) k fits =
     rw (byte_held s i h ok l e k (omega arith), drop_more h.bytes k 0 (omega arith))
     (ap (λ a. option_map (λ bs. get_or h.bytes k 0 ∷ bs) (span s a (suc n))) next ∙ ap (option_map (λ bs. get_or h.bytes k 0 ∷ bs)) rest)
 
--- the part of an area's bytes that stands for a span
+-- the part of an area's bytes that is a span
 pub span_found : (s : Storage) (i a n : ℕ) (h : Held) → IsSound s → i < length s → h ≡ get_or s i h → h.area.start ≤ a → a - h.area.start + n ≤ length h.bytes
     → span s a n ≡ Some (take (a - h.area.start + n - (a - h.area.start)) (drop (a - h.area.start) h.bytes))
 span_found s i a n h ok l e low fits =
@@ -214,7 +214,7 @@ pub walk_end : (s : Storage) (i len at : ℕ) → length s ≤ i → walk len at
 unfolding walk
 walk_end s i len at l = rw (drop_all i s l) refl
 
--- how many areas stand before
+-- how many areas come before
 pub spot_more : (s : Storage) (i start : ℕ) (h : Held) → i < length s → h ≡ get_or s i h → h.area.start ≤ start → spot start (drop (i + 1) s) + (i + 1) ≡ spot start (drop i s) + i
 unfolding spot
 spot_more s i start h l e c =
@@ -309,7 +309,7 @@ walk_least (h ∷ hs) len at b m above misses = elim (cases_Bool (nat_le (at + l
       ]
 ]
 
--- what the walk finds is the least place, where it stands in the range
+-- what the walk finds is the least place, where it lies in the range
 pub place_found : (s : Storage) (first last len at : ℕ) → IsSound s → at ≡ walk len (next_multiple_of first 16) s → at + len ≤ last + 1 → IsLeastPlace s first last len (Some at)
 unfolding IsLeastPlace CanPlace
 place_found s first last len at ok e fits =

@@ -7,7 +7,7 @@ use Rattle.std.specs.Prelude.{◌≡◌, ℕ, ◌<◌, true, List, ◌∷◌, le
 use Rattle.cx_storage.specs.Facts.Sound.{span_small}
 use Rattle.cx_storage.specs.Facts.Spans.{span_length}
 use Rattle.cx_storage.specs.Facts.Writes.{span_after_write}
-use Rattle.cx_storage.specs.Storage.{Storage, IsSound, span, written}
+use Rattle.cx_storage.specs.Storage.{Storage, IsSound, span, after_write}
 use Rattle.cx_storage.specs.Word.{word_at, halfword_at}
 use Rattle.byteorder.specs.Endian.{big_number}
 
@@ -24,11 +24,11 @@ number_of_word v h = omega arith
 pub number_of_halfword : (v : ℕ) → v < 2 ^ 16 → big_number 2 (to_be_bytes w16 v) ≡ v
 number_of_halfword v h = omega arith
 
-pub word_after_write : (s : Storage) (a v : ℕ) → a < 2 ^ 24 → v < 2 ^ 32 → is_some (span s a 4) ≡ true → word_at (written s a (to_be_bytes w32 v)) a ≡ Some v
+pub word_after_write : (s : Storage) (a v : ℕ) → a < 2 ^ 24 → v < 2 ^ 32 → is_some (span s a 4) ≡ true → word_at (after_write s a (to_be_bytes w32 v)) a ≡ Some v
 unfolding word_at
 word_after_write s a v la lv e = rw (span_after_write s a (to_be_bytes w32 v) la (omega arith) e) (ap Some (number_of_word v lv))
 
-pub halfword_after_write : (s : Storage) (a v : ℕ) → a < 2 ^ 24 → v < 2 ^ 16 → is_some (span s a 2) ≡ true → halfword_at (written s a (to_be_bytes w16 v)) a ≡ Some v
+pub halfword_after_write : (s : Storage) (a v : ℕ) → a < 2 ^ 24 → v < 2 ^ 16 → is_some (span s a 2) ≡ true → halfword_at (after_write s a (to_be_bytes w16 v)) a ≡ Some v
 unfolding halfword_at
 halfword_after_write s a v la lv e = rw (span_after_write s a (to_be_bytes w16 v) la (omega arith) e) (ap Some (number_of_halfword v lv))
 

@@ -7,8 +7,8 @@ abbrev pub address_in : ℕ → ℕ
 address_in word = word % 2 ^ 24
 
 -- the address k bytes after a
-abbrev pub along : ℕ → ℕ → ℕ
-along a k = address_in (a + k)
+abbrev pub address_after : ℕ → ℕ → ℕ
+address_after a k = address_in (a + k)
 
 -- how many bytes after a the address x comes
 abbrev pub distance : ℕ → ℕ → ℕ

@@ -1,5 +1,5 @@
 -- Where a new area goes (this product's own): the least multiple of 16 in a range at which all of it
--- stands in the range and meets no area.
+-- lies in the range and meets no area.
 use Rattle.std.specs.Prelude.{◌≡◌, ℕ, ◌+◌, ◌%◌, ◌≤◌, ◌⊎◌, Option, Some, None}
 use Rattle.std.specs.List.{AllByRecursion}
 use Rattle.cx_storage.specs.Storage.{Held, Storage, end_of}
@@ -8,7 +8,7 @@ use Rattle.cx_storage.specs.Storage.{Held, Storage, end_of}
 abbrev pub Misses : ℕ → ℕ → Held → Type 0
 Misses len b h = (end_of h.area ≤ b) ⊎ (b + len ≤ h.area.start)
 
--- a multiple of 16 at which len bytes stand in the range from first to last, and meet no area
+-- a multiple of 16 at which len bytes lie in the range from first to last, and meet no area
 unfoldable pub CanPlace : Storage → ℕ → ℕ → ℕ → ℕ → Type 0
 CanPlace s first last len b = (b % 16 ≡ 0) × (first ≤ b) × (b + len ≤ last + 1) × AllByRecursion (Misses len b) s
 

@@ -4,7 +4,7 @@
 use Rattle.std.specs.Prelude.{◌≡◌, ℕ, zero, suc, ◌+◌, ◌-◌, ◌%◌, ◌^◌, ◌<◌, ◌≤◌, Bool, ◌&&◌, not, List, [], ◌∷◌, map, length, replicate, slice_get, slice_set, Option, Some, None, is_some, nat_le, nat_lt, ◌==◌, if◌then◌else◌, ⊤, IsTrue}
 use Rattle.std.specs.Option.{option_map, option_and_then}
 use Rattle.std.specs.List.{AllByRecursion, filter, list_any}
-use Rattle.cx_storage.specs.Address.{along}
+use Rattle.cx_storage.specs.Address.{address_after}
 use Rattle.cx_storage.specs.declared.areas.Area.{Area}
 use Rattle.cx_storage.specs.declared.areas.Owner.{Owner}
 
@@ -33,7 +33,7 @@ byte_at (h ∷ hs) x = if covers h.area x then slice_get h.bytes (x - h.area.sta
 -- the n bytes from a on, where each of them is present
 unfoldable pub span : Storage → ℕ → ℕ → Option (List ℕ)
 span s a zero = Some []
-span s a (suc n) = option_and_then (λ b. option_map (λ bs. b ∷ bs) (span s (along a 1) n)) (byte_at s a)
+span s a (suc n) = option_and_then (λ b. option_map (λ bs. b ∷ bs) (span s (address_after a 1) n)) (byte_at s a)
 
 -- the area with v at the address a, where it has that address
 abbrev pub put_byte : ℕ → ℕ → Held → Held
@@ -46,11 +46,11 @@ with_byte s a v = map (put_byte a v) s
 -- storage with these bytes from a on, written one after the other
 unfoldable pub with_bytes : Storage → ℕ → List ℕ → Storage
 with_bytes s a [] = s
-with_bytes s a (b ∷ bs) = with_bytes (with_byte s a b) (along a 1) bs
+with_bytes s a (b ∷ bs) = with_bytes (with_byte s a b) (address_after a 1) bs
 
 -- storage after a write: all of the bytes, or none where one of their addresses has no byte
-unfoldable pub written : Storage → ℕ → List ℕ → Storage
-written s a bytes = if is_some (span s a (length bytes)) then with_bytes s a bytes else s
+unfoldable pub after_write : Storage → ℕ → List ℕ → Storage
+after_write s a bytes = if is_some (span s a (length bytes)) then with_bytes s a bytes else s
 
 -- the area that starts at a, where one does
 unfoldable pub area_at : Storage → ℕ → Option Area

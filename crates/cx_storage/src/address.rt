@@ -2,7 +2,7 @@
 //! "Storage Addressing" and "Address Generation").
 
 ghost use Rattle.std.specs.Prelude.{◌≡◌, ◌^◌, ◌<◌};
-ghost use Rattle.cx_storage.specs.Address.{address_in, along};
+ghost use Rattle.cx_storage.specs.Address.{address_in, address_after};
 
 /// The address in a word: its bits 8 to 31.
 pub fn address_in(word: u32) -> u32
@@ -14,7 +14,7 @@ pub fn address_in(word: u32) -> u32
 
 /// The address `k` bytes after `a`; after X'FFFFFF' comes 0.
 pub fn along(a: u32, k: u32) -> u32
-    ensures value { result ≡ along a k }
+    ensures value { result ≡ address_after a k }
     ensures short { result < 2 ^ 24 }
 {
     address_in(a.wrapping_add(k))
@@ -22,7 +22,7 @@ pub fn along(a: u32, k: u32) -> u32
 
 /// The address after `a`.
 pub fn next_address(a: u32) -> u32
-    ensures value { result ≡ along a 1 }
+    ensures value { result ≡ address_after a 1 }
     ensures short { result < 2 ^ 24 }
 {
     along(a, 1)

@@ -13,12 +13,12 @@ use std::marker::Model;
 
 /// An area with its bytes, seen as such.
 #[derive(Drop)]
-struct Block {
+struct StorageBlock {
     area: Area,
     bytes: Vec<u8>,
 }
 
-impl Model for Block {
+impl Model for StorageBlock {
     ghost use Rattle.cx_storage.specs.Storage.{Held};
 
     ghost Value = { Held };
@@ -26,7 +26,7 @@ impl Model for Block {
     ghost view = { λ b. record { area = b.area; bytes = b.bytes.items } };
 }
 
-impl Block {
+impl StorageBlock {
     ghost use Rattle.cx_storage.specs.Storage.{covers, put_byte};
 
     /// A copy of the area.
@@ -81,7 +81,7 @@ impl Block {
 
 /// The byte at an address, where an area has it.
 #[tactic(auto, using(crate::proofs::Walks::byte_skip, crate::proofs::Walks::byte_found, crate::proofs::Walks::byte_end))]
-fn byte_in(blocks: &Vec<Block>, a: u32) -> Option<u8>
+fn byte_in(blocks: &Vec<StorageBlock>, a: u32) -> Option<u8>
     ensures { result ≡ byte_at blocks.now.items a }
 {
     for block in blocks {
@@ -93,7 +93,7 @@ fn byte_in(blocks: &Vec<Block>, a: u32) -> Option<u8>
 }
 
 /// The bytes of a span, where one area has all of them.
-fn slice_in(blocks: &Vec<Block>, a: u32, n: usize) -> Option<&[u8]>
+fn slice_in(blocks: &Vec<StorageBlock>, a: u32, n: usize) -> Option<&[u8]>
     requires sound { IsSound blocks.now.items }
     requires size { n ≤ 65536 }
     ensures bytes { IfSome result (λ part. span blocks.now.items a n ≡ Some part.now) }
@@ -110,7 +110,7 @@ fn slice_in(blocks: &Vec<Block>, a: u32, n: usize) -> Option<&[u8]>
 
 /// The area that starts at an address.
 #[tactic(auto, using(crate::proofs::Walks::area_skip, crate::proofs::Walks::area_found, crate::proofs::Walks::area_end))]
-fn area_in(blocks: &Vec<Block>, start: u32) -> Option<Area>
+fn area_in(blocks: &Vec<StorageBlock>, start: u32) -> Option<Area>
     ensures { result ≡ area_at blocks.now.items start }
 {
     for block in blocks {
@@ -124,7 +124,7 @@ fn area_in(blocks: &Vec<Block>, start: u32) -> Option<Area>
 
 /// The first area that starts at an address or above.
 #[tactic(auto, using(crate::proofs::Walks::next_skip, crate::proofs::Walks::next_found, crate::proofs::Walks::next_end))]
-fn next_in(blocks: &Vec<Block>, from: u32) -> Option<Area>
+fn next_in(blocks: &Vec<StorageBlock>, from: u32) -> Option<Area>
     ensures { result ≡ next_area blocks.now.items from }
 {
     for block in blocks {
@@ -138,7 +138,7 @@ fn next_in(blocks: &Vec<Block>, from: u32) -> Option<Area>
 
 /// Writes a byte where an area has the address.
 #[tactic(auto, using(crate::proofs::Walks::byte_skip, crate::proofs::Walks::byte_end))]
-fn set_in(blocks: &mut Vec<Block>, a: u32, value: u8) -> bool
+fn set_in(blocks: &mut Vec<StorageBlock>, a: u32, value: u8) -> bool
     requires { IsSound blocks.old.items }
     ensures present { result ≡ is_some (byte_at blocks.old.items a) }
     ensures after { blocks.new.items ≡ with_byte blocks.old.items a value }
@@ -156,7 +156,7 @@ fn set_in(blocks: &mut Vec<Block>, a: u32, value: u8) -> bool
 
 /// The walk over the areas for `len` bytes, from `start` on.
 #[tactic(auto, using(crate::proofs::Walks::walk_more, crate::proofs::Walks::walk_stop, crate::proofs::Walks::walk_end))]
-fn walk_from(blocks: &Vec<Block>, start: u64, len: u64) -> u64
+fn walk_from(blocks: &Vec<StorageBlock>, start: u64, len: u64) -> u64
     requires small { len < 2 ^ 32 }
     requires low { start ≤ 2 ^ 33 }
     ensures value { result ≡ walk len start blocks.now.items }
@@ -175,7 +175,7 @@ fn walk_from(blocks: &Vec<Block>, start: u64, len: u64) -> u64
 
 /// The least place in a range.
 #[tactic(auto, using(crate::proofs::Walks::place_found, crate::proofs::Walks::place_none))]
-fn place_in(blocks: &Vec<Block>, first: u32, last: u32, len: u32) -> Option<u32>
+fn place_in(blocks: &Vec<StorageBlock>, first: u32, last: u32, len: u32) -> Option<u32>
     requires sound { IsSound blocks.now.items }
     requires len { 0 < len }
     ensures { IsLeastPlace blocks.now.items first last len result }
@@ -189,9 +189,9 @@ fn place_in(blocks: &Vec<Block>, first: u32, last: u32, len: u32) -> Option<u32>
     }
 }
 
-/// How many areas stand before one that starts at `start`.
+/// How many areas come before one that starts at `start`.
 #[tactic(auto, using(crate::proofs::Walks::spot_more, crate::proofs::Walks::spot_stop, crate::proofs::Walks::spot_end))]
-fn spot_of(blocks: &Vec<Block>, start: u32) -> usize
+fn spot_of(blocks: &Vec<StorageBlock>, start: u32) -> usize
     ensures value { result ≡ spot start blocks.now.items }
     ensures within { result ≤ vec_len blocks.now }
 {
@@ -204,7 +204,7 @@ fn spot_of(blocks: &Vec<Block>, start: u32) -> usize
 }
 
 /// Puts an area with its bytes in its place by its start.
-fn insert_block(blocks: &mut Vec<Block>, block: Block) -> Result<(), AllocError>
+fn insert_block(blocks: &mut Vec<StorageBlock>, block: StorageBlock) -> Result<(), AllocError>
     ensures ok { OnOk result (blocks.new.items ≡ put_held block blocks.old.items) }
     ensures err { OnErr result (blocks.new.items ≡ blocks.old.items) }
 {
@@ -215,7 +215,7 @@ fn insert_block(blocks: &mut Vec<Block>, block: Block) -> Result<(), AllocError>
 
 /// Makes an area of zero bytes at the least place in a range.
 fn get_in(
-    blocks: &mut Vec<Block>,
+    blocks: &mut Vec<StorageBlock>,
     alloc: Global,
     first: u32,
     last: u32,
@@ -236,12 +236,12 @@ fn get_in(
     };
     let bytes = vec![in alloc; 0; len as usize]?;
     let area = Area { start, len, owner };
-    insert_block(blocks, Block { area, bytes })?;
+    insert_block(blocks, StorageBlock { area, bytes })?;
     Ok(Some(start))
 }
 
 /// Drops the area that starts at an address.
-fn drop_at(blocks: &mut Vec<Block>, start: u32)
+fn drop_at(blocks: &mut Vec<StorageBlock>, start: u32)
     requires { IsSound blocks.old.items }
     ensures after { blocks.new.items ≡ with_areas_kept (starts_elsewhere start) blocks.old.items }
     ensures sound { IsSound blocks.new.items }
@@ -250,7 +250,7 @@ fn drop_at(blocks: &mut Vec<Block>, start: u32)
 }
 
 /// Drops the areas of a slot.
-fn drop_slot(blocks: &mut Vec<Block>, slot: u8)
+fn drop_slot(blocks: &mut Vec<StorageBlock>, slot: u8)
     requires { IsSound blocks.old.items }
     ensures after { blocks.new.items ≡ with_areas_kept (is_of_other_slot slot) blocks.old.items }
     ensures sound { IsSound blocks.new.items }
@@ -261,7 +261,7 @@ fn drop_slot(blocks: &mut Vec<Block>, slot: u8)
 /// The plain, slow store: a list of areas in the order of their starts, each with its bytes.
 #[derive(Drop)]
 pub struct FlatStore {
-    blocks: Vec<Block>,
+    blocks: Vec<StorageBlock>,
     alloc: Global,
     ghost ordered: { IsSound blocks.items } by { IsSound-prop blocks.items },
 }

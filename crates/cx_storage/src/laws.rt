@@ -45,7 +45,7 @@ pub fn next_area_is_least()
     ensures { NextArea }
 {}
 
-/// Bytes that stand together are present, and bytes of one area and one block stand together.
+/// Bytes that lie together are present, and bytes of one area and one block lie together.
 pub fn together_is_present()
     ensures present { TogetherIsPresent }
     ensures area { AreaIsTogether }

@@ -10,9 +10,9 @@ use std::alloc::AllocError;
 /// Storage as System/370 has it (Principles of Operation, GA22-7000, "Storage Addressing"): bytes at
 /// addresses below 2^24, where a span of bytes goes on at address 0 after X'FFFFFF'. That storage is a
 /// list of areas is this product's own: a byte is present exactly where an area has its address, no two
-/// areas meet, and each has an owner. No call but `get_area` takes memory.
+/// areas meet, and each has an owner. No call except `get_area` takes memory.
 pub trait Store {
-    ghost use Rattle.cx_storage.specs.Storage.{Storage, byte_at, span, with_byte, written, area_at, next_area, with_area, with_areas_kept, starts_elsewhere, is_of_other_slot, IsTogether, IsSound};
+    ghost use Rattle.cx_storage.specs.Storage.{Storage, byte_at, span, with_byte, after_write, area_at, next_area, with_area, with_areas_kept, starts_elsewhere, is_of_other_slot, IsTogether, IsSound};
     ghost use Rattle.cx_storage.specs.Place.{IsLeastPlace};
 
     ghost storage: { Self → Storage };
@@ -85,7 +85,7 @@ pub trait Store {
         requires address { a < 2 ^ 24 }
         requires size { length bytes.now ≤ 65536 }
         ensures present { result ≡ is_some (span (storage self.old) a (length bytes.now)) }
-        ensures after { storage self.new ≡ written (storage self.old) a bytes.now }
+        ensures after { storage self.new ≡ after_write (storage self.old) a bytes.now }
     {
         if !self.has_span(a, bytes.len()) {
             return false;
@@ -108,7 +108,7 @@ pub trait Store {
     fn next_area(&self, from: u32) -> Option<Area>
         ensures { result ≡ next_area (storage self.now) from };
 
-    /// The least multiple of 16 at which `len` bytes (at least 1) stand in the range from `first` to
+    /// The least multiple of 16 at which `len` bytes (at least 1) lie in the range from `first` to
     /// `last` (below 2^24) and meet no area; None where there is none.
     fn place(&self, first: u32, last: u32, len: u32) -> Option<u32>
         requires last { last < 2 ^ 24 }
@@ -117,7 +117,7 @@ pub trait Store {
 
     /// Makes an area of `len` zero bytes (at least 1) where `place` finds it in the range from `first`
     /// to `last` (below 2^24), and gives its start. Ok(None) exactly where there is no place, with no
-    /// change and no memory asked for. AllocError where a growth was refused: all is as before.
+    /// change and no memory asked for. AllocError where an allocation failed: all is as before.
     fn get_area(
         &mut self,
         first: u32,

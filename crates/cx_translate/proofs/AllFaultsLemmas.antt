@@ -6,7 +6,7 @@ use Rattle.cx_source.specs.Faults.{unless_faulty}
 use Rattle.cx_source.specs.declared.source.Item.{Item}
 use Rattle.cx_source.specs.declared.source.Source.{Source}
 use Rattle.cx_translate.specs.Sections.{begins_exec, with_bases, with_eib, with_storage}
-use Rattle.cx_translate.specs.Translation.{continues_exec, expanded, expansion, fault_at, made_source, statement_faults, translated, translation_or_faults}
+use Rattle.cx_translate.specs.Translation.{continues_exec, expanded_items, expansion, fault_at, made_source, statement_faults, translation, translation_or_faults}
 use Rattle.cx_translate.specs.declared.faults.TransFault.{TransFault}
 
 nothing_put : (faults : List TransFault) (o : Option TransFault) → faults ++ option_to_list o ≡ [] → (faults ≡ []) × (o ≡ None)
@@ -37,13 +37,13 @@ faults_more items item i faults new all within is e so_far =
 pub made_more : (items : List Item) (item : Item) (i : ℕ) (continues : Bool) (faults new : List TransFault) (made more all : List Item)
     → i < length items → item ≡ get_or items i item
     → new ≡ faults ++ option_to_list (fault_at item) → (fault_at item ≡ None → more ≡ made ++ expansion continues item)
-    → (faults ≡ [] → made ++ expanded continues (drop i items) ≡ all)
-    → new ≡ [] → more ++ expanded (continues_exec continues item) (drop (i + 1) items) ≡ all
+    → (faults ≡ [] → made ++ expanded_items continues (drop i items) ≡ all)
+    → new ≡ [] → more ++ expanded_items (continues_exec continues item) (drop (i + 1) items) ≡ all
 made_more items item i continues faults new made more all within is e lines so_far none =
     let both = nothing_put faults (fault_at item) (sym e ∙ none) in
-    let rest : List Item = expanded (continues_exec continues item) (drop (i + 1) items) in
-    let left : expanded continues (drop i items) ≡ expansion continues item ++ rest =
-    ap (λ (l : List Item). expanded continues l) (here items item i within is) in
+    let rest : List Item = expanded_items (continues_exec continues item) (drop (i + 1) items) in
+    let left : expanded_items continues (drop i items) ≡ expansion continues item ++ rest =
+    ap (λ (l : List Item). expanded_items continues l) (here items item i within is) in
     ap (λ (l : List Item). l ++ rest) (lines both.1) ∙ append_assoc made (expansion continues item) rest
     ∙ ap (λ (l : List Item). made ++ l) (sym left) ∙ so_far both.0
 
@@ -57,11 +57,11 @@ source_of items = record { items = items }
 
 -- the answer for a source with an EXEC statement
 pub answer_is : (source : Source) (faults : List TransFault) (made : List Item) → list_any begins_exec source.items ≡ true
-    → faults ≡ statement_faults source.items → (statement_faults source.items ≡ [] → made ≡ expanded false source.items)
+    → faults ≡ statement_faults source.items → (statement_faults source.items ≡ [] → made ≡ expanded_items false source.items)
     → unless_faulty faults (record { items = with_eib (with_bases (with_storage made)) }) ≡ translation_or_faults source
-unfolding translation_or_faults made_source translated source_of
+unfolding translation_or_faults made_source translation source_of
 answer_is source faults made has e lines =
     ap (λ (l : List TransFault). unless_faulty l (source_of (with_eib (with_bases (with_storage made))))) e
     ∙ same_answer (statement_faults source.items) (source_of (with_eib (with_bases (with_storage made)))) (made_source source)
     (λ none. ap (λ (l : List Item). source_of (with_eib (with_bases (with_storage l)))) (lines none)
-    ∙ sym (ap (λ b. cond b (source_of (with_eib (with_bases (with_storage (expanded false source.items))))) source) has))
+    ∙ sym (ap (λ b. cond b (source_of (with_eib (with_bases (with_storage (expanded_items false source.items))))) source) has))

@@ -12,11 +12,11 @@ use Rattle.cx_source.specs.declared.source.Stmt.{Stmt}
 use Rattle.cx_source.specs.Statements.{is_continued}
 use Rattle.cx_translate.specs.Words.{words_of}
 use Rattle.cx_translate.specs.Made.{made_item, made_of}
-use Rattle.cx_translate.specs.Sections.{name_at, bases, begins_exec, begins_section, begins_storage, behind, continuing, eib_section, has_name, has_operation, is_end, lines, put_before, put_behind, storage_fields, storage_section, with_bases, with_eib, with_storage}
-use Rattle.cx_translate.specs.Translation.{continues_exec, expanded, expansion, first_fault, is_dropped, translated, translation_of}
+use Rattle.cx_translate.specs.Sections.{name_at, bases, begins_exec, begins_section, begins_storage, place_after, continuation_count, has_name, has_operation, is_end, lines, put_before, put_behind, storage_fields, with_bases, with_eib, with_storage}
+use Rattle.cx_translate.specs.Translation.{continues_exec, expanded_items, expansion, is_dropped, made_source, statement_faults, translation, translation_of}
 use Rattle.cx_translate.specs.Laws.Ascent.{AscendFrom, number_of, statement_lines}
-use Rattle.cx_translate.proofs.KeptLemmas.{answered}
-use Rattle.cx_translate.specs.Facts.Found.{bases_behind, continued, eib_before, judged, line_of, made_lines, storage_before, storage_behind}
+use Rattle.cx_translate.specs.Facts.AllFaults.{accepted}
+use Rattle.cx_translate.specs.Facts.Found.{bases_behind, continued, eib_before, eib_section, line_of, made_lines, storage_before, storage_behind, storage_section}
 
 abbrev Ascend : ℕ → List Item → Type 0
 Ascend n items = AscendFrom n (statement_lines items)
@@ -31,7 +31,7 @@ unfolding made_item
 same_line line [] rest a = a
 same_line line (s ∷ made) rest a = (omega arith, same_line line made rest a)
 
--- behind a line stands what ascends from its number, or from the one before
+-- what ascends from a line's number, or from the one before, follows the line
 step : (o : Option Stmt) (n line : ℕ) (xs ys : List ℕ) → ((m : ℕ) → AscendFrom m xs → AscendFrom m ys)
     → AscendFrom n (number_of o line ++ xs) → AscendFrom n (number_of o line ++ ys)
 step None n line xs ys f a = f n a
@@ -70,19 +70,19 @@ both_true : (a b : Bool) → (a && b) ≡ true → b ≡ true
 both_true true b e = e
 both_true false b e = absurd (cc)
 
--- put behind continuation lines
+-- put after continuation lines
 in_tail : (line : ℕ) (made : List Stmt) (continues : Bool) (tail : List Item) → Ascend line tail
-    → Ascend line (take (continuing continues tail) tail ++ lines line made ++ drop (continuing continues tail) tail)
+    → Ascend line (take (continuation_count continues tail) tail ++ lines line made ++ drop (continuation_count continues tail) tail)
 in_tail line made continues [] w = same_line line made [] w
 in_tail line made continues (x ∷ rest) w =
     go (continues && is_none x.stmt) refl (λ v. in_tail line made (is_continued true x.text) rest v)
   where
     go : (b : Bool) → (continues && is_none x.stmt) ≡ b
-        → (Ascend line rest → Ascend line (take (continuing (is_continued true x.text) rest) rest ++ lines line made ++ drop (continuing (is_continued true x.text) rest) rest))
-        → Ascend line (take (cond b (1 + continuing (is_continued true x.text) rest) 0) (x ∷ rest) ++ lines line made ++ drop (cond b (1 + continuing (is_continued true x.text) rest) 0) (x ∷ rest))
+        → (Ascend line rest → Ascend line (take (continuation_count (is_continued true x.text) rest) rest ++ lines line made ++ drop (continuation_count (is_continued true x.text) rest) rest))
+        → Ascend line (take (cond b (1 + continuation_count (is_continued true x.text) rest) 0) (x ∷ rest) ++ lines line made ++ drop (cond b (1 + continuation_count (is_continued true x.text) rest) 0) (x ∷ rest))
     go true e f =
         let none = both_true continues (is_none x.stmt) e in
-        rw (take_one (continuing (is_continued true x.text) rest) x rest, drop_one (continuing (is_continued true x.text) rest) x rest)
+        rw (take_one (continuation_count (is_continued true x.text) rest) x rest, drop_one (continuation_count (is_continued true x.text) rest) x rest)
         (add_none x.stmt line x.line _ none (f (skip_none x.stmt line x.line (statement_lines rest) none w)))
     go false e f = same_line line made (x ∷ rest) w
 
@@ -93,7 +93,7 @@ behind_here (Some s) n line xs ys h f a = (a.0, f a.1)
 
 behind_in : (a : List Item) (n : ℕ) (made : List Stmt) (x : Item) (continues : Bool) (tail : List Item) → is_some x.stmt ≡ true
     → Ascend n (a ++ x ∷ tail)
-    → Ascend n ((a ++ x ∷ []) ++ take (continuing continues tail) tail ++ lines x.line made ++ drop (continuing continues tail) tail)
+    → Ascend n ((a ++ x ∷ []) ++ take (continuation_count continues tail) tail ++ lines x.line made ++ drop (continuation_count continues tail) tail)
 behind_in [] n made x continues tail h w =
     behind_here x.stmt n x.line (statement_lines tail) _ h (λ v. in_tail x.line made continues tail v) w
 behind_in (y ∷ a) n made x continues tail h w =
@@ -118,12 +118,12 @@ put_before_ascends p n made place items f e w =
 put_behind_ascends : (p : Item → Bool) (n : ℕ) (made : List Stmt) (place : ℕ) (items : List Item)
     → ((x : Item) → p x ≡ true → is_some x.stmt ≡ true) → position p items ≡ Some place
     → Ascend n items → Ascend n (put_behind made place items)
-unfolding behind
+unfolding place_after
 put_behind_ascends p n made place items f e w =
     let at = position-Some p items place some_item e in
     let x : Item = get_or items place some_item in
     let tail : List Item = drop (place + 1) items in
-    let c : ℕ = continuing (continued (slice_get items place)) tail in
+    let c : ℕ = continuation_count (continued (slice_get items place)) tail in
     let got : slice_get items place ≡ Some x = slice_get-get_or items place some_item at.0 in
     let rest : drop place items ≡ x ∷ tail = at_drop_more (λ l. l) items place some_item at.0 in
     let whole : items ≡ take place items ++ x ∷ tail = sym (take-append-drop place items) ∙ ap (λ l. take place items ++ l) rest in
@@ -184,38 +184,33 @@ made_ascends (Some s) n line xs rest e f a =
     let b : n ≤ line = a.0 in
     from_lower n line (statement_lines (made_lines line (Some s) ++ rest)) b (same_line line (made_of s.name (words_of s.operand)) rest (f line a.1))
 
-expanded_ascends : (n : ℕ) (continues : Bool) (items : List Item) → Ascend n items → Ascend n (expanded continues items)
+expanded_ascends : (n : ℕ) (continues : Bool) (items : List Item) → Ascend n items → Ascend n (expanded_items continues items)
 unfolding expansion begins_exec
 expanded_ascends n continues [] w = w
 expanded_ascends n continues (item ∷ rest) w =
     go (is_dropped continues item) (has_operation (codes "EXEC") item.stmt) refl refl (λ m v. expanded_ascends m (continues_exec continues item) rest v)
   where
     go : (d e : Bool) → is_dropped continues item ≡ d → has_operation (codes "EXEC") item.stmt ≡ e
-        → ((m : ℕ) → Ascend m rest → Ascend m (expanded (continues_exec continues item) rest))
-        → Ascend n (cond d [] (cond e (made_lines item.line item.stmt) (item ∷ [])) ++ expanded (continues_exec continues item) rest)
+        → ((m : ℕ) → Ascend m rest → Ascend m (expanded_items (continues_exec continues item) rest))
+        → Ascend n (cond d [] (cond e (made_lines item.line item.stmt) (item ∷ [])) ++ expanded_items (continues_exec continues item) rest)
     go true e p q f = f n (skip_none item.stmt n item.line (statement_lines rest) (both_true continues (is_none item.stmt) p) w)
-    go false true p q f = made_ascends item.stmt n item.line (statement_lines rest) (expanded (continues_exec continues item) rest) q f w
+    go false true p q f = made_ascends item.stmt n item.line (statement_lines rest) (expanded_items (continues_exec continues item) rest) q f w
     go false false p q f = step item.stmt n item.line (statement_lines rest) _ f w
 
-translated_ascends : (n : ℕ) (items : List Item) → Ascend n items → Ascend n (translated items)
-unfolding translated with_storage with_bases with_eib
+translated_ascends : (n : ℕ) (items : List Item) → Ascend n items → Ascend n (translation items)
+unfolding translation with_storage with_bases with_eib
 translated_ascends n items w =
     let a = expanded_ascends n false items w in
-    let b = ascends_in_storage n (expanded false items) (position begins_storage (expanded false items)) refl a in
-    let c = ascends_in_bases n (with_storage (expanded false items)) (position begins_section (with_storage (expanded false items))) refl b in
-    ascends_in_eib n (with_bases (with_storage (expanded false items))) (position is_end (with_bases (with_storage (expanded false items)))) refl c
+    let b = ascends_in_storage n (expanded_items false items) (position begins_storage (expanded_items false items)) refl a in
+    let c = ascends_in_bases n (with_storage (expanded_items false items)) (position begins_section (with_storage (expanded_items false items))) refl b in
+    ascends_in_eib n (with_bases (with_storage (expanded_items false items))) (position is_end (with_bases (with_storage (expanded_items false items)))) refl c
 
 -- the lines on which statements begin ascend where they did
 pub lines_ascend : (source made : Source) → AscendFrom 0 (statement_lines source.items) → translation_of source ≡ Ok made
     → AscendFrom 0 (statement_lines made.items)
-unfolding translation_of
-lines_ascend source made w e = go (list_any begins_exec source.items) e
+unfolding translation_of made_source
+lines_ascend source made w e = go (list_any begins_exec source.items) (accepted (statement_faults source.items) (made_source source) made e).1
   where
-    go : (b : Bool) → cond b (judged (first_fault source.items) (record { items = translated source.items })) (Ok source) ≡ Ok made
-        → AscendFrom 0 (statement_lines made.items)
-    go true e =
-        let same : translated source.items ≡ made.items = ap (λ s. s.items) (answered (first_fault source.items) (record { items = translated source.items }) made e) in
-        subst (Ascend 0) same (translated_ascends 0 source.items w)
-    go false e =
-        let same : source ≡ made = cc in
-        subst (λ s. Ascend 0 s.items) same w
+    go : (b : Bool) → cond b (record { items = translation source.items }) source ≡ made → AscendFrom 0 (statement_lines made.items)
+    go true same = subst (λ s. Ascend 0 s.items) same (translated_ascends 0 source.items w)
+    go false same = subst (λ s. Ascend 0 s.items) same w

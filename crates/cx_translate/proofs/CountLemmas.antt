@@ -7,21 +7,22 @@ use Rattle.std.specs.Str.{bytes_eq}
 use Rattle.std.proofs.lemmas.Bool.{eqb-true, ltb-false, leb-true}
 use Rattle.std.proofs.lemmas.List.Sums.{sum_by-cons}
 use Rattle.std.proofs.lemmas.Slice.Eq.{bytes_eq-Decides}
-use Rattle.cx_command.specs.declared.commands.Command.{Command}
-use Rattle.cx_command.specs.declared.conditions.Condition.{Condition}
-use Rattle.cx_command.specs.declared.options.CommandOption.{CommandOption}
-use Rattle.cx_command.specs.Commands.{row_of}
-use Rattle.cx_command.specs.Facts.Commands.{each_command}
-use Rattle.cx_command.specs.Conditions.{entry_of, handled}
-use Rattle.cx_command.specs.Options.{common_of, option_name}
-use Rattle.cx_command.specs.Legal.{lists_conditions}
-use Rattle.cx_translate.specs.declared.due.Due.{Due}
+use Rattle.cx_base_commands.specs.declared.commands.Command.{Command}
+use Rattle.cx_base_commands.specs.declared.conditions.Condition.{Condition}
+use Rattle.cx_base_commands.specs.declared.options.CommandOption.{CommandOption}
+use Rattle.cx_base_commands.specs.Commands.{row_of}
+use Rattle.cx_base_commands.specs.Facts.Commands.{each_command}
+use Rattle.cx_base_commands.specs.Conditions.{entry_of, handled_conditions}
+use Rattle.cx_base_commands.specs.Options.{common_of, option_name}
+use Rattle.cx_base_commands.specs.Legal.{lists_conditions}
+use Rattle.cx_translate.specs.declared.due.DueStatement.{DueStatement}
 use Rattle.cx_translate.specs.declared.words.Word.{Word}
 use Rattle.cx_translate.specs.Due.{common_due, condition_called, condition_due, due_of, due_of_mark, option_called}
 use Rattle.cx_translate.specs.Refusals.{conditions_in, fault_in, first_byte, has_too_many, has_unknown}
 use Rattle.cx_translate.proofs.RefusalLemmas.{few_conditions, known}
-use Rattle.cx_command.specs.declared.options.CommonOption.TheVariants.{Resp}
-use Rattle.cx_translate.specs.Call.{argument_of, labels_of, list_of, listed_by, listed_of, operand_by, operands_of, text_in}
+use Rattle.cx_base_commands.specs.declared.options.CommonOption.TheVariants.{Resp}
+use Rattle.cx_translate.specs.Facts.Found.{listed_by, operand_by}
+use Rattle.cx_translate.specs.Call.{argument_of, labels_of, list_of, listed_of, operands_of, text_in}
 
 -- what a look-up finds passes its test, and every test that all pass
 pub found : (q p : Condition → Bool) (xs : List Condition) (x : Condition) → find p xs ≡ Some x → list_all q xs ≡ true → (p x ≡ true) × (q x ≡ true)
@@ -40,9 +41,9 @@ abbrev pub clear : Command → Condition → Bool
 clear command condition =
     is_none (option_called (row_of command).options (entry_of condition).name) && is_none (common_due (entry_of condition).name)
 
-pub all_clear : (c : Command) → list_all (clear c) handled ≡ true
+pub all_clear : (c : Command) → list_all (clear c) handled_conditions ≡ true
 unfolding option_called common_due
-all_clear = each_command (λ c. list_all (clear c) handled) refl
+all_clear = each_command (λ c. list_all (clear c) handled_conditions) refl
 
 -- how many arguments a command's options have at most; one that lists conditions has none
 abbrev within : Command → Bool
@@ -51,7 +52,7 @@ within c = cond (lists_conditions c) (nat_eq (length (row_of c).options) 0) (nat
 all_within : (c : Command) → within c ≡ true
 all_within = each_command within refl
 
-gone : (a : Option CommandOption) (b : Option Due) (l some : Bool) (d : Due) → (is_none a && is_none b) ≡ true → l ≡ false
+gone : (a : Option CommandOption) (b : Option DueStatement) (l some : Bool) (d : DueStatement) → (is_none a && is_none b) ≡ true → l ≡ false
     → is_none (option_or (option_map (λ option. due_of_mark option.mark) a) (option_or b (cond (l && some) (Some d) None))) ≡ true
 gone None None l some d h e = rw e refl
 gone None (Some y) l some d h e = absurd (cc)
@@ -60,12 +61,12 @@ gone (Some x) b l some d h e = absurd (cc)
 -- where conditions aren't listed, the name of one is unknown
 unlisted : (c : Command) (name : List ℕ) → lists_conditions c ≡ false → is_some (condition_called name) ≡ true → is_none (due_of c name) ≡ true
 unfolding due_of condition_due condition_called
-unlisted c name l s = go (find (λ condition. bytes_eq (entry_of condition).name name) handled) refl s
+unlisted c name l s = go (find (λ condition. bytes_eq (entry_of condition).name name) handled_conditions) refl s
   where
-    go : (o : Option Condition) → find (λ condition. bytes_eq (entry_of condition).name name) handled ≡ o → is_some o ≡ true → is_none (due_of c name) ≡ true
+    go : (o : Option Condition) → find (λ condition. bytes_eq (entry_of condition).name name) handled_conditions ≡ o → is_some o ≡ true → is_none (due_of c name) ≡ true
     go None e h = absurd (cc)
     go (Some x) e h =
-        let both = found (clear c) (λ condition. bytes_eq (entry_of condition).name name) handled x e (all_clear c) in
+        let both = found (clear c) (λ condition. bytes_eq (entry_of condition).name name) handled_conditions x e (all_clear c) in
         let same : (entry_of x).name ≡ name = (bytes_eq-Decides (entry_of x).name name).0 both.0 in
         let free : clear c x ≡ true = both.1 in
         gone (option_called (row_of c).options name) (common_due name) (lists_conditions c) _ _ (rw same at free) l

@@ -1,15 +1,15 @@
 -- The lines that are no part of an EXEC statement stay.
-use Rattle.std.proofs.Common.{◌≡◌, inl, inr, ℕ, Bool, true, false, cond, ◌&&◌, ◌||◌, List, [], ◌∷◌, ◌++◌, take, drop, Option, Some, None, Ok, refl, sym, ap, subst}
+use Rattle.std.proofs.Common.{◌≡◌, inl, inr, ℕ, Bool, true, false, cond, ◌&&◌, ◌||◌, List, [], ◌∷◌, ◌++◌, take, drop, Option, Some, None, Ok, refl, sym, subst}
 use Rattle.std.specs.List.{list_any, position}
 use Rattle.std.proofs.lemmas.List.{take-append-drop}
 use Rattle.cx_source.specs.declared.source.Item.{Item}
 use Rattle.cx_source.specs.declared.source.Source.{Source}
 use Rattle.cx_source.specs.Statements.{is_continued}
-use Rattle.cx_translate.specs.declared.faults.TransFault.{TransFault}
-use Rattle.cx_translate.specs.Sections.{begins_exec, begins_section, begins_storage, behind, is_end, put, with_bases, with_eib, with_storage}
-use Rattle.cx_translate.specs.Translation.{continues_exec, expanded, expansion, first_fault, is_dropped, translated, translation_of}
+use Rattle.cx_translate.specs.Sections.{begins_exec, begins_section, begins_storage, place_after, is_end, insert_items, with_bases, with_eib, with_storage}
+use Rattle.cx_translate.specs.Translation.{continues_exec, expanded_items, expansion, is_dropped, made_source, statement_faults, translation, translation_of}
 use Rattle.cx_translate.specs.Laws.Kept.{AreAmong, kept}
-use Rattle.cx_translate.specs.Facts.Found.{bases_behind, eib_before, judged, made_lines, storage_before, storage_behind}
+use Rattle.cx_translate.specs.Facts.AllFaults.{accepted}
+use Rattle.cx_translate.specs.Facts.Found.{bases_behind, eib_before, made_lines, storage_before, storage_behind}
 
 one_more : (y : Item) (xs ys : List Item) → AreAmong xs ys → AreAmong xs (y ∷ ys)
 one_more y [] ys w = tt
@@ -26,7 +26,7 @@ between made (y ∷ a) b (x ∷ xs) (inl v) = inl (v.0, between made a b xs v.1)
 between made (y ∷ a) b (x ∷ xs) (inr v) = inr (between made a b (x ∷ xs) v)
 
 -- what is put in takes nothing away
-put_in : (place : ℕ) (made items xs : List Item) → AreAmong xs items → AreAmong xs (put place made items)
+put_in : (place : ℕ) (made items xs : List Item) → AreAmong xs items → AreAmong xs (insert_items place made items)
 put_in place made items xs w =
     between made (take place items) (drop place items) xs (subst (AreAmong xs) (sym (take-append-drop place items)) w)
 
@@ -36,37 +36,37 @@ stays_in_storage_before (Some place) items xs w = put_in place _ items xs w
 
 stays_in_storage_behind : (place : Option ℕ) (items xs : List Item) → AreAmong xs items → AreAmong xs (storage_behind place items)
 stays_in_storage_behind None items xs w = stays_in_storage_before (position begins_section items) items xs w
-stays_in_storage_behind (Some place) items xs w = put_in (behind items place) _ items xs w
+stays_in_storage_behind (Some place) items xs w = put_in (place_after items place) _ items xs w
 
 stays_in_bases : (place : Option ℕ) (items xs : List Item) → AreAmong xs items → AreAmong xs (bases_behind place items)
 stays_in_bases None items xs w = w
-stays_in_bases (Some place) items xs w = put_in (behind items place) _ items xs w
+stays_in_bases (Some place) items xs w = put_in (place_after items place) _ items xs w
 
 stays_in_eib : (place : Option ℕ) (items xs : List Item) → AreAmong xs items → AreAmong xs (eib_before place items)
 stays_in_eib None items xs w = w
 stays_in_eib (Some place) items xs w = put_in place _ items xs w
 
 -- what is made in place of EXEC statements takes no other line away
-stays_expanded : (continues : Bool) (items : List Item) → AreAmong (kept continues items) (expanded continues items)
+stays_expanded : (continues : Bool) (items : List Item) → AreAmong (kept continues items) (expanded_items continues items)
 unfolding expansion
 stays_expanded continues [] = tt
 stays_expanded continues (item ∷ rest) =
     go (is_dropped continues item) (begins_exec item) (stays_expanded (continues_exec continues item) rest)
   where
-    go : (d e : Bool) → AreAmong (kept (continues_exec continues item) rest) (expanded (continues_exec continues item) rest)
+    go : (d e : Bool) → AreAmong (kept (continues_exec continues item) rest) (expanded_items (continues_exec continues item) rest)
         → AreAmong (cond (d || e) (kept (continues_exec continues item) rest) (item ∷ kept (continues_exec continues item) rest))
-        (cond d [] (cond e (made_lines item.line item.stmt) (item ∷ [])) ++ expanded (continues_exec continues item) rest)
+        (cond d [] (cond e (made_lines item.line item.stmt) (item ∷ [])) ++ expanded_items (continues_exec continues item) rest)
     go true e w = w
     go false true w = more (made_lines item.line item.stmt) _ _ w
     go false false w = inl (refl, w)
 
-stays_translated : (items : List Item) → AreAmong (kept false items) (translated items)
-unfolding translated with_storage with_bases with_eib
+stays_translated : (items : List Item) → AreAmong (kept false items) (translation items)
+unfolding translation with_storage with_bases with_eib
 stays_translated items =
     let a = stays_expanded false items in
-    let b = stays_in_storage_behind (position begins_storage (expanded false items)) (expanded false items) (kept false items) a in
-    let c = stays_in_bases (position begins_section (with_storage (expanded false items))) (with_storage (expanded false items)) (kept false items) b in
-    stays_in_eib (position is_end (with_bases (with_storage (expanded false items)))) (with_bases (with_storage (expanded false items))) (kept false items) c
+    let b = stays_in_storage_behind (position begins_storage (expanded_items false items)) (expanded_items false items) (kept false items) a in
+    let c = stays_in_bases (position begins_section (with_storage (expanded_items false items))) (with_storage (expanded_items false items)) (kept false items) b in
+    stays_in_eib (position is_end (with_bases (with_storage (expanded_items false items)))) (with_bases (with_storage (expanded_items false items))) (kept false items) c
 
 -- without EXEC each line stays
 all_kept : (items : List Item) → list_any begins_exec items ≡ false → AreAmong (kept false items) items
@@ -79,21 +79,13 @@ all_kept (item ∷ rest) e = go (begins_exec item) e (λ f. all_kept rest f)
     go true e f = absurd (cc)
     go false e f = inl (refl, f e)
 
-pub answered : (due : Option TransFault) (source made : Source) → judged due source ≡ Ok made → source ≡ made
-answered None source made e = cc
-answered (Some fault) source made e = absurd (cc)
-
 -- each line that is no part of an EXEC statement is in the translation, in order
 pub lines_stay : (source made : Source) → translation_of source ≡ Ok made → AreAmong (kept false source.items) made.items
-unfolding translation_of
-lines_stay source made e = go (list_any begins_exec source.items) refl e
+unfolding translation_of made_source
+lines_stay source made e =
+    go (list_any begins_exec source.items) refl (accepted (statement_faults source.items) (made_source source) made e).1
   where
-    go : (b : Bool) → list_any begins_exec source.items ≡ b
-        → cond b (judged (first_fault source.items) (record { items = translated source.items })) (Ok source) ≡ Ok made
+    go : (b : Bool) → list_any begins_exec source.items ≡ b → cond b (record { items = translation source.items }) source ≡ made
         → AreAmong (kept false source.items) made.items
-    go true f e =
-        let same : translated source.items ≡ made.items = ap (λ s. s.items) (answered (first_fault source.items) (record { items = translated source.items }) made e) in
-        subst (AreAmong (kept false source.items)) same (stays_translated source.items)
-    go false f e =
-        let same : source ≡ made = cc in
-        subst (λ s. AreAmong (kept false source.items) s.items) same (all_kept source.items f)
+    go true f same = subst (λ s. AreAmong (kept false source.items) s.items) same (stays_translated source.items)
+    go false f same = subst (λ s. AreAmong (kept false source.items) s.items) same (all_kept source.items f)

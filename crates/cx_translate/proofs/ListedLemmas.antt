@@ -5,21 +5,22 @@ use Rattle.std.specs.List.{find, list_all, list_any}
 use Rattle.std.specs.Option.{option_or}
 use Rattle.std.specs.Str.{bytes_eq}
 use Rattle.std.proofs.lemmas.Slice.Eq.{bytes_eq-Decides}
-use Rattle.cx_command.specs.declared.commands.Command.{Command}
-use Rattle.cx_command.specs.declared.conditions.Condition.{Condition}
-use Rattle.cx_command.specs.declared.conditions.Condition.TheVariants.{Normal, Error, Invreq, Nospace, Lengerr, Itemerr, Pgmiderr, Nostg, Qiderr, Enqbusy}
-use Rattle.cx_command.specs.declared.options.CommandOption.{CommandOption}
-use Rattle.cx_command.specs.Commands.{row_of}
-use Rattle.cx_command.specs.Conditions.{entry_of, handled}
-use Rattle.cx_command.specs.Legal.{is_handle, is_handled_number, is_legal_list, is_listed, lists_conditions, may_list}
-use Rattle.cx_translate.specs.declared.due.Due.{Due}
-use Rattle.cx_translate.specs.declared.due.Due.TheVariants.{Nothing, Label}
+use Rattle.cx_base_commands.specs.declared.commands.Command.{Command}
+use Rattle.cx_base_commands.specs.declared.conditions.Condition.{Condition}
+use Rattle.cx_base_commands.specs.declared.conditions.Condition.TheVariants.{Normal, Error, Invreq, Nospace, Lengerr, Itemerr, Pgmiderr, Nostg, Qiderr, Enqbusy}
+use Rattle.cx_base_commands.specs.declared.options.CommandOption.{CommandOption}
+use Rattle.cx_base_commands.specs.Commands.{row_of}
+use Rattle.cx_base_commands.specs.Conditions.{entry_of, handled_conditions}
+use Rattle.cx_base_commands.specs.Legal.{is_handle, is_handled_number, is_legal_list, is_listed, lists_conditions, may_list}
+use Rattle.cx_translate.specs.declared.due.DueStatement.{DueStatement}
+use Rattle.cx_translate.specs.declared.due.DueStatement.TheVariants.{Nothing, Label}
 use Rattle.cx_translate.specs.declared.words.Argument.{Argument}
 use Rattle.cx_translate.specs.declared.words.Argument.TheVariants.{Absent, Given, Bad}
 use Rattle.cx_translate.specs.declared.words.Word.{Word}
 use Rattle.cx_translate.specs.Due.{common_due, condition_called, condition_due, due_of, due_of_mark, option_called, suits}
-use Rattle.cx_translate.specs.Refusals.{fault_in, has_twice, has_wrong, is_given, is_wrong}
-use Rattle.cx_translate.specs.Call.{listed_by, listed_of, text_in}
+use Rattle.cx_translate.specs.Refusals.{fault_in, has_twice, has_wrong, is_given}
+use Rattle.cx_translate.specs.Facts.Found.{is_wrong, listed_by}
+use Rattle.cx_translate.specs.Call.{listed_of, text_in}
 use Rattle.cx_translate.proofs.CountLemmas.{all_clear, clear, found}
 use Rattle.cx_translate.proofs.RefusalLemmas.{once, right}
 
@@ -127,12 +128,12 @@ one_name Enqbusy Qiderr e = absurd (cc)
 one_name Enqbusy Enqbusy e = refl
 
 -- every condition that can be handled has such a number
-all_handled : list_all (λ condition. is_handled_number (entry_of condition).number) handled ≡ true
+all_handled : list_all (λ condition. is_handled_number (entry_of condition).number) handled_conditions ≡ true
 unfolding is_handled_number
 all_handled = refl
 
 -- what is due with a condition where conditions are listed
-with_label : (a : Option CommandOption) (b : Option Due) (l some : Bool) (d : Due) → (is_none a && is_none b) ≡ true → l ≡ true → some ≡ true
+with_label : (a : Option CommandOption) (b : Option DueStatement) (l some : Bool) (d : DueStatement) → (is_none a && is_none b) ≡ true → l ≡ true → some ≡ true
     → option_or (option_map (λ option. due_of_mark option.mark) a) (option_or b (cond (l && some) (Some d) None)) ≡ Some d
 with_label None None l some d h e f = rw (e, f) refl
 with_label None (Some y) l some d h e f = absurd (cc)
@@ -152,11 +153,11 @@ apart_by : (b r : Bool) → (b ≡ true → ⊥) → r ≡ false → (b || r) �
 apart_by true r n e = absurd (n refl)
 apart_by false r n e = e
 
--- a word that isn't a condition's name isn't called by another of its number
-other_name : (y x : Condition) (name : List ℕ) → find (λ condition. bytes_eq (entry_of condition).name name) handled ≡ Some y
+-- a word that isn't a condition's name isn't called by a different one of its number
+other_name : (y x : Condition) (name : List ℕ) → find (λ condition. bytes_eq (entry_of condition).name name) handled_conditions ≡ Some y
     → nat_eq (entry_of y).number (entry_of x).number ≡ true → bytes_eq name (entry_of x).name ≡ false → ⊥
 other_name y x name f n t =
-    let called : (entry_of y).name ≡ name = (bytes_eq-Decides (entry_of y).name name).0 (found (λ condition. true) (λ condition. bytes_eq (entry_of condition).name name) handled y f refl).0 in
+    let called : (entry_of y).name ≡ name = (bytes_eq-Decides (entry_of y).name name).0 (found (λ condition. true) (λ condition. bytes_eq (entry_of condition).name name) handled_conditions y f refl).0 in
     let given : bytes_eq name (entry_of x).name ≡ true = (bytes_eq-Decides name (entry_of x).name).1 (sym called ∙ one_name y x n) in
     cc
 
@@ -165,9 +166,9 @@ not_listed : (x : Condition) (words : List Word) → is_given words (entry_of x)
 unfolding is_given is_listed condition_called
 not_listed x [] e = refl
 not_listed x (word ∷ rest) e =
-    go (find (λ condition. bytes_eq (entry_of condition).name word.name) handled) refl (bytes_eq word.name (entry_of x).name) refl e (λ f. not_listed x rest f)
+    go (find (λ condition. bytes_eq (entry_of condition).name word.name) handled_conditions) refl (bytes_eq word.name (entry_of x).name) refl e (λ f. not_listed x rest f)
   where
-    go : (o : Option Condition) → find (λ condition. bytes_eq (entry_of condition).name word.name) handled ≡ o
+    go : (o : Option Condition) → find (λ condition. bytes_eq (entry_of condition).name word.name) handled_conditions ≡ o
         → (b : Bool) → bytes_eq word.name (entry_of x).name ≡ b → (b || list_any (λ w. bytes_eq w.name (entry_of x).name) rest) ≡ false
         → (list_any (λ w. bytes_eq w.name (entry_of x).name) rest ≡ false → list_any (λ l. nat_eq l.number (entry_of x).number) (listed_of rest) ≡ false)
         → list_any (λ l. nat_eq l.number (entry_of x).number) (listed_by o word.argument ++ listed_of rest) ≡ false
@@ -183,9 +184,9 @@ pub legal_list : (c : Command) (words : List Word) → lists_conditions c ≡ tr
 unfolding has_wrong condition_called may_list due_of condition_due
 legal_list c [] l w t = refl
 legal_list c (word ∷ rest) l w t =
-    go (find (λ condition. bytes_eq (entry_of condition).name word.name) handled) refl (is_wrong (due_of c word.name) word.argument) refl w (is_given rest word.name) refl t (λ f g. legal_list c rest l f g)
+    go (find (λ condition. bytes_eq (entry_of condition).name word.name) handled_conditions) refl (is_wrong (due_of c word.name) word.argument) refl w (is_given rest word.name) refl t (λ f g. legal_list c rest l f g)
   where
-    go : (o : Option Condition) → find (λ condition. bytes_eq (entry_of condition).name word.name) handled ≡ o
+    go : (o : Option Condition) → find (λ condition. bytes_eq (entry_of condition).name word.name) handled_conditions ≡ o
         → (a : Bool) → is_wrong (due_of c word.name) word.argument ≡ a → (a || list_any (λ v. is_wrong (due_of c v.name) v.argument) rest) ≡ false
         → (b : Bool) → is_given rest word.name ≡ b → (b || has_twice rest) ≡ false
         → (list_any (λ v. is_wrong (due_of c v.name) v.argument) rest ≡ false → has_twice rest ≡ false → is_legal_list c (listed_of rest) ≡ true)
@@ -194,8 +195,8 @@ legal_list c (word ∷ rest) l w t =
     go o f false v w true g t more = absurd (cc)
     go None f false v w false g t more = more w t
     go (Some x) f false v w false g t more =
-        let both = found (clear c) (λ condition. bytes_eq (entry_of condition).name word.name) handled x f (all_clear c) in
-        let number = (found (λ condition. is_handled_number (entry_of condition).number) (λ condition. bytes_eq (entry_of condition).name word.name) handled x f all_handled).1 in
+        let both = found (clear c) (λ condition. bytes_eq (entry_of condition).name word.name) handled_conditions x f (all_clear c) in
+        let number = (found (λ condition. is_handled_number (entry_of condition).number) (λ condition. bytes_eq (entry_of condition).name word.name) handled_conditions x f all_handled).1 in
         let called : (entry_of x).name ≡ word.name = (bytes_eq-Decides (entry_of x).name word.name).0 both.0 in
         let due : due_of c word.name ≡ Some (cond (is_handle c) Label Nothing) = with_label (option_called (row_of c).options word.name) (common_due word.name) (lists_conditions c) _ _ (rw called at both.1) l (rw f refl) in
         let label = labelled (is_handle c) word.argument (rw due at v) in

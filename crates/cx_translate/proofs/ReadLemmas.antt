@@ -9,26 +9,27 @@ use Rattle.std.proofs.lemmas.Bool.{eqb-true}
 use Rattle.std.proofs.lemmas.List.Sums.{sum_by-cons}
 use Rattle.std.proofs.lemmas.Nat.Bits.{bit_at_and, bit_at_or, bit_at-zero, same_from_bits}
 use Rattle.std.proofs.lemmas.Slice.Eq.{bytes_eq-Decides}
-use Rattle.cx_command.specs.declared.commands.Command.{Command}
-use Rattle.cx_command.specs.declared.commands.Command.TheVariants as command
-use Rattle.cx_command.specs.declared.conditions.Condition.{Condition}
-use Rattle.cx_command.specs.declared.options.CommandOption.{CommandOption}
-use Rattle.cx_command.specs.declared.options.CommonOption.TheVariants.{Nohandle, Resp}
-use Rattle.cx_command.specs.declared.options.Mark.{Mark}
-use Rattle.cx_command.specs.declared.options.Mark.TheVariants as mark
-use Rattle.cx_command.specs.Arguments.{arguments_in, is_argument, takes_argument}
-use Rattle.cx_command.specs.Commands.{row_of}
-use Rattle.cx_command.specs.Facts.Commands.{each_command}
-use Rattle.cx_command.specs.Options.{common_of, option_name}
-use Rattle.cx_command.specs.Legal.{has_bit}
-use Rattle.cx_translate.specs.declared.due.Due.{Due}
-use Rattle.cx_translate.specs.declared.due.Due.TheVariants.{Nothing, Name, Value, Label}
+use Rattle.cx_base_commands.specs.declared.commands.Command.{Command}
+use Rattle.cx_base_commands.specs.declared.commands.Command.TheVariants as command
+use Rattle.cx_base_commands.specs.declared.conditions.Condition.{Condition}
+use Rattle.cx_base_commands.specs.declared.options.CommandOption.{CommandOption}
+use Rattle.cx_base_commands.specs.declared.options.CommonOption.TheVariants.{Nohandle, Resp}
+use Rattle.cx_base_commands.specs.declared.options.ArgumentKind.{ArgumentKind}
+use Rattle.cx_base_commands.specs.declared.options.ArgumentKind.TheVariants as mark
+use Rattle.cx_base_commands.specs.Arguments.{arguments_in, is_argument, takes_argument}
+use Rattle.cx_base_commands.specs.Commands.{row_of}
+use Rattle.cx_base_commands.specs.Facts.Commands.{each_command}
+use Rattle.cx_base_commands.specs.Options.{common_of, option_name}
+use Rattle.cx_base_commands.specs.Legal.{has_bit}
+use Rattle.cx_translate.specs.declared.due.DueStatement.{DueStatement}
+use Rattle.cx_translate.specs.declared.due.DueStatement.TheVariants.{Nothing, Name, Value, Label}
 use Rattle.cx_translate.specs.declared.words.Argument.{Argument}
 use Rattle.cx_translate.specs.declared.words.Argument.TheVariants.{Absent, Given, Bad}
 use Rattle.cx_translate.specs.declared.words.Word.{Word}
 use Rattle.cx_translate.specs.Due.{common_due, condition_called, condition_due, due_of, option_called, suits}
-use Rattle.cx_translate.specs.Refusals.{fault_in, first_byte, has_wrong, is_given, is_wrong, second_byte, with_option}
-use Rattle.cx_translate.specs.Call.{argument_of, labels_of, list_of, listed, listed_by, listed_of, operand_by, operands_of, text_in}
+use Rattle.cx_translate.specs.Refusals.{fault_in, first_byte, has_wrong, is_given, second_byte}
+use Rattle.cx_translate.specs.Facts.Found.{is_wrong, listed_by, operand_by, with_option}
+use Rattle.cx_translate.specs.Call.{argument_of, labels_of, list_of, listed_condition, listed_of, operands_of, text_in}
 use Rattle.cx_translate.specs.Laws.Read.{has_label, words_read}
 use Rattle.cx_translate.proofs.RefusalLemmas.{right}
 
@@ -86,7 +87,7 @@ has_fold words b m (o ∷ rest) =
     ∙ ap (λ x. x || list_any (λ o. is_given words (option_name o.name) && has_bit o.bit m) rest) (has_by (is_given words (option_name o.name)) b o.bit m)
     ∙ or_swap (has_bit b m) (is_given words (option_name o.name) && has_bit o.bit m) (list_any (λ o. is_given words (option_name o.name) && has_bit o.bit m) rest)
 
--- an option that has another's bit has its name
+-- an option that has a second one's bit has its name
 abbrev alike : ℕ → List ℕ → CommandOption → Bool
 alike m name p = not (has_bit p.bit m) || bytes_eq (option_name p.name) name
 
@@ -119,7 +120,7 @@ given_by words m name (p ∷ rest) h =
     go false b d e f more = skipped (is_given words (option_name p.name)) (is_given words name) _ _ (more f)
 
 -- what is due with an option agrees with its mark
-abbrev fits : Option Due → Mark → Bool
+abbrev fits : Option DueStatement → ArgumentKind → Bool
 fits (Some Nothing) mark = not (takes_argument mark)
 fits (Some (Name n)) mark = takes_argument mark
 fits (Some Value) mark = takes_argument mark
@@ -135,7 +136,7 @@ all_own = each_command (λ c. list_all (own c (row_of c).options) (row_of c).opt
 
 -- ---- the arguments given
 
-suited : (d : Due) (a : Argument) (m : Mark) → fits (Some d) m ≡ true → suits d a ≡ true → is_some (text_in a) ≡ takes_argument m
+suited : (d : DueStatement) (a : Argument) (m : ArgumentKind) → fits (Some d) m ≡ true → suits d a ≡ true → is_some (text_in a) ≡ takes_argument m
 unfolding suits
 suited Nothing Absent m f s = not_so (takes_argument m) f
   where
@@ -152,7 +153,7 @@ suited Value (Given text) m f s = sym f
 suited Value Bad m f s = absurd (cc)
 suited Label a m f s = absurd (cc)
 
-right_by : (d : Option Due) (a : Argument) (m : Mark) → fits d m ≡ true → is_wrong d a ≡ false → is_some (text_in a) ≡ takes_argument m
+right_by : (d : Option DueStatement) (a : Argument) (m : ArgumentKind) → fits d m ≡ true → is_wrong d a ≡ false → is_some (text_in a) ≡ takes_argument m
 right_by None a m f w = absurd (cc)
 right_by (Some d) a m f w = suited d a m f (truth (suits d a) w)
   where
@@ -161,7 +162,7 @@ right_by (Some d) a m f w = suited d a m f (truth (suits d a) w)
     truth false e = absurd (cc)
 
 -- a name has an argument where it is given, and one is due
-argued : (c : Command) (words : List Word) (name : List ℕ) (m : Mark) → fits (due_of c name) m ≡ true → has_wrong c words ≡ false
+argued : (c : Command) (words : List Word) (name : List ℕ) (m : ArgumentKind) → fits (due_of c name) m ≡ true → has_wrong c words ≡ false
     → is_some (argument_of words name) ≡ (is_given words name && takes_argument m)
 unfolding has_wrong is_given
 argued c [] name m f w = refl
@@ -272,9 +273,9 @@ labels_read (word ∷ rest) =
     go : (o : Option Condition) (a : Argument) → length (labels_of rest) ≡ sum_by (λ l. cond (has_label l) 1 0) (listed_of rest)
         → length (option_to_list (option_and o (text_in a))) + length (labels_of rest) ≡ sum_by (λ l. cond (has_label l) 1 0) (listed_by o a ++ listed_of rest)
     go None a e = omega (arith, e)
-    go (Some x) Absent e = omega (arith, e, sum_by-cons (λ l. cond (has_label l) 1 0) (listed x Absent) (listed_of rest))
-    go (Some x) (Given text) e = omega (arith, e, sum_by-cons (λ l. cond (has_label l) 1 0) (listed x (Given text)) (listed_of rest))
-    go (Some x) Bad e = omega (arith, e, sum_by-cons (λ l. cond (has_label l) 1 0) (listed x Bad) (listed_of rest))
+    go (Some x) Absent e = omega (arith, e, sum_by-cons (λ l. cond (has_label l) 1 0) (listed_condition x Absent) (listed_of rest))
+    go (Some x) (Given text) e = omega (arith, e, sum_by-cons (λ l. cond (has_label l) 1 0) (listed_condition x (Given text)) (listed_of rest))
+    go (Some x) Bad e = omega (arith, e, sum_by-cons (λ l. cond (has_label l) 1 0) (listed_condition x Bad) (listed_of rest))
 
 response_due : (c : Command) → due_of c (common_of Resp).name ≡ Some Value
 unfolding due_of option_called common_due condition_due

@@ -1,17 +1,17 @@
 -- Lemmas on statements without a fault.
-use Rattle.std.proofs.Common.{◌≡◌, ℕ, Bool, true, false, cond, List, Option, Some, None, Ok, Err, refl, ◌||◌}
-use Rattle.std.specs.Option.{option_or}
+use Rattle.std.proofs.Common.{◌≡◌, ◌≢◌, ℕ, Bool, true, false, cond, List, Option, Some, None, Ok, Err, slice_get, refl, ◌||◌}
 use Rattle.cx_source.specs.declared.source.Source.{Source}
-use Rattle.cx_command.specs.declared.commands.Command.{Command}
-use Rattle.cx_command.specs.Commands.{row_of}
-use Rattle.cx_command.specs.Legal.{is_legal}
+use Rattle.cx_base_commands.specs.declared.commands.Command.{Command}
+use Rattle.cx_base_commands.specs.Commands.{row_of}
+use Rattle.cx_base_commands.specs.Legal.{is_legal}
 use Rattle.cx_translate.specs.declared.words.Word.{Word}
 use Rattle.cx_translate.specs.declared.faults.TransFault.{TransFault}
 use Rattle.cx_translate.specs.declared.faults.TransFault.TheVariants.{UnknownCommand, Memory, UnknownOption, BadArgument, TooManyConditions, Conflict, MissingOption}
-use Rattle.cx_translate.specs.Refusals.{IsDue, fault_in, first_byte, has_argument, has_excluded, has_too_many, has_twice, has_unknown, has_wrong, second_byte}
-use Rattle.cx_translate.specs.Translation.{AnswersAs, translation_of}
+use Rattle.cx_translate.specs.Refusals.{fault_in, first_byte, has_argument, has_excluded, has_too_many, has_twice, has_unknown, has_wrong, second_byte}
+use Rattle.cx_translate.specs.Translation.{AnswersAs, made_source, translation_of}
 use Rattle.cx_translate.specs.Sections.{begins_exec}
-use Rattle.std.specs.List.{list_any}
+use Rattle.std.specs.List.{cons_option, list_any}
+use Rattle.cx_translate.specs.Facts.AllFaults.{no_exec_no_fault}
 use Rattle.cx_translate.specs.Facts.Found.{judged}
 
 chain : (a b c d e : Bool) (f g h i j : TransFault) → cond a (Some f) (cond b (Some g) (cond c (Some h) (cond d (Some i) (cond e None (Some j))))) ≡ None → c ≡ false
@@ -44,7 +44,7 @@ second false false true d f g o p = absurd (cc)
 second false true c d f g o p = absurd (cc)
 second true b c d f g o p = absurd (cc)
 
--- nor another argument than is due
+-- nor an argument other than is due
 pub right : (line : ℕ) (command : Command) (cics named words : List Word) → fault_in line command cics named words ≡ None → has_wrong command words ≡ false
 unfolding fault_in
 right line command cics named words none =
@@ -76,8 +76,8 @@ legal_bytes line command cics named words none =
 
 -- a source without EXEC stays
 pub no_exec : (source : Source) → list_any begins_exec source.items ≡ false → translation_of source ≡ Ok source
-unfolding translation_of
-no_exec source e = rw e refl
+unfolding translation_of made_source
+no_exec source e = rw (no_exec_no_fault source.items e, e) refl
 
 -- a statement without a fault lists no more conditions than it may
 pub few_conditions : (line : ℕ) (command : Command) (cics named words : List Word) → fault_in line command cics named words ≡ None
@@ -88,32 +88,16 @@ few_conditions line command cics named words none =
     (has_twice words || has_excluded (row_of command).rules (first_byte command words)) (is_legal command (first_byte command words) (second_byte words))
     (UnknownOption line) (BadArgument line) (TooManyConditions line) (Conflict line) (MissingOption line) none
 
--- the fault due may be answered
-pub due : (due : Option TransFault) (fault : TransFault) → due ≡ Some fault → IsDue due fault
-due d (UnknownCommand line) e = e
-due d (UnknownOption line) e = e
-due d (MissingOption line) e = e
-due d (Conflict line) e = e
-due d (TooManyConditions line) e = e
-due d (BadArgument line) e = e
-due d Memory e = tt
-
 -- the first statement's fault is the source's
-pub due_first : (first rest : Option TransFault) (fault : TransFault) → IsDue first fault → IsDue (option_or first rest) fault
-due_first first rest (UnknownCommand line) e = rw e refl
-due_first first rest (UnknownOption line) e = rw e refl
-due_first first rest (MissingOption line) e = rw e refl
-due_first first rest (Conflict line) e = rw e refl
-due_first first rest (TooManyConditions line) e = rw e refl
-due_first first rest (BadArgument line) e = rw e refl
-due_first first rest Memory e = tt
+pub due_first : (first : Option TransFault) (rest : List TransFault) (fault : TransFault) → first ≡ Some fault → slice_get (cons_option first rest) 0 ≡ Some fault
+due_first first rest fault e = rw e refl
 
 -- and the answer
-pub answers_due : (due : Option TransFault) (source : Source) (fault : TransFault) → IsDue due fault → AnswersAs (judged due source) (Err fault)
-answers_due due source (UnknownCommand line) e = rw e refl
-answers_due due source (UnknownOption line) e = rw e refl
-answers_due due source (MissingOption line) e = rw e refl
-answers_due due source (Conflict line) e = rw e refl
-answers_due due source (TooManyConditions line) e = rw e refl
-answers_due due source (BadArgument line) e = rw e refl
+pub answers_due : (due : Option TransFault) (source : Source) (fault : TransFault) → (fault ≢ Memory → due ≡ Some fault) → AnswersAs (judged due source) (Err fault)
+answers_due due source (UnknownCommand line) e = rw (e (λ m. cc)) refl
+answers_due due source (UnknownOption line) e = rw (e (λ m. cc)) refl
+answers_due due source (MissingOption line) e = rw (e (λ m. cc)) refl
+answers_due due source (Conflict line) e = rw (e (λ m. cc)) refl
+answers_due due source (TooManyConditions line) e = rw (e (λ m. cc)) refl
+answers_due due source (BadArgument line) e = rw (e (λ m. cc)) refl
 answers_due due source Memory e = tt

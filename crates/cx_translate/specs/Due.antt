@@ -1,26 +1,26 @@
--- Which argument is due with each word of a command (Application Programmer's Reference Manual, SC33-0077, the syntax of
--- each command; the table of options is that of cx_command).
+-- Which argument is due with each word of a command (Application Programmer's Reference Manual, SC33-0077, the syntax
+-- of each command; the table of options is that of cx_base_commands).
 use Rattle.std.specs.Prelude.{ℕ, Bool, true, false, ◌&&◌, List, Option, Some, None, is_some, if◌then◌else◌}
 use Rattle.std.specs.List.{find}
 use Rattle.std.specs.Option.{option_map, option_or}
 use Rattle.std.specs.Str.{bytes_eq}
-use Rattle.cx_command.specs.declared.commands.Command.{Command}
-use Rattle.cx_command.specs.declared.conditions.Condition.{Condition}
-use Rattle.cx_command.specs.declared.options.CommandOption.{CommandOption}
-use Rattle.cx_command.specs.declared.options.CommonOption.TheVariants.{Nohandle, Resp}
-use Rattle.cx_command.specs.declared.options.Mark.{Mark}
-use Rattle.cx_command.specs.declared.options.Mark.TheVariants.{Flag, Name4, Name8}
-use Rattle.cx_command.specs.Conditions.{entry_of, handled}
-use Rattle.cx_command.specs.Options.{common_of, option_name}
-use Rattle.cx_command.specs.Commands.{row_of}
-use Rattle.cx_command.specs.Legal.{is_handle, lists_conditions}
-use Rattle.cx_translate.specs.declared.due.Due.{Due}
-use Rattle.cx_translate.specs.declared.due.Due.TheVariants.{Nothing, Name, Value, Label}
+use Rattle.cx_base_commands.specs.declared.commands.Command.{Command}
+use Rattle.cx_base_commands.specs.declared.conditions.Condition.{Condition}
+use Rattle.cx_base_commands.specs.declared.options.CommandOption.{CommandOption}
+use Rattle.cx_base_commands.specs.declared.options.CommonOption.TheVariants.{Nohandle, Resp}
+use Rattle.cx_base_commands.specs.declared.options.ArgumentKind.{ArgumentKind}
+use Rattle.cx_base_commands.specs.declared.options.ArgumentKind.TheVariants.{Flag, Name4, Name8}
+use Rattle.cx_base_commands.specs.Conditions.{entry_of, handled_conditions}
+use Rattle.cx_base_commands.specs.Options.{common_of, option_name}
+use Rattle.cx_base_commands.specs.Commands.{row_of}
+use Rattle.cx_base_commands.specs.Legal.{is_handle, lists_conditions}
+use Rattle.cx_translate.specs.declared.due.DueStatement.{DueStatement}
+use Rattle.cx_translate.specs.declared.due.DueStatement.TheVariants.{Nothing, Name, Value, Label}
 use Rattle.cx_translate.specs.declared.words.Argument.{Argument}
 use Rattle.cx_translate.specs.declared.words.Argument.TheVariants.{Absent, Given}
 use Rattle.cx_translate.specs.Names.{is_name_or_place, is_value}
 
-abbrev pub due_of_mark : Mark → Due
+abbrev pub due_of_mark : ArgumentKind → DueStatement
 due_of_mark Flag = Nothing
 due_of_mark Name4 = Name 4
 due_of_mark Name8 = Name 8
@@ -32,27 +32,27 @@ option_called options name = find (λ option. bytes_eq (option_name option.name)
 
 -- the condition of this name that a program can handle, where one has it
 unfoldable pub condition_called : List ℕ → Option Condition
-condition_called name = find (λ condition. bytes_eq (entry_of condition).name name) handled
+condition_called name = find (λ condition. bytes_eq (entry_of condition).name name) handled_conditions
 
 -- NOHANDLE and RESP, which every command may have
-unfoldable pub common_due : List ℕ → Option Due
+unfoldable pub common_due : List ℕ → Option DueStatement
 common_due name =
     if bytes_eq (common_of Nohandle).name name then Some Nothing
     else (if bytes_eq (common_of Resp).name name then Some Value else None)
 
 -- a condition's label, which HANDLE CONDITION alone may give
-unfoldable pub condition_due : Command → List ℕ → Option Due
+unfoldable pub condition_due : Command → List ℕ → Option DueStatement
 condition_due command name =
     if lists_conditions command && is_some (condition_called name) then Some (if is_handle command then Label else Nothing) else None
 
 -- what is due with a word of a command: None where the command has no such option
-unfoldable pub due_of : Command → List ℕ → Option Due
+unfoldable pub due_of : Command → List ℕ → Option DueStatement
 due_of command name =
     option_or (option_map (λ option. due_of_mark option.mark) (option_called (row_of command).options name))
     (option_or (common_due name) (condition_due command name))
 
--- what stands behind the word is what is due
-unfoldable pub suits : Due → Argument → Bool
+-- what follows the word is what is due
+unfoldable pub suits : DueStatement → Argument → Bool
 suits Nothing Absent = true
 suits (Name n) (Given text) = is_name_or_place n text
 suits Value (Given text) = is_value text

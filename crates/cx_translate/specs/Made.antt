@@ -1,10 +1,10 @@
--- The statements made of one EXEC statement (this product's own; the columns are those of OS/VS-DOS/VSE-VM/370 Assembler
--- Language, GC33-4010, "Assembler Language Coding Conventions").
+-- The statements made of one EXEC statement (this product's own; the columns are those of OS/VS-DOS/VSE-VM/370
+-- Assembler Language, GC33-4010, "Assembler Language Coding Conventions").
 use Rattle.std.specs.Prelude.{ℕ, ◌+◌, ◌-◌, ◌*◌, ◌==◌, if◌then◌else◌, List, [], ◌∷◌, ◌++◌, Some, codes, decimal, drop, length, map, replicate}
 use Rattle.std.specs.Option.{option_map_or}
 use Rattle.std.specs.Str.{byte}
-use Rattle.cx_command.specs.declared.commands.Command.{Command}
-use Rattle.cx_command.specs.Commands.{row_of}
+use Rattle.cx_base_commands.specs.declared.commands.Command.{Command}
+use Rattle.cx_base_commands.specs.Commands.{row_of}
 use Rattle.cx_source.specs.declared.source.Item.{Item}
 use Rattle.cx_source.specs.declared.source.Stmt.{Stmt}
 use Rattle.cx_source.specs.Lines.{text_of}
@@ -15,25 +15,19 @@ use Rattle.cx_translate.specs.Call.{list_of, pointers_of}
 abbrev pub stmt : List ℕ → List ℕ → List ℕ → Stmt
 stmt name operation operand = record { name = name; operation = operation; operand = operand }
 
--- the address of an argument, stored as word k of the list
-abbrev pub store : ℕ → List ℕ → List Stmt
-store k argument =
-    stmt [] (codes "LA") (codes "0," ++ argument) ∷ stmt [] (codes "ST") (codes "0,DFHEIPL+" ++ decimal (4 * k)) ∷ []
-
--- from word k on
+-- the addresses of arguments, stored as the words of the list from word k on
 abbrev pub stores : ℕ → List (List ℕ) → List Stmt
 stores k [] = []
-stores k (argument ∷ rest) = store k argument ++ stores (k + 1) rest
+stores k (argument ∷ rest) =
+    stmt [] (codes "LA") (codes "0," ++ argument) ∷ stmt [] (codes "ST") (codes "0,DFHEIPL+" ++ decimal (4 * k))
+    ∷ stores (k + 1) rest
 
--- the list's address and the call
-abbrev pub branch : List Stmt
-branch =
-    stmt [] (codes "LA") (codes "1,DFHEIPL") ∷ stmt [] (codes "L") (codes "15,=V(DFHEI1)")
-    ∷ stmt [] (codes "BALR") (codes "14,15") ∷ []
-
--- word k is marked as the last, and the command is called
+-- word k is marked as the last, and the command is called with the list's address in register 1
 abbrev pub call : ℕ → List Stmt
-call k = stmt [] (codes "OI") (codes "DFHEIPL+" ++ decimal (4 * k) ++ codes ",X'80'") ∷ branch
+call k =
+    stmt [] (codes "OI") (codes "DFHEIPL+" ++ decimal (4 * k) ++ codes ",X'80'")
+    ∷ stmt [] (codes "LA") (codes "1,DFHEIPL") ∷ stmt [] (codes "L") (codes "15,=V(DFHEI1)")
+    ∷ stmt [] (codes "BALR") (codes "14,15") ∷ []
 
 -- a pointer loaded into a register
 abbrev pub load : List ℕ → Stmt
@@ -54,14 +48,14 @@ made_of name words =
     option_map_or (λ found. made_in name found.0 (drop found.1 (drop 1 words))) (command_in words) []
 
 -- a text filled with blanks up to a column
-abbrev pub filled : ℕ → List ℕ → List ℕ
-filled columns text = text ++ replicate (columns - length text) (byte " ")
+abbrev pub fill_to_column : ℕ → List ℕ → List ℕ
+fill_to_column columns text = text ++ replicate (columns - length text) (byte " ")
 
 -- A made line: name, operation and operand in columns 1, 10 and 16, as far as column 72.
 unfoldable pub made_item : ℕ → Stmt → Item
 made_item line made =
     record {
       line = line;
-      text = text_of (filled 15 (filled 9 made.name ++ made.operation) ++ made.operand);
+      text = text_of (fill_to_column 15 (fill_to_column 9 made.name ++ made.operation) ++ made.operand);
       stmt = Some made;
     }

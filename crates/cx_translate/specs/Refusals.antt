@@ -1,21 +1,18 @@
--- Which EXEC statements are refused, and as what (Application Programmer's Reference Manual, SC33-0077, "EXEC CICS" command
--- format and the syntax of each command; the faults and their order are this product's own).
-use Rattle.std.specs.Prelude.{ℕ, Bool, true, false, ◌&&◌, ◌||◌, not, nat_lt, if◌then◌else◌, List, [], ◌∷◌, Option, Some, None, option_map, is_none, is_some, unwrap_or, slice_get, take, drop, count_by, fold, codes, bit_or, ◌≡◌}
+-- Which EXEC statements are refused, and as what (Application Programmer's Reference Manual, SC33-0077, "EXEC CICS"
+-- command format and the syntax of each command; the faults and their order are this product's own).
+use Rattle.std.specs.Prelude.{ℕ, Bool, false, ◌&&◌, ◌||◌, not, nat_lt, if◌then◌else◌, List, [], ◌∷◌, Option, Some, None, option_map, is_none, is_some, unwrap_or, slice_get, take, drop, count_by, fold, codes, bit_or}
 use Rattle.std.specs.Option.{option_map_or}
 use Rattle.std.specs.List.{list_any}
 use Rattle.std.specs.Str.{bytes_eq}
-use Rattle.cx_command.specs.declared.commands.Command.{Command}
-use Rattle.cx_command.specs.declared.options.CommandOption.{CommandOption}
-use Rattle.cx_command.specs.declared.options.CommonOption.TheVariants.{Nohandle, Resp}
-use Rattle.cx_command.specs.declared.options.Rule.{Rule}
-use Rattle.cx_command.specs.declared.options.Rule.TheVariants.{NotBoth, OneOfTwo, OneOfThree}
-use Rattle.cx_command.specs.Options.{common_of, option_name}
-use Rattle.cx_command.specs.Commands.{row_of, command_named}
-use Rattle.cx_command.specs.Legal.{has_bit, is_legal, lists_conditions}
-use Rattle.cx_translate.specs.declared.words.Argument.{Argument}
-use Rattle.cx_translate.specs.declared.words.Argument.TheVariants.{Absent}
+use Rattle.cx_base_commands.specs.declared.commands.Command.{Command}
+use Rattle.cx_base_commands.specs.declared.options.CommonOption.TheVariants.{Nohandle, Resp}
+use Rattle.cx_base_commands.specs.declared.options.Rule.{Rule}
+use Rattle.cx_base_commands.specs.declared.options.Rule.TheVariants.{NotBoth, OneOfTwo, OneOfThree}
+use Rattle.cx_base_commands.specs.Options.{common_of, option_name}
+use Rattle.cx_base_commands.specs.Commands.{row_of, command_named}
+use Rattle.cx_base_commands.specs.Legal.{has_bit, is_legal, lists_conditions}
 use Rattle.cx_translate.specs.declared.words.Word.{Word}
-use Rattle.cx_translate.specs.declared.due.Due.{Due}
+use Rattle.cx_translate.specs.declared.due.DueStatement.TheVariants.{Nothing}
 use Rattle.cx_translate.specs.declared.faults.TransFault.{TransFault}
 use Rattle.cx_translate.specs.declared.faults.TransFault.TheVariants.{UnknownCommand, UnknownOption, MissingOption, Conflict, TooManyConditions, BadArgument, Memory}
 use Rattle.cx_translate.specs.Due.{condition_called, due_of, suits}
@@ -34,18 +31,14 @@ fault_name Memory = codes "Memory"
 abbrev pub word_at : List Word → ℕ → List ℕ
 word_at words k = unwrap_or (option_map (λ word. word.name) (slice_get words k)) []
 
--- The command that the words give behind CICS, and how many words its name takes. TS may be left out.
+-- The command that the words give after CICS, and how many words its name takes. TS may be left out.
 unfoldable pub command_in : List Word → Option (Command × ℕ)
 command_in words =
     if bytes_eq (word_at words 0) (codes "CICS") then command_named (word_at words 1) (word_at words 2) else None
 
--- some word has an argument behind it
-abbrev pub is_bare : Argument → Bool
-is_bare Absent = true
-is_bare argument = false
-
+-- anything follows some word
 unfoldable pub has_argument : List Word → Bool
-has_argument words = list_any (λ word. not (is_bare word.argument)) words
+has_argument words = list_any (λ word. not (suits Nothing word.argument)) words
 
 -- some word is of this name
 unfoldable pub is_given : List Word → List ℕ → Bool
@@ -55,13 +48,10 @@ is_given words name = list_any (λ word. bytes_eq word.name name) words
 unfoldable pub has_unknown : Command → List Word → Bool
 has_unknown command words = list_any (λ word. is_none (due_of command word.name)) words
 
-abbrev pub is_wrong : Option Due → Argument → Bool
-is_wrong None argument = false
-is_wrong (Some due) argument = not (suits due argument)
-
--- behind some word stands another argument than is due
+-- an argument other than is due follows some word
 unfoldable pub has_wrong : Command → List Word → Bool
-has_wrong command words = list_any (λ word. is_wrong (due_of command word.name) word.argument) words
+has_wrong command words =
+    list_any (λ word. option_map_or (λ due. not (suits due word.argument)) (due_of command word.name) false) words
 
 -- how many conditions are listed
 unfoldable pub conditions_in : List Word → ℕ
@@ -70,19 +60,16 @@ conditions_in words = count_by (λ word. is_some (condition_called word.name)) w
 unfoldable pub has_too_many : Command → List Word → Bool
 has_too_many command words = lists_conditions command && nat_lt 16 (conditions_in words)
 
--- a word that stands twice
+-- a word that occurs twice
 abbrev pub has_twice : List Word → Bool
 has_twice [] = false
 has_twice (word ∷ rest) = is_given rest word.name || has_twice rest
 
--- an option byte with the bit of an option, where that is given
-abbrev pub with_option : List Word → ℕ → CommandOption → ℕ
-with_option words byte option = if is_given words (option_name option.name) then bit_or byte option.bit else byte
-
 -- option byte 1: the bits of the options given, or the number of conditions listed
 unfoldable pub first_byte : Command → List Word → ℕ
 first_byte command words =
-    if lists_conditions command then conditions_in words else fold (with_option words) 0 (row_of command).options
+    if lists_conditions command then conditions_in words else
+    fold (λ byte o. if is_given words (option_name o.name) then bit_or byte o.bit else byte) 0 (row_of command).options
 
 -- option byte 2: NOHANDLE and RESP
 unfoldable pub second_byte : List Word → ℕ
@@ -90,7 +77,7 @@ second_byte words =
     bit_or (if is_given words (common_of Nohandle).name then (common_of Nohandle).bit else 0)
     (if is_given words (common_of Resp).name then (common_of Resp).bit else 0)
 
--- more options stand together than a rule allows
+-- more options are given together than a rule allows
 abbrev pub exceeds : (ℕ → Bool) → Rule → Bool
 exceeds present (NotBoth a b) = present a && present b
 exceeds present (OneOfTwo a b) = present a && present b
@@ -100,8 +87,9 @@ exceeds present rule = false
 unfoldable pub has_excluded : List Rule → ℕ → Bool
 has_excluded rules byte = list_any (exceeds (has_bit byte)) rules
 
--- The fault of a statement, the first of these that applies. `cics` and `named` are the words of CICS and of the command's
--- name, `words` those behind. An option is missing where the options given are no legal set, though none excludes another.
+-- The fault of a statement, the first of these that applies. `cics` and `named` are the words of CICS and of the
+-- command's name, `words` the rest. An option is missing where the options given are no legal set, though none excludes
+-- another.
 unfoldable pub fault_in : ℕ → Command → List Word → List Word → List Word → Option TransFault
 fault_in line command cics named words =
     if has_unknown command words then Some (UnknownOption line)
@@ -116,8 +104,3 @@ unfoldable pub fault_of : ℕ → List Word → Option TransFault
 fault_of line words = option_map_or
     (λ found. fault_in line found.0 (take 1 words) (take found.1 (drop 1 words)) (drop found.1 (drop 1 words)))
     (command_in words) (Some (UnknownCommand line))
-
--- The fault is the one due, unless memory runs out.
-abbrev pub IsDue : Option TransFault → TransFault → Type 0
-IsDue due Memory = Unit {0}
-IsDue due fault = due ≡ Some fault

@@ -3,10 +3,10 @@ use Rattle.std.specs.Prelude.{option_and_then, ℕ, ◌+◌, Bool, false, true, 
 use Rattle.std.specs.Option.{option_map_or}
 use Rattle.std.specs.List.{position}
 use Rattle.std.specs.Str.{bytes_eq}
-use Rattle.cx_command.specs.declared.eib.EibPiece.{EibPiece}
-use Rattle.cx_command.specs.declared.eistg.EistgField.TheVariants.{Eipl, Eitp, Eicap}
-use Rattle.cx_command.specs.Eib.{eib_field, eib_pieces}
-use Rattle.cx_command.specs.Eistg.{eistg_field}
+use Rattle.cx_base_commands.specs.declared.eib.EibPiece.{EibPiece}
+use Rattle.cx_base_commands.specs.declared.eistg.EistgField.TheVariants.{Eipl, Eitp, Eicap}
+use Rattle.cx_base_commands.specs.Eib.{eib_field, eib_pieces}
+use Rattle.cx_base_commands.specs.Eistg.{eistg_field}
 use Rattle.cx_source.specs.declared.source.Item.{Item}
 use Rattle.cx_source.specs.declared.source.Stmt.{Stmt}
 use Rattle.cx_source.specs.Statements.{is_continued}
@@ -37,10 +37,6 @@ storage_fields =
     stmt (eistg_field Eipl).name (codes "DS") (codes "18F") ∷ stmt (eistg_field Eitp).name (codes "DS") (codes "F")
     ∷ stmt (eistg_field Eicap).name (codes "DS") (codes "A") ∷ []
 
--- and the section that it begins
-abbrev pub storage_section : List Stmt
-storage_section = stmt (codes "DFHEISTG") (codes "DSECT") [] ∷ storage_fields
-
 -- the bases of the control section, of the program's storage and of the EIB
 abbrev pub bases : List ℕ → List Stmt
 bases name =
@@ -52,57 +48,54 @@ abbrev pub field : EibPiece → Stmt
 field piece =
     stmt (option_map_or (λ f. (eib_field f).name) piece.field []) (codes "DS") (codes "XL" ++ decimal piece.len)
 
--- the EIB
-abbrev pub eib_section : List Stmt
-eib_section = stmt (codes "DFHEIBLK") (codes "DSECT") [] ∷ map field eib_pieces
-
 -- made lines with one number
 abbrev pub lines : ℕ → List Stmt → List Item
 lines line made = map (made_item line) made
 
 -- how many of the next lines continue a statement that is or isn't continued
-abbrev pub continuing : Bool → List Item → ℕ
-continuing continues [] = 0
-continuing continues (item ∷ rest) =
-    if continues && is_none item.stmt then 1 + continuing (is_continued true item.text) rest else 0
+abbrev pub continuation_count : Bool → List Item → ℕ
+continuation_count continues [] = 0
+continuation_count continues (item ∷ rest) =
+    if continues && is_none item.stmt then 1 + continuation_count (is_continued true item.text) rest else 0
 
--- the place behind the statement that begins at a place, and behind its continuation lines
-unfoldable pub behind : List Item → ℕ → ℕ
-behind items place = place + 1
-    + continuing (option_map_or (λ item. is_continued false item.text) (slice_get items place) false) (drop (place + 1) items)
+-- the place after the statement that begins at a place, and after its continuation lines
+unfoldable pub place_after : List Item → ℕ → ℕ
+place_after items place = place + 1
+    + continuation_count (option_map_or (λ item. is_continued false item.text) (slice_get items place) false) (drop (place + 1) items)
 
 -- items put in at a place
-abbrev pub put : ℕ → List Item → List Item → List Item
-put place made items = take place items ++ made ++ drop place items
+abbrev pub insert_items : ℕ → List Item → List Item → List Item
+insert_items place made items = take place items ++ made ++ drop place items
 
--- made statements before, and behind, the statement that begins at a place, with the number of its line
-abbrev pub numbered : List Stmt → ℕ → List Item → List Item
-numbered made place items = lines (option_map_or (λ item. item.line) (slice_get items place) 0) made
+-- made statements before, and after, the statement that begins at a place, with the number of its line
+abbrev pub numbered_items : List Stmt → ℕ → List Item → List Item
+numbered_items made place items = lines (option_map_or (λ item. item.line) (slice_get items place) 0) made
 
 abbrev pub put_before : List Stmt → ℕ → List Item → List Item
-put_before made place items = put place (numbered made place items) items
+put_before made place items = insert_items place (numbered_items made place items) items
 
 abbrev pub put_behind : List Stmt → ℕ → List Item → List Item
-put_behind made place items = put (behind items place) (numbered made place items) items
+put_behind made place items = insert_items (place_after items place) (numbered_items made place items) items
 
--- a change at the first line that passes a test; without one another list
+-- a change at the first line that passes a test; without one a given list
 abbrev pub at_first : (Item → Bool) → (ℕ → List Item → List Item) → List Item → List Item → List Item
 at_first test change items otherwise = option_map_or (λ place. change place items) (position test items) otherwise
 
--- The fields stand behind the first DFHEISTG DSECT; without one it is put with them before the control section, where
--- there is one.
+-- The fields are placed after the first DFHEISTG DSECT; without one it is put with them before the control section,
+-- where there is one.
 unfoldable pub with_storage : List Item → List Item
 with_storage items =
     at_first begins_storage (put_behind storage_fields) items
-    (at_first begins_section (put_before storage_section) items items)
+    (at_first begins_section (put_before (stmt (codes "DFHEISTG") (codes "DSECT") [] ∷ storage_fields)) items items)
 
--- The bases stand behind the control section's first CSECT or START, and name it.
+-- The bases are placed after the control section's first CSECT or START, and name it.
 abbrev pub name_at : ℕ → List Item → List ℕ
 name_at place items = option_map_or (λ s. s.name) (option_and_then (λ item. item.stmt) (slice_get items place)) []
 
 unfoldable pub with_bases : List Item → List Item
 with_bases items = at_first begins_section (λ place all. put_behind (bases (name_at place all)) place all) items items
 
--- The EIB stands before the first END.
+-- The EIB is placed before the first END.
 unfoldable pub with_eib : List Item → List Item
-with_eib items = at_first is_end (put_before eib_section) items items
+with_eib items =
+    at_first is_end (put_before (stmt (codes "DFHEIBLK") (codes "DSECT") [] ∷ map field eib_pieces)) items items

@@ -1,9 +1,10 @@
 //! What an accepted EXEC statement hands over: the words of its argument list as operands.
 
-ghost use Rattle.std.specs.Prelude.{◌≡◌, ◌++◌, IfOk, OnOk, codes, false, option_map, string_bytes};
+ghost use Rattle.std.specs.Prelude.{◌≡◌, ◌∷◌, [], ◌++◌, IfOk, OnOk, codes, false, option_map, string_bytes};
 ghost use Rattle.std.specs.List.{flat_map};
 ghost use Rattle.std.specs.Option.{option_to_list, option_and};
-ghost use Rattle.cx_command.specs.Options.{option_name};
+ghost use Rattle.cx_base_commands.specs.Options.{option_name};
+ghost use Rattle.cx_base_commands.specs.declared.legal.ListedCondition.{ListedCondition};
 ghost use Rattle.cx_translate.specs.Due.{condition_called};
 ghost use Rattle.cx_translate.specs.Refusals.{has_too_many};
 ghost use Rattle.cx_translate.specs.Call.{
@@ -13,23 +14,21 @@ ghost use Rattle.cx_translate.specs.Call.{
   hex_pair,
   labels_of,
   list_of,
-  listed_by,
+  listed_condition,
   listed_of,
   name_operand,
-  operand_by,
   operand_of,
   operands_of,
   pointer_by,
   pointers_of,
   text_in,
-  two_bytes,
 };
 
 use crate::due::condition_called;
 use crate::names::{bare, is_quoted};
 use crate::refusals::{first_byte, second_byte};
 use crate::words::{Argument, Word};
-use cx_command::{Command, CommandOption, CommonOption, Mark};
+use cx_base_commands::{ArgumentKind, Command, CommandOption, CommonOption};
 use cx_source::Text;
 use std::alloc::{AllocError, Global};
 use std::fmt::Write;
@@ -56,7 +55,7 @@ fn argument_of<'a>(words: &'a [Word], name: &[u8]) -> Option<&'a [u8]>
     None
 }
 
-/// A literal of a name in apostrophes, or the place of a name as it stands.
+/// A literal of a name in apostrophes, or the place of a name as it is written.
 fn name_operand(alloc: Global, literal: &[u8], text: &[u8]) -> Result<Text, AllocError>
     ensures { IfOk result (λ operand. operand ≡ name_operand literal.now text.now) }
 {
@@ -70,26 +69,26 @@ fn name_operand(alloc: Global, literal: &[u8], text: &[u8]) -> Result<Text, Allo
 
 /// What the argument of an option with this mark is in the list.
 #[tactic(auto, unfolding(crate::specs::Call::operand_of))]
-fn operand_of(alloc: Global, mark: Mark, text: &[u8]) -> Result<Text, AllocError>
+fn operand_of(alloc: Global, mark: ArgumentKind, text: &[u8]) -> Result<Text, AllocError>
     ensures { IfOk result (λ operand. operand ≡ operand_of mark text.now) }
 {
     match mark {
-        Mark::Pointer => Text::from_slice(alloc, b"DFHEITP"),
-        Mark::Name4 => name_operand(alloc, b"=CL4", text),
-        Mark::Name8 => name_operand(alloc, b"=CL8", text),
+        ArgumentKind::Pointer => Text::from_slice(alloc, b"DFHEITP"),
+        ArgumentKind::Name4 => name_operand(alloc, b"=CL4", text),
+        ArgumentKind::Name8 => name_operand(alloc, b"=CL8", text),
         _ => Text::from_slice(alloc, text),
     }
 }
 
-/// Puts the argument of an option behind others, where it is given.
+/// Puts the argument of an option after others, where it is given.
 fn push_operand(
     alloc: Global,
     list: &mut Vec<Text>,
     option: CommandOption,
     words: &[Word],
 ) -> Result<(), AllocError>
-    ensures { let argument = argument_of words.now (option_name option.name) in
-        OnOk result (list.new.items ≡ list.old.items ++ operand_by option.mark argument) }
+    ensures { let operand = option_map (operand_of option.mark) (argument_of words.now (option_name option.name)) in
+        OnOk result (list.new.items ≡ list.old.items ++ option_to_list operand) }
 {
     if let Some(text) = argument_of(words, option.name.name().as_bytes()) {
         list.push(operand_of(alloc, option.mark, text)?)?;
@@ -97,7 +96,7 @@ fn push_operand(
     Ok(())
 }
 
-/// Puts the arguments of those options that are given behind others.
+/// Puts the arguments of those options that are given after others.
 fn push_operands(
     alloc: Global,
     list: &mut Vec<Text>,
@@ -112,7 +111,7 @@ fn push_operands(
     Ok(())
 }
 
-/// Puts the label of a condition behind others, where the word has one.
+/// Puts the label of a condition after others, where the word has one.
 fn push_label(alloc: Global, list: &mut Vec<Text>, word: &Word) -> Result<(), AllocError>
     ensures { let label = option_and (condition_called word.now.name) (text_in word.now.argument) in
         OnOk result (list.new.items ≡ list.old.items ++ option_to_list label) }
@@ -125,7 +124,7 @@ fn push_label(alloc: Global, list: &mut Vec<Text>, word: &Word) -> Result<(), Al
     Ok(())
 }
 
-/// Puts the labels of the conditions listed behind others.
+/// Puts the labels of the conditions listed after others.
 fn push_labels(alloc: Global, list: &mut Vec<Text>, words: &[Word]) -> Result<(), AllocError>
     ensures { OnOk result (list.new.items ≡ list.old.items ++ labels_of words.now) }
 {
@@ -135,7 +134,7 @@ fn push_labels(alloc: Global, list: &mut Vec<Text>, words: &[Word]) -> Result<()
     Ok(())
 }
 
-/// Puts RESP's argument behind others, where it is given.
+/// Puts RESP's argument after others, where it is given.
 fn push_response(alloc: Global, list: &mut Vec<Text>, words: &[Word]) -> Result<(), AllocError>
     ensures { OnOk result (list.new.items ≡ list.old.items ++ option_to_list (argument_of words.now (codes "RESP"))) }
 {
@@ -145,10 +144,11 @@ fn push_response(alloc: Global, list: &mut Vec<Text>, words: &[Word]) -> Result<
     Ok(())
 }
 
-/// Puts the two bytes of a condition listed behind others.
+/// Puts the two bytes of a condition listed after others.
 fn push_listed(bytes: &mut Vec<u8>, word: &Word) -> Result<(), AllocError>
-    ensures { let listed = listed_by (condition_called word.now.name) word.now.argument in
-        OnOk result (bytes.new.items ≡ bytes.old.items ++ flat_map two_bytes listed) }
+    ensures { let bytes_of = λ (condition : ListedCondition). condition.number ∷ condition.label ∷ [] in
+        let found = option_map (λ condition. listed_condition condition word.now.argument) (condition_called word.now.name) in
+        OnOk result (bytes.new.items ≡ bytes.old.items ++ flat_map bytes_of (option_to_list found)) }
 {
     if let Some(condition) = condition_called(word.name.as_slice()) {
         bytes.push(condition.number())?;
@@ -161,9 +161,10 @@ fn push_listed(bytes: &mut Vec<u8>, word: &Word) -> Result<(), AllocError>
     Ok(())
 }
 
-/// Puts the bytes of the conditions listed behind others.
+/// Puts the bytes of the conditions listed after others.
 fn push_all_listed(bytes: &mut Vec<u8>, words: &[Word]) -> Result<(), AllocError>
-    ensures { OnOk result (bytes.new.items ≡ bytes.old.items ++ flat_map two_bytes (listed_of words.now)) }
+    ensures { let bytes_of = λ (condition : ListedCondition). condition.number ∷ condition.label ∷ [] in
+        OnOk result (bytes.new.items ≡ bytes.old.items ++ flat_map bytes_of (listed_of words.now)) }
 {
     for word in words {
         push_listed(bytes, word)?;
@@ -235,7 +236,7 @@ pub(crate) fn list_of(
     Ok(list)
 }
 
-/// Puts the register that an option's pointer is loaded into behind others, where it is given.
+/// Puts the register that an option's pointer is loaded into after others, where it is given.
 fn push_pointer(
     alloc: Global,
     registers: &mut Vec<Text>,
@@ -245,7 +246,7 @@ fn push_pointer(
     ensures { let argument = argument_of words.now (option_name option.name) in
         OnOk result (registers.new.items ≡ registers.old.items ++ pointer_by option.mark argument) }
 {
-    if let Mark::Pointer = option.mark {
+    if let ArgumentKind::Pointer = option.mark {
         if let Some(text) = argument_of(words, option.name.name().as_bytes()) {
             registers.push(Text::from_slice(alloc, text)?)?;
         }

@@ -13,30 +13,30 @@ ghost use Rattle.cx_translate.specs.Due.{
 
 use crate::names::{is_name_or_place, is_value};
 use crate::words::Argument;
-use cx_command::{Command, CommandOption, CommonOption, Condition, Mark};
+use cx_base_commands::{ArgumentKind, Command, CommandOption, CommonOption, Condition};
 
 /// The argument that is due with a word.
 #[derive(Clone, Copy, Debug)]
-pub enum Due {
+pub enum DueStatement {
     /// None.
     Nothing,
-    /// A name of up to so many characters in apostrophes, or the place of one.
+    /// A name of up to this number of characters in apostrophes, or the place of one.
     Name(u8),
-    /// A value, which is written as it stands.
+    /// A value, which is written as it is.
     Value,
-    /// A label, which is written as it stands, or none.
+    /// A label, which is written as it is, or none.
     Label,
 }
 
 /// The argument that is due with an option of this mark.
-fn due_of_mark(mark: Mark) -> Due
+fn due_of_mark(mark: ArgumentKind) -> DueStatement
     ensures { result ≡ due_of_mark mark }
 {
     match mark {
-        Mark::Flag => Due::Nothing,
-        Mark::Name4 => Due::Name(4),
-        Mark::Name8 => Due::Name(8),
-        _ => Due::Value,
+        ArgumentKind::Flag => DueStatement::Nothing,
+        ArgumentKind::Name4 => DueStatement::Name(4),
+        ArgumentKind::Name8 => DueStatement::Name(8),
+        _ => DueStatement::Value,
     }
 }
 
@@ -64,13 +64,13 @@ pub(crate) fn condition_called(name: &[u8]) -> Option<Condition>
 
 /// What is due with NOHANDLE and RESP.
 #[tactic(auto, unfolding(crate::specs::Due::common_due))]
-fn common_due(name: &[u8]) -> Option<Due>
+fn common_due(name: &[u8]) -> Option<DueStatement>
     ensures { result ≡ common_due name.now }
 {
     if CommonOption::Nohandle.name().as_bytes() == name {
-        Some(Due::Nothing)
+        Some(DueStatement::Nothing)
     } else if CommonOption::Resp.name().as_bytes() == name {
-        Some(Due::Value)
+        Some(DueStatement::Value)
     } else {
         None
     }
@@ -78,21 +78,21 @@ fn common_due(name: &[u8]) -> Option<Due>
 
 /// What is due with a condition that the command lists.
 #[tactic(auto, unfolding(crate::specs::Due::condition_due))]
-fn condition_due(command: Command, name: &[u8]) -> Option<Due>
+fn condition_due(command: Command, name: &[u8]) -> Option<DueStatement>
     ensures { result ≡ condition_due command name.now }
 {
     if !command.lists_conditions() || condition_called(name).is_none() {
         return None;
     }
     match command {
-        Command::HandleCondition => Some(Due::Label),
-        _ => Some(Due::Nothing),
+        Command::HandleCondition => Some(DueStatement::Label),
+        _ => Some(DueStatement::Nothing),
     }
 }
 
 /// What is due with a word of a command, or None where the command has no such option.
 #[tactic(auto, unfolding(crate::specs::Due::due_of))]
-pub(crate) fn due_of(command: Command, name: &[u8]) -> Option<Due>
+pub(crate) fn due_of(command: Command, name: &[u8]) -> Option<DueStatement>
     ensures { result ≡ due_of command name.now }
 {
     if let Some(option) = option_called(command.options(), name) {
@@ -104,17 +104,17 @@ pub(crate) fn due_of(command: Command, name: &[u8]) -> Option<Due>
     condition_due(command, name)
 }
 
-/// Whether what stands behind a word is what is due.
+/// Whether what follows a word is what is due.
 #[tactic(auto, unfolding(crate::specs::Due::suits))]
-pub(crate) fn suits(due: Due, argument: &Argument) -> bool
+pub(crate) fn suits(due: DueStatement, argument: &Argument) -> bool
     ensures { result ≡ suits due argument.now }
 {
     match argument {
-        Argument::Absent => matches!(due, Due::Nothing | Due::Label),
+        Argument::Absent => matches!(due, DueStatement::Nothing | DueStatement::Label),
         Argument::Given(text) => match due {
-            Due::Nothing => false,
-            Due::Name(most) => is_name_or_place(text.as_slice(), most),
-            Due::Value | Due::Label => is_value(text.as_slice()),
+            DueStatement::Nothing => false,
+            DueStatement::Name(most) => is_name_or_place(text.as_slice(), most),
+            DueStatement::Value | DueStatement::Label => is_value(text.as_slice()),
         },
         Argument::Bad => false,
     }

@@ -12,7 +12,7 @@ use thiserror::Error;
 /// TooManyConditions, Conflict, MissingOption.
 #[derive(Clone, Copy, Debug, PartialEq, Eq, Error)]
 pub enum TransFault {
-    /// The words behind EXEC aren't CICS and a command.
+    /// The words after EXEC aren't CICS and a command.
     #[error("line {0}: {name}", name = self.name())]
     UnknownCommand(usize),
     /// A word is no option of the command, and no condition that it lists.
@@ -21,17 +21,17 @@ pub enum TransFault {
     /// The command can't be without an option that isn't there, or lists no condition.
     #[error("line {0}: {name}", name = self.name())]
     MissingOption(usize),
-    /// An option or a condition stands twice, or options that exclude each other stand together.
+    /// An option or a condition occurs twice, or options that exclude each other are given together.
     #[error("line {0}: {name}", name = self.name())]
     Conflict(usize),
     /// More than 16 conditions are listed.
     #[error("line {0}: {name}", name = self.name())]
     TooManyConditions(usize),
-    /// An argument is missing, empty, unexpected or not closed, in apostrophes where no name is due, or a name of no or too
-    /// many characters; or a `)` closes nothing.
+    /// An argument is missing, empty, unexpected or not closed, in apostrophes where no name is due, or a name of no or
+    /// too many characters; or a `)` closes nothing.
     #[error("line {0}: {name}", name = self.name())]
     BadArgument(usize),
-    /// A growth was refused.
+    /// An allocation failed.
     #[error("{name}", name = self.name())]
     Memory,
 }

@@ -2,9 +2,9 @@
 
 ghost use Rattle.std.specs.Prelude.{◌≡◌, ◌≤◌, ℕ, List, None, Ok, false, length, true};
 ghost use Rattle.std.specs.List.{list_any};
-ghost use Rattle.cx_command.specs.Legal.{is_legal, is_legal_list, lists_conditions};
-ghost use Rattle.cx_command.specs.declared.commands.Command.{Command};
-ghost use Rattle.cx_source.specs.Marks.{outside};
+ghost use Rattle.cx_base_commands.specs.Legal.{is_legal, is_legal_list, lists_conditions};
+ghost use Rattle.cx_base_commands.specs.declared.commands.Command.{Command};
+ghost use Rattle.cx_source.specs.Marks.{outside_apostrophes};
 ghost use Rattle.cx_source.specs.declared.source.Source.{Source};
 ghost use Rattle.cx_translate.specs.Call.{list_of, listed_of};
 ghost use Rattle.cx_translate.specs.Pieces.{pieces_of};
@@ -20,7 +20,7 @@ ghost use Rattle.cx_translate.specs.declared.words.Word.{Word};
 /// An operand's words and arguments, joined again, are the operand without the blanks between them.
 #[tactic(auto, using(crate::proofs::PieceLemmas::joined_again))]
 pub fn pieces_are_the_operand()
-    ensures { (operand : List ℕ) → joined (pieces_of operand) ≡ unblanked_from 0 (outside operand) operand }
+    ensures { (operand : List ℕ) → joined (pieces_of operand) ≡ unblanked_from 0 (outside_apostrophes operand) operand }
 {}
 
 /// The option bytes of an accepted statement are legal for its command.

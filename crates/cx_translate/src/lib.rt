@@ -13,8 +13,8 @@ mod sections;
 mod translation;
 mod words;
 
-pub use due::Due;
+pub use due::DueStatement;
 pub use faults::TransFault;
-pub use pieces::Piece;
+pub use pieces::Token;
 pub use translation::{translate, translate_or_faults};
 pub use words::{Argument, Word};

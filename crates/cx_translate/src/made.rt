@@ -1,17 +1,18 @@
 //! The statements made of one EXEC statement, and the lines that they become.
 
-ghost use Rattle.std.specs.Prelude.{◌≡◌, ◌*◌, ◌++◌, ◌∷◌, [], IfErr, IfOk, None, OnOk, codes, decimal, false, map, string_bytes};
-ghost use Rattle.cx_command.specs.Commands.{row_of};
+ghost use Rattle.std.specs.Prelude.{◌≡◌, ◌≢◌, ◌*◌, ◌++◌, ◌∷◌, [], IfErr, IfOk, None, OnOk, Some, codes, decimal, false, map, string_bytes};
+ghost use Rattle.cx_base_commands.specs.Commands.{row_of};
 ghost use Rattle.cx_translate.specs.Call.{list_of, pointers_of};
-ghost use Rattle.cx_translate.specs.Made.{branch, call, filled, label, load, made_in, made_item, made_of, stmt, store, stores};
-ghost use Rattle.cx_translate.specs.Refusals.{IsDue, fault_of, has_too_many};
+ghost use Rattle.cx_translate.specs.Made.{call, fill_to_column, label, load, made_in, made_item, made_of, stmt, stores};
+ghost use Rattle.cx_translate.specs.Refusals.{fault_of, has_too_many};
+ghost use Rattle.cx_translate.specs.declared.faults.TransFault.TheVariants.{Memory};
 ghost use Rattle.cx_translate.specs.Words.{words_of};
 
 use crate::call::{list_of, pointers_of};
 use crate::faults::TransFault;
 use crate::refusals::{command_in, fault_in};
 use crate::words::{Word, words_of};
-use cx_command::Command;
+use cx_base_commands::Command;
 use cx_source::{Item, Stmt, Text, text_of};
 use std::alloc::{AllocError, Global};
 use std::fmt::Write;
@@ -47,7 +48,7 @@ fn joined(alloc: Global, first: &[u8], second: &[u8]) -> Result<Vec<u8>, AllocEr
     Ok(text)
 }
 
-/// A word of the argument list as an operand, with what stands before and behind it.
+/// A word of the argument list as an operand, with what is before and after it.
 fn word_of_list(
     alloc: Global,
     before: &str,
@@ -64,14 +65,14 @@ fn word_of_list(
     Ok(text)
 }
 
-/// Puts the statements that store an argument's address as a word of the list behind others.
+/// Puts the statements that store an argument's address as a word of the list after others.
 fn push_store(
     alloc: Global,
     made: &mut Vec<Stmt>,
     place: usize,
     argument: &[u8],
 ) -> Result<(), AllocError>
-    ensures { OnOk result (made.new.items ≡ made.old.items ++ store place argument.now) }
+    ensures { OnOk result (made.new.items ≡ made.old.items ++ stores place (argument.now ∷ [])) }
 {
     let address = joined(alloc, b"0,", argument)?;
     let word = word_of_list(alloc, "0,", place, "")?;
@@ -80,7 +81,7 @@ fn push_store(
     Ok(())
 }
 
-/// Puts the statements that store the addresses of all arguments behind others.
+/// Puts the statements that store the addresses of all arguments after others.
 fn push_stores(alloc: Global, made: &mut Vec<Stmt>, list: &[Text]) -> Result<(), AllocError>
     ensures { OnOk result (made.new.items ≡ made.old.items ++ stores 0 list.now) }
 {
@@ -92,7 +93,9 @@ fn push_stores(alloc: Global, made: &mut Vec<Stmt>, list: &[Text]) -> Result<(),
 
 /// The statements that call a command.
 fn branch(alloc: Global) -> Result<Vec<Stmt>, AllocError>
-    ensures { IfOk result (λ made. made.items ≡ branch) }
+    ensures { let address = stmt [] (codes "LA") (codes "1,DFHEIPL") in
+        let entry = stmt [] (codes "L") (codes "15,=V(DFHEI1)") in
+        IfOk result (λ made. made.items ≡ address ∷ entry ∷ stmt [] (codes "BALR") (codes "14,15") ∷ []) }
 {
     let mut made = Vec::new(alloc);
     made.push(stmt(alloc, b"", b"LA", b"1,DFHEIPL")?)?;
@@ -101,7 +104,7 @@ fn branch(alloc: Global) -> Result<Vec<Stmt>, AllocError>
     Ok(made)
 }
 
-/// Puts the statements that mark a word of the list as the last, and call the command, behind others.
+/// Puts the statements that mark a word of the list as the last, and call the command, after others.
 fn push_call(alloc: Global, made: &mut Vec<Stmt>, last: usize) -> Result<(), AllocError>
     ensures { OnOk result (made.new.items ≡ made.old.items ++ call last) }
 {
@@ -111,7 +114,7 @@ fn push_call(alloc: Global, made: &mut Vec<Stmt>, last: usize) -> Result<(), All
     Ok(())
 }
 
-/// Puts the statements that load pointers into registers behind others.
+/// Puts the statements that load pointers into registers after others.
 fn push_loads(alloc: Global, made: &mut Vec<Stmt>, registers: &[Text]) -> Result<(), AllocError>
     ensures { OnOk result (made.new.items ≡ made.old.items ++ map load registers.now) }
 {
@@ -155,7 +158,7 @@ fn made_in(
 
 /// The statements made of the EXEC statement on a line.
 ///
-/// Its fault is the first that applies. Memory comes only where a growth was refused.
+/// Its fault is the first that applies. Memory comes only where an allocation failed.
 #[tactic(auto, using(crate::proofs::RefusalLemmas::few_conditions), unfolding(crate::specs::Made::made_of, crate::specs::Refusals::fault_of))]
 pub(crate) fn statements_of(
     alloc: Global,
@@ -164,7 +167,7 @@ pub(crate) fn statements_of(
 ) -> Result<Vec<Stmt>, TransFault>
     ensures sound { OnOk result (fault_of line (words_of exec.now.operand) ≡ None) }
     ensures made { IfOk result (λ made. made.items ≡ made_of exec.now.name (words_of exec.now.operand)) }
-    ensures fault { IfErr result (λ fault. IsDue (fault_of line (words_of exec.now.operand)) fault) }
+    ensures fault { IfErr result (λ fault. fault ≢ Memory → fault_of line (words_of exec.now.operand) ≡ Some fault) }
 {
     let words = words_of(alloc, exec.operand.as_slice())?;
     let Some((command, taken)) = command_in(words.as_slice()) else {
@@ -180,7 +183,7 @@ pub(crate) fn statements_of(
 
 /// Fills a text with blanks up to a column.
 fn fill(text: &mut Vec<u8>, columns: usize) -> Result<(), AllocError>
-    ensures { OnOk result (text.new.items ≡ filled columns text.old.items) }
+    ensures { OnOk result (text.new.items ≡ fill_to_column columns text.old.items) }
 {
     while text.len() < columns {
         text.push(b' ')?;

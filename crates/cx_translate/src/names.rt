@@ -1,14 +1,13 @@
-//! Arguments as they may be written: values as they stand, and names in apostrophes.
+//! Arguments as they may be written: values as they are, and names in apostrophes.
 
-ghost use Rattle.std.specs.Prelude.{◌≡◌, ◌==◌, false, slice_index};
+ghost use Rattle.std.specs.Prelude.{◌≡◌, ◌==◌, ◌||◌, false, slice_index};
 ghost use Rattle.std.specs.List.{list_any};
 ghost use Rattle.std.specs.Str.{byte};
 ghost use Rattle.cx_source.specs.Lines.{is_written};
 ghost use Rattle.cx_translate.specs.Names.{
-  bare,
+  bare_argument,
   characters_from,
   closes_from,
-  is_doubled,
   is_name_or_place,
   is_name_text,
   is_quoted,
@@ -21,9 +20,9 @@ use cx_source::{skip_blanks, trimmed};
 const APOSTROPHE: u8 = b'\'';
 
 /// An argument without the blanks round it.
-#[tactic(auto, unfolding(crate::specs::Names::bare))]
+#[tactic(auto, unfolding(crate::specs::Names::bare_argument))]
 pub(crate) fn bare(text: &[u8]) -> &[u8]
-    ensures { result.now ≡ bare text.now }
+    ensures { result.now ≡ bare_argument text.now }
 {
     trimmed(skip_blanks(text))
 }
@@ -46,7 +45,7 @@ pub(crate) fn is_quoted(text: &[u8]) -> bool
     begins_with_apostrophe(bare(text))
 }
 
-/// Whether the text behind an opening apostrophe ends with its last character, and not before.
+/// Whether the text after an opening apostrophe ends with its last character, and not before.
 fn closes(text: &[u8]) -> bool
     ensures { result ≡ closes_from false text.now }
 {
@@ -63,7 +62,7 @@ fn closes(text: &[u8]) -> bool
 
 /// Whether two of a character stand for one.
 fn is_doubled(c: u8) -> bool
-    ensures { result ≡ is_doubled c }
+    ensures { result ≡ (c == byte "'" || c == byte "&") }
 {
     c == APOSTROPHE || c == b'&'
 }
@@ -103,7 +102,7 @@ fn has_written(text: &[u8]) -> bool
     text.iter().any(|c| *c != b' ')
 }
 
-/// Whether an argument is a value that is written as it stands.
+/// Whether an argument is a value that is written as it is.
 #[tactic(auto, unfolding(crate::specs::Names::is_value))]
 pub(crate) fn is_value(text: &[u8]) -> bool
     ensures { result ≡ is_value text.now }
@@ -111,7 +110,7 @@ pub(crate) fn is_value(text: &[u8]) -> bool
     has_written(text) && !is_quoted(text)
 }
 
-/// Whether an argument is a name of 1 to `most` characters in apostrophes, or a value that is written as it stands.
+/// Whether an argument is a name of 1 to `most` characters in apostrophes, or a value that is written as it is.
 #[tactic(auto, unfolding(crate::specs::Names::is_name_or_place))]
 pub(crate) fn is_name_or_place(text: &[u8], most: u8) -> bool
     ensures { result ≡ is_name_or_place most text.now }

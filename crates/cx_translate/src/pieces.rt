@@ -1,23 +1,24 @@
-//! An operand of EXEC cut into its words and the arguments in parentheses behind them.
+//! An operand of EXEC cut into its words and the arguments in parentheses after them.
 
 ghost use Rattle.std.specs.Prelude.{◌≡◌, ◌<◌, ◌≤◌, ◌+◌, ◌^◌, ◌++◌, [], IfOk, OnOk, length};
-ghost use Rattle.cx_translate.specs.Pieces.{depth_behind, ended, is_cut, last_of, pieces_from, pieces_of, word};
+ghost use Rattle.cx_translate.specs.Pieces.{depth_behind, end_of_pieces, is_cut, last_of, pieces_from, pieces_of, word};
 
 use cx_source::{Text, outside};
 use std::alloc::{AllocError, Global};
 
 /// A piece of an operand.
 #[derive(Debug, Drop)]
-pub enum Piece {
+pub enum Token {
     /// A word.
     Word(Text),
-    /// What stands between two parentheses that belong together.
+    /// What is between two parentheses that belong together.
     Argument(Text),
-    /// What has only one of two parentheses, with it: an argument that isn't closed, to the operand's end, or a `)` alone.
+    /// What has only one of two parentheses, with it: an argument that isn't closed, to the operand's end, or a `)`
+    /// alone.
     Broken(Text),
 }
 
-/// How many parentheses are open behind a character.
+/// How many parentheses are open after a character.
 #[tactic(auto, unfolding(crate::specs::Pieces::depth_behind))]
 fn depth_behind(depth: usize, is_outside: bool, c: u8) -> usize
     requires { depth + 1 < 2 ^ 64 }
@@ -44,43 +45,43 @@ fn is_cut(depth: usize, is_outside: bool, c: u8) -> bool
     is_outside && ends
 }
 
-/// Puts a word behind the pieces, where there is one.
-fn push_word(alloc: Global, pieces: &mut Vec<Piece>, part: &[u8]) -> Result<(), AllocError>
+/// Puts a word after the pieces, where there is one.
+fn push_word(alloc: Global, pieces: &mut Vec<Token>, part: &[u8]) -> Result<(), AllocError>
     ensures { OnOk result (pieces.new.items ≡ pieces.old.items ++ word part.now) }
 {
     if !part.is_empty() {
-        pieces.push(Piece::Word(Text::from_slice(alloc, part)?))?;
+        pieces.push(Token::Word(Text::from_slice(alloc, part)?))?;
     }
     Ok(())
 }
 
-/// Puts the pieces that end at a character behind the others.
-#[tactic(auto, unfolding(crate::specs::Pieces::ended))]
+/// Puts the pieces that end at a character after the others.
+#[tactic(auto, unfolding(crate::specs::Pieces::end_of_pieces))]
 fn push_ended(
     alloc: Global,
-    pieces: &mut Vec<Piece>,
+    pieces: &mut Vec<Token>,
     depth: usize,
     part: &[u8],
     c: u8,
 ) -> Result<(), AllocError>
-    ensures { OnOk result (pieces.new.items ≡ pieces.old.items ++ ended depth part.now c) }
+    ensures { OnOk result (pieces.new.items ≡ pieces.old.items ++ end_of_pieces depth part.now c) }
 {
     if depth > 0 {
-        pieces.push(Piece::Argument(Text::from_slice(alloc, part)?))?;
+        pieces.push(Token::Argument(Text::from_slice(alloc, part)?))?;
         return Ok(());
     }
     push_word(alloc, pieces, part)?;
     if c == b')' {
-        pieces.push(Piece::Broken(Text::from_slice(alloc, b")")?))?;
+        pieces.push(Token::Broken(Text::from_slice(alloc, b")")?))?;
     }
     Ok(())
 }
 
-/// Puts what is left at the operand's end behind the pieces.
+/// Puts what is left at the operand's end after the pieces.
 #[tactic(auto, unfolding(crate::specs::Pieces::last_of))]
 fn push_last(
     alloc: Global,
-    pieces: &mut Vec<Piece>,
+    pieces: &mut Vec<Token>,
     depth: usize,
     part: &[u8],
 ) -> Result<(), AllocError>
@@ -91,12 +92,12 @@ fn push_last(
     }
     let mut text = Vec::from_slice(alloc, b"(")?;
     text.extend_from_slice(part)?;
-    pieces.push(Piece::Broken(Text::from_vec(text)))?;
+    pieces.push(Token::Broken(Text::from_vec(text)))?;
     Ok(())
 }
 
 /// The pieces of a text, of which each character is known to lie outside apostrophes or not.
-fn pieces_in(alloc: Global, text: &[u8], marks: &[bool]) -> Result<Vec<Piece>, AllocError>
+fn pieces_in(alloc: Global, text: &[u8], marks: &[bool]) -> Result<Vec<Token>, AllocError>
     requires { length marks.now ≡ length text.now }
     ensures { IfOk result (λ pieces. pieces.items ≡ pieces_from 0 [] marks.now text.now) }
 {
@@ -115,12 +116,12 @@ fn pieces_in(alloc: Global, text: &[u8], marks: &[bool]) -> Result<Vec<Piece>, A
     Ok(pieces)
 }
 
-/// The words of an operand and the arguments behind them, in order.
+/// The words of an operand and the arguments after them, in order.
 ///
-/// Blanks, and parentheses that don't stand within others, cut it; what stands in apostrophes cuts nothing.
-/// An argument that isn't closed takes the rest. An error comes only where a growth was refused.
+/// Blanks, and parentheses that aren't within others, cut it; what is in apostrophes cuts nothing.
+/// An argument that isn't closed takes the rest. An error comes only where an allocation failed.
 #[tactic(auto, using(crate::proofs::PieceLemmas::marks_length), unfolding(crate::specs::Pieces::pieces_of))]
-pub(crate) fn pieces_of(alloc: Global, text: &[u8]) -> Result<Vec<Piece>, AllocError>
+pub(crate) fn pieces_of(alloc: Global, text: &[u8]) -> Result<Vec<Token>, AllocError>
     ensures { IfOk result (λ pieces. pieces.items ≡ pieces_of text.now) }
 {
     let marks = outside(alloc, text)?;

@@ -1,7 +1,8 @@
 //! Which EXEC statements are refused, and as what.
 
-ghost use Rattle.std.specs.Prelude.{◌≡◌, ◌≤◌, false, fold, if◌then◌else◌};
-ghost use Rattle.cx_command.specs.Commands.{row_of};
+ghost use Rattle.std.specs.Prelude.{◌≡◌, ◌≤◌, bit_or, false, fold, if◌then◌else◌, not};
+ghost use Rattle.std.specs.Option.{option_map_or};
+ghost use Rattle.cx_base_commands.specs.Commands.{row_of};
 ghost use Rattle.cx_translate.specs.Refusals.{
   command_in,
   conditions_in,
@@ -14,23 +15,20 @@ ghost use Rattle.cx_translate.specs.Refusals.{
   has_twice,
   has_unknown,
   has_wrong,
-  is_bare,
   is_given,
-  is_wrong,
   second_byte,
-  with_option,
   word_at,
 };
-ghost use Rattle.cx_command.specs.Legal.{has_bit};
-ghost use Rattle.cx_command.specs.Options.{common_of};
-ghost use Rattle.cx_translate.specs.Due.{due_of};
+ghost use Rattle.cx_base_commands.specs.Legal.{has_bit};
+ghost use Rattle.cx_base_commands.specs.Options.{common_of, option_name};
+ghost use Rattle.cx_translate.specs.Due.{due_of, suits};
 
-use crate::due::{condition_called, due_of, suits};
+use crate::due::{DueStatement, condition_called, due_of, suits};
 use crate::faults::TransFault;
-use crate::words::{Argument, Word};
-use cx_command::{Command, CommandOption, CommonOption, Rule, has_bit};
+use crate::words::Word;
+use cx_base_commands::{Command, CommandOption, CommonOption, Rule, has_bit};
 
-/// How many conditions a command lists at most.
+/// How many conditions a command may list.
 const CONDITIONS: usize = 16;
 
 /// The word at a place, empty past the end.
@@ -43,7 +41,7 @@ fn word_at(words: &[Word], place: usize) -> &[u8]
     }
 }
 
-/// The command that words give behind CICS, and how many words its name takes.
+/// The command that words give after CICS, and how many words its name takes.
 #[tactic(auto, unfolding(crate::specs::Refusals::command_in))]
 pub(crate) fn command_in(words: &[Word]) -> Option<(Command, usize)>
     ensures { result ≡ command_in words.now }
@@ -54,19 +52,14 @@ pub(crate) fn command_in(words: &[Word]) -> Option<(Command, usize)>
     Command::named(word_at(words, 1), word_at(words, 2))
 }
 
-/// Whether nothing stands behind a word.
-fn is_bare(argument: &Argument) -> bool
-    ensures { result ≡ is_bare argument.now }
-{
-    matches!(argument, Argument::Absent)
-}
-
-/// Whether some word has an argument behind it.
+/// Whether anything follows some word.
 #[tactic(auto, unfolding(crate::specs::Refusals::has_argument))]
 fn has_argument(words: &[Word]) -> bool
     ensures { result ≡ has_argument words.now }
 {
-    words.iter().any(|word| !is_bare(&word.argument))
+    words
+        .iter()
+        .any(|word| !suits(DueStatement::Nothing, &word.argument))
 }
 
 /// Whether some word is of a name.
@@ -87,9 +80,10 @@ fn has_unknown(command: Command, words: &[Word]) -> bool
         .any(|word| due_of(command, word.name.as_slice()).is_none())
 }
 
-/// Whether another argument stands behind a word than is due.
+/// Whether an argument other than is due follows a word.
 fn is_wrong(command: Command, word: &Word) -> bool
-    ensures { result ≡ is_wrong (due_of command word.now.name) word.now.argument }
+    ensures { let due = due_of command word.now.name in
+        result ≡ option_map_or (λ due. not (suits due word.now.argument)) due false }
 {
     match due_of(command, word.name.as_slice()) {
         Some(due) => !suits(due, &word.argument),
@@ -97,7 +91,7 @@ fn is_wrong(command: Command, word: &Word) -> bool
     }
 }
 
-/// Whether another argument stands behind some word than is due.
+/// Whether an argument other than is due follows some word.
 #[tactic(auto, unfolding(crate::specs::Refusals::has_wrong))]
 fn has_wrong(command: Command, words: &[Word]) -> bool
     ensures { result ≡ has_wrong command words.now }
@@ -124,7 +118,7 @@ fn has_too_many(command: Command, words: &[Word]) -> bool
     command.lists_conditions() && conditions_in(words) > CONDITIONS
 }
 
-/// Whether a word stands twice.
+/// Whether a word occurs twice.
 fn has_twice(words: &[Word]) -> bool
     ensures { result ≡ has_twice words.now }
 {
@@ -138,7 +132,8 @@ fn has_twice(words: &[Word]) -> bool
 
 /// The bits of those of some options that words give.
 fn option_byte(options: &[CommandOption], words: &[Word]) -> u8
-    ensures { result ≡ fold (with_option words.now) 0 options.now }
+    ensures { result
+        ≡ fold (λ byte o. if is_given words.now (option_name o.name) then bit_or byte o.bit else byte) 0 options.now }
 {
     let mut byte = 0;
     for option in options {

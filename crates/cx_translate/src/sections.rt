@@ -1,34 +1,33 @@
 //! What a translated source gets beside its sections.
 
-ghost use Rattle.std.specs.Prelude.{[], ◌≡◌, ◌≤◌, ◌<◌, ◌+◌, ◌++◌, IfOk, IfSome, OnOk, length, map};
+ghost use Rattle.std.specs.Prelude.{[], ◌∷◌, codes, ◌≡◌, ◌≤◌, ◌<◌, ◌+◌, ◌++◌, IfOk, IfSome, OnOk, length, map};
 ghost use Rattle.std.specs.List.{position};
 ghost use Rattle.std.specs.Option.{option_map_or};
-ghost use Rattle.cx_command.specs.Eib.{eib_field};
+ghost use Rattle.cx_base_commands.specs.Eib.{eib_field, eib_pieces};
+ghost use Rattle.cx_translate.specs.Made.{stmt};
 ghost use Rattle.cx_translate.specs.Sections.{
   bases,
   begins_exec,
   begins_section,
   begins_storage,
-  behind,
-  continuing,
-  eib_section,
+  place_after,
+  continuation_count,
   field,
   has_name,
   has_operation,
   is_end,
   lines,
-  put,
+  insert_items,
   put_before,
   put_behind,
   storage_fields,
-  storage_section,
   with_bases,
   with_eib,
   with_storage,
 };
 
 use crate::made::{made_item, stmt};
-use cx_command::{EibField, EibPiece, EistgField, eib_pieces};
+use cx_base_commands::{EibField, EibPiece, EistgField, eib_pieces};
 use cx_source::{Item, Stmt, is_continued};
 use std::alloc::{AllocError, Global};
 
@@ -60,7 +59,7 @@ pub(crate) fn begins_exec(item: &Item) -> bool
     has_operation(&item.stmt, b"EXEC")
 }
 
-/// Whether the control section begins or goes on behind a line.
+/// Whether the control section begins or goes on after a line.
 #[tactic(auto, unfolding(crate::specs::Sections::begins_section))]
 fn begins_section(item: &Item) -> bool
     ensures { result ≡ begins_section item.now }
@@ -68,7 +67,7 @@ fn begins_section(item: &Item) -> bool
     has_operation(&item.stmt, b"CSECT") || has_operation(&item.stmt, b"START")
 }
 
-/// Whether the program's storage begins or goes on behind a line.
+/// Whether the program's storage begins or goes on after a line.
 #[tactic(auto, unfolding(crate::specs::Sections::begins_storage))]
 fn begins_storage(item: &Item) -> bool
     ensures { result ≡ begins_storage item.now }
@@ -84,7 +83,7 @@ fn is_end(item: &Item) -> bool
     has_operation(&item.stmt, b"END")
 }
 
-/// The place of the first line behind which the control section begins.
+/// The place of the first line after which the control section begins.
 fn section_place(items: &[Item]) -> Option<usize>
     ensures value { result ≡ position begins_section items.now }
     ensures bound { IfSome result (λ place. place < length items.now) }
@@ -92,7 +91,7 @@ fn section_place(items: &[Item]) -> Option<usize>
     items.iter().position(|item| begins_section(item))
 }
 
-/// The place of the first line behind which the program's storage begins.
+/// The place of the first line after which the program's storage begins.
 fn storage_place(items: &[Item]) -> Option<usize>
     ensures value { result ≡ position begins_storage items.now }
     ensures bound { IfSome result (λ place. place < length items.now) }
@@ -121,7 +120,7 @@ fn storage_fields(alloc: Global) -> Result<Vec<Stmt>, AllocError>
 
 /// The program's storage, with its head.
 fn storage_section(alloc: Global) -> Result<Vec<Stmt>, AllocError>
-    ensures { IfOk result (λ made. made.items ≡ storage_section) }
+    ensures { IfOk result (λ made. made.items ≡ stmt (codes "DFHEISTG") (codes "DSECT") [] ∷ storage_fields) }
 {
     let mut made = Vec::new(alloc);
     made.push(stmt(alloc, b"DFHEISTG", b"DSECT", b"")?)?;
@@ -163,7 +162,7 @@ fn field(alloc: Global, piece: EibPiece) -> Result<Stmt, AllocError>
 
 /// The EIB.
 fn eib_section(alloc: Global) -> Result<Vec<Stmt>, AllocError>
-    ensures { IfOk result (λ made. made.items ≡ eib_section) }
+    ensures { IfOk result (λ made. made.items ≡ stmt (codes "DFHEIBLK") (codes "DSECT") [] ∷ map field eib_pieces) }
 {
     let mut made = Vec::new(alloc);
     made.push(stmt(alloc, b"DFHEIBLK", b"DSECT", b"")?)?;
@@ -171,7 +170,7 @@ fn eib_section(alloc: Global) -> Result<Vec<Stmt>, AllocError>
     Ok(made)
 }
 
-/// Puts fields of the EIB behind other statements.
+/// Puts fields of the EIB after other statements.
 fn push_fields(alloc: Global, made: &mut Vec<Stmt>, pieces: &[EibPiece]) -> Result<(), AllocError>
     ensures { OnOk result (made.new.items ≡ made.old.items ++ map field pieces.now) }
 {
@@ -194,7 +193,7 @@ pub(crate) fn lines(alloc: Global, line: usize, made: &[Stmt]) -> Result<Vec<Ite
 
 /// How many of the next lines continue a statement that is or isn't continued.
 fn continuing(items: &[Item], mut continues: bool) -> usize
-    ensures value { result ≡ continuing continues items.now }
+    ensures value { result ≡ continuation_count continues items.now }
     ensures bound { result ≤ length items.now }
 {
     for (i, item) in items.iter().enumerate() {
@@ -206,11 +205,11 @@ fn continuing(items: &[Item], mut continues: bool) -> usize
     items.len()
 }
 
-/// The place behind the statement that begins at a place, and behind the lines that continue it.
-#[tactic(auto, unfolding(crate::specs::Sections::behind))]
+/// The place after the statement that begins at a place, and after the lines that continue it.
+#[tactic(auto, unfolding(crate::specs::Sections::place_after))]
 fn behind(items: &[Item], place: usize) -> usize
     requires { place < length items.now }
-    ensures value { result ≡ behind items.now place }
+    ensures value { result ≡ place_after items.now place }
     ensures bound { result ≤ length items.now }
 {
     let continues = is_continued(false, items[place].text.as_slice());
@@ -221,7 +220,7 @@ fn behind(items: &[Item], place: usize) -> usize
 /// Puts lines in at a place.
 fn put(items: &mut Vec<Item>, place: usize, mut made: Vec<Item>) -> Result<(), AllocError>
     requires { place ≤ length items.old.items }
-    ensures { OnOk result (items.new.items ≡ put place made.items items.old.items) }
+    ensures { OnOk result (items.new.items ≡ insert_items place made.items items.old.items) }
 {
     let mut rest = items.split_off(place)?;
     items.append(&mut made)?;
@@ -243,7 +242,7 @@ fn put_before(
     put(items, place, made)
 }
 
-/// Puts made statements behind the statement that begins at a place.
+/// Puts made statements after the statement that begins at a place.
 fn put_behind(
     alloc: Global,
     items: &mut Vec<Item>,
@@ -268,7 +267,7 @@ fn name_in(stmt: &Option<Stmt>) -> &[u8]
     }
 }
 
-/// Puts the head of the program's storage behind its first DSECT; where there is none, it with its head before the
+/// Puts the head of the program's storage after its first DSECT; where there is none, it with its head before the
 /// control section.
 #[tactic(auto, unfolding(crate::specs::Sections::with_storage))]
 pub(crate) fn put_storage(alloc: Global, items: &mut Vec<Item>) -> Result<(), AllocError>
@@ -285,7 +284,7 @@ pub(crate) fn put_storage(alloc: Global, items: &mut Vec<Item>) -> Result<(), Al
     put_before(alloc, items, place, made.as_slice())
 }
 
-/// Puts the bases behind the control section's first statement.
+/// Puts the bases after the control section's first statement.
 #[tactic(auto, unfolding(crate::specs::Sections::with_bases))]
 pub(crate) fn put_bases(alloc: Global, items: &mut Vec<Item>) -> Result<(), AllocError>
     ensures { OnOk result (items.new.items ≡ with_bases items.old.items) }

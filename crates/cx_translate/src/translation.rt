@@ -1,18 +1,17 @@
 //! A source translated.
 
-ghost use Rattle.std.specs.Prelude.{◌≡◌, ◌++◌, [], IfErr, IfOk, None, OnOk, false};
+ghost use Rattle.std.specs.Prelude.{◌≡◌, ◌≢◌, ◌++◌, [], IfErr, IfOk, None, OnOk, Some, false, slice_get};
 ghost use Rattle.std.specs.List.{list_any};
 ghost use Rattle.std.specs.Option.{option_to_list};
 ghost use Rattle.cx_source.specs.Faults.{unless_faulty};
-ghost use Rattle.cx_translate.specs.Refusals.{IsDue};
+ghost use Rattle.cx_translate.specs.declared.faults.TransFault.TheVariants.{Memory};
 ghost use Rattle.cx_translate.specs.Sections.{begins_exec, with_bases, with_eib, with_storage};
 ghost use Rattle.cx_translate.specs.Translation.{
   AnswersAs,
   continues_exec,
-  expanded,
+  expanded_items,
   expansion,
   fault_at,
-  first_fault,
   is_dropped,
   made_source,
   statement_faults,
@@ -23,8 +22,8 @@ ghost use Rattle.cx_translate.specs.Translation.{
 use crate::faults::TransFault;
 use crate::made::statements_of;
 use crate::sections::{begins_exec, lines, put_bases, put_eib, put_storage};
+use cx_base_lists::List;
 use cx_source::{Item, Items, Source, is_continued};
-use cx_tables::List;
 use std::alloc::{AllocError, Global};
 
 /// Whether a line continues an EXEC statement, where such a line is expected.
@@ -34,7 +33,7 @@ fn is_dropped(continues: bool, item: &Item) -> bool
     continues && item.stmt.is_none()
 }
 
-/// Whether the line behind continues an EXEC statement.
+/// Whether the next line continues an EXEC statement.
 #[tactic(auto, unfolding(crate::specs::Translation::continues_exec))]
 fn continues_exec(continues: bool, item: &Item) -> bool
     ensures { result ≡ continues_exec continues item.now }
@@ -43,12 +42,12 @@ fn continues_exec(continues: bool, item: &Item) -> bool
     (is_dropped || begins_exec(item)) && is_continued(is_dropped, item.text.as_slice())
 }
 
-/// What stands for a line that begins or continues an EXEC statement, or for any other.
+/// What a line that begins or continues an EXEC statement, or any other, becomes.
 #[tactic(auto, unfolding(crate::specs::Translation::expansion, crate::specs::Translation::fault_at))]
 fn expansion(alloc: Global, continues: bool, item: &Item) -> Result<Vec<Item>, TransFault>
     ensures sound { OnOk result (fault_at item.now ≡ None) }
     ensures made { IfOk result (λ made. made.items ≡ expansion continues item.now) }
-    ensures fault { IfErr result (λ fault. IsDue (fault_at item.now) fault) }
+    ensures fault { IfErr result (λ fault. fault ≢ Memory → fault_at item.now ≡ Some fault) }
 {
     let mut made = Vec::new(alloc);
     if is_dropped(continues, item) {
@@ -67,9 +66,9 @@ fn expansion(alloc: Global, continues: bool, item: &Item) -> Result<Vec<Item>, T
 
 /// The lines of a source with made lines in place of its EXEC statements.
 fn expanded(alloc: Global, items: &[Item]) -> Result<Vec<Item>, TransFault>
-    ensures sound { OnOk result (first_fault items.now ≡ None) }
-    ensures made { IfOk result (λ made. made.items ≡ expanded false items.now) }
-    ensures fault { IfErr result (λ fault. IsDue (first_fault items.now) fault) }
+    ensures sound { OnOk result (statement_faults items.now ≡ []) }
+    ensures made { IfOk result (λ made. made.items ≡ expanded_items false items.now) }
+    ensures fault { IfErr result (λ fault. fault ≢ Memory → slice_get (statement_faults items.now) 0 ≡ Some fault) }
 {
     let mut made = Vec::new(alloc);
     let mut continues = false;
@@ -110,15 +109,15 @@ fn put_sections(alloc: Global, items: &mut Vec<Item>) -> Result<(), AllocError>
 
 /// A source with its EXEC CICS statements made into assembler statements.
 ///
-/// In place of each EXEC statement, with its continuation lines, stand the statements that build the command's argument list
-/// and call it, with the number of its first line. The fields of DFHEISTG come behind its first DSECT, or with one before the
-/// control section; the bases behind the control section's first CSECT or START; the EIB before END. A source without EXEC
-/// stays as it is. Statements are those of the list's items, in order, whatever their lines say.
+/// In place of each EXEC statement, with its continuation lines, come the statements that build the command's argument
+/// list and call it, with the number of its first line. The fields of DFHEISTG come after its first DSECT, or with one
+/// before the control section; the bases after the control section's first CSECT or START; the EIB before END. A source
+/// without EXEC stays as it is. Statements are those of the list's items, in order, whatever their lines say.
 ///
-/// The fault is that of the first faulty EXEC statement, with its line. Memory comes only where a growth was refused.
+/// The fault is that of the first faulty EXEC statement, with its line. Memory comes only where an allocation failed.
 ///
 /// Application Programmer's Reference Manual, SC33-0077, "EXEC CICS" command format.
-#[tactic(auto, unfolding(crate::specs::Translation::translation_of, crate::specs::Translation::translated))]
+#[tactic(auto, using(crate::specs::Facts::AllFaults::no_exec_no_fault), unfolding(crate::specs::Translation::translation_of, crate::specs::Translation::made_source, crate::specs::Translation::translation))]
 pub fn translate(alloc: Global, source: &Source) -> Result<Source, TransFault>
     ensures { AnswersAs (translation_of source.now) result }
 {
@@ -135,7 +134,7 @@ pub fn translate(alloc: Global, source: &Source) -> Result<Source, TransFault>
     })
 }
 
-/// Puts what stands for a line at the end of made lines, or its fault at the end of others.
+/// Puts what a line becomes at the end of made lines, or its fault at the end of others.
 fn expand(
     alloc: Global,
     continues: bool,
@@ -168,7 +167,7 @@ fn expand_all(
 ) -> Result<Vec<Item>, AllocError>
     requires { faults.old.items ≡ [] }
     ensures faults { OnOk result (faults.new.items ≡ statement_faults items.now) }
-    ensures made { IfOk result (λ made. statement_faults items.now ≡ [] → made.items ≡ expanded false items.now) }
+    ensures made { IfOk result (λ made. statement_faults items.now ≡ [] → made.items ≡ expanded_items false items.now) }
 {
     let mut made = Vec::new(alloc);
     let mut continues = false;
@@ -197,11 +196,11 @@ fn unless_faulty(
     }))
 }
 
-/// A source with its EXEC CICS statements made into assembler statements, as by `translate`, or the faults of all its EXEC
-/// statements, in order.
+/// A source with its EXEC CICS statements made into assembler statements, as by `translate`, or the faults of all its
+/// EXEC statements, in order.
 ///
-/// A statement has at most one, the first that applies, with the line on which it begins. An error comes only where a growth
-/// was refused.
+/// A statement has at most one, the first that applies, with the line on which it begins. An error comes only where an
+/// allocation failed.
 #[tactic(auto, using(crate::specs::Facts::AllFaults::no_exec_no_fault), unfolding(crate::specs::Translation::translation_or_faults, crate::specs::Translation::made_source))]
 pub fn translate_or_faults(
     alloc: Global,

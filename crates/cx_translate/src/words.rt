@@ -3,11 +3,11 @@
 ghost use Rattle.std.specs.Prelude.{◌≡◌, IfOk};
 ghost use Rattle.cx_translate.specs.Words.{argument_behind, nameless, words_in, words_of};
 
-use crate::pieces::{Piece, pieces_of};
+use crate::pieces::{Token, pieces_of};
 use cx_source::Text;
 use std::alloc::{AllocError, Global};
 
-/// What stands behind a word as its argument.
+/// What follows a word as its argument.
 #[derive(Debug, Drop)]
 pub enum Argument {
     /// Nothing.
@@ -23,18 +23,18 @@ pub enum Argument {
 pub struct Word {
     /// The word itself.
     pub name: Text,
-    /// What stands behind it.
+    /// What follows it.
     pub argument: Argument,
 }
 
-/// What stands at the front of some pieces, up to the first word.
+/// What is at the front of some pieces, up to the first word.
 #[tactic(auto, unfolding(crate::specs::Words::argument_behind))]
-fn argument_behind(alloc: Global, pieces: &[Piece]) -> Result<Argument, AllocError>
+fn argument_behind(alloc: Global, pieces: &[Token]) -> Result<Argument, AllocError>
     ensures { IfOk result (λ argument. argument ≡ argument_behind pieces.now) }
 {
     match pieces {
-        [] | [Piece::Word(_), ..] => Ok(Argument::Absent),
-        [Piece::Argument(text)] | [Piece::Argument(text), Piece::Word(_), ..] => {
+        [] | [Token::Word(_), ..] => Ok(Argument::Absent),
+        [Token::Argument(text)] | [Token::Argument(text), Token::Word(_), ..] => {
             Ok(Argument::Given(Text::from_slice(alloc, text.as_slice())?))
         }
         _ => Ok(Argument::Bad),
@@ -42,12 +42,12 @@ fn argument_behind(alloc: Global, pieces: &[Piece]) -> Result<Argument, AllocErr
 }
 
 /// The words among some pieces.
-fn words_in(alloc: Global, pieces: &[Piece]) -> Result<Vec<Word>, AllocError>
+fn words_in(alloc: Global, pieces: &[Token]) -> Result<Vec<Word>, AllocError>
     ensures { IfOk result (λ words. words.items ≡ words_in pieces.now) }
 {
     let mut words = Vec::new(alloc);
     for (i, piece) in pieces.iter().enumerate() {
-        if let Piece::Word(name) = piece {
+        if let Token::Word(name) = piece {
             words.push(Word {
                 name: Text::from_slice(alloc, name.as_slice())?,
                 argument: argument_behind(alloc, &pieces[i + 1..])?,
@@ -57,13 +57,13 @@ fn words_in(alloc: Global, pieces: &[Piece]) -> Result<Vec<Word>, AllocError>
     Ok(words)
 }
 
-/// An empty word, where anything stands before the first.
-fn nameless(alloc: Global, pieces: &[Piece]) -> Result<Vec<Word>, AllocError>
+/// An empty word, where anything precedes the first.
+fn nameless(alloc: Global, pieces: &[Token]) -> Result<Vec<Word>, AllocError>
     ensures { IfOk result (λ words. words.items ≡ nameless pieces.now) }
 {
     let mut words = Vec::new(alloc);
     match pieces {
-        [] | [Piece::Word(_), ..] => {}
+        [] | [Token::Word(_), ..] => {}
         _ => words.push(Word {
             name: Text::from_slice(alloc, b"")?,
             argument: Argument::Bad,
@@ -74,7 +74,7 @@ fn nameless(alloc: Global, pieces: &[Piece]) -> Result<Vec<Word>, AllocError>
 
 /// The words of an operand of EXEC, each with its argument.
 ///
-/// An error comes only where a growth was refused.
+/// An error comes only where an allocation failed.
 #[tactic(auto, unfolding(crate::specs::Words::words_of))]
 pub(crate) fn words_of(alloc: Global, operand: &[u8]) -> Result<Vec<Word>, AllocError>
     ensures { IfOk result (λ words. words.items ≡ words_of operand.now) }

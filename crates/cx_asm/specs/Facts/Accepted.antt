@@ -1,35 +1,51 @@
 -- An accepted source has no fault, and is made of what its definition says.
-use Rattle.std.specs.Prelude.{Result, Ok, Err, nat_le}
-use Rattle.std.proofs.Common.{◌≡◌, ◌≤◌, ℕ, Bool, true, false, cond, Option, Some, None, refl, arith}
+use Rattle.std.specs.Prelude.{Option, Result, Ok, Err, nat_le, reverse, slice_get}
+use Rattle.std.specs.Option.{option_map_or}
+use Rattle.std.proofs.Common.{◌≡◌, ◌≤◌, ℕ, Bool, true, false, cond, None, List, [], ◌∷◌, refl, sym, ◌∙◌, ap, arith}
 use Rattle.std.proofs.lemmas.Bool.Decides.{nat_tests}
-use Rattle.cx_places.specs.Placed.{known_of}
-use Rattle.cx_places.specs.declared.place.LineFault.{LineFault}
+use Rattle.cx_asm_pass1.specs.AllFaults.{place_faults}
+use Rattle.cx_asm_pass1.specs.Facts.AllFaults as places
+use Rattle.cx_asm_pass1.specs.PassState.{line_fault}
+use Rattle.cx_asm_pass1.specs.Placed.{known_of}
+use Rattle.cx_asm_pass1.specs.declared.place.LineFault.{LineFault}
 use Rattle.cx_source.specs.declared.source.Source.{Source}
-use Rattle.cx_asm.specs.Assembly.{AssemblyParts, assembly_of, end_line, made_of, second_fault_of, size_of, unless_refused, unless_too_large}
+use Rattle.cx_asm.specs.Assembly.{AssemblyParts, assembly_faults, assembly_of, end_line, fault_at, first_found, made_of, second_faults_of, size_faults, size_of}
 use Rattle.cx_asm.specs.declared.faults.AsmFault.{AsmFault}
-use Rattle.cx_asm.specs.declared.faults.AsmFault.TheVariants as fault
+use Rattle.cx_asm_expressions.specs.declared.faults.FaultKind.TheVariants as kind
 
-not_refused : (first : Option LineFault) (result : Result AssemblyParts AsmFault) (made : AssemblyParts) → unless_refused first result ≡ Ok made → (first ≡ None) × (result ≡ Ok made)
-not_refused None result made e = (refl, e)
-not_refused (Some first) result made e = cc
+abbrev told : Option LineFault → AssemblyParts → Result AssemblyParts AsmFault
+told first made = option_map_or (λ f. Err (fault_at f)) first (Ok made)
 
-when_short : (is : Bool) (one made : AssemblyParts) (other : AsmFault) → cond is (Ok one) (Err other) ≡ Ok made → (is ≡ true) × (one ≡ made)
-when_short true one made other e = (refl, cc)
-when_short false one made other e = cc
+made_without : (faults : List LineFault) (one made : AssemblyParts) → told (slice_get faults 0) one ≡ Ok made → (faults ≡ []) × (one ≡ made)
+made_without [] one made e = (refl, cc)
+made_without (first ∷ more) one made e = absurd (cc)
+
+neither : (one other : List LineFault) → first_found one other ≡ [] → (one ≡ []) × (other ≡ [])
+neither [] other e = (refl, e)
+neither (first ∷ more) other e = absurd (cc)
+
+when_short : (is : Bool) (faults : List LineFault) (first : LineFault) → cond is [] (first ∷ faults) ≡ [] → is ≡ true
+when_short true faults first e = refl
+when_short false faults first e = absurd (cc)
 
 short : (size : ℕ) → nat_le size 65536 ≡ true → size ≤ 65536
 short size e = grind (arith, nat_tests)
 
 pub record Accepted (source : Source) (made : AssemblyParts) : Type 0 where
   pub sound : (known_of source).fault ≡ None
-  pub second : second_fault_of source ≡ None
+  pub second : second_faults_of source ≡ []
   pub short : size_of source ≤ 65536
   pub made_is : made_of source ≡ made
 
 pub accepted : (source : Source) (made : AssemblyParts) → assembly_of source ≡ Ok made → Accepted source made
-unfolding assembly_of
+unfolding assembly_of assembly_faults
 accepted source made e =
-    let first = not_refused (known_of source).fault _ made e in
-    let second = not_refused (second_fault_of source) (unless_too_large (size_of source) (end_line source) (made_of source)) made first.1 in
-    let size = when_short (nat_le (size_of source) 65536) (made_of source) made (fault.TooLarge (end_line source)) second.1 in
-    record { sound = first.0; second = second.0; short = short (size_of source) size.0; made_is = size.1 }
+    let all = made_without _ (made_of source) made e in
+    let first = neither (place_faults source) _ all.0 in
+    let second = neither (second_faults_of source) (size_faults (size_of source) (end_line source)) first.1 in
+    record {
+      sound = sym (places.first_of_faults (reverse source.items)) ∙ ap (λ (l : List LineFault). slice_get l 0) first.0;
+      second = second.0;
+      short = short (size_of source) (when_short (nat_le (size_of source) 65536) [] (line_fault (end_line source) kind.TooLarge) second.1);
+      made_is = all.1;
+    }

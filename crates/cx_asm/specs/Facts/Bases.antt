@@ -1,50 +1,51 @@
--- There are sixteen bases behind every statement where there were sixteen before it.
+-- There are sixteen bases after every statement where there were sixteen before it.
 use Rattle.std.specs.Prelude.{Result, Ok, Err, ℤ, slice_set, unwrap_or}
 use Rattle.std.specs.Option.{option_map_or}
 use Rattle.std.specs.Result.{result_ok}
 use Rattle.std.proofs.Common.{◌≡◌, ℕ, Option, Some, None, List, [], ◌∷◌, length, refl, ◌∙◌}
 use Rattle.std.proofs.lemmas.List.{length-set}
-use Rattle.cx_terms.specs.declared.faults.FaultKind.{FaultKind}
-use Rattle.cx_operands.specs.Bases.{Bases, Using, dropped, ended, held}
-use Rattle.cx_operands.specs.Judging.{made_of}
-use Rattle.cx_operands.specs.Context.{Context}
-use Rattle.cx_operands.specs.Directives.{bases_in, drop_in, using_in}
-use Rattle.cx_operations.specs.declared.operations.Directive.TheVariants as directive
-use Rattle.cx_operations.specs.declared.operations.Operation.{Operation}
-use Rattle.cx_operations.specs.declared.operations.Operation.TheVariants as operation
-use Rattle.cx_second.specs.SecondFaults.{bases_after}
-use Rattle.cx_second.specs.Statements.{Stated, operation_of}
-use Rattle.cx_second.specs.Whole.{Whole, directive_context}
+use Rattle.cx_asm_expressions.specs.declared.faults.FaultKind.{FaultKind}
+use Rattle.cx_asm_operands.specs.Bases.{Bases, UsingStatement, after_drop, after_using}
+use Rattle.cx_asm_operands.specs.Judging.{made_of}
+use Rattle.cx_asm_operands.specs.Context.{Context}
+use Rattle.cx_asm_operands.specs.Directives.{bases_in, drop_in, using_in}
+use Rattle.cx_asm_operands.specs.Forms.{operands_of}
+use Rattle.cx_asm_operations.specs.declared.operations.Directive.TheVariants as directive
+use Rattle.cx_asm_operations.specs.declared.operations.Operation.{Operation}
+use Rattle.cx_asm_operations.specs.declared.operations.Operation.TheVariants as operation
+use Rattle.cx_asm_pass2.specs.SecondFaults.{bases_after}
+use Rattle.cx_asm_pass2.specs.Statements.{PlacedStatement, operation_of}
+use Rattle.cx_asm_pass2.specs.Whole.{Whole, directive_context}
 
-held_length : (section : List ℕ) (registers : List ℕ) (number : ℤ) (bases : Bases) → length (held section number registers bases) ≡ length bases
+held_length : (section : List ℕ) (registers : List ℕ) (number : ℤ) (bases : Bases) → length (after_using section number registers bases) ≡ length bases
 held_length section [] number bases = refl
 held_length section (register ∷ registers) number bases = held_length section registers _ (slice_set bases register _) ∙ length-set bases register _
 
-ended_length : (registers : List ℕ) (bases : Bases) → length (ended registers bases) ≡ length bases
+ended_length : (registers : List ℕ) (bases : Bases) → length (after_drop (Some registers) bases) ≡ length bases
 ended_length [] bases = refl
 ended_length (register ∷ registers) bases = ended_length registers (slice_set bases register None) ∙ length-set bases register None
 
 abbrev behind : Result Bases FaultKind → Bases → Bases
 behind made bases = unwrap_or (result_ok made) bases
 
-using_sixteen : (given : Result Using FaultKind) (bases : Bases) → length bases ≡ 16
-    → length (behind (made_of (λ u. held u.section u.number u.registers bases) given) bases) ≡ 16
+using_sixteen : (given : Result UsingStatement FaultKind) (bases : Bases) → length bases ≡ 16
+    → length (behind (made_of (λ u. after_using u.section u.number u.registers bases) given) bases) ≡ 16
 using_sixteen (Ok given) bases e = held_length given.section given.registers given.number bases ∙ e
 using_sixteen (Err fault) bases e = e
 
 drop_sixteen : (registers : Result (Option (List ℕ)) FaultKind) (bases : Bases) → length bases ≡ 16
-    → length (behind (made_of (λ named. dropped named bases) registers) bases) ≡ 16
+    → length (behind (made_of (λ named. after_drop named bases) registers) bases) ≡ 16
 drop_sixteen (Ok None) bases e = refl
 drop_sixteen (Ok (Some registers)) bases e = ended_length registers bases ∙ e
 drop_sixteen (Err fault) bases e = e
 
 behind_sixteen : (o : Operation) (c : Context) (operand : List ℕ) → length c.bases ≡ 16 → length (behind (bases_in o c operand) c.bases) ≡ 16
 unfolding bases_in
-behind_sixteen (operation.Directive directive.Using) c operand e = using_sixteen (using_in c operand) c.bases e
+behind_sixteen (operation.Directive directive.Using) c operand e = using_sixteen (using_in c (operands_of operand)) c.bases e
 behind_sixteen (operation.Directive directive.Drop) c operand e = drop_sixteen (drop_in c operand) c.bases e
 behind_sixteen o c operand e = e
 
-pub after_sixteen : (told : Whole) (bases : Bases) (s : Stated) → length bases ≡ 16 → length (bases_after told bases s) ≡ 16
+pub after_sixteen : (told : Whole) (bases : Bases) (s : PlacedStatement) → length bases ≡ 16 → length (bases_after told bases s) ≡ 16
 unfolding bases_after
 after_sixteen told bases s e = go (operation_of s)
   where

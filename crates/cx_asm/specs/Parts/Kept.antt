@@ -1,12 +1,12 @@
--- What stands with a part behind it, where the part is kept.
+-- What is there with a part after it, where the part is kept.
 use Rattle.std.specs.Prelude.{◌≡◌, Bool, true, false}
 use Rattle.cx_asm.specs.Laws.Standing.{IsWithin}
-use Rattle.cx_asm.specs.Resolving.{Standing, joined}
+use Rattle.cx_asm.specs.Resolving.{Standing, join_sections}
 
 abbrev pub kept : Bool → Standing → Standing → Standing
-kept true old part = joined old part
+kept true old part = join_sections old part
 kept false old part = old
 
 -- where it is kept it fits in the largest text
 abbrev pub Fits : Bool → Standing → Standing → Type 0
-Fits keeps old part = keeps ≡ true → IsWithin 0 (joined old part) 65536
+Fits keeps old part = keeps ≡ true → IsWithin 0 (join_sections old part) 65536

@@ -1,20 +1,20 @@
--- Where the items of DS and DC, and literals, stand in an assembly (GC33-4010, "DC -- Define Constant", "DS -- Define Storage",
--- "Literal Pool"; that they are resolved lines is this project's own).
+-- Where the items of DS and DC, and literals, are in an assembly (GC33-4010, "DC -- Define Constant", "DS -- Define
+-- Storage", "Literal Pool"; that they are resolved lines is this project's own).
 use Rattle.std.specs.Prelude.{◌≡◌, ℕ, Bool, true, false, Option, Ok, List, Contains, ⊤}
 use Rattle.std.specs.List.{AllByRecursion, repeat}
 use Rattle.cx_code.specs.declared.disassembly.Line.{Line}
 use Rattle.cx_source.specs.declared.source.Source.{Source}
-use Rattle.cx_terms.specs.Bytes.{Made}
-use Rattle.cx_terms.specs.Items.{Constant, constant_in, size_of}
-use Rattle.cx_terms.specs.declared.values.Value.{Value}
-use Rattle.cx_pools.specs.Pools.{Placed}
-use Rattle.cx_pools.specs.declared.closed.Literal.{Literal}
-use Rattle.cx_places.specs.Given.{location_counter}
-use Rattle.cx_places.specs.Known.{is_control, role_in}
-use Rattle.cx_places.specs.declared.roles.Role.{Role}
-use Rattle.cx_places.specs.declared.roles.Role.TheVariants.{Storage, Pool}
-use Rattle.cx_second.specs.Statements.{Stated, placed_items, statements_of}
-use Rattle.cx_second.specs.Whole.{Whole, item_made, pool_of, whole_of}
+use Rattle.cx_asm_expressions.specs.Bytes.{CopyOfConstant}
+use Rattle.cx_asm_expressions.specs.Items.{Constant, constant_in, size_of}
+use Rattle.cx_asm_expressions.specs.declared.values.Value.{Value}
+use Rattle.cx_asm_pools.specs.Pools.{PlacedLiterals}
+use Rattle.cx_asm_pools.specs.declared.closed.Literal.{Literal}
+use Rattle.cx_asm_pass1.specs.Given.{location_counter}
+use Rattle.cx_asm_pass1.specs.PassState.{is_control, role_in}
+use Rattle.cx_asm_pass1.specs.declared.roles.Role.{Role}
+use Rattle.cx_asm_pass1.specs.declared.roles.Role.TheVariants.{Storage, Pool}
+use Rattle.cx_asm_pass2.specs.Statements.{PlacedStatement, placed_items, statements_of}
+use Rattle.cx_asm_pass2.specs.Whole.{Whole, item_made, pool_of, whole_of}
 use Rattle.cx_asm.specs.Assembly.{AssemblyParts, assembly_of}
 use Rattle.cx_asm.specs.Resolving.{counter_at, data_line, last_pool, space_line}
 
@@ -31,32 +31,32 @@ pub record IsSpace (resolved : List Line) (item : List ℕ × ℕ) : Type 0 wher
 pub record IsData (told : Whole) (resolved : List Line) (counter : Option Value) (item : List ℕ × ℕ) : Type 0 where
   pub constant : Constant
   pub written : constant_in false item.0 ≡ Ok constant
-  pub once : Made
+  pub once : CopyOfConstant
   pub value : item_made told false counter item.0 ≡ Ok once
   pub stands : AreAmong resolved (data_line item.1 (repeat constant.duplication once.bytes))
 
-abbrev pub ItemStands : Whole → List Line → Bool → Stated → List ℕ × ℕ → Type 0
+abbrev pub ItemStands : Whole → List Line → Bool → PlacedStatement → List ℕ × ℕ → Type 0
 ItemStands told resolved true s item = IsSpace resolved item
 ItemStands told resolved false s item = IsData told resolved (location_counter s.place.section item.1 1) item
 
 -- Of a literal with a value the bytes of all its copies, if there are any, are a line at its offset in the pool.
-abbrev pub LiteralStands : Whole → List Stated → List Line → List ℕ × Literal → Type 0
+abbrev pub LiteralStands : Whole → List PlacedStatement → List Line → List ℕ × Literal → Type 0
 LiteralStands told statements resolved literal =
-    (constant : Constant) (once : Made) → constant_in false literal.0 ≡ Ok constant
+    (constant : Constant) (once : CopyOfConstant) → constant_in false literal.0 ≡ Ok constant
     → item_made told false (counter_at statements literal.1.user) literal.0 ≡ Ok once
     → AreAmong resolved (data_line literal.1.offset (repeat constant.duplication once.bytes))
 
-abbrev pub PoolStands : Whole → List Stated → List Line → Placed → Type 0
+abbrev pub PoolStands : Whole → List PlacedStatement → List Line → PlacedLiterals → Type 0
 PoolStands told statements resolved pool = AllByRecursion (LiteralStands told statements resolved) pool
 
--- So stand the items of a DS or DC, and the literals that LTORG places.
-abbrev pub RoleStands : Whole → List Stated → List Line → Stated → Role → Type 0
+-- Where the items of a DS or DC, and the literals that LTORG places, are.
+abbrev pub RoleStands : Whole → List PlacedStatement → List Line → PlacedStatement → Role → Type 0
 RoleStands told statements resolved s (Storage is_ds) = AllByRecursion (ItemStands told resolved is_ds s) (placed_items s)
 RoleStands told statements resolved s Pool = PoolStands told statements resolved (pool_of told s)
 RoleStands told statements resolved s role = ⊤
 
 -- in the control section
-abbrev pub StatementStands : Whole → List Stated → List Line → Stated → Type 0
+abbrev pub StatementStands : Whole → List PlacedStatement → List Line → PlacedStatement → Type 0
 StatementStands told statements resolved s =
     is_control s.place.section told.control ≡ true → RoleStands told statements resolved s (role_in s.stmt)
 

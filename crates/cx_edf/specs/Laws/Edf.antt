@@ -9,8 +9,8 @@ use Rattle.cx_region.specs.declared.replies.Event.TheVariants as event
 use Rattle.cx_region.specs.declared.replies.Reply.{Reply}
 use Rattle.cx_region.specs.declared.replies.Reply.TheVariants as reply
 use Rattle.cx_region.specs.declared.changes.AlterReply.TheVariants as alter
-use Rattle.cx_state.specs.declared.replies.TurnReply.{TurnReply}
-use Rattle.cx_display.specs.declared.stops.Kind.{Kind}
+use Rattle.cx_region_state.specs.declared.replies.TurnReply.{TurnReply}
+use Rattle.cx_edf_display.specs.declared.stops.StopPoint.{StopPoint}
 use Rattle.cx_edf.specs.declared.modes.Mode.TheVariants as mode
 use Rattle.cx_edf.specs.declared.answers.EdfEvent.{EdfEvent}
 use Rattle.cx_edf.specs.declared.answers.EdfEvent.TheVariants as edf_event
@@ -18,15 +18,15 @@ use Rattle.cx_edf.specs.declared.answers.Answer.{Answer}
 use Rattle.cx_edf.specs.declared.answers.Answer.TheVariants as answer
 use Rattle.cx_edf.specs.Sessions.{SessionState, Sessions, session_in, stop_of, takes_in, with_session}
 use Rattle.cx_edf.specs.State.{EdfState, ends_by_key, session_at}
-use Rattle.cx_edf.specs.Steps.{EdfHappens, Passes, door_of}
-use Rattle.cx_edf.specs.Erasure.{erased, is_own, is_refused, left_of, reply_in, told}
+use Rattle.cx_edf.specs.Steps.{EdfApplies, Passes, door_of}
+use Rattle.cx_edf.specs.Erasure.{erasure, is_own, is_refused, left_of, reply_in, region_replies}
 use Rattle.cx_edf.specs.Runs.{EdfRun, Trace, last_state}
 
 -- ---- single events are a run
--- an answered event behind others is one more of them
+-- an answered event after others is one more of them
 abbrev pub EventsAreSteps : Type 0
 EventsAreSteps = (old : EdfState) (events : List EdfEvent) (answers : List Answer) (states : List EdfState) (e : EdfEvent) (given : Answer) (new : EdfState)
-    → Trace old events answers states → EdfHappens (last_state old states) e given new
+    → Trace old events answers states → EdfApplies (last_state old states) e given new
     → Trace old (events ++ e ∷ []) (answers ++ given ∷ []) (states ++ new ∷ []) × (last_state old (states ++ new ∷ []) ≡ new)
 
 -- and events one after another, with the state after each, are a run
@@ -38,7 +38,7 @@ TracesAreRuns = (old : EdfState) (events : List EdfEvent) (answers : List Answer
 -- two outcomes of one event under EDF are equal
 abbrev pub EdfEventsDecide : Type 0
 EdfEventsDecide = (old : EdfState) (e : EdfEvent) (given other : Answer) (new later : EdfState)
-    → EdfHappens old e given new → EdfHappens old e other later → (given ≡ other) × (new ≡ later)
+    → EdfApplies old e given new → EdfApplies old e other later → (given ≡ other) × (new ≡ later)
 
 -- two outcomes of one run under EDF are equal, up to each event
 abbrev pub EdfRunsDecide : Type 0
@@ -49,8 +49,8 @@ EdfRunsDecide = (old : EdfState) (events : List EdfEvent) (answers others : List
 -- whatever a run of the region alone does with the events that are left, it is what was done under EDF
 abbrev pub PlainRunsAgree : Type 0
 PlainRunsAgree = (old : EdfState) (events : List EdfEvent) (answers : List Answer) (new : EdfState) (run : EdfRun old events answers new)
-    (replies : List Reply) (after : RegionState) → Run old.region (erased old events answers run.states) replies after
-    → (replies ≡ told old events answers run.states) × (after ≡ new.region)
+    (replies : List Reply) (after : RegionState) → Run old.region (erasure old events answers run.states) replies after
+    → (replies ≡ region_replies old events answers run.states) × (after ≡ new.region)
 
 -- the alteration that a key asks for is a PF12's that ends the task
 abbrev pub ends_task : EdfState → EdfEvent → Bool
@@ -77,30 +77,30 @@ unfoldable pub given_in : EdfState → List EdfEvent → List Answer → List Ed
 given_in old (e ∷ events) (given ∷ answers) (new ∷ states) = given_by old e given ++ given_in new events answers states
 given_in old _ _ _ = []
 
--- these are the replies that it is told
+-- these are its replies
 abbrev pub ToldAreThoseGiven : Type 0
 ToldAreThoseGiven = (old : EdfState) (events : List EdfEvent) (answers : List Answer) (new : EdfState) (run : EdfRun old events answers new)
-    → told old events answers run.states ≡ given_in old events answers run.states
+    → region_replies old events answers run.states ≡ given_in old events answers run.states
 
 -- an event is EDF's own exactly where its answer is
 abbrev pub OwnEventsHaveOwnAnswers : Type 0
-OwnEventsHaveOwnAnswers = (old : EdfState) (e : EdfEvent) (given : Answer) (new : EdfState) → EdfHappens old e given new → is_own old e ≡ is_edfs given
+OwnEventsHaveOwnAnswers = (old : EdfState) (e : EdfEvent) (given : Answer) (new : EdfState) → EdfApplies old e given new → is_own old e ≡ is_edfs given
 
 -- Nothing is left of it exactly where its answer is EDF's own, and it is no PF12 that ends a task; or where it is a refused
 -- alteration.
 abbrev pub ErasedEvents : Type 0
-ErasedEvents = (old : EdfState) (e : EdfEvent) (given : Answer) (new : EdfState) → EdfHappens old e given new
+ErasedEvents = (old : EdfState) (e : EdfEvent) (given : Answer) (new : EdfState) → EdfApplies old e given new
     → (length (left_of old e given) == 0) ≡ ((is_edfs given && not (ends_task old e)) || is_refusal e given)
 
 -- and then the region stays
 abbrev pub ErasedEventsLeaveTheRegion : Type 0
-ErasedEventsLeaveTheRegion = (old : EdfState) (e : EdfEvent) (given : Answer) (new : EdfState) → EdfHappens old e given new → left_of old e given ≡ [] → new.region ≡ old.region
+ErasedEventsLeaveTheRegion = (old : EdfState) (e : EdfEvent) (given : Answer) (new : EdfState) → EdfApplies old e given new → left_of old e given ≡ [] → new.region ≡ old.region
 
 -- ---- no stop is missed
 -- a stop that a session doesn't take is met under suppression
 abbrev pub StopsAreMissedUnderSuppression : Type 0
-StopsAreMissedUnderSuppression = (old : EdfState) (name : List ℕ) (r : TurnReply) (new : EdfState) (session : SessionState) (stop : Kind)
-    → EdfHappens old (edf_event.Plain (event.Turn name)) (answer.Region (reply.Turn r)) new → session_at old name ≡ Some session → stop_of r ≡ Some stop
+StopsAreMissedUnderSuppression = (old : EdfState) (name : List ℕ) (r : TurnReply) (new : EdfState) (session : SessionState) (stop : StopPoint)
+    → EdfApplies old (edf_event.Plain (event.Turn name)) (answer.Region (reply.Turn r)) new → session_at old name ≡ Some session → stop_of r ≡ Some stop
     → takes_in session.mode session.stops stop ≡ false → session.mode ≡ mode.Suppressed
 
 -- ---- what is passed

@@ -1,4 +1,4 @@
--- Runs join: a run behind steps that were done is one run with them.
+-- Runs join: a run after steps that were done is one run with them.
 use Rattle.std.specs.Prelude.{ℕ, ◌+◌}
 use Rattle.cx_exec.specs.declared.machine.Halt.{Halt}
 use Rattle.cx_exec.specs.Machine.{Machine}

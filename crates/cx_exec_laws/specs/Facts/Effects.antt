@@ -4,7 +4,7 @@ use Rattle.cx_storage.specs.Storage.{areas_of}
 use Rattle.cx_exec.specs.declared.machine.Interruption.{Interruption}
 use Rattle.cx_exec.specs.declared.machine.Interruption.TheVariants as interruption
 use Rattle.cx_exec.specs.Machine.{Machine}
-use Rattle.cx_exec.specs.Outcome.{Outcome, Completes, Suppressed}
+use Rattle.cx_exec.specs.Outcome.{Outcome, Completes, IsSuppressed}
 use Rattle.cx_exec.specs.Operands.{IfPresent, IfEven}
 use Rattle.cx_exec_laws.specs.Laws.Areas.{SameAreas}
 use Rattle.cx_exec.specs.Laws.Numbers.{DivisionIsOne}
@@ -34,12 +34,12 @@ changed cause m written same other is = record {
   known = λ a h. let e = h.0 in let alike : cause ≡ interruption.Operation = cc in other alike;
 }
 
-pub stops : {unknown : Type 0} {aside : Interruption → Machine → Type 0} (cause : Interruption) (m : Machine) → (cause ≡ interruption.Operation → unknown) → IsEffect unknown aside m (λ o a. Suppressed cause m o a)
+pub stops : {unknown : Type 0} {aside : Interruption → Machine → Type 0} (cause : Interruption) (m : Machine) → (cause ≡ interruption.Operation → unknown) → IsEffect unknown aside m (λ o a. IsSuppressed cause m o a)
 stops cause m other = changed cause m m refl other (λ c a e f. inl f)
 
 pub when_option : {unknown : Type 0} {aside : Interruption → Machine → Type 0} {A : Type 0} (operand : Option A) (cause : Interruption) (m : Machine) (P : A → Outcome → Machine → Type 0)
     → (cause ≡ interruption.Operation → unknown) → ((x : A) → IsEffect unknown aside m (P x))
-    → IsEffect unknown aside m (λ o a. MatchOption operand (Suppressed cause m o a) (λ x. P x o a))
+    → IsEffect unknown aside m (λ o a. MatchOption operand (IsSuppressed cause m o a) (λ x. P x o a))
 when_option None cause m P other each = stops cause m other
 when_option (Some x) cause m P other each = each x
 
@@ -54,7 +54,7 @@ when_bool false m P Q first second = second
 
 pub when_even : {unknown : Type 0} {aside : Interruption → Machine → Type 0} (r : ℕ) (m : Machine) (P : Outcome → Machine → Type 0)
     → IsEffect unknown aside m P → IsEffect unknown aside m (λ o a. IfEven r m o a (P o a))
-when_even r m P inner = when_bool (r % 2 == 0) m P (λ o a. Suppressed interruption.Specification m o a) inner (stops interruption.Specification m (λ e. cc))
+when_even r m P inner = when_bool (r % 2 == 0) m P (λ o a. IsSuppressed interruption.Specification m o a) inner (stops interruption.Specification m (λ e. cc))
 
 -- what is found by a relation that decides it
 pub for_one : {unknown : Type 0} {aside : Interruption → Machine → Type 0} {A : Type 0} (m : Machine) (P : A → Type 0) (R : A → Outcome → Machine → Type 0) → ((x y : A) → P x → P y → x ≡ y)

@@ -6,20 +6,20 @@ use Rattle.cx_exec.specs.declared.machine.Step.{Step}
 use Rattle.cx_exec.specs.declared.machine.Step.TheVariants.{Done, AtEntry, Interrupt}
 use Rattle.cx_exec.specs.declared.machine.Halt.{Halt}
 use Rattle.cx_exec.specs.declared.machine.Halt.TheVariants as halt
-use Rattle.cx_exec.specs.declared.stepping.Due.{Due}
+use Rattle.cx_exec.specs.declared.stepping.PendingInstruction.{PendingInstruction}
 use Rattle.cx_exec.specs.Machine.{Machine}
-use Rattle.cx_exec.specs.Outcome.{Outcome, Suppressed}
+use Rattle.cx_exec.specs.Outcome.{Outcome, IsSuppressed}
 use Rattle.cx_exec.specs.Rows.{Effect}
-use Rattle.cx_exec.specs.Step.{performed, Runs, Steps}
+use Rattle.cx_exec.specs.Step.{instruction_to_perform, Runs, Steps}
 use Rattle.cx_exec.specs.Advance.{Passes, Advances}
 use Rattle.cx_exec_laws.specs.Laws.Areas.{SameAreas}
 use Rattle.cx_exec_laws.specs.Facts.Rows.{effect}
 
 runs_keeps : (m : Machine) (outcome : Outcome) (after : Machine) → Runs m outcome after → SameAreas m after
 unfolding Runs
-runs_keeps m outcome after h = go (performed m) h
+runs_keeps m outcome after h = go (instruction_to_perform m) h
   where
-    go : (r : Result Due Interruption) → MatchResult r (λ d. Effect d.inst d.updated m outcome after) (λ cause. Suppressed cause m outcome after) → SameAreas m after
+    go : (r : Result PendingInstruction Interruption) → MatchResult r (λ d. Effect d.inst d.updated m outcome after) (λ cause. IsSuppressed cause m outcome after) → SameAreas m after
     go (Ok d) h = (effect d.inst d.updated m).keeps outcome after h
     go (Err cause) h = ap (λ (x : Machine). areas_of x.storage) h.1
 

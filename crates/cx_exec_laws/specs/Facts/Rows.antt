@@ -18,7 +18,7 @@ use Rattle.cx_exec.specs.Machine.{Machine, reg, effective}
 use Rattle.cx_exec.specs.Numbers.{word_of}
 use Rattle.cx_exec.specs.Outcome.{Outcome, Completes}
 use Rattle.cx_exec.specs.Operands.{extended_at, IfPresent, Stores}
-use Rattle.cx_exec.specs.Division.{Divided}
+use Rattle.cx_exec.specs.Division.{DividesRegisters}
 use Rattle.cx_exec.specs.Registers.{words_at, LoadsRegisters}
 use Rattle.cx_exec.specs.Strings.{MvcEffect, XcEffect}
 use Rattle.cx_exec.specs.Comparison.{ComparesStrings}
@@ -40,9 +40,9 @@ stored : {unknown : Type 0} {aside : Interruption → Machine → Type 0} (a : �
 unfolding Stores
 stored a bytes code updated m = when_present (span m.storage a (length bytes)) m _ (λ x. goes m _ (areas_after_write m.storage a bytes))
 
-divided_once : DivisionIsOne → (r divisor : ℕ) (updated : Updated) (m : Machine) (o p : Outcome) (a b : Machine) → Divided r divisor updated m o a → Divided r divisor updated m p b
+divided_once : DivisionIsOne → (r divisor : ℕ) (updated : Updated) (m : Machine) (o p : Outcome) (a b : Machine) → DividesRegisters r divisor updated m o a → DividesRegisters r divisor updated m p b
     → (o ≡ p) × (a ≡ b)
-unfolding Divided
+unfolding DividesRegisters
 divided_once one r divisor updated m (Ok u) (Ok v) a b h k =
     let same = one _ _ h.0 h.1 k.0 k.1 h.2 k.2 in
     let quotient = same.0 in
@@ -55,13 +55,13 @@ divided_once one r divisor updated m (Ok u) (Err d) a b h k = absurd (k.0 h.0 h.
 divided_once one r divisor updated m (Err c) (Ok v) a b h k = absurd (h.0 k.0 k.1 k.2)
 divided_once one r divisor updated m (Err c) (Err d) a b h k = (ap Err (h.1 ∙ sym k.1), h.2 ∙ sym k.2)
 
-divided_keeps : (r divisor : ℕ) (updated : Updated) (m : Machine) (o : Outcome) (a : Machine) → Divided r divisor updated m o a → SameAreas m a
-unfolding Divided
+divided_keeps : (r divisor : ℕ) (updated : Updated) (m : Machine) (o : Outcome) (a : Machine) → DividesRegisters r divisor updated m o a → SameAreas m a
+unfolding DividesRegisters
 divided_keeps r divisor updated m (Ok u) a h = ap (λ (x : Machine). areas_of x.storage) h.3
 divided_keeps r divisor updated m (Err cause) a h = ap (λ (x : Machine). areas_of x.storage) h.2
 
-divided : {unknown : Type 0} {aside : Interruption → Machine → Type 0} (r divisor : ℕ) (updated : Updated) (m : Machine) → IsEffect unknown aside m (Divided r divisor updated m)
-unfolding Divided
+divided : {unknown : Type 0} {aside : Interruption → Machine → Type 0} (r divisor : ℕ) (updated : Updated) (m : Machine) → IsEffect unknown aside m (DividesRegisters r divisor updated m)
+unfolding DividesRegisters
 divided r divisor updated m = record {
   decides = λ one. divided_once one r divisor updated m;
   keeps = divided_keeps r divisor updated m;

@@ -1,12 +1,12 @@
 -- Where a command is due, the current level keeps what its program has at it.
 use Rattle.std.specs.Prelude.{◌≡◌, ℕ, true, List, Some}
-use Rattle.cx_state.specs.State.{TaskState}
-use Rattle.cx_task_laws.specs.Laws.Levels.{Keeps}
+use Rattle.cx_region_state.specs.State.{TaskState}
+use Rattle.cx_region_task_laws.specs.Laws.Levels.{Keeps}
 use Rattle.cx_region.specs.declared.replies.Event.{Event}
 use Rattle.cx_region.specs.declared.replies.Reply.{Reply}
 use Rattle.cx_region.specs.State.{RegionState}
 use Rattle.cx_region.specs.Tables.{task_of}
-use Rattle.cx_region.specs.Events.{Happens, Run}
+use Rattle.cx_region.specs.Events.{Applies, Run}
 use Rattle.cx_edf.specs.declared.answers.Answer.{Answer}
 use Rattle.cx_edf.specs.declared.answers.EdfEvent.{EdfEvent}
 use Rattle.cx_edf.specs.State.{EdfState}
@@ -19,14 +19,14 @@ KeepsWhatIsDue region = (name : List ℕ) (task : TaskState) → task_of region 
 -- each event leaves it so, whatever it is
 abbrev pub EventsKeepWhatIsDue : Type 0
 EventsKeepWhatIsDue = (old : RegionState) (event : Event) (reply : Reply) (new : RegionState)
-    → KeepsWhatIsDue old → Happens old event reply new → KeepsWhatIsDue new
+    → KeepsWhatIsDue old → Applies old event reply new → KeepsWhatIsDue new
 
 -- and so does each run of events
 abbrev pub RunsKeepWhatIsDue : Type 0
 RunsKeepWhatIsDue = (old : RegionState) (events : List Event) (replies : List Reply) (new : RegionState)
     → KeepsWhatIsDue old → Run old events replies new → KeepsWhatIsDue new
 
--- so it is behind each event of a run under EDF, and before the first
+-- so it is after each event of a run under EDF, and before the first
 abbrev pub AlwaysKeepsWhatIsDue : EdfState → List EdfEvent → List Answer → List EdfState → Type 0
 AlwaysKeepsWhatIsDue old events answers states = (n : ℕ) → KeepsWhatIsDue (state_behind old states n).region
 

@@ -2,10 +2,10 @@
 -- name for them (OS/VS-DOS/VSE-VM/370 Assembler Language, GC33-4010, "USING"; which registers these are is this product's own).
 use Rattle.std.specs.Prelude.{◌≡◌, ℕ, Ok, Some, List, [], ◌∷◌, ◌++◌, codes, slice_get}
 use Rattle.cx_source.specs.declared.source.Stmt.{Stmt}
-use Rattle.cx_operands.specs.Context.{Context, register_in}
+use Rattle.cx_asm_operands.specs.Context.{Context, register_in}
 use Rattle.cx_translate.specs.Sections.{bases}
-use Rattle.cx_state.specs.Areas.{entry_registers}
-use Rattle.cx_state.specs.declared.verdict.NewLevel.{NewLevel}
+use Rattle.cx_region_state.specs.Areas.{entry_registers}
+use Rattle.cx_region_state.specs.declared.verdict.NewLevel.{NewLevel}
 use Rattle.cx_region.specs.Attach.{fresh_task}
 
 -- A USING statement of a section, as it is written: the register that its second operand is holds the section's address.

@@ -1,18 +1,18 @@
 -- A look changes nothing: what was done of each script with looks that ran.
 use Rattle.std.specs.Prelude.{◌≡◌, ℕ, Bool, false, List, take, Option, Result}
 use Rattle.std.specs.List.{flat_map}
-use Rattle.cx_actions.specs.Effects.{fresh_state}
-use Rattle.cx_blocks.specs.declared.faults.RunFault.{RunFault}
-use Rattle.cx_blocks.specs.declared.faults.Summary.{Summary}
+use Rattle.cx_script_actions.specs.Effects.{fresh_state}
+use Rattle.cx_script_blocks.specs.declared.faults.RunFault.{RunFault}
+use Rattle.cx_script_blocks.specs.declared.faults.Summary.{Summary}
 use Rattle.cx_script.specs.Script.{Script, script_in}
 use Rattle.cx_script.specs.Outcome.{RanIn}
 use Rattle.cx_script.specs.Laws.Events.{IsRun}
 use Rattle.cx_script.specs.Laws.Inputs.{was_stopped}
-use Rattle.cx_look_stage.specs.Laws.Looks.{ChangesNothing, plain_of, written_of}
-use Rattle.cx_look_stage.specs.Looking.{LookPerforms}
-use Rattle.cx_look_stage.specs.Reading.{look_language}
-use Rattle.cx_look_stage.specs.State.{Looked, fresh_looked}
-use Rattle.cx_look_stage.specs.declared.action.LookAction.{LookAction}
+use Rattle.cx_look_script.specs.Laws.Looks.{ChangesNothing, plain_of, written_of}
+use Rattle.cx_look_script.specs.Looking.{LookPerforms}
+use Rattle.cx_look_script.specs.Reading.{look_language}
+use Rattle.cx_look_script.specs.State.{LookState, fresh_looked}
+use Rattle.cx_look_script.specs.declared.action.LookAction.{LookAction}
 use Rattle.cx_headline.specs.Laws.Runs.{WasWritten}
 
 -- What was done of a script with looks: the first of its actions, and all of them unless memory or the writer stopped the run. Its
@@ -25,7 +25,7 @@ pub record IsLookedOver (script : Script LookAction) (answer : Result Summary Ru
   pub all : was_stopped answer ≡ false → actions ≡ script.actions
   pub text : List ℕ
   pub written : WasWritten answer before after text
-  pub new : Looked
+  pub new : LookState
   pub unchanged : ChangesNothing fresh_looked actions text new
   pub did : IsRun fresh_state (flat_map plain_of unchanged.parts) (flat_map written_of unchanged.parts) new.edf
 

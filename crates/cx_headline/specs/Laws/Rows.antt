@@ -7,14 +7,14 @@ use Rattle.cx_region.specs.declared.replies.Event.{Event}
 use Rattle.cx_region.specs.declared.replies.Event.TheVariants as event
 use Rattle.cx_region.specs.declared.replies.Reply.{Reply}
 use Rattle.cx_region.specs.declared.replies.Reply.TheVariants as replied
-use Rattle.cx_state.specs.declared.replies.TurnReply.{TurnReply}
-use Rattle.cx_state.specs.State.{Reach, TaskState}
-use Rattle.cx_task.specs.Turn.{HalfTurn}
+use Rattle.cx_region_state.specs.declared.replies.TurnReply.{TurnReply}
+use Rattle.cx_region_state.specs.State.{TaskContext, TaskState}
+use Rattle.cx_region_task.specs.Turn.{HalfTurn}
 use Rattle.cx_region.specs.State.{RegionState, TerminalState}
 use Rattle.cx_region.specs.Tables.{terminal_of}
-use Rattle.cx_region.specs.Turn.{put_back, reach_of, task_after}
+use Rattle.cx_region.specs.Turn.{put_back, context_of, task_after}
 use Rattle.cx_region.specs.Alter.{Alters}
-use Rattle.cx_region.specs.Events.{Happens}
+use Rattle.cx_region.specs.Events.{Applies}
 use Rattle.cx_edf.specs.declared.answers.Answer.{Answer}
 use Rattle.cx_edf.specs.declared.answers.Answer.TheVariants as answer
 use Rattle.cx_edf.specs.declared.answers.EdfEvent.{EdfEvent}
@@ -29,11 +29,11 @@ use Rattle.cx_headline.specs.Laws.Runs.{state_behind}
 pub record IsHalfTurn (old : RegionState) (name : List ℕ) (terminal : TerminalState) (task : TaskState) (given : Answer)
     (new : RegionState) : Type 0 where
   pub reply : TurnReply
-  pub reached : Reach
-  pub half_turn : HalfTurn (reach_of old terminal task) reply reached
+  pub reached : TaskContext
+  pub half_turn : HalfTurn (context_of old terminal task) reply reached
   pub after : new ≡ put_back old name reached (task_after reply reached.task)
   pub answers : given ≡ answer.Region (replied.Turn reply)
-  pub only : (other : TurnReply) (elsewhere : Reach) → HalfTurn (reach_of old terminal task) other elsewhere
+  pub only : (other : TurnReply) (elsewhere : TaskContext) → HalfTurn (context_of old terminal task) other elsewhere
       → (other ≡ reply) × (elsewhere ≡ reached)
 
 -- a turn of a terminal: without a live task the region stays, else it is a half-turn of the task
@@ -45,11 +45,11 @@ IsTurn old name given new =
 -- an event of the region: its reply is the answer, and the region after it is as its row says
 pub record IsRow (old : RegionState) (event : Event) (given : Answer) (new : RegionState) : Type 0 where
   pub reply : Reply
-  pub happens : Happens old event reply new
+  pub happens : Applies old event reply new
   pub answers : given ≡ answer.Region reply
 
--- What an event did to the region. EDF's own leaves it, but a PF12 that ends a task is the alteration that does so. A turn that
--- isn't EDF's is a half-turn; a key, a definition, the clock and an alteration are their rows.
+-- What an event did to the region. EDF's own leaves it, except that a PF12 that ends a task is the alteration that does
+-- so. A turn that isn't EDF's is a half-turn; a key, a definition, the clock and an alteration are their rows.
 pub record IsItsRow (before : EdfState) (e : EdfEvent) (given : Answer) (after : EdfState) : Type 0 where
   pub own : is_own before e ≡ true → ends_task before e ≡ false → after.region ≡ before.region
   pub ended : (name : List ℕ) (aid : Aid) (bytes : List ℕ) → e ≡ edf_event.Plain (event.Key name aid bytes)

@@ -1,23 +1,23 @@
--- The runs of which the headline stands: every list of events under EDF, and every script that ran.
+-- The runs of which the headline holds: every list of events under EDF, and every script that ran.
 use Rattle.std.specs.Prelude.{◌≡◌, ℕ, Bool, false, List, take, Option, Result, Err}
 use Rattle.std.specs.Io.KnownBytes.{Appends}
-use Rattle.cx_lines.specs.Devices.{WroteFront}
+use Rattle.cx_script_io.specs.Devices.{WroteFront}
 use Rattle.cx_edf.specs.declared.answers.Answer.{Answer}
 use Rattle.cx_edf.specs.declared.answers.EdfEvent.{EdfEvent}
 use Rattle.cx_edf.specs.State.{EdfState}
 use Rattle.cx_edf.specs.Runs.{EdfRun, last_state}
-use Rattle.cx_actions.specs.Effects.{fresh_state}
-use Rattle.cx_actions.specs.Language.{edf_language}
-use Rattle.cx_actions.specs.declared.actions.Action.{Action}
-use Rattle.cx_blocks.specs.declared.faults.RunFault.{RunFault}
-use Rattle.cx_blocks.specs.declared.faults.RunFault.TheVariants.{Write}
-use Rattle.cx_blocks.specs.declared.faults.Summary.{Summary}
+use Rattle.cx_script_actions.specs.Effects.{fresh_state}
+use Rattle.cx_script_actions.specs.Language.{edf_language}
+use Rattle.cx_script_actions.specs.declared.actions.Action.{Action}
+use Rattle.cx_script_blocks.specs.declared.faults.RunFault.{RunFault}
+use Rattle.cx_script_blocks.specs.declared.faults.RunFault.TheVariants.{Write}
+use Rattle.cx_script_blocks.specs.declared.faults.Summary.{Summary}
 use Rattle.cx_script.specs.Script.{Script, script_in}
 use Rattle.cx_script.specs.Outcome.{RanScript}
 use Rattle.cx_script.specs.Laws.Events.{IsRun, events_of}
 use Rattle.cx_script.specs.Laws.Inputs.{was_stopped}
 
--- the state behind the first so many events of a run
+-- the state after the first n events of a run
 abbrev pub state_behind : EdfState → List EdfState → ℕ → EdfState
 state_behind old states n = last_state old (take n states)
 

@@ -6,11 +6,12 @@ use Rattle.cx_source.specs.Faults.{source_in}
 use Rattle.cx_source.specs.declared.source.Source.{Source}
 use Rattle.cx_translate.specs.Translation.{translation_of}
 use Rattle.cx_asm.specs.Assembly.{AssemblyParts, assembly_of, standing_of}
-use Rattle.cx_prepare.specs.Prepared.{prepared_of, where_wanted}
-use Rattle.cx_prepare.specs.declared.program.Prepared.{Prepared}
+use Rattle.cx_asm_build.specs.Prepared.{prepared_of, where_wanted}
+use Rattle.cx_asm_build.specs.declared.program.Prepared.{Prepared}
 
--- The lines of a script's block are read as a source, translated and assembled. What DISASM writes of it is what stands in the
--- control section of the translated source, and that is the disassembly of the image, by the places of its instructions.
+-- The lines of a script's block are read as a source, translated and assembled. What DISASM writes of it is what is in
+-- the control section of the translated source, and that is the disassembly of the image, by the places of its
+-- instructions.
 pub record IsWrittenBack (listing disassembly : Bool) (block : List (List ℕ)) (prepared : Prepared) : Type 0 where
   pub source : Source
   pub read : source_in block ≡ Ok source

@@ -11,20 +11,20 @@ use Rattle.cx_edf.specs.declared.answers.Answer.TheVariants as answer
 use Rattle.cx_edf.specs.declared.answers.EdfEvent.{EdfEvent}
 use Rattle.cx_edf.specs.declared.answers.EdfEvent.TheVariants as edf_event
 use Rattle.cx_edf.specs.State.{EdfState}
-use Rattle.cx_edf.specs.Erasure.{erased, told}
+use Rattle.cx_edf.specs.Erasure.{erasure, region_replies}
 use Rattle.cx_edf.specs.Runs.{EdfRun}
 use Rattle.cx_edf.specs.Laws.Edf.{ends_task, is_alteration}
-use Rattle.cx_actions.specs.Effects.{Performs}
-use Rattle.cx_actions.specs.declared.actions.Action.{Action}
+use Rattle.cx_script_actions.specs.Effects.{Performs}
+use Rattle.cx_script_actions.specs.declared.actions.Action.{Action}
 use Rattle.cx_script.specs.Laws.Events.{event_of}
 use Rattle.cx_headline.specs.Laws.Runs.{state_behind}
 
--- of a run's first so many events what is left for the region, and what it tells
+-- of a run's first n events what is left for the region, and what it replies
 abbrev pub left_behind : EdfState → List EdfEvent → List Answer → List EdfState → ℕ → List Event
-left_behind old events answers states n = erased old (take n events) (take n answers) (take n states)
+left_behind old events answers states n = erasure old (take n events) (take n answers) (take n states)
 
 abbrev pub told_behind : EdfState → List EdfEvent → List Answer → List EdfState → ℕ → List Reply
-told_behind old events answers states n = told old (take n events) (take n answers) (take n states)
+told_behind old events answers states n = region_replies old (take n events) (take n answers) (take n states)
 
 -- ---- nothing altered
 -- no event ends a task by PF12, and none is answered Altered
@@ -32,7 +32,7 @@ abbrev pub AltersNothing : EdfState → List EdfEvent → List Answer → List E
 AltersNothing old events answers states = (n : ℕ) (e : EdfEvent) → slice_get events n ≡ Some e
     → (ends_task (state_behind old states n) e ≡ false) × (slice_get answers n ≡ Some (answer.Region (reply.Alter alter.Altered)) → ⊥)
 
--- the events that the region answered, with its replies, but for alterations
+-- the events that the region answered, with its replies, except alterations
 abbrev pub answered_of : EdfEvent → Answer → List (Event × Reply)
 answered_of (edf_event.Plain e) (answer.Region r) = if is_alteration e then [] else (e, r) ∷ []
 answered_of e given = []
@@ -41,8 +41,8 @@ unfoldable pub answered_in : List EdfEvent → List Answer → List (Event × Re
 answered_in (e ∷ events) (given ∷ answers) = answered_of e given ++ answered_in events answers
 answered_in _ _ = []
 
--- What is left is exactly these, in their order, each as it was given, and so is what is told. Given to the same region with EDF
--- Off at each terminal, they are answered so, and leave the region that EDF left.
+-- What is left is exactly these, in their order, each as it was given, and so are the replies. Given to the same region
+-- with EDF Off at each terminal, they are answered so, and leave the region that EDF left.
 pub record IsUnaltered (old : EdfState) (events : List EdfEvent) (answers : List Answer) (left : List Event) (replies : List Reply)
     (state : EdfState) : Type 0 where
   pub events_left : left ≡ map (λ (p : Event × Reply). p.0) (answered_in events answers)
@@ -52,8 +52,8 @@ pub record IsUnaltered (old : EdfState) (events : List EdfEvent) (answers : List
       → (others ≡ map (λ r. answer.Region r) replies) × (after.region ≡ state.region)
 
 -- ---- the same states
--- Behind each event the region is that of a plain run of the events that are left up to there, with the replies that are told; and
--- there is no other such run.
+-- The region after each event is that of a plain run of the events that are left up to there, with the region's
+-- replies; and there is no other such run.
 pub record IsAsUnwatched (old : EdfState) (events : List EdfEvent) (answers : List Answer) (states : List EdfState) : Type 0 where
   pub plain : (n : ℕ) → Run old.region (left_behind old events answers states n) (told_behind old events answers states n)
       (state_behind old states n).region
@@ -64,7 +64,7 @@ pub record IsAsUnwatched (old : EdfState) (events : List EdfEvent) (answers : Li
       → IsUnaltered old (take n events) (take n answers) (left_behind old events answers states n)
       (told_behind old events answers states n) (state_behind old states n)
 
--- what a script shows stands between events: an action that gives none changes nothing
+-- what a script shows comes between events: an action that gives none changes nothing
 abbrev pub ShowingChangesNothing : Type 0
 ShowingChangesNothing = (old : EdfState) (action : Action) (text : List ℕ) (new : EdfState) → event_of action ≡ None
     → Performs old action text new → new ≡ old

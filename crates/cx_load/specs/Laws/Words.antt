@@ -9,7 +9,7 @@ is_of_word k r = nat_le r k && nat_lt k (r + 4)
 abbrev pub SharesNoByte : ℕ → ℕ → Type 0
 SharesNoByte r q = (k : ℕ) → IsTrue (is_of_word k r) → IsTrue (is_of_word k q) → ⊥
 
--- words in ascending order, each of them behind the end of the one before it, and the first behind an offset
+-- words in ascending order, each of them at or past the end of the one before it, and the first at or past an offset
 abbrev pub are_in_order : ℕ → List ℕ → Bool
 are_in_order from [] = true
 are_in_order from (r ∷ relocs) = nat_le from r && are_in_order (r + 4) relocs

@@ -1,6 +1,6 @@
 -- The fault that a source is refused for (own).
-use Rattle.cx_prepare.specs.declared.faults.PrepareFault.{PrepareFault}
-use Rattle.cx_prepare.specs.declared.faults.PrepareFault.TheVariants.{At}
+use Rattle.cx_asm_build.specs.declared.faults.PrepareFault.{PrepareFault}
+use Rattle.cx_asm_build.specs.declared.faults.PrepareFault.TheVariants.{At}
 use Rattle.cx_look_faults.specs.declared.faults.FaultyLine.{FaultyLine}
 
 abbrev pub fault_of : FaultyLine → PrepareFault

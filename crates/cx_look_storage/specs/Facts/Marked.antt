@@ -5,17 +5,17 @@ use Rattle.std.specs.List.{filter, flat_map}
 use Rattle.std.specs.Option.{option_and_then, option_map_or}
 use Rattle.std.proofs.Common.{refl}
 use Rattle.cx_ebcdic.specs.Characters.{shown_as}
-use Rattle.cx_storage.specs.Address.{along}
+use Rattle.cx_storage.specs.Address.{address_after}
 use Rattle.cx_storage.specs.Storage.{Storage, areas_of, byte_at}
 use Rattle.cx_storage.specs.declared.areas.Area.{Area}
 use Rattle.cx_storage.specs.declared.areas.Kind.{Kind}
 use Rattle.cx_storage.specs.declared.areas.Kind.TheVariants as kind
 use Rattle.cx_load.specs.declared.program.Loaded.{Loaded}
-use Rattle.cx_state.specs.State.{TaskState}
-use Rattle.cx_text.specs.Digits.{digits}
-use Rattle.cx_text.specs.Texts.{in_columns, joined, shown_name}
-use Rattle.cx_display.specs.Displays.{quarters}
-use Rattle.cx_display.specs.Texts.{character_at, character_group, four, hex_at, hex_group}
+use Rattle.cx_region_state.specs.State.{TaskState}
+use Rattle.cx_base_text.specs.Digits.{digits}
+use Rattle.cx_base_text.specs.Texts.{in_columns, join, shown_name}
+use Rattle.cx_edf_display.specs.Displays.{quarters}
+use Rattle.cx_edf_display.specs.Texts.{character_at, character_group, four, hex_at, hex_group}
 use Rattle.cx_region.specs.State.{RegionState, TerminalState}
 use Rattle.cx_region.specs.Tables.{terminal_of}
 use Rattle.cx_look_words.specs.Facts.Marked.{a_line, lines_of_each, more_lines, no_lines}
@@ -38,29 +38,29 @@ character_word (Some byte) = shown_is_word (byte ∷ [])
 hex_at_word : (s : Storage) (at count k : ℕ) → IsWord (hex_at s at count k)
 unfolding hex_at
 hex_at_word s at count k =
-    either_is_word (nat_lt k count) (option_map_or (digits 16 2) (byte_at s (along at k)) (codes "--")) (codes "  ") (hex_word (byte_at s (along at k))) refl
+    either_is_word (nat_lt k count) (option_map_or (digits 16 2) (byte_at s (address_after at k)) (codes "--")) (codes "  ") (hex_word (byte_at s (address_after at k))) refl
 
 character_at_word : (s : Storage) (at count k : ℕ) → IsWord (character_at s at count k)
 unfolding character_at
 character_at_word s at count k =
-    either_is_word (nat_lt k count) (option_map_or (λ byte. shown_as byte ∷ []) (byte_at s (along at k)) (codes "-")) (codes " ") (character_word (byte_at s (along at k))) refl
+    either_is_word (nat_lt k count) (option_map_or (λ byte. shown_as byte ∷ []) (byte_at s (address_after at k)) (codes "-")) (codes " ") (character_word (byte_at s (address_after at k))) refl
 
 hex_group_word : (s : Storage) (at count k : ℕ) → IsWord (hex_group s at count k)
 unfolding hex_group
 hex_group_word s at count k =
-    columns_are_word 8 (joined (map (hex_at s at count) (four k)))
+    columns_are_word 8 (join (map (hex_at s at count) (four k)))
     (joined_are_word (map (hex_at s at count) (four k)) (each_is_word (hex_at s at count) (hex_at_word s at count) (four k)))
 
 character_group_word : (s : Storage) (at count k : ℕ) → IsWord (character_group s at count k)
 unfolding character_group
 character_group_word s at count k =
-    columns_are_word 4 (joined (map (character_at s at count) (four k)))
+    columns_are_word 4 (join (map (character_at s at count) (four k)))
     (joined_are_word (map (character_at s at count) (four k)) (each_is_word (character_at s at count) (character_at_word s at count) (four k)))
 
 row_marked : (s : Storage) (at count : ℕ) → IsOfLooks (row_line s at count)
 unfolding row_line
 row_marked s at count =
-    let characters : List ℕ = joined (map (character_group s at count) quarters) in
+    let characters : List ℕ = join (map (character_group s at count) quarters) in
     let are : IsWord (in_columns 16 characters) =
     columns_are_word 16 characters
     (joined_are_word (map (character_group s at count) quarters) (each_is_word (character_group s at count) (character_group_word s at count) quarters)) in
@@ -86,8 +86,8 @@ row_marked s at count =
 rows_marked : (s : Storage) (address n k : ℕ) → IsOfLooks (first_rows s address n k)
 rows_marked s address n zero = no_lines
 rows_marked s address n (suc k) =
-    more_lines (first_rows s address n k) (row_line s (along address (16 * k)) (n - 16 * k)) (rows_marked s address n k)
-    (row_marked s (along address (16 * k)) (n - 16 * k))
+    more_lines (first_rows s address n k) (row_line s (address_after address (16 * k)) (n - 16 * k)) (rows_marked s address n k)
+    (row_marked s (address_after address (16 * k)) (n - 16 * k))
 
 -- ---- what an area is, and whose
 fixed_word : (program : Option (List ℕ × Loaded)) → IsWord (fixed_use program)

@@ -3,8 +3,8 @@ use Rattle.std.specs.Prelude.{ℕ, ◌-◌, Bool, true, false, if◌then◌else�
 use Rattle.std.specs.Option.{option_map_or}
 use Rattle.std.proofs.Common.{refl}
 use Rattle.cx_load.specs.declared.program.Loaded.{Loaded}
-use Rattle.cx_text.specs.Digits.{digits}
-use Rattle.cx_text.specs.Texts.{shown_name}
+use Rattle.cx_base_text.specs.Digits.{digits}
+use Rattle.cx_base_text.specs.Texts.{shown_name}
 use Rattle.cx_look_words.specs.Facts.Words.{digits_are_word, name_is_word, word_append}
 use Rattle.cx_look_words.specs.Marked.{AreWords, IsWord}
 use Rattle.cx_look_storage.specs.Places.{offset_in, place_word, program_with}

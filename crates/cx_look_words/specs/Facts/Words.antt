@@ -7,8 +7,8 @@ use Rattle.std.proofs.lemmas.List.Folds.{list_all-append}
 use Rattle.std.specs.Fmt.{digit_glyph, digits as fmt_digits, digits_onto}
 use Rattle.cx_ebcdic.specs.Characters.{shown_as, table}
 use Rattle.cx_ebcdic.specs.Facts.Lookup.{find_meets}
-use Rattle.cx_text.specs.Digits.{digits, last_digit, spelled}
-use Rattle.cx_text.specs.Texts.{in_columns, is_filled, joined, shown, shown_name, trimmed}
+use Rattle.cx_base_text.specs.Digits.{digits, last_digit, hex_digits}
+use Rattle.cx_base_text.specs.Texts.{in_columns, is_filled, join, shown_text, shown_name, trim}
 use Rattle.cx_look_words.specs.Marked.{AreWords, IsWord}
 use Rattle.cx_look_words.specs.Words.{in_apostrophes, in_hexadecimal, is_plain, written_bytes, written_name}
 
@@ -42,15 +42,15 @@ shown_plain byte = go (find (λ row. row.1 == byte) table) (λ row e. (find_meet
     go None h = refl
     go (Some row) h = h row refl
 
-pub shown_is_word : (bytes : List ℕ) → IsWord (shown bytes)
+pub shown_is_word : (bytes : List ℕ) → IsWord (shown_text bytes)
 shown_is_word [] = refl
-shown_is_word (byte ∷ bytes) = word_first (shown_as byte) (shown bytes) (shown_plain byte) (shown_is_word bytes)
+shown_is_word (byte ∷ bytes) = word_first (shown_as byte) (shown_text bytes) (shown_plain byte) (shown_is_word bytes)
 
 pub name_is_word : (name : List ℕ) → IsWord (shown_name name)
 unfolding shown_name
 name_is_word name = shown_is_word (take_while is_filled name)
 
-pub trimmed_is_word : (text : List ℕ) → IsWord text → IsWord (trimmed text)
+pub trimmed_is_word : (text : List ℕ) → IsWord text → IsWord (trim text)
 trimmed_is_word text p = word_take _ text p
 
 -- ---- digits
@@ -66,9 +66,9 @@ digits_are_word base (suc places) n =
     word_append (digits base places (n / base)) (last_digit base n ∷ []) (digits_are_word base places (n / base))
     (word_first (last_digit base n) [] (read_plain (codes "0123456789ABCDEF") (n % base) refl) refl)
 
-pub spelled_is_word : (bytes : List ℕ) → IsWord (spelled bytes)
+pub spelled_is_word : (bytes : List ℕ) → IsWord (hex_digits bytes)
 spelled_is_word [] = refl
-spelled_is_word (byte ∷ bytes) = word_append (digits 16 2 byte) (spelled bytes) (digits_are_word 16 2 byte) (spelled_is_word bytes)
+spelled_is_word (byte ∷ bytes) = word_append (digits 16 2 byte) (hex_digits bytes) (digits_are_word 16 2 byte) (spelled_is_word bytes)
 
 glyph_plain : (d : ℕ) → plain (digit_glyph false d) ≡ true
 glyph_plain d = go (nat_lt d 10)
@@ -101,27 +101,27 @@ columns_are_word (suc columns) (c ∷ text) p =
     let parts : (plain c ≡ true) × IsWord text = rest_of (plain c) (list_all plain text) p in
     word_first c (in_columns columns text) parts.0 (columns_are_word columns text parts.1)
 
-pub joined_are_word : (pieces : List (List ℕ)) → AreWords pieces → IsWord (joined pieces)
+pub joined_are_word : (pieces : List (List ℕ)) → AreWords pieces → IsWord (join pieces)
 joined_are_word [] p = refl
-joined_are_word (piece ∷ pieces) p = word_append piece (joined pieces) p.0 (joined_are_word pieces p.1)
+joined_are_word (piece ∷ pieces) p = word_append piece (join pieces) p.0 (joined_are_word pieces p.1)
 
 -- ---- between apostrophes
 pub quoted_is_word : (text : List ℕ) → IsWord text → IsWord (in_apostrophes text)
 quoted_is_word text p = word_append (codes "'") (text ++ codes "'") refl (word_append text (codes "'") p refl)
 
 hexadecimal_is_word : (bytes : List ℕ) → IsWord (in_hexadecimal bytes)
-hexadecimal_is_word bytes = word_append (codes "X") (in_apostrophes (spelled bytes)) refl (quoted_is_word (spelled bytes) (spelled_is_word bytes))
+hexadecimal_is_word bytes = word_append (codes "X") (in_apostrophes (hex_digits bytes)) refl (quoted_is_word (hex_digits bytes) (spelled_is_word bytes))
 
 pub written_bytes_are_word : (bytes : List ℕ) → IsWord (written_bytes bytes)
 unfolding written_bytes
 written_bytes_are_word bytes =
-    either (list_all is_plain bytes) (in_apostrophes (shown bytes)) (in_hexadecimal bytes) (quoted_is_word (shown bytes) (shown_is_word bytes)) (hexadecimal_is_word bytes)
+    either (list_all is_plain bytes) (in_apostrophes (shown_text bytes)) (in_hexadecimal bytes) (quoted_is_word (shown_text bytes) (shown_is_word bytes)) (hexadecimal_is_word bytes)
 
 pub written_name_is_word : (name : List ℕ) → IsWord (written_name name)
 unfolding written_name
 written_name_is_word name =
-    either (list_all is_plain name) (in_apostrophes (trimmed (shown name))) (in_hexadecimal name)
-    (quoted_is_word (trimmed (shown name)) (trimmed_is_word (shown name) (shown_is_word name))) (hexadecimal_is_word name)
+    either (list_all is_plain name) (in_apostrophes (trim (shown_text name))) (in_hexadecimal name)
+    (quoted_is_word (trim (shown_text name)) (trimmed_is_word (shown_text name) (shown_is_word name))) (hexadecimal_is_word name)
 
 -- ---- lists of words
 pub words_append : (one other : List (List ℕ)) → AreWords one → AreWords other → AreWords (one ++ other)

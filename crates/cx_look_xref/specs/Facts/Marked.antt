@@ -5,30 +5,30 @@ use Rattle.std.specs.List.{flat_map}
 use Rattle.std.specs.Result.{result_ok}
 use Rattle.std.specs.Str.{byte}
 use Rattle.std.proofs.Common.{refl}
-use Rattle.cx_text.specs.Digits.{digits, spelled}
+use Rattle.cx_base_text.specs.Digits.{digits, hex_digits}
 use Rattle.cx_source.specs.declared.source.Source.{Source}
-use Rattle.cx_pools.specs.Pools.{Placed}
-use Rattle.cx_pools.specs.declared.closed.Literal.{Literal}
-use Rattle.cx_places.specs.Known.{parts_in}
-use Rattle.cx_second.specs.Statements.{Stated, operation_of, statements_of}
-use Rattle.cx_second.specs.Whole.{Whole, whole_of}
+use Rattle.cx_asm_pools.specs.Pools.{PlacedLiterals}
+use Rattle.cx_asm_pools.specs.declared.closed.Literal.{Literal}
+use Rattle.cx_asm_pass1.specs.PassState.{parts_in}
+use Rattle.cx_asm_pass2.specs.Statements.{PlacedStatement, operation_of, statements_of}
+use Rattle.cx_asm_pass2.specs.Whole.{Whole, whole_of}
 use Rattle.cx_look_words.specs.Facts.Marked.{a_line, lines_of_each, lines_or_none, more_lines, no_lines}
 use Rattle.cx_look_words.specs.Facts.Words.{decimal_is_word, digits_are_word, spelled_is_word, word_append, word_first, written_name_is_word}
 use Rattle.cx_look_words.specs.Marked.{AreWords, IsOfLooks, IsWord}
-use Rattle.cx_look_words.specs.Words.{spaced, written_name}
+use Rattle.cx_look_words.specs.Words.{with_blanks, written_name}
 use Rattle.cx_asm.specs.Assembly.{AssemblyParts, assembly_of, last_line}
-use Rattle.cx_look_names.specs.Symbols.{Named, named_of, translated_in}
-use Rattle.cx_look_names.specs.Texts.{in_order}
-use Rattle.cx_look_names.specs.declared.rows.Symbol.{Symbol}
+use Rattle.cx_look_symbols.specs.Symbols.{SourceSymbols, named_of, translated_in}
+use Rattle.cx_look_symbols.specs.Texts.{in_order}
+use Rattle.cx_look_symbols.specs.declared.rows.Symbol.{Symbol}
 use Rattle.cx_look_xref.specs.References.{lines_using, references_of}
 use Rattle.cx_look_xref.specs.Literals.{lines_with, literal_bytes}
 use Rattle.cx_look_xref.specs.Usings.{base_registers, use_end}
 use Rattle.cx_look_xref.specs.Texts.{bytes_word, line_words, literal_line, literals_from, name_line, one_line, used_word, using_line, usings_from, xref_among, xref_assembled, xref_named, xref_text}
 
-spaced_is_word : (words : List (List ℕ)) → AreWords words → IsWord (spaced words)
+spaced_is_word : (words : List (List ℕ)) → AreWords words → IsWord (with_blanks words)
 spaced_is_word [] p = refl
 spaced_is_word (word ∷ words) p =
-    word_append (byte " " ∷ word) (spaced words) (word_first (byte " ") word refl p.0) (spaced_is_word words p.1)
+    word_append (byte " " ∷ word) (with_blanks words) (word_first (byte " ") word refl p.0) (spaced_is_word words p.1)
 
 decimals_are_words : (numbers : List ℕ) → AreWords (map decimal numbers)
 decimals_are_words [] = tt
@@ -42,7 +42,7 @@ lines_are_words lines = go (length lines == 0)
     go false = decimals_are_words lines
 
 pub used_is_word : (lines : List ℕ) → IsWord (used_word lines)
-used_is_word lines = word_append (codes "USED") (spaced (line_words lines)) refl (spaced_is_word (line_words lines) (lines_are_words lines))
+used_is_word lines = word_append (codes "USED") (with_blanks (line_words lines)) refl (spaced_is_word (line_words lines) (lines_are_words lines))
 
 either : (b : Bool) (one other : List ℕ) → IsWord one → IsWord other → IsWord (if b then one else other)
 either true one other p q = p
@@ -57,7 +57,7 @@ one_line_is_word (c ∷ text) = go (not (c == byte "\n")) refl (one_line_is_word
     go false e p = p
 
 bytes_are_word : (bytes : List ℕ) → IsWord (bytes_word bytes)
-bytes_are_word bytes = either (length bytes == 0) (codes "--") (spelled bytes) refl (spelled_is_word bytes)
+bytes_are_word bytes = either (length bytes == 0) (codes "--") (hex_digits bytes) refl (spelled_is_word bytes)
 
 literal_marked : (section : List ℕ) (used : ℕ → List ℕ → List ℕ) (number : ℕ) (literal : List ℕ × Literal) → IsOfLooks (literal_line section used number literal)
 literal_marked section used number (text, literal) =
@@ -75,14 +75,14 @@ literal_marked section used number (text, literal) =
       ),
     )
 
-pub literals_marked : (section : List ℕ) (used : ℕ → List ℕ → List ℕ) (number : ℕ) (pools : List Placed) → IsOfLooks (literals_from section used number pools)
+pub literals_marked : (section : List ℕ) (used : ℕ → List ℕ → List ℕ) (number : ℕ) (pools : List PlacedLiterals) → IsOfLooks (literals_from section used number pools)
 literals_marked section used number [] = no_lines
 literals_marked section used number (pool ∷ pools) =
     more_lines (flat_map (literal_line section used number) pool) (literals_from section used (number + 1) pools)
     (lines_of_each (literal_line section used number) (literal_marked section used number) pool)
     (literals_marked section used (number + 1) pools)
 
-using_marked : (told : Whole) (last : ℕ) (s : Stated) (after : List Stated) (register : ℕ) → IsOfLooks (using_line told last s after register)
+using_marked : (told : Whole) (last : ℕ) (s : PlacedStatement) (after : List PlacedStatement) (register : ℕ) → IsOfLooks (using_line told last s after register)
 using_marked told last s after register =
     let end : ℕ = use_end told last register after in
     let place : List ℕ = unwrap_or (slice_get (parts_in s.stmt) 0) [] in
@@ -90,7 +90,7 @@ using_marked told last s after register =
     (codes "XREF" ∷ codes "USING" ∷ decimal register ∷ codes "FROM" ∷ decimal s.line ∷ codes "TO" ∷ decimal end ∷ one_line place ∷ [])
     (refl, (refl, (decimal_is_word register, (refl, (decimal_is_word s.line, (refl, (decimal_is_word end, (one_line_is_word place, tt))))))))
 
-pub usings_marked : (told : Whole) (last : ℕ) (statements : List Stated) → IsOfLooks (usings_from told last statements)
+pub usings_marked : (told : Whole) (last : ℕ) (statements : List PlacedStatement) → IsOfLooks (usings_from told last statements)
 usings_marked told last [] = no_lines
 usings_marked told last (s ∷ after) =
     more_lines (flat_map (using_line told last s after) (base_registers told s (operation_of s))) (usings_from told last after)
@@ -102,7 +102,7 @@ name_marked used (name, symbol) =
     a_line (codes "XREF" ∷ written_name name ∷ codes "LINE" ∷ decimal symbol.line ∷ used_word (used name) ∷ [])
     (refl, (written_name_is_word name, (refl, (decimal_is_word symbol.line, (used_is_word (used name), tt)))))
 
-named_marked : (source : Source) (section : List ℕ) (named : Option Named) → IsOfLooks (xref_named source section named)
+named_marked : (source : Source) (section : List ℕ) (named : Option SourceSymbols) → IsOfLooks (xref_named source section named)
 named_marked source section None = no_lines
 named_marked source section (Some named) =
     let used : List ℕ → List ℕ = lines_using (references_of source) in

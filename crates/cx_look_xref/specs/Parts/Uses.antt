@@ -6,8 +6,8 @@ use Rattle.std.specs.Map.{lookup}
 use Rattle.std.specs.Option.{option_map_or}
 use Rattle.std.specs.Ordering.{nat_cmp}
 use Rattle.std.specs.Str.{bytes_eq}
-use Rattle.cx_pools.specs.Pools.{literal_text}
-use Rattle.cx_terms.specs.Names.{is_same}
+use Rattle.cx_asm_pools.specs.Pools.{literal_text}
+use Rattle.cx_asm_expressions.specs.Names.{is_same}
 use Rattle.cx_look_xref.specs.declared.literals.PoolText.{PoolText}
 
 -- those of the first key that passes a test
@@ -26,7 +26,8 @@ lines_of_name entries name = lines_for (is_same name) entries
 abbrev pub is_literal : ℕ → List ℕ → PoolText → Bool
 is_literal pool text literal = (pool == literal.pool) && bytes_eq text literal.text.now
 
--- Operands of an instruction, whose pool has the number `place`, use the literal of a text in the pool of another.
+-- Operands of an instruction, whose pool has the number `place`, use the literal of a text in the pool of a second
+-- number.
 abbrev pub uses_part : ℕ → List ℕ → ℕ → List (List ℕ) → Bool
 uses_part pool text place parts = (pool == place) && list_any (λ part. option_map_or (bytes_eq text) (literal_text part) false) parts
 

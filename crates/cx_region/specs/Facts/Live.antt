@@ -29,7 +29,8 @@ slot_from from (x ∷ ts) test t all e = elim (cases_Bool (test x.0)) [
   | inr off ↦ let rest = slot_from (suc from) ts test t all.1 (rw off at e) in omega arith
 ]
 
--- with another terminal at the same place, its slot has a task exactly where that terminal has one, and all others as before
+-- with a new terminal at the same place, its slot has a task exactly where that terminal has one, and all others as
+-- before
 pub live-set_value : (from : ℕ) (ts : Table) (test : List ℕ → Bool) (t u : TerminalState) (s : ℕ) → AreNumbered from ts → lookup test ts ≡ Some t → u.slot ≡ t.slot
     → is_live (set_value test ts u) s ≡ (if t.slot == s then is_some u.task else is_live ts s)
 live-set_value from [] test t u s all e same = absurd (none-some t e)

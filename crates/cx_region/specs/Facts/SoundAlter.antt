@@ -12,20 +12,20 @@ use Rattle.cx_program.specs.declared.level.Level.{Level}
 use Rattle.cx_program.specs.Levels.{with_current}
 use Rattle.cx_service.specs.Queues.{AreSoundQueues}
 use Rattle.cx_service.specs.Resources.{AreSoundResources, Resources, without_owner}
-use Rattle.cx_command.specs.declared.abends.Abend.TheVariants.{Xedf}
-use Rattle.cx_command.specs.Abends.{abend_code}
-use Rattle.cx_state.specs.declared.replies.TurnReply.{TurnReply}
-use Rattle.cx_state.specs.declared.replies.TurnReply.TheVariants as turn
-use Rattle.cx_state.specs.Replies.{is_over}
-use Rattle.cx_state.specs.State.{Reach, TaskState}
-use Rattle.cx_task.specs.Laws.HalfTurns.{HalfTurnKeeps}
-use Rattle.cx_task.specs.Sound.{IsSoundLevel, IsSoundTask}
+use Rattle.cx_base_commands.specs.declared.abends.Abend.TheVariants.{Xedf}
+use Rattle.cx_base_commands.specs.Abends.{abend_code}
+use Rattle.cx_region_state.specs.declared.replies.TurnReply.{TurnReply}
+use Rattle.cx_region_state.specs.declared.replies.TurnReply.TheVariants as turn
+use Rattle.cx_region_state.specs.Replies.{is_over}
+use Rattle.cx_region_state.specs.State.{TaskContext, TaskState}
+use Rattle.cx_region_task.specs.Laws.HalfTurns.{HalfTurnKeeps}
+use Rattle.cx_region_task.specs.Sound.{IsSoundLevel, IsSoundTask}
 use Rattle.cx_region.specs.declared.changes.Change.{Change}
 use Rattle.cx_region.specs.declared.changes.Change.TheVariants.{Register, Byte, Nop, Abend}
 use Rattle.cx_region.specs.State.{RegionState, TerminalState}
 use Rattle.cx_ebcdic.specs.Names.{is_name}
-use Rattle.cx_region.specs.Turn.{put_back, reach_of, task_after}
-use Rattle.cx_region.specs.Alter.{altered, altered_at, altered_region, task_left, with_register}
+use Rattle.cx_region.specs.Turn.{put_back, context_of, task_after}
+use Rattle.cx_region.specs.Alter.{after_change, altered_at, altered_region, task_left, with_register}
 use Rattle.cx_region.specs.Sound.{IsSound}
 use Rattle.cx_region.specs.Facts.SoundDefining.{all_weaker}
 use Rattle.cx_region.specs.Facts.SoundTurned.{own_task, sound_kept}
@@ -98,40 +98,40 @@ not_over e = absurd (true≢false (sym e))
 still_live : {P : Type 0} → is_over (turn.Abended (abend_code Xedf)) ≡ false → P
 still_live e = absurd (true≢false e)
 
-goes_on : (before after : Reach) → after.station.slot ≡ before.station.slot → after.shared.programs ≡ before.shared.programs → areas_of after.shared.storage ≡ areas_of before.shared.storage
-    → after.shared.resources ≡ before.shared.resources → IsSoundTask after.shared.storage before.station.slot after.task → HalfTurnKeeps before turn.Waiting after
+goes_on : (before after : TaskContext) → after.terminal_entry.slot ≡ before.terminal_entry.slot → after.shared.programs ≡ before.shared.programs → areas_of after.shared.storage ≡ areas_of before.shared.storage
+    → after.shared.resources ≡ before.shared.resources → IsSoundTask after.shared.storage before.terminal_entry.slot after.task → HalfTurnKeeps before turn.Waiting after
 goes_on before after slot programs areas resources own =
     record {
       slot = slot;
       programs = programs;
-      areas = areas_filtered (is_of_other_slot before.station.slot) before.shared.storage after.shared.storage areas;
-      resources = ap (λ rs. without_owner rs before.station.slot) resources;
+      areas = areas_filtered (is_of_other_slot before.terminal_entry.slot) before.shared.storage after.shared.storage areas;
+      resources = ap (λ rs. without_owner rs before.terminal_entry.slot) resources;
       task = λ live. own;
       nothing_left = not_over;
       released = not_over;
     }
 
-change_keeps : (change : Change) (before : Reach) → IsSoundTask before.shared.storage before.station.slot before.task → HalfTurnKeeps before (told_as change) (altered change before)
-unfolding altered told_as
-change_keeps (Register r v) before own = goes_on before (altered (Register r v) before) refl refl refl refl (register_keeps before.shared.storage before.station.slot before.task r v own)
+change_keeps : (change : Change) (before : TaskContext) → IsSoundTask before.shared.storage before.terminal_entry.slot before.task → HalfTurnKeeps before (told_as change) (after_change change before)
+unfolding after_change told_as
+change_keeps (Register r v) before own = goes_on before (after_change (Register r v) before) refl refl refl refl (register_keeps before.shared.storage before.terminal_entry.slot before.task r v own)
 change_keeps (Byte a v) before own =
     let same = areas_after_set before.shared.storage a v in
-    goes_on before (altered (Byte a v) before) refl refl same refl (with_areas_same before.shared.storage (with_byte before.shared.storage a v) before.station.slot before.task same own)
+    goes_on before (after_change (Byte a v) before) refl refl same refl (with_areas_same before.shared.storage (with_byte before.shared.storage a v) before.terminal_entry.slot before.task same own)
 change_keeps Nop before own =
-    goes_on before (altered Nop before) refl refl refl refl (record { eib = own.eib; current = own.current; callers = own.callers; few = own.few; apart = own.apart })
+    goes_on before (after_change Nop before) refl refl refl refl (record { eib = own.eib; current = own.current; callers = own.callers; few = own.few; apart = own.apart })
 change_keeps Abend before own =
     record {
       slot = refl;
       programs = refl;
-      areas = ap areas_of (kept_twice (is_of_other_slot before.station.slot) before.shared.storage);
-      resources = released_twice before.shared.resources before.station.slot;
+      areas = ap areas_of (kept_twice (is_of_other_slot before.terminal_entry.slot) before.shared.storage);
+      resources = released_twice before.shared.resources before.terminal_entry.slot;
       task = still_live;
-      nothing_left = λ over. kept_twice (is_of_other_slot before.station.slot) before.shared.storage;
-      released = λ over. released_twice before.shared.resources before.station.slot;
+      nothing_left = λ over. kept_twice (is_of_other_slot before.terminal_entry.slot) before.shared.storage;
+      released = λ over. released_twice before.shared.resources before.terminal_entry.slot;
     }
 
 -- ---- soundness
-put_as : (r : RegionState) (name : List ℕ) (change : Change) (after : Reach) → put_back r name after (task_left change after.task) ≡ put_back r name after (task_after (told_as change) after.task)
+put_as : (r : RegionState) (name : List ℕ) (change : Change) (after : TaskContext) → put_back r name after (task_left change after.task) ≡ put_back r name after (task_after (told_as change) after.task)
 unfolding told_as
 put_as r name (Register n v) after = refl
 put_as r name (Byte a v) after = refl
@@ -146,9 +146,9 @@ sound_altered r new name change ok is sound queues resources = by_terminal (look
     by_task : (t : TerminalState) → lookup (is_name name) r.terminals ≡ Some t → (o : Option TaskState) → t.task ≡ o → new ≡ option_map_or (altered_at r name change t) o r → IsSound new
     by_task t there None at e = subst IsSound (sym e) ok
     by_task t there (Some task) at e =
-        let before = reach_of r t task in
-        sound_kept r new name t task (told_as change) (altered change before) ok there (change_keeps change before (own_task r name t task ok there at))
-        (e ∙ put_as r name change (altered change before)) sound queues resources
+        let before = context_of r t task in
+        sound_kept r new name t task (told_as change) (after_change change before) ok there (change_keeps change before (own_task r name t task ok there at))
+        (e ∙ put_as r name change (after_change change before)) sound queues resources
 
     by_terminal : (o : Option TerminalState) → lookup (is_name name) r.terminals ≡ o → new ≡ option_map_or (λ t. option_map_or (altered_at r name change t) t.task r) o r → IsSound new
     by_terminal None there e = subst IsSound (sym e) ok

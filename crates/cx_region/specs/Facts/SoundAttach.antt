@@ -9,27 +9,27 @@ use Rattle.std.proofs.lemmas.Option.{none-some, same_Some}
 use Rattle.std.proofs.lemmas.Map.{length-set_value}
 use Rattle.cx_storage.specs.declared.areas.Area.{Area}
 use Rattle.cx_storage.specs.Storage.{Storage, area_at, area_from, with_area, IsSound as IsSoundStorage}
-use Rattle.cx_storage.specs.Address.{along}
+use Rattle.cx_storage.specs.Address.{address_after}
 use Rattle.cx_storage.specs.Place.{CanPlace, IsLeastPlace}
 use Rattle.cx_storage.specs.Facts.Sound.{sound_with_area}
 use Rattle.cx_load.specs.declared.program.Loaded.{Loaded}
-use Rattle.cx_command.specs.declared.eistg.EistgField.TheVariants.{Eicap}
-use Rattle.cx_command.specs.Eistg.{eistg_field}
-use Rattle.cx_command.specs.Eib.{eib_field, eib_len}
-use Rattle.cx_call.specs.Eib.{Content, with_field, with_fields}
-use Rattle.cx_state.specs.declared.verdict.NewLevel.{NewLevel}
-use Rattle.cx_state.specs.Areas.{IsAreaOf, IsSoundProgram, IsTaskPlace, entry_level, first_of_tasks, last_of_tasks, system_owner, with_cap}
-use Rattle.cx_state.specs.Facts.Areas.{all_areas_put, all_areas_written, area_kept_get, area_put, area_written, not_there}
-use Rattle.cx_state.specs.State.{Input, TaskState}
-use Rattle.cx_tables.specs.Facts.Tables.{distinct-set_value, each-set_value, found_meets}
-use Rattle.cx_task.specs.Sound.{IsSoundTask}
+use Rattle.cx_base_commands.specs.declared.eistg.EistgField.TheVariants.{Eicap}
+use Rattle.cx_base_commands.specs.Eistg.{eistg_field}
+use Rattle.cx_base_commands.specs.Eib.{eib_field, eib_len}
+use Rattle.cx_region_call.specs.Eib.{Content, with_field, with_fields}
+use Rattle.cx_region_state.specs.declared.verdict.NewLevel.{NewLevel}
+use Rattle.cx_region_state.specs.Areas.{IsAreaOf, IsSoundProgram, IsTaskPlace, entry_level, first_of_tasks, last_of_tasks, system_owner, with_cap}
+use Rattle.cx_region_state.specs.Facts.Areas.{all_areas_put, all_areas_written, area_kept_get, area_put, area_written, not_there}
+use Rattle.cx_region_state.specs.State.{Input, TaskState}
+use Rattle.cx_base_lists.specs.Facts.Tables.{distinct-set_value, each-set_value, found_meets}
+use Rattle.cx_region_task.specs.Sound.{IsSoundTask}
 use Rattle.cx_region.specs.declared.asking.Asked.TheVariants.{Answer, Attach, Give}
 use Rattle.cx_region.specs.declared.asking.Start.{Start}
 use Rattle.cx_region.specs.declared.replies.KeyReply.TheVariants as key
 use Rattle.cx_region.specs.State.{RegionState, TerminalState}
 use Rattle.cx_ebcdic.specs.Names.{is_name}
 use Rattle.cx_region.specs.Tables.{program_of, terminal_of, transaction_of}
-use Rattle.cx_region.specs.Attach.{ArePlaced, IsCopyPlace, commarea_kept, filled, fresh_task, next_number, transaction_named, with_copy, with_eib_area, with_kept_area, with_task, with_task_areas}
+use Rattle.cx_region.specs.Attach.{ArePlaced, IsCopyPlace, commarea_kept, with_areas_filled, fresh_task, next_number, transaction_named, with_copy, with_eib_area, with_kept_area, with_task, with_task_areas}
 use Rattle.cx_region.specs.declared.asking.Places.{Places}
 use Rattle.cx_region.specs.Parts.Asking.{asked, asked_at, input_asked, start_asked, start_of, task_of_start}
 use Rattle.cx_region.specs.Parts.Placing.{IsSlotFree}
@@ -87,8 +87,8 @@ start_free r name bytes start ok starting =
 pub start_program : (r : RegionState) (name bytes : List ℕ) (start : Start) → IsSound r → Starting r name bytes start → IsSoundProgram start.loaded
 start_program r name bytes start ok starting = found_meets IsSoundProgram (is_name start.program) r.programs start.loaded ok.programs_sound starting.program
 
--- ---- another terminal under a name
--- with a terminal of the same slot put under its name, and storage in which what stood stands
+-- ---- a new terminal under a name
+-- with a terminal of the same slot put under its name, and storage in which what was there stays
 pub sound_put : (r : RegionState) (name : List ℕ) (t u : TerminalState) (s : Storage) (counter : ℕ) → IsSound r → terminal_of r name ≡ Some t → u.slot ≡ t.slot → is_some u.task ≡ true
     → IsSoundStorage s → AreasStay r.storage s → IsSoundTerminal s u
     → AllByRecursion (λ held. IsOwned (set_value (is_name name) r.terminals u) held.area) s → counter ≤ 9999999
@@ -152,34 +152,34 @@ owned_own r name t u a len ok there same live =
 area_fields : (s : Storage) (eib : ℕ) (fields : List Content) (x : ℕ) → area_at (with_fields s eib fields) x ≡ area_at s x
 unfolding with_field
 area_fields s eib [] x = refl
-area_fields s eib (f ∷ fields) x = area_fields (with_field s eib f) eib fields x ∙ area_written s (along eib (eib_field f.field).offset) f.bytes x
+area_fields s eib (f ∷ fields) x = area_fields (with_field s eib f) eib fields x ∙ area_written s (address_after eib (eib_field f.field).offset) f.bytes x
 
 area_copy : (s : Storage) (place : Option ℕ) (bytes : List ℕ) (x : ℕ) → area_at (with_copy s place bytes) x ≡ area_at s x
 unfolding with_copy
 area_copy s None bytes x = refl
 area_copy s (Some a) bytes x = area_written s a bytes x
 
-area_filled : (s : Storage) (areas : Places) (fields : List Content) (commarea : List ℕ) (level : NewLevel) (x : ℕ) → area_at (filled s areas fields commarea level) x ≡ area_at s x
-unfolding filled with_cap
+area_filled : (s : Storage) (areas : Places) (fields : List Content) (commarea : List ℕ) (level : NewLevel) (x : ℕ) → area_at (with_areas_filled s areas fields commarea level) x ≡ area_at s x
+unfolding with_areas_filled with_cap
 area_filled s areas fields commarea level x =
-    area_written (with_copy (with_fields s areas.eib fields) areas.commarea commarea) (along level.stg (eistg_field Eicap).offset) _ x
+    area_written (with_copy (with_fields s areas.eib fields) areas.commarea commarea) (address_after level.stg (eistg_field Eicap).offset) _ x
     ∙ area_copy (with_fields s areas.eib fields) areas.commarea commarea x
     ∙ area_fields s areas.eib fields x
 
 owned_fields : (P : Area → Type 0) (s : Storage) (eib : ℕ) (fields : List Content) → AllByRecursion (λ h. P h.area) s → AllByRecursion (λ h. P h.area) (with_fields s eib fields)
 unfolding with_field
 owned_fields P s eib [] all = all
-owned_fields P s eib (f ∷ fields) all = owned_fields P (with_field s eib f) eib fields (all_areas_written P s (along eib (eib_field f.field).offset) f.bytes all)
+owned_fields P s eib (f ∷ fields) all = owned_fields P (with_field s eib f) eib fields (all_areas_written P s (address_after eib (eib_field f.field).offset) f.bytes all)
 
 owned_copy : (P : Area → Type 0) (s : Storage) (place : Option ℕ) (bytes : List ℕ) → AllByRecursion (λ h. P h.area) s → AllByRecursion (λ h. P h.area) (with_copy s place bytes)
 unfolding with_copy
 owned_copy P s None bytes all = all
 owned_copy P s (Some a) bytes all = all_areas_written P s a bytes all
 
-owned_filled : (P : Area → Type 0) (s : Storage) (areas : Places) (fields : List Content) (commarea : List ℕ) (level : NewLevel) → AllByRecursion (λ h. P h.area) s → AllByRecursion (λ h. P h.area) (filled s areas fields commarea level)
-unfolding filled with_cap
+owned_filled : (P : Area → Type 0) (s : Storage) (areas : Places) (fields : List Content) (commarea : List ℕ) (level : NewLevel) → AllByRecursion (λ h. P h.area) s → AllByRecursion (λ h. P h.area) (with_areas_filled s areas fields commarea level)
+unfolding with_areas_filled with_cap
 owned_filled P s areas fields commarea level all =
-    all_areas_written P (with_copy (with_fields s areas.eib fields) areas.commarea commarea) (along level.stg (eistg_field Eicap).offset) _
+    all_areas_written P (with_copy (with_fields s areas.eib fields) areas.commarea commarea) (address_after level.stg (eistg_field Eicap).offset) _
     (owned_copy P (with_fields s areas.eib fields) areas.commarea commarea
     (owned_fields P s areas.eib fields all))
 
@@ -241,7 +241,7 @@ owned_areas P s slot len stg_len places new all =
 pub sound_attached : (r : RegionState) (name bytes : List ℕ) (start : Start) (input : Input) (places : Places) (fields : List Content) (commarea : List ℕ) (level : NewLevel) (s : Storage) (ts : List (List ℕ × TerminalState))
     → IsSound r → (starting : Starting r name bytes start) → IsSoundStorage s
     → ArePlaced r.storage (system_owner start.slot) start.calen start.loaded.stg_len places
-    → s ≡ filled (with_task_areas r.storage (system_owner start.slot) start.calen start.loaded.stg_len places) places fields commarea level
+    → s ≡ with_areas_filled (with_task_areas r.storage (system_owner start.slot) start.calen start.loaded.stg_len places) places fields commarea level
     → ts ≡ set_value (is_name name) r.terminals (with_task starting.terminal input (task_of_start start (next_number r.counter) places))
     → IsSound (record r { storage = s; terminals = ts; counter = next_number r.counter })
 unfolding fresh_task entry_level
@@ -322,7 +322,7 @@ sound_given r name input ts ok giving is =
     all_weaker (λ h. IsOwned r.terminals h.area) (λ h. IsOwned (set_value (is_name name) r.terminals u) h.area) r.storage (λ h. owned_put r name t u h.area ok giving.there refl live) ok.areas in
     rw is (sound_put r name t u r.storage r.counter ok giving.there refl live ok.storage (λ x area stands. stands) own owned ok.counter)
 
--- ---- what is told of the terminal that is found
+-- ---- what is known of the terminal that is found
 pub of_found : {T : Type 0} (P : T → Type 0) (o : Option T) (t : T) → o ≡ Some t → MatchOption o ⊤ P → P t
 of_found P None t e h = absurd (none-some t e)
 of_found P (Some u) t e h = subst P (same_Some u t e) h

@@ -20,15 +20,15 @@ use Rattle.cx_load.specs.Fault.{IsFit}
 use Rattle.cx_load.specs.Program.{IsLoaded, program_owner, text_at}
 use Rattle.cx_program.specs.declared.level.Level.{Level}
 use Rattle.cx_region.specs.State.{TerminalState, RegionState}
-use Rattle.cx_state.specs.State.{TaskState}
+use Rattle.cx_region_state.specs.State.{TaskState}
 use Rattle.cx_ebcdic.specs.Names.{is_name}
 use Rattle.cx_region.specs.Tables.{fresh_terminal}
 use Rattle.cx_region.specs.Defining.{fresh_region, program_fault, terminal_fault, transaction_fault}
-use Rattle.cx_state.specs.Areas.{IsSoundProgram}
-use Rattle.cx_task.specs.Sound.{IsSoundLevel, IsSoundTask}
+use Rattle.cx_region_state.specs.Areas.{IsSoundProgram}
+use Rattle.cx_region_task.specs.Sound.{IsSoundLevel, IsSoundTask}
 use Rattle.cx_region.specs.Sound.{AreNumbered, IsOwned, IsSound, IsSoundTerminal, is_live}
-use Rattle.cx_state.specs.Facts.Areas.{area_kept_get, area_written, all_areas_put, all_areas_written}
-use Rattle.cx_tables.specs.Facts.Tables.{insert_entry_absent, each-insert_entry}
+use Rattle.cx_region_state.specs.Facts.Areas.{area_kept_get, area_written, all_areas_put, all_areas_written}
+use Rattle.cx_base_lists.specs.Facts.Tables.{insert_entry_absent, each-insert_entry}
 
 -- a refusal that isn't the first one doesn't apply
 pub no_fault : {F : Type 0} (b : Bool) (fault : F) (others : Option F) → cond b (Some fault) others ≡ None → (b ≡ false) × (others ≡ None)
@@ -162,7 +162,7 @@ sound_transaction r tran program ts ok free is distinct =
     }
 
 -- ---- one more program
--- areas that stand stay
+-- areas that are there stay
 abbrev pub AreasStay : Storage → Storage → Type 0
 AreasStay s t = (x : ℕ) (area : Area) → area_at s x ≡ Some area → area_at t x ≡ Some area
 

@@ -14,23 +14,23 @@ use Rattle.cx_program.specs.declared.level.Level.{Level}
 use Rattle.cx_load.specs.declared.program.Loaded.{Loaded}
 use Rattle.cx_service.specs.Queues.{AreSoundQueues, Queues}
 use Rattle.cx_service.specs.Resources.{AreSoundResources, Resources, without_owner}
-use Rattle.cx_state.specs.declared.replies.TurnReply.{TurnReply}
-use Rattle.cx_state.specs.declared.replies.TurnReply.TheVariants as turn
-use Rattle.cx_state.specs.Replies.{is_over}
-use Rattle.cx_state.specs.State.{Reach, TaskState}
-use Rattle.cx_state.specs.Facts.Areas.{all_areas_same, area_kept_any, kept_pass}
-use Rattle.cx_task.specs.Laws.HalfTurns.{HalfTurnKeeps, HalfTurnsKeep, others_areas}
-use Rattle.cx_task.specs.Sound.{IsSoundLevel, IsSoundTask}
-use Rattle.cx_tables.specs.Facts.Tables.{distinct-set_value, found_meets}
+use Rattle.cx_region_state.specs.declared.replies.TurnReply.{TurnReply}
+use Rattle.cx_region_state.specs.declared.replies.TurnReply.TheVariants as turn
+use Rattle.cx_region_state.specs.Replies.{is_over}
+use Rattle.cx_region_state.specs.State.{TaskContext, TaskState}
+use Rattle.cx_region_state.specs.Facts.Areas.{all_areas_same, area_kept_any, kept_pass}
+use Rattle.cx_region_task.specs.Laws.HalfTurns.{HalfTurnKeeps, HalfTurnsKeep, others_areas}
+use Rattle.cx_region_task.specs.Sound.{IsSoundLevel, IsSoundTask}
+use Rattle.cx_base_lists.specs.Facts.Tables.{distinct-set_value, found_meets}
 use Rattle.cx_region.specs.State.{RegionState, TerminalState, terminal_with}
 use Rattle.cx_ebcdic.specs.Names.{is_name}
-use Rattle.cx_region.specs.Turn.{TaskTurned, Turned, put_back, reach_of, task_after}
+use Rattle.cx_region.specs.Turn.{TaskTakesTurn, TakesTurn, put_back, context_of, task_after}
 use Rattle.cx_region.specs.Sound.{AreNumbered, IsOwned, IsSound, IsSoundTerminal, is_live}
 use Rattle.cx_region.specs.Facts.SoundDefining.{all_weaker}
 use Rattle.cx_region.specs.Facts.Live.{live-set_value, numbered-set_value, slot_from}
 
 -- ---- areas and resources of others
--- areas of other slots stand where they stood
+-- areas of other slots stay where they were
 abbrev pub OthersStay : ℕ → Storage → Storage → Type 0
 OthersStay slot s t = (x : ℕ) (area : Area) → area_at s x ≡ Some area → (area.owner.slot ≡ slot → ⊥) → area_at t x ≡ Some area
 
@@ -197,13 +197,13 @@ assembled : (r : RegionState) (s s' : Storage) (programs : List (List ℕ × Loa
 assembled r s s' programs queues queues' rs rs' ts a b c d = rw (a, b, c, d) refl
 
 -- what keeps to its slot, put back
-pub sound_kept : (r new : RegionState) (name : List ℕ) (t : TerminalState) (task : TaskState) (reply : TurnReply) (after : Reach) → IsSound r → lookup (is_name name) r.terminals ≡ Some t
-    → HalfTurnKeeps (reach_of r t task) reply after → new ≡ put_back r name after (task_after reply after.task)
+pub sound_kept : (r new : RegionState) (name : List ℕ) (t : TerminalState) (task : TaskState) (reply : TurnReply) (after : TaskContext) → IsSound r → lookup (is_name name) r.terminals ≡ Some t
+    → HalfTurnKeeps (context_of r t task) reply after → new ≡ put_back r name after (task_after reply after.task)
     → IsSoundStorage new.storage → AreSoundQueues new.queues → AreSoundResources new.resources → IsSound new
 sound_kept r new name t task reply after ok there keeps put sound queues_ok resources_ok = by_over (is_over reply) refl
   where
     u : TerminalState
-    u = terminal_with after.station (task_after reply after.task)
+    u = terminal_with after.terminal_entry (task_after reply after.task)
 
     ts : List (List ℕ × TerminalState)
     ts = set_value (is_name name) r.terminals u
@@ -273,22 +273,22 @@ pub own_task : (r : RegionState) (name : List ℕ) (t : TerminalState) (task : T
 own_task r name t task ok there at = task_of_terminal r.storage t task at (found_meets (IsSoundTerminal r.storage) (is_name name) r.terminals t ok.tasks there)
 
 sound_task_turned : HalfTurnsKeep → (r new : RegionState) (name : List ℕ) (t : TerminalState) (task : TaskState) (reply : TurnReply) → IsSound r → lookup (is_name name) r.terminals ≡ Some t → t.task ≡ Some task
-    → TaskTurned r name t task reply new → IsSoundStorage new.storage → AreSoundQueues new.queues → AreSoundResources new.resources → IsSound new
+    → TaskTakesTurn r name t task reply new → IsSoundStorage new.storage → AreSoundQueues new.queues → AreSoundResources new.resources → IsSound new
 sound_task_turned law r new name t task reply ok there at turned sound queues_ok resources_ok =
     sound_kept r new name t task reply turned.reached ok there
-    (law (reach_of r t task) turned.reached reply ok.storage ok.programs_sound ok.queues_sound (own_task r name t task ok there at) turned.half_turn)
+    (law (context_of r t task) turned.reached reply ok.storage ok.programs_sound ok.queues_sound (own_task r name t task ok there at) turned.half_turn)
     turned.after sound queues_ok resources_ok
 
-pub sound_turned : HalfTurnsKeep → (r new : RegionState) (name : List ℕ) (reply : TurnReply) → IsSound r → Turned r name reply new
+pub sound_turned : HalfTurnsKeep → (r new : RegionState) (name : List ℕ) (reply : TurnReply) → IsSound r → TakesTurn r name reply new
     → IsSoundStorage new.storage → AreSoundQueues new.queues → AreSoundResources new.resources → IsSound new
-unfolding Turned
+unfolding TakesTurn
 sound_turned law r new name reply ok turned sound queues_ok resources_ok = by_terminal (lookup (is_name name) r.terminals) refl turned
   where
-    by_task : (t : TerminalState) (o : Option TaskState) → lookup (is_name name) r.terminals ≡ Some t → t.task ≡ o → MatchOption o ((reply ≡ turn.Idle) × (new ≡ r)) (λ task. TaskTurned r name t task reply new) → IsSound new
+    by_task : (t : TerminalState) (o : Option TaskState) → lookup (is_name name) r.terminals ≡ Some t → t.task ≡ o → MatchOption o ((reply ≡ turn.Idle) × (new ≡ r)) (λ task. TaskTakesTurn r name t task reply new) → IsSound new
     by_task t None there at idle = subst IsSound (sym idle.1) ok
     by_task t (Some task) there at turned = sound_task_turned law r new name t task reply ok there at turned sound queues_ok resources_ok
 
     by_terminal : (o : Option TerminalState) → lookup (is_name name) r.terminals ≡ o
-        → MatchOption o ((reply ≡ turn.NoSuchTerminal) × (new ≡ r)) (λ t. MatchOption t.task ((reply ≡ turn.Idle) × (new ≡ r)) (λ task. TaskTurned r name t task reply new)) → IsSound new
+        → MatchOption o ((reply ≡ turn.NoSuchTerminal) × (new ≡ r)) (λ t. MatchOption t.task ((reply ≡ turn.Idle) × (new ≡ r)) (λ task. TaskTakesTurn r name t task reply new)) → IsSound new
     by_terminal None there nowhere = subst IsSound (sym nowhere.1) ok
     by_terminal (Some t) there turned = by_task t t.task there refl turned

@@ -1,11 +1,11 @@
 -- What a key asks for, as a plan that is made before anything changes; no public contract cites it.
 use Rattle.std.specs.Prelude.{◌≡◌, ℕ, List, length, Option, Some, None, IsSomeAnd, MatchOption, option_and_then}
 use Rattle.std.specs.Option.{option_map_or}
-use Rattle.cx_command.specs.Eib.{eib_len}
+use Rattle.cx_base_commands.specs.Eib.{eib_len}
 use Rattle.cx_load.specs.declared.program.Loaded.{Loaded}
-use Rattle.cx_state.specs.declared.verdict.NewLevel.{NewLevel}
-use Rattle.cx_state.specs.Areas.{IsTaskPlace}
-use Rattle.cx_state.specs.State.{Input, TaskState}
+use Rattle.cx_region_state.specs.declared.verdict.NewLevel.{NewLevel}
+use Rattle.cx_region_state.specs.Areas.{IsTaskPlace}
+use Rattle.cx_region_state.specs.State.{Input, TaskState}
 use Rattle.cx_region.specs.declared.replies.KeyReply.TheVariants as key
 use Rattle.cx_region.specs.declared.asking.Asked.{Asked}
 use Rattle.cx_region.specs.declared.asking.Asked.TheVariants.{Answer, Give, Attach}

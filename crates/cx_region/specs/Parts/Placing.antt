@@ -3,18 +3,18 @@ use Rattle.std.specs.Prelude.{◌≡◌, ℕ, ◌^◌, ◌<◌, ◌==◌, true, 
 use Rattle.std.specs.List.{AllByRecursion}
 use Rattle.cx_ebcdic.specs.declared.aids.Aid.{Aid}
 use Rattle.cx_storage.specs.Storage.{Storage, is_of_other_slot}
-use Rattle.cx_state.specs.State.{Input, TaskState}
+use Rattle.cx_region_state.specs.State.{Input, TaskState}
 use Rattle.cx_region.specs.declared.attach.StartFault.{StartFault}
 use Rattle.cx_region.specs.declared.attach.StartFault.TheVariants.{Memory, NoStorage}
 use Rattle.cx_region.specs.declared.asking.Start.{Start}
-use Rattle.cx_state.specs.Areas.{IsTaskPlace, system_owner}
-use Rattle.cx_state.specs.declared.verdict.NewLevel.{NewLevel}
+use Rattle.cx_region_state.specs.Areas.{IsTaskPlace, system_owner}
+use Rattle.cx_region_state.specs.declared.verdict.NewLevel.{NewLevel}
 use Rattle.cx_region.specs.Attach.{ArePlaced, HasNoPlaces, with_task_areas}
 use Rattle.cx_region.specs.declared.asking.Places.{Places}
 use Rattle.cx_region.specs.Parts.Asking.{level_of, task_of_start}
-use Rattle.cx_command.specs.Eib.{eib_len}
+use Rattle.cx_base_commands.specs.Eib.{eib_len}
 
--- no place for so many bytes; or there is one, and a growth was refused
+-- no place for `len` bytes; or there is one, and an allocation failed
 abbrev pub IsPlaceFault : Storage → ℕ → StartFault → Type 0
 IsPlaceFault storage len NoStorage = IsTaskPlace storage len None
 IsPlaceFault storage len (Memory refused) = IsTaskPlace storage len None → ⊥
@@ -23,7 +23,7 @@ abbrev pub IsCopyFault : Storage → ℕ → StartFault → Type 0
 IsCopyFault storage len NoStorage = (len == 0 ≡ false) × IsTaskPlace storage len None
 IsCopyFault storage len (Memory refused) = Unit {0}
 
--- no places for the areas of a task; or there is one for its EIB, and a growth was refused
+-- no places for the areas of a task; or there is one for its EIB, and an allocation failed
 abbrev pub AreFaultsOf : Storage → Start → StartFault → Type 0
 AreFaultsOf storage start NoStorage = HasNoPlaces storage (system_owner start.slot) start.calen start.loaded.stg_len
 AreFaultsOf storage start (Memory refused) = IsTaskPlace storage eib_len None → ⊥

@@ -1,11 +1,11 @@
 -- A turn, by the parts that change; no public contract cites it.
 use Rattle.std.specs.Prelude.{◌≡◌, ℕ, List, Option, None, IsSomeAnd, MatchOption}
-use Rattle.cx_state.specs.declared.replies.TurnReply.{TurnReply}
-use Rattle.cx_state.specs.declared.replies.TurnReply.TheVariants as turn
-use Rattle.cx_state.specs.State.{Reach, SharedState, TaskState, reach}
-use Rattle.cx_task.specs.declared.cause.Trouble.{Trouble}
-use Rattle.cx_task.specs.Causes.{Troubled}
-use Rattle.cx_task.specs.Turn.{Grows, HalfTurn}
+use Rattle.cx_region_state.specs.declared.replies.TurnReply.{TurnReply}
+use Rattle.cx_region_state.specs.declared.replies.TurnReply.TheVariants as turn
+use Rattle.cx_region_state.specs.State.{TaskContext, SharedState, TaskState, context}
+use Rattle.cx_region_task.specs.declared.cause.Trouble.{Trouble}
+use Rattle.cx_region_task.specs.Causes.{HasTrouble}
+use Rattle.cx_region_task.specs.Turn.{TakesMemory, HalfTurn}
 use Rattle.cx_region.specs.State.{TerminalState, station_of, terminal_with}
 use Rattle.cx_region.specs.Turn.{task_after}
 
@@ -15,10 +15,10 @@ Terminals = List (List ℕ × TerminalState)
 
 -- a half-turn of a terminal's task
 pub record PartTurned (shared : SharedState) (terminal : TerminalState) (task : TaskState) (reply : TurnReply) (after : SharedState) (left : TerminalState) : Type 0 where
-  pub reached : Reach
-  pub half_turn : HalfTurn (reach shared (station_of terminal) task) reply reached
+  pub reached : TaskContext
+  pub half_turn : HalfTurn (context shared (station_of terminal) task) reply reached
   pub shared_is : after ≡ reached.shared
-  pub terminal_is : left ≡ terminal_with reached.station (task_after reply reached.task)
+  pub terminal_is : left ≡ terminal_with reached.terminal_entry (task_after reply reached.task)
 
 -- of a terminal without a task
 pub record PartIdle (shared : SharedState) (terminal : TerminalState) (reply : TurnReply) (after : SharedState) (left : TerminalState) : Type 0 where
@@ -31,9 +31,9 @@ TurnedAt shared terminal reply after left =
     MatchOption terminal.task (PartIdle shared terminal reply after left) (λ task. PartTurned shared terminal task reply after left)
 
 unfoldable pub GrowsAt : SharedState → TerminalState → Type 0
-GrowsAt shared terminal = IsSomeAnd terminal.task (λ task. Grows (reach shared (station_of terminal) task))
+GrowsAt shared terminal = IsSomeAnd terminal.task (λ task. TakesMemory (context shared (station_of terminal) task))
 
 -- why it leads to an abend
 unfoldable pub TroubledAt : SharedState → TerminalState → Option Trouble → Type 0
 TroubledAt shared terminal trouble =
-    MatchOption terminal.task (trouble ≡ None) (λ task. Troubled (reach shared (station_of terminal) task) trouble)
+    MatchOption terminal.task (trouble ≡ None) (λ task. HasTrouble (context shared (station_of terminal) task) trouble)

@@ -3,7 +3,7 @@ use Rattle.std.proofs.Common.{◌≡◌, ℕ, true, Option, Some, None, List, re
 use Rattle.std.specs.Prelude.{MatchOption}
 use Rattle.std.specs.Option.{option_and_then, option_map_or}
 use Rattle.std.proofs.lemmas.Bool.{true≢false}
-use Rattle.cx_state.specs.State.{TaskState}
+use Rattle.cx_region_state.specs.State.{TaskState}
 use Rattle.cx_region.specs.declared.changes.AlterReply.{AlterReply}
 use Rattle.cx_region.specs.declared.changes.AlterReply.TheVariants as alter
 use Rattle.cx_region.specs.declared.changes.Change.{Change}
@@ -13,15 +13,15 @@ use Rattle.cx_region.specs.declared.replies.Reply.{Reply}
 use Rattle.cx_region.specs.declared.replies.Reply.TheVariants as reply
 use Rattle.cx_region.specs.State.{RegionState, TerminalState}
 use Rattle.cx_region.specs.Tables.{terminal_of}
-use Rattle.cx_region.specs.Turn.{reach_of}
+use Rattle.cx_region.specs.Turn.{context_of}
 use Rattle.cx_region.specs.Alter.{Alters, alter_refusal, altered_region, change_refusal}
-use Rattle.cx_region.specs.Events.{Happens}
+use Rattle.cx_region.specs.Events.{Applies}
 use Rattle.cx_region_laws.specs.Laws.Alterations.{AbendsOfTasksAreDone, AlterationsDecide, RefusedAlterationsLeaveTheRegion}
 
 -- the reply of the event is an alteration's
-pub alter_reply : (old : RegionState) (name : List ℕ) (change : Change) (r : Reply) (new : RegionState) → Happens old (event.Alter name change) r new
+pub alter_reply : (old : RegionState) (name : List ℕ) (change : Change) (r : Reply) (new : RegionState) → Applies old (event.Alter name change) r new
     → (answer : AlterReply) × (r ≡ reply.Alter answer) × Alters old name change answer new
-unfolding Happens
+unfolding Applies
 alter_reply old name change (reply.Alter answer) new h = (answer, refl, h)
 alter_reply old name change _ new h = absurd h
 
@@ -51,10 +51,10 @@ abends_are_done old name reply new h live = by_terminal (terminal_of old name) h
     Due : Option AlterReply → Type 0
     Due o = MatchOption o ((reply ≡ alter.Altered) × (new ≡ altered_region old name Abend)) (λ refusal. (reply ≡ refusal) × (new ≡ old))
 
-    by_task : (t : TerminalState) (o : Option TaskState) → Due (option_map_or (λ task. change_refusal Abend (reach_of old t task)) o (Some alter.NoTask)) → is_some o ≡ true → reply ≡ alter.Altered
+    by_task : (t : TerminalState) (o : Option TaskState) → Due (option_map_or (λ task. change_refusal Abend (context_of old t task)) o (Some alter.NoTask)) → is_some o ≡ true → reply ≡ alter.Altered
     by_task t None h live = absurd (true≢false (sym live))
     by_task t (Some task) h live = h.0
 
-    by_terminal : (o : Option TerminalState) → Due (option_map_or (λ t. option_map_or (λ task. change_refusal Abend (reach_of old t task)) t.task (Some alter.NoTask)) o (Some alter.NoSuchTerminal)) → is_some (option_and_then (λ t. t.task) o) ≡ true → reply ≡ alter.Altered
+    by_terminal : (o : Option TerminalState) → Due (option_map_or (λ t. option_map_or (λ task. change_refusal Abend (context_of old t task)) t.task (Some alter.NoTask)) o (Some alter.NoSuchTerminal)) → is_some (option_and_then (λ t. t.task) o) ≡ true → reply ≡ alter.Altered
     by_terminal None h live = absurd (true≢false (sym live))
     by_terminal (Some t) h live = by_task t t.task h live

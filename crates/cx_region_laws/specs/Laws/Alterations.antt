@@ -1,20 +1,20 @@
 -- What follows from the definition of alterations.
 use Rattle.std.specs.Prelude.{◌≡◌, ◌≢◌, ℕ, Bool, true, false, ◌==◌, List, is_some, MatchOption}
 use Rattle.std.specs.Map.{keys_of}
-use Rattle.cx_command.specs.declared.abends.Abend.TheVariants.{Xedf}
-use Rattle.cx_command.specs.Abends.{abend_code}
+use Rattle.cx_base_commands.specs.declared.abends.Abend.TheVariants.{Xedf}
+use Rattle.cx_base_commands.specs.Abends.{abend_code}
 use Rattle.cx_storage.specs.Storage.{areas_of, byte_at, is_of_other_slot, with_areas_kept}
 use Rattle.cx_service.specs.Resources.{without_owner}
-use Rattle.cx_state.specs.declared.replies.TurnReply.TheVariants as turn
-use Rattle.cx_state.specs.State.{Reach, TaskState}
-use Rattle.cx_task.specs.Abends.{Abends}
+use Rattle.cx_region_state.specs.declared.replies.TurnReply.TheVariants as turn
+use Rattle.cx_region_state.specs.State.{TaskContext, TaskState}
+use Rattle.cx_region_task.specs.Abends.{Abends}
 use Rattle.cx_region.specs.declared.changes.Change.{Change}
 use Rattle.cx_region.specs.declared.changes.Change.TheVariants.{Byte, Abend}
 use Rattle.cx_region.specs.declared.changes.AlterReply.{AlterReply}
 use Rattle.cx_region.specs.declared.changes.AlterReply.TheVariants as alter
 use Rattle.cx_region.specs.State.{RegionState}
 use Rattle.cx_region.specs.Tables.{task_of, terminal_of}
-use Rattle.cx_region.specs.Alter.{Alters, altered, ends_task}
+use Rattle.cx_region.specs.Alter.{Alters, after_change, ends_task}
 use Rattle.cx_region_laws.specs.Laws.Regions.{OthersAsBefore}
 
 -- ---- one outcome
@@ -45,7 +45,7 @@ pub record AlterKeeps (old : RegionState) (name : List ℕ) (new : RegionState) 
   pub counter : new.counter ≡ old.counter
   pub queues : new.queues ≡ old.queues
 
--- what it leaves beside, where the task goes on: areas and resources, and all bytes but one at most
+-- what else it leaves, where the task goes on: areas and resources, and all bytes except at most one
 pub record AlterKeepsStorage (old : RegionState) (change : Change) (new : RegionState) : Type 0 where
   pub areas : areas_of new.storage ≡ areas_of old.storage
   pub bytes : (x : ℕ) → sets_byte change x ≡ false → byte_at new.storage x ≡ byte_at old.storage x
@@ -68,7 +68,7 @@ pub record AlterKeepsLevels (before after : TaskState) : Type 0 where
   pub kept : KeepsWhereDue before → KeepsWhereDue after
 
 abbrev pub AlterationsKeepLevels : Type 0
-AlterationsKeepLevels = (change : Change) (before : Reach) → AlterKeepsLevels before.task (altered change before).task
+AlterationsKeepLevels = (change : Change) (before : TaskContext) → AlterKeepsLevels before.task (after_change change before).task
 
 abbrev pub AlterationsKeepToTheirTask : Type 0
 AlterationsKeepToTheirTask = (old : RegionState) (name : List ℕ) (change : Change) (reply : AlterReply) (new : RegionState)
@@ -90,4 +90,4 @@ AbendsOfTasksAreDone = (old : RegionState) (name : List ℕ) (reply : AlterReply
 
 -- it is an abend with the code XEDF at which no exit is looked at
 abbrev pub AbendsLookAtNoExit : Type 0
-AbendsLookAtNoExit = (before : Reach) → Abends (abend_code Xedf) true before (turn.Abended (abend_code Xedf)) (altered Abend before)
+AbendsLookAtNoExit = (before : TaskContext) → Abends (abend_code Xedf) true before (turn.Abended (abend_code Xedf)) (after_change Abend before)

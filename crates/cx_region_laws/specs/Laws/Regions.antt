@@ -8,25 +8,25 @@ use Rattle.cx_region.specs.declared.replies.Event.{Event}
 use Rattle.cx_region.specs.declared.replies.KeyReply.{KeyReply}
 use Rattle.cx_region.specs.declared.replies.KeyReply.TheVariants as key
 use Rattle.cx_region.specs.declared.replies.Reply.{Reply}
-use Rattle.cx_state.specs.declared.replies.TurnReply.{TurnReply}
-use Rattle.cx_state.specs.declared.replies.TurnReply.TheVariants as turn
+use Rattle.cx_region_state.specs.declared.replies.TurnReply.{TurnReply}
+use Rattle.cx_region_state.specs.declared.replies.TurnReply.TheVariants as turn
 use Rattle.cx_region.specs.State.{RegionState}
-use Rattle.cx_state.specs.State.{Input}
+use Rattle.cx_region_state.specs.State.{Input}
 use Rattle.cx_ebcdic.specs.Names.{is_name}
 use Rattle.cx_region.specs.Tables.{terminal_of}
 use Rattle.cx_region.specs.Sound.{IsSound}
 use Rattle.cx_service.specs.Resources.{without_owner}
-use Rattle.cx_task.specs.Laws.HalfTurns.{others_areas}
+use Rattle.cx_region_task.specs.Laws.HalfTurns.{others_areas}
 use Rattle.cx_region.specs.Defining.{DefinesProgram, DefinesTransaction, DefinesTerminal}
-use Rattle.cx_region.specs.Attach.{Keyed, next_number}
-use Rattle.cx_region.specs.Turn.{Turned}
-use Rattle.cx_region.specs.Events.{Happens, Run}
+use Rattle.cx_region.specs.Attach.{TakesKey, next_number}
+use Rattle.cx_region.specs.Turn.{TakesTurn}
+use Rattle.cx_region.specs.Events.{Applies, Run}
 
 -- ---- one outcome
 -- two outcomes of one event on one region are equal
 abbrev pub EventsDecide : Type 0
 EventsDecide = (old : RegionState) (event : Event) (reply other : Reply) (new later : RegionState)
-    → Happens old event reply new → Happens old event other later → (reply ≡ other) × (new ≡ later)
+    → Applies old event reply new → Applies old event other later → (reply ≡ other) × (new ≡ later)
 
 -- two outcomes of one definition, of one key, of one turn
 abbrev pub ProgramsDecide : Type 0
@@ -43,11 +43,11 @@ TerminalsDecide = (old : RegionState) (name : List ℕ) (answer other : Result (
 
 abbrev pub KeysDecide : Type 0
 KeysDecide = (old : RegionState) (name : List ℕ) (input : Input) (reply other : KeyReply) (new later : RegionState)
-    → Keyed old name input reply new → Keyed old name input other later → (reply ≡ other) × (new ≡ later)
+    → TakesKey old name input reply new → TakesKey old name input other later → (reply ≡ other) × (new ≡ later)
 
 abbrev pub TurnsDecide : Type 0
 TurnsDecide = (old : RegionState) (name : List ℕ) (reply other : TurnReply) (new later : RegionState)
-    → Turned old name reply new → Turned old name other later → (reply ≡ other) × (new ≡ later)
+    → TakesTurn old name reply new → TakesTurn old name other later → (reply ≡ other) × (new ≡ later)
 
 -- two outcomes of one run are equal
 abbrev pub RunsDecide : Type 0
@@ -69,7 +69,7 @@ pub record TurnKeeps (old : RegionState) (name : List ℕ) (new : RegionState) :
   pub date : new.date ≡ old.date
   pub counter : new.counter ≡ old.counter
 
--- what a turn of a terminal of a sound region leaves beside: the areas and the resources of all others, both ways
+-- what else a turn of a terminal of a sound region leaves: the areas and the resources of all others, both ways
 pub record TurnKeepsOthers (old : RegionState) (name : List ℕ) (new : RegionState) : Type 0 where
   pub areas : MatchOption (terminal_of old name) (new.storage ≡ old.storage) (λ terminal. others_areas terminal.slot new.storage ≡ others_areas terminal.slot old.storage)
   pub resources : MatchOption (terminal_of old name) (new.resources ≡ old.resources) (λ terminal. without_owner new.resources terminal.slot ≡ without_owner old.resources terminal.slot)
@@ -93,13 +93,13 @@ pub record KeyKeeps (old : RegionState) (name : List ℕ) (reply : KeyReply) (ne
   pub counter : new.counter ≡ counter_after reply old.counter
 
 abbrev pub TurnsKeepToTheirTask : Type 0
-TurnsKeepToTheirTask = (old : RegionState) (name : List ℕ) (reply : TurnReply) (new : RegionState) → Turned old name reply new → TurnKeeps old name new
+TurnsKeepToTheirTask = (old : RegionState) (name : List ℕ) (reply : TurnReply) (new : RegionState) → TakesTurn old name reply new → TurnKeeps old name new
 
 abbrev pub TurnsKeepOthers : Type 0
-TurnsKeepOthers = (old : RegionState) (name : List ℕ) (reply : TurnReply) (new : RegionState) → IsSound old → Turned old name reply new → TurnKeepsOthers old name new
+TurnsKeepOthers = (old : RegionState) (name : List ℕ) (reply : TurnReply) (new : RegionState) → IsSound old → TakesTurn old name reply new → TurnKeepsOthers old name new
 
 abbrev pub KeysKeepToTheirTerminal : Type 0
-KeysKeepToTheirTerminal = (old : RegionState) (name : List ℕ) (input : Input) (reply : KeyReply) (new : RegionState) → Keyed old name input reply new → KeyKeeps old name reply new
+KeysKeepToTheirTerminal = (old : RegionState) (name : List ℕ) (input : Input) (reply : KeyReply) (new : RegionState) → TakesKey old name input reply new → KeyKeeps old name reply new
 
 -- ---- what changes nothing
 -- the answers of a turn that leaves the region as it was
@@ -110,12 +110,12 @@ changes_nothing turn.Waiting = true
 changes_nothing _ = false
 
 abbrev pub StillTurnsLeaveTheRegion : Type 0
-StillTurnsLeaveTheRegion = (old : RegionState) (name : List ℕ) (reply : TurnReply) (new : RegionState) → Turned old name reply new
+StillTurnsLeaveTheRegion = (old : RegionState) (name : List ℕ) (reply : TurnReply) (new : RegionState) → TakesTurn old name reply new
     → changes_nothing reply ≡ true → new ≡ old
 
 -- every answer of a key but Attached and Given
 abbrev pub StillKeysLeaveTheRegion : Type 0
-StillKeysLeaveTheRegion = (old : RegionState) (name : List ℕ) (input : Input) (reply : KeyReply) (new : RegionState) → Keyed old name input reply new
+StillKeysLeaveTheRegion = (old : RegionState) (name : List ℕ) (input : Input) (reply : KeyReply) (new : RegionState) → TakesKey old name input reply new
     → reply ≢ key.Attached → reply ≢ key.Given → new ≡ old
 
 abbrev pub RefusedProgramsLeaveTheRegion : Type 0

@@ -7,11 +7,11 @@ use Rattle.cx_region.specs.declared.replies.Event.{Event}
 use Rattle.cx_region.specs.declared.replies.Event.TheVariants as event
 use Rattle.cx_region.specs.declared.replies.Reply.{Reply}
 use Rattle.cx_region.specs.State.{RegionState}
-use Rattle.cx_region.specs.Events.{Happens, IsAllowed}
+use Rattle.cx_region.specs.Events.{Applies, IsAllowed}
 use Rattle.cx_region.specs.Sound.{IsSound}
 
--- What every store, every list of queues and every list of resources keeps by itself, whatever is done with it: areas apart
--- that have their bytes, each below 256; the limits of queues and of holds.
+-- What every store, every list of queues and every list of resources keeps by itself, whatever is done with it:
+-- disjoint areas that have their bytes, each below 256; the limits of queues and of holds.
 pub record ArePartsSound (region : RegionState) : Type 0 where
   pub storage : IsSoundStorage region.storage
   pub queues : AreSoundQueues region.queues
@@ -24,4 +24,4 @@ IsChecked _ = Unit {0}
 
 -- an event of a sound region leads to a sound one
 abbrev pub SoundIsKept : Type 0
-SoundIsKept = (old new : RegionState) (e : Event) (r : Reply) → IsSound old → IsAllowed e → IsChecked e → Happens old e r new → ArePartsSound new → IsSound new
+SoundIsKept = (old new : RegionState) (e : Event) (r : Reply) → IsSound old → IsAllowed e → IsChecked e → Applies old e r new → ArePartsSound new → IsSound new

@@ -1,37 +1,37 @@
 -- Which line a bad line is, and what was done before it.
 use Rattle.std.specs.Prelude.{◌≡◌, ℕ, ◌+◌, ◌-◌, ◌≤◌, ◌⊎◌, true, false, codes, List, [], ◌∷◌, length, take, slice_get, Option, Some, None, Result, Ok, Err, IsSomeAnd}
 use Rattle.std.specs.Str.{bytes_eq}
-use Rattle.cx_actions.specs.Language.{Language}
-use Rattle.cx_blocks.specs.Blocks.{step_at, with_line}
-use Rattle.cx_blocks.specs.declared.blocks.Block.{Block}
-use Rattle.cx_lines.specs.Lines.{is_too_long, lines_met}
+use Rattle.cx_script_actions.specs.Language.{Language}
+use Rattle.cx_script_blocks.specs.Blocks.{step_at, with_line}
+use Rattle.cx_script_blocks.specs.declared.blocks.Block.{Block}
+use Rattle.cx_script_io.specs.Lines.{is_too_long, lines_met}
 use Rattle.cx_script.specs.Script.{script_in}
 use Rattle.cx_script.specs.Transcript.{front_of}
-use Rattle.cx_blocks.specs.declared.blocks.Step.{Step}
-use Rattle.cx_blocks.specs.declared.faults.RunFault.{RunFault}
-use Rattle.cx_blocks.specs.declared.faults.RunFault.TheVariants.{BadLine, Read}
-use Rattle.cx_lines.specs.declared.input.Ending.{Ending}
-use Rattle.cx_lines.specs.declared.input.Ending.TheVariants.{AtEnd}
+use Rattle.cx_script_blocks.specs.declared.blocks.LineStep.{LineStep}
+use Rattle.cx_script_blocks.specs.declared.faults.RunFault.{RunFault}
+use Rattle.cx_script_blocks.specs.declared.faults.RunFault.TheVariants.{BadLine, Read}
+use Rattle.cx_script_io.specs.declared.input.Ending.{Ending}
+use Rattle.cx_script_io.specs.declared.input.Ending.TheVariants.{AtEnd}
 
 -- the block that a line leaves to the next one
-abbrev pub block_after : {A : Type 0} → Result (Step A) RunFault → Option Block
+abbrev pub block_after : {A : Type 0} → Result (LineStep A) RunFault → Option Block
 block_after (Err fault) = None
 block_after (Ok step) = step.block
 
--- the block that the line behind these lines is in; the first of them has this number, and is in this block
+-- the block that the line after these lines is in; the first of them has this number, and is in this block
 unfoldable pub block_behind : {A : Type 0} → Language A → ℕ → Option Block → List (List ℕ) → Option Block
 block_behind language number block [] = block
 block_behind language number block (line ∷ lines) =
     block_behind language (number + 1) (block_after (step_at language number block line)) lines
 
--- A bad line where it stands: it is too long; or it is no line of a script outside a block, and in one neither the
+-- A bad line at its place: it is too long; or it is no line of a script outside a block, and in one neither the
 -- block's end nor a line that the block may have.
 abbrev pub IsBadIn : {A : Type 0} → Language A → Option Block → List ℕ → Type 0
 IsBadIn language None line = (is_too_long line ≡ true) ⊎ (language.line_of line ≡ None)
 IsBadIn language (Some block) line =
     (is_too_long line ≡ true) ⊎ ((bytes_eq line (codes "/*") ≡ false) × (with_line block line ≡ None))
 
--- the line with this number is bad where it stands
+-- the line with this number is bad at its place
 abbrev pub IsBadThere : {A : Type 0} → Language A → List (List ℕ) → ℕ → Type 0
 IsBadThere language lines number =
     let block = block_behind language 1 None (take (number - 1) lines) in

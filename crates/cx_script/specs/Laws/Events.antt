@@ -10,11 +10,11 @@ use Rattle.cx_edf.specs.declared.answers.EdfEvent.{EdfEvent}
 use Rattle.cx_edf.specs.declared.answers.EdfEvent.TheVariants as edf_event
 use Rattle.cx_edf.specs.State.{EdfState}
 use Rattle.cx_edf.specs.Runs.{EdfRun}
-use Rattle.cx_actions.specs.Texts.{answer_text}
+use Rattle.cx_script_actions.specs.Texts.{answer_text}
 use Rattle.cx_script.specs.Transcript.{Runs}
-use Rattle.cx_actions.specs.Effects.{Performs}
-use Rattle.cx_actions.specs.declared.actions.Action.{Action}
-use Rattle.cx_actions.specs.declared.actions.Action.TheVariants as action
+use Rattle.cx_script_actions.specs.Effects.{Performs}
+use Rattle.cx_script_actions.specs.declared.actions.Action.{Action}
+use Rattle.cx_script_actions.specs.declared.actions.Action.TheVariants as action
 
 -- the event that an action gives: an image gives one where it has no fault, what is shown none
 abbrev pub program_event : Option ImageFault → List ℕ → Image → Option EdfEvent
@@ -37,13 +37,13 @@ abbrev pub written_before : Action → List ℕ
 written_before (action.Source name before image) = before
 written_before _ = []
 
--- the text of an action that gives an event is that of the event's answer, behind what is written before
+-- the text of an action that gives an event is that of the event's answer, after what is written before
 abbrev pub IsToldBy : Option EdfEvent → List ℕ → List Answer → List ℕ → (List Answer → Type 0) → Type 0
 IsToldBy None before answers text Rest = Rest answers
 IsToldBy (Some event) before [] text Rest = ⊥
 IsToldBy (Some event) before (answer ∷ answers) text Rest = (text ≡ before ++ answer_text event answer) × Rest answers
 
--- the answers, in order, are those that the texts of these actions tell
+-- the answers, in order, are those that the texts of these actions report
 unfoldable pub AreTold : List Action → List Answer → List (List ℕ) → Type 0
 AreTold [] [] [] = Unit {0}
 AreTold (action ∷ actions) answers (text ∷ texts) =

@@ -2,16 +2,16 @@
 use Rattle.std.specs.Prelude.{◌≡◌, ℕ, ◌<◌, Bool, true, false, List, length, take, Option, Some, Result, Err}
 use Rattle.std.specs.Io.KnownBytes.{Consumes}
 use Rattle.std.specs.Result.{result_err}
-use Rattle.cx_actions.specs.Language.{edf_language}
-use Rattle.cx_lines.specs.Input.{most_bytes}
+use Rattle.cx_script_actions.specs.Language.{edf_language}
+use Rattle.cx_script_io.specs.Input.{most_bytes}
 use Rattle.cx_script.specs.Outcome.{RanScript}
 use Rattle.cx_script.specs.Script.{script_in}
-use Rattle.cx_blocks.specs.declared.faults.RunFault.{RunFault}
-use Rattle.cx_blocks.specs.declared.faults.RunFault.TheVariants.{Read, Write, Memory, ReadBound}
-use Rattle.cx_blocks.specs.declared.faults.Summary.{Summary}
-use Rattle.cx_lines.specs.declared.input.Ending.TheVariants.{Failed, PastBound}
+use Rattle.cx_script_blocks.specs.declared.faults.RunFault.{RunFault}
+use Rattle.cx_script_blocks.specs.declared.faults.RunFault.TheVariants.{Read, Write, Memory, ReadBound}
+use Rattle.cx_script_blocks.specs.declared.faults.Summary.{Summary}
+use Rattle.cx_script_io.specs.declared.input.Ending.TheVariants.{Failed, PastBound}
 
--- the run was stopped by want of memory, or by the writer
+-- the run was stopped by lack of memory, or by the writer
 abbrev pub was_stopped : Result Summary RunFault → Bool
 was_stopped (Err Memory) = true
 was_stopped (Err Write) = true

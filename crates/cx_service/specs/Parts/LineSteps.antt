@@ -2,7 +2,7 @@
 use Rattle.std.specs.Prelude.{◌≡◌, ℕ, ◌<◌, ◌≤◌, Option, Some, None, List, [], ◌∷◌}
 use Rattle.cx_service.specs.Lines.{parts_of, IsBreak, AreLinesOf}
 
--- a text's first part, and the text behind the new line that ends it, if one does
+-- a text's first part, and the text after the new line that ends it, if one does
 abbrev pub IsFirstPart : List ℕ → List ℕ → Option (List ℕ) → Type 0
 IsFirstPart text part None = parts_of text ≡ part ∷ []
 IsFirstPart text part (Some behind) = parts_of text ≡ part ∷ parts_of behind

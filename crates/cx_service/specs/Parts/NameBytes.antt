@@ -1,4 +1,4 @@
--- How a resource's name is kept: its bytes with zeros behind them. Callers see the bytes alone.
+-- How a resource's name is kept: its bytes with zeros after them. Callers see the bytes alone.
 use Rattle.std.specs.Prelude.{◌≡◌, ℕ, ◌-◌, ◌≤◌, List, ◌++◌, length, drop, replicate}
 use Rattle.cx_service.specs.declared.resources.NameBytes.TheInside.{Inside}
 

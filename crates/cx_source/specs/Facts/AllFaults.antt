@@ -1,10 +1,18 @@
 -- The first of all faults is the first fault.
-use Rattle.std.proofs.Common.{◌≡◌, ◌+◌, ℕ, Bool, true, false, cond, Option, Some, None, List, [], ◌∷◌, ◌++◌, slice_get, refl}
-use Rattle.std.specs.Option.{option_or, option_to_list}
-use Rattle.cx_source.specs.Faults.{fault_of, first_fault, line_faults}
+use Rattle.std.proofs.Common.{◌≡◌, ◌+◌, ℕ, Bool, true, false, cond, Option, Some, None, List, [], ◌∷◌, ◌++◌, slice_get, map, Ok, Err, refl, ap}
+use Rattle.std.specs.Option.{option_map_or, option_or, option_to_list}
+use Rattle.cx_source.specs.Faults.{fault_of, line_faults, source_from, source_in}
 use Rattle.cx_source.specs.Lines.{text_of}
-use Rattle.cx_source.specs.Statements.{is_continued, is_last}
+use Rattle.cx_source.specs.Statements.{is_continued, is_last, up_to_end}
 use Rattle.cx_source.specs.declared.source.SourceFault.{SourceFault}
+use Rattle.cx_source.specs.declared.source.SourceFault.TheVariants.{NoEnd}
+
+-- the first one, line by line
+abbrev pub first_fault : Bool → ℕ → List (List ℕ) → Option SourceFault
+first_fault continues number [] = Some (NoEnd number)
+first_fault continues number (line ∷ more) =
+    option_or (fault_of continues number line)
+    (cond (is_last continues (text_of line)) None (first_fault (is_continued continues (text_of line)) (number + 1) more))
 
 with_rest : (fault : Option SourceFault) (last : Bool) (faults : List SourceFault) (first : Option SourceFault) → slice_get faults 0 ≡ first
     → slice_get (option_to_list fault ++ cond last [] faults) 0 ≡ option_or fault (cond last None first)
@@ -17,3 +25,8 @@ first_of_faults continues number [] = refl
 first_of_faults continues number (line ∷ more) =
     with_rest (fault_of continues number line) (is_last continues (text_of line)) _ _
     (first_of_faults (is_continued continues (text_of line)) (number + 1) more)
+
+pub source_is : (all : List (List ℕ)) → source_in all ≡ option_map_or Err (first_fault false 1 all) (Ok (source_from (up_to_end false (map text_of all))))
+unfolding source_in
+source_is all =
+    ap (λ (fault : Option SourceFault). option_map_or Err fault (Ok (source_from (up_to_end false (map text_of all))))) (first_of_faults false 1 all)

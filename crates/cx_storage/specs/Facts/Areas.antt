@@ -14,7 +14,7 @@ use Rattle.cx_storage.specs.Storage.{Held, Storage, end_of, covers, byte_at, are
 use Rattle.cx_storage.specs.declared.areas.Area.{Area}
 use Rattle.cx_storage.specs.declared.areas.Owner.{Owner}
 
--- before an area stands no byte of those behind it
+-- before an area there is no byte of those after it
 pub byte_before : (s : Storage) (e x : ℕ) → AllByRecursion (λ later. e ≤ later.area.start) s → x < e → byte_at s x ≡ None
 unfolding byte_at
 byte_before [] e x apart below = refl

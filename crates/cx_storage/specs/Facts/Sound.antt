@@ -8,7 +8,7 @@ use Rattle.std.specs.Option.{option_and_then, option_map}
 use Rattle.std.specs.Prelude.{◌≡◌, ℕ, zero, suc, ◌-◌, ◌<◌, ◌≤◌, ◌⊎◌, Bool, true, false, List, ◌∷◌, length, replicate, slice_get, Option, Some, None, nat_lt, ◌^◌, slice_set, map, []}
 use Rattle.cx_storage.specs.Place.{Misses, CanPlace, IsLeastPlace}
 use Rattle.cx_storage.specs.Storage.{Held, Storage, end_of, covers, byte_at, zeros, put_held, with_area, with_areas_kept, IsWhole, IsSound, span, with_byte, put_byte, AreOrdered}
-use Rattle.cx_storage.specs.Address.{along}
+use Rattle.cx_storage.specs.Address.{address_after}
 use Rattle.cx_storage.specs.declared.areas.Area.{Area}
 use Rattle.cx_storage.specs.declared.areas.Owner.{Owner}
 
@@ -48,7 +48,7 @@ pub IsSound-cons : (h : Held) (hs : Storage) → IsWhole h → AllByRecursion (�
 unfolding IsSound
 IsSound-cons h hs whole apart ok = ((whole, ok.0), (apart, ok.1))
 
--- what the test whether an area covers an address tells
+-- what the test whether an area covers an address says
 pub covers_cases : (area : Area) (x : ℕ) → ((covers area x ≡ true) × (area.start ≤ x) × (x < end_of area)) ⊎ ((covers area x ≡ false) × ((x < area.start) ⊎ (end_of area ≤ x)))
 covers_cases area x = elim (cases_Bool (covers area x)) [
   | inl e ↦ let p = and_parts _ _ e in inl (e, leb-true _ _ p.0, ltb-true _ _ p.1)
@@ -181,7 +181,7 @@ byte_beyond (h ∷ hs) x ok past = elim (covers_cases h.area x) [
 pub span_small : (s : Storage) (a n : ℕ) (bytes : List ℕ) → IsSound s → span s a n ≡ Some bytes → AllByRecursion (λ b. b < 256) bytes
 unfolding span
 span_small s a zero bytes ok e = let nil : [] ≡ bytes = cc in rw (← nil) tt
-span_small s a (suc n) bytes ok e = go (byte_at s a) (span s (along a 1) n) (λ b f. byte_small s a b ok f) (λ bs f. span_small s (along a 1) n bs ok f) e
+span_small s a (suc n) bytes ok e = go (byte_at s a) (span s (address_after a 1) n) (λ b f. byte_small s a b ok f) (λ bs f. span_small s (address_after a 1) n bs ok f) e
   where
     go : (o : Option ℕ) (r : Option (List ℕ)) → ((b : ℕ) → o ≡ Some b → b < 256) → ((bs : List ℕ) → r ≡ Some bs → AllByRecursion (λ b. b < 256) bs)
         → option_and_then (λ b. option_map (λ bs. b ∷ bs) r) o ≡ Some bytes → AllByRecursion (λ b. b < 256) bytes

@@ -5,8 +5,8 @@ use Rattle.std.specs.Option.{option_map}
 use Rattle.std.specs.Prelude.{◌≡◌, ℕ, zero, suc, ◌-◌, ◌<◌, ◌≤◌, true, false, cond, List, ◌∷◌, length, slice_get, Option, Some, None, is_some, nat_lt, ◌≢◌, ◌^◌, slice_set, slice_index, []}
 use Rattle.cx_storage.specs.Facts.Sound.{covers_cases, put_byte_area}
 use Rattle.cx_storage.specs.Facts.Spans.{span_has, span_from, span_present_agree}
-use Rattle.cx_storage.specs.Storage.{Storage, covers, byte_at, areas_of, span, with_byte, with_bytes, written, holder}
-use Rattle.cx_storage.specs.Address.{along, distance}
+use Rattle.cx_storage.specs.Storage.{Storage, covers, byte_at, areas_of, span, with_byte, with_bytes, after_write, holder}
+use Rattle.cx_storage.specs.Address.{address_after, distance}
 
 slice_get-slice_set_same : (bs : List ℕ) (k v : ℕ) → slice_get (slice_set bs k v) k ≡ option_map (λ (_ : ℕ). v) (slice_get bs k)
 slice_get-slice_set_same [] k v = refl
@@ -44,12 +44,12 @@ byte_after_set_elsewhere (h ∷ hs) a v x ne = elim (covers_cases h.area a) [
   ]
 ]
 
-pub written_whole : (s : Storage) (a : ℕ) (bytes : List ℕ) → is_some (span s a (length bytes)) ≡ true → written s a bytes ≡ with_bytes s a bytes
-unfolding written
+pub written_whole : (s : Storage) (a : ℕ) (bytes : List ℕ) → is_some (span s a (length bytes)) ≡ true → after_write s a bytes ≡ with_bytes s a bytes
+unfolding after_write
 written_whole s a bytes e = rw e refl
 
-pub written_none : (s : Storage) (a : ℕ) (bytes : List ℕ) → is_some (span s a (length bytes)) ≡ false → written s a bytes ≡ s
-unfolding written
+pub written_none : (s : Storage) (a : ℕ) (bytes : List ℕ) → is_some (span s a (length bytes)) ≡ false → after_write s a bytes ≡ s
+unfolding after_write
 written_none s a bytes e = rw e refl
 
 is_some-option_map : (o : Option ℕ) (v : ℕ) → is_some (option_map (λ (_ : ℕ). v) o) ≡ is_some o
@@ -70,9 +70,9 @@ present_after_set s a v x = elim (cases_eq x a) [
 pub present_after_bytes : (s : Storage) (a : ℕ) (bytes : List ℕ) (x : ℕ) → is_some (byte_at (with_bytes s a bytes) x) ≡ is_some (byte_at s x)
 unfolding with_bytes
 present_after_bytes s a [] x = refl
-present_after_bytes s a (b ∷ bs) x = present_after_bytes (with_byte s a b) (along a 1) bs x ∙ present_after_set s a b x
+present_after_bytes s a (b ∷ bs) x = present_after_bytes (with_byte s a b) (address_after a 1) bs x ∙ present_after_set s a b x
 
-pub present_after_write : (s : Storage) (a : ℕ) (bytes : List ℕ) (x : ℕ) → is_some (byte_at (written s a bytes) x) ≡ is_some (byte_at s x)
+pub present_after_write : (s : Storage) (a : ℕ) (bytes : List ℕ) (x : ℕ) → is_some (byte_at (after_write s a bytes) x) ≡ is_some (byte_at s x)
 present_after_write s a bytes x = elim (cases_Bool (is_some (span s a (length bytes)))) [
   | inl e ↦ rw (written_whole s a bytes e) (present_after_bytes s a bytes x)
   | inr e ↦ rw (written_none s a bytes e) refl
@@ -87,9 +87,9 @@ areas_after_set (h ∷ hs) a v = rw (put_byte_area a v h, areas_after_set hs a v
 pub areas_after_bytes : (s : Storage) (a : ℕ) (bytes : List ℕ) → areas_of (with_bytes s a bytes) ≡ areas_of s
 unfolding with_bytes
 areas_after_bytes s a [] = refl
-areas_after_bytes s a (b ∷ bs) = areas_after_bytes (with_byte s a b) (along a 1) bs ∙ areas_after_set s a b
+areas_after_bytes s a (b ∷ bs) = areas_after_bytes (with_byte s a b) (address_after a 1) bs ∙ areas_after_set s a b
 
-pub areas_after_write : (s : Storage) (a : ℕ) (bytes : List ℕ) → areas_of (written s a bytes) ≡ areas_of s
+pub areas_after_write : (s : Storage) (a : ℕ) (bytes : List ℕ) → areas_of (after_write s a bytes) ≡ areas_of s
 areas_after_write s a bytes = elim (cases_Bool (is_some (span s a (length bytes)))) [
   | inl e ↦ rw (written_whole s a bytes e) (areas_after_bytes s a bytes)
   | inr e ↦ rw (written_none s a bytes e) refl
@@ -102,49 +102,49 @@ unfolding with_bytes
 byte_after_bytes s a [] x la lx fits = rw (le-ltb (distance a x) 0 (omega arith)) refl
 byte_after_bytes s a (b ∷ bs) x la lx fits = elim (cases_eq x a) [
   | inl e ↦
-      let rest = byte_after_bytes (with_byte s a b) (along a 1) bs x (omega arith) lx (omega arith) in
-      let far : length bs ≤ distance (along a 1) x = omega arith in
+      let rest = byte_after_bytes (with_byte s a b) (address_after a 1) bs x (omega arith) lx (omega arith) in
+      let far : length bs ≤ distance (address_after a 1) x = omega arith in
       let none : distance a x ≡ 0 = omega arith in
       let here : byte_at (with_byte s a b) x ≡ option_map (λ (_ : ℕ). b) (byte_at s x) = rw e (byte_after_set s a b) in
-      rest ∙ rw (le-ltb (distance (along a 1) x) (length bs) far) (here ∙ rw (none, lt-ltb 0 (suc (length bs)) (omega arith)) refl)
+      rest ∙ rw (le-ltb (distance (address_after a 1) x) (length bs) far) (here ∙ rw (none, lt-ltb 0 (suc (length bs)) (omega arith)) refl)
   | inr ne ↦
-      let rest = byte_after_bytes (with_byte s a b) (along a 1) bs x (omega arith) lx (omega arith) in
-      let more : distance a x ≡ suc (distance (along a 1) x) = omega arith in
+      let rest = byte_after_bytes (with_byte s a b) (address_after a 1) bs x (omega arith) lx (omega arith) in
+      let more : distance a x ≡ suc (distance (address_after a 1) x) = omega arith in
       let other = byte_after_set_elsewhere s a b x ne in
-      rest ∙ rw (other, more) (elim (cases_lt (distance (along a 1) x) (length bs)) [
-        | inl lt ↦ rw (lt-ltb (distance (along a 1) x) (length bs) lt, lt-ltb (suc (distance (along a 1) x)) (suc (length bs)) (omega arith)) refl
-        | inr ge ↦ rw (le-ltb (distance (along a 1) x) (length bs) ge, le-ltb (suc (distance (along a 1) x)) (suc (length bs)) (omega arith)) refl
+      rest ∙ rw (other, more) (elim (cases_lt (distance (address_after a 1) x) (length bs)) [
+        | inl lt ↦ rw (lt-ltb (distance (address_after a 1) x) (length bs) lt, lt-ltb (suc (distance (address_after a 1) x)) (suc (length bs)) (omega arith)) refl
+        | inr ge ↦ rw (le-ltb (distance (address_after a 1) x) (length bs) ge, le-ltb (suc (distance (address_after a 1) x)) (suc (length bs)) (omega arith)) refl
       ])
 ]
 
 -- a byte after a write of bytes that are there
 pub byte_after_write : (s : Storage) (a : ℕ) (bytes : List ℕ) (x : ℕ) → a < 2 ^ 24 → x < 2 ^ 24 → length bytes ≤ 2 ^ 24 → is_some (span s a (length bytes)) ≡ true
-    → byte_at (written s a bytes) x ≡ cond (nat_lt (distance a x) (length bytes)) (Some (slice_index bytes (distance a x))) (byte_at s x)
+    → byte_at (after_write s a bytes) x ≡ cond (nat_lt (distance a x) (length bytes)) (Some (slice_index bytes (distance a x))) (byte_at s x)
 byte_after_write s a bytes x la lx fits e =
     let at = byte_after_bytes s a bytes x la lx fits in
     rw (written_whole s a bytes e) (at ∙ elim (cases_lt (distance a x) (length bytes)) [
       | inl lt ↦
           let has = span_has s a (length bytes) (distance a x) la e lt in
-          let back : along a (distance a x) ≡ x = omega arith in
+          let back : address_after a (distance a x) ≡ x = omega arith in
           let one : is_some (byte_at s x) ≡ true = rw back at has in
           rw (lt-ltb (distance a x) (length bytes) lt) (there (byte_at s x) (slice_index bytes (distance a x)) one)
       | inr ge ↦ rw (le-ltb (distance a x) (length bytes) ge) refl
     ])
 
 -- the span that was written, and one beside it
-pub span_after_write : (s : Storage) (a : ℕ) (bytes : List ℕ) → a < 2 ^ 24 → length bytes ≤ 2 ^ 24 → is_some (span s a (length bytes)) ≡ true → span (written s a bytes) a (length bytes) ≡ Some bytes
+pub span_after_write : (s : Storage) (a : ℕ) (bytes : List ℕ) → a < 2 ^ 24 → length bytes ≤ 2 ^ 24 → is_some (span s a (length bytes)) ≡ true → span (after_write s a bytes) a (length bytes) ≡ Some bytes
 span_after_write s a bytes la fits e =
-    span_from (written s a bytes) a (length bytes) bytes la refl (λ k h.
-    let at = byte_after_write s a bytes (along a k) la (omega arith) fits e in
-    let back : distance a (along a k) ≡ k = omega arith in
+    span_from (after_write s a bytes) a (length bytes) bytes la refl (λ k h.
+    let at = byte_after_write s a bytes (address_after a k) la (omega arith) fits e in
+    let back : distance a (address_after a k) ≡ k = omega arith in
     at ∙ rw (back, lt-ltb k (length bytes) h) refl)
 
 -- presence of a span after a byte and after bytes were written
 pub span_present_after_set : (s : Storage) (a v b n : ℕ) → is_some (span (with_byte s a v) b n) ≡ is_some (span s b n)
 span_present_after_set s a v b n = span_present_agree (with_byte s a v) s b n (present_after_set s a v)
 
-pub span_present_after_write : (s : Storage) (a : ℕ) (bytes : List ℕ) (b n : ℕ) → is_some (span (written s a bytes) b n) ≡ is_some (span s b n)
-span_present_after_write s a bytes b n = span_present_agree (written s a bytes) s b n (present_after_write s a bytes)
+pub span_present_after_write : (s : Storage) (a : ℕ) (bytes : List ℕ) (b n : ℕ) → is_some (span (after_write s a bytes) b n) ≡ is_some (span s b n)
+span_present_after_write s a bytes b n = span_present_agree (after_write s a bytes) s b n (present_after_write s a bytes)
 
 -- who holds an address after a byte was written
 pub holder_after_set : (s : Storage) (a v x : ℕ) → holder (with_byte s a v) x ≡ holder s x

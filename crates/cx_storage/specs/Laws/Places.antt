@@ -3,7 +3,7 @@ use Rattle.std.specs.Prelude.{◌≡◌, ℕ, ◌+◌, ◌<◌, ◌≤◌, Optio
 use Rattle.cx_storage.specs.Place.{CanPlace, IsLeastPlace}
 use Rattle.cx_storage.specs.Storage.{Storage, byte_at, areas_of, IsSound}
 
--- an area may be placed exactly where it is a multiple of 16, all of it stands in the range, and no byte is present
+-- an area may be placed exactly where it is a multiple of 16, all of it lies in the range, and no byte is present
 abbrev pub PlaceIsFree : Type 0
 PlaceIsFree = (s : Storage) (first last len b : ℕ) → IsSound s → 0 < len
     → CanPlace s first last len b ↔ ((b % 16 ≡ 0) × (first ≤ b) × (b + len ≤ last + 1) × ((x : ℕ) → b ≤ x → x < b + len → byte_at s x ≡ None))

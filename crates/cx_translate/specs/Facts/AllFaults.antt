@@ -1,24 +1,15 @@
--- The first of all faults is the first fault.
-use Rattle.std.proofs.Common.{◌≡◌, Bool, true, false, cond, ◌||◌, Option, Some, None, List, [], ◌∷◌, slice_get, Result, Ok, Err, refl, sym, ◌∙◌, ap}
+-- What a source with and without a fault is translated to.
+use Rattle.std.proofs.Common.{◌≡◌, Bool, true, false, cond, ◌||◌, None, List, [], ◌∷◌, slice_get, Ok, Err, refl, ap}
 use Rattle.std.specs.Prelude.{option_and_then}
-use Rattle.std.specs.List.{cons_option, list_any}
-use Rattle.std.specs.Option.{option_map_or, option_or}
+use Rattle.std.specs.List.{list_any}
+use Rattle.std.specs.Option.{option_map_or}
 use Rattle.cx_source.specs.declared.source.Item.{Item}
 use Rattle.cx_source.specs.declared.source.Source.{Source}
 use Rattle.cx_translate.specs.Refusals.{fault_of}
 use Rattle.cx_translate.specs.Sections.{begins_exec}
-use Rattle.cx_translate.specs.Translation.{fault_at, first_fault, made_source, statement_faults, translated, translation_of}
+use Rattle.cx_translate.specs.Translation.{fault_at, made_source, statement_faults, translation, translation_of}
 use Rattle.cx_translate.specs.Words.{words_of}
 use Rattle.cx_translate.specs.declared.faults.TransFault.{TransFault}
-
-with_rest : (fault : Option TransFault) (faults : List TransFault) (first : Option TransFault) → slice_get faults 0 ≡ first
-    → slice_get (cons_option fault faults) 0 ≡ option_or fault first
-with_rest (Some fault) faults first e = refl
-with_rest None faults first e = e
-
-pub first_of_faults : (items : List Item) → slice_get (statement_faults items) 0 ≡ first_fault items
-first_of_faults [] = refl
-first_of_faults (item ∷ rest) = with_rest (fault_at item) (statement_faults rest) (first_fault rest) (first_of_faults rest)
 
 none_here : (item : Item) → begins_exec item ≡ false → fault_at item ≡ None
 unfolding fault_at
@@ -35,17 +26,15 @@ no_exec_no_fault (item ∷ more) e =
     let both = either (begins_exec item) (list_any begins_exec more) e in
     rw (none_here item both.0) (no_exec_no_fault more both.1)
 
--- a translation is what is made of the source, unless there is a fault
-pub translation_is : (source : Source) → translation_of source ≡ option_map_or (λ fault. Err fault) (first_fault source.items) (Ok (made_source source))
+-- a source is translated to what is made of it, and has no fault
+pub accepted : (faults : List TransFault) (source made : Source) → option_map_or Err (slice_get faults 0) (Ok source) ≡ Ok made → (faults ≡ []) × (source ≡ made)
+accepted [] source made e = (refl, cc)
+accepted (fault ∷ more) source made e = absurd (cc)
+
+pub translated_so : (source made : Source) → list_any begins_exec source.items ≡ true → translation_of source ≡ Ok made
+    → (statement_faults source.items ≡ []) × (translation source.items ≡ made.items)
 unfolding translation_of made_source
-translation_is source = go (list_any begins_exec source.items) refl
-  where
-    due : Source → Option TransFault → Result Source TransFault
-    due made first = option_map_or (λ fault. Err fault) first (Ok made)
-
-    all : Source
-    all = record { items = translated source.items }
-
-    go : (b : Bool) → list_any begins_exec source.items ≡ b → cond b (due all (first_fault source.items)) (Ok source) ≡ due (cond b all source) (first_fault source.items)
-    go true e = refl
-    go false e = sym (ap (due source) (sym (first_of_faults source.items) ∙ ap (λ (l : List TransFault). slice_get l 0) (no_exec_no_fault source.items e)))
+translated_so source made any e =
+    let ok = accepted (statement_faults source.items) (made_source source) made e in
+    let same : (cond (list_any begins_exec source.items) (record { items = translation source.items }) source).items ≡ made.items = ap (λ s. s.items) ok.1 in
+    (ok.0, (rw any at same))

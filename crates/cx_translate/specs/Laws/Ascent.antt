@@ -7,8 +7,8 @@ abbrev pub number_of : Option Stmt → ℕ → List ℕ
 number_of None line = []
 number_of (Some statement) line = line ∷ []
 
--- The numbers of the lines on which statements begin. Comments and continuation lines are left out, since what is put behind a
--- continued statement has the number of its first line.
+-- The numbers of the lines on which statements begin. Comments and continuation lines are left out, since what is put
+-- after a continued statement has the number of its first line.
 abbrev pub statement_lines : List Item → List ℕ
 statement_lines [] = []
 statement_lines (item ∷ rest) = number_of item.stmt item.line ++ statement_lines rest

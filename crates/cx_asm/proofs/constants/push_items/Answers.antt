@@ -1,7 +1,7 @@
 use Rattle.std.proofs.Common.{◌<◌, length, arith, sym, rules}
 use Rattle.std.proofs.lemmas.Grind.{common_steps}
-use Rattle.cx_second.specs.SecondFaults.{item_fault}
-use Rattle.cx_second.specs.Whole.{told_by}
+use Rattle.cx_asm_pass2.specs.SecondFaults.{item_fault}
+use Rattle.cx_asm_pass2.specs.Whole.{told_by}
 use Rattle.cx_asm.proofs.FaultLemmas.{one_item_more}
 use Rattle.cx_asm.proofs.FitLemmas.{kept_fits}
 use Rattle.cx_asm.proofs.JoinLemmas.{items_next, kept_more}

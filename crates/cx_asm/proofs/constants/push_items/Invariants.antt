@@ -1,7 +1,7 @@
 use Rattle.std.proofs.Common.{◌≡◌, drop, map}
-use Rattle.cx_terms.specs.Faults.{lower, lowest}
-use Rattle.cx_second.specs.SecondFaults.{item_fault}
-use Rattle.cx_second.specs.Whole.{told_by}
+use Rattle.cx_asm_expressions.specs.Faults.{lower, lowest}
+use Rattle.cx_asm_pass2.specs.SecondFaults.{item_fault}
+use Rattle.cx_asm_pass2.specs.Whole.{told_by}
 use Rattle.cx_asm.specs.Parts.Kept.{kept}
 use Rattle.cx_asm.specs.Resolving.{items_standing}
 use Rattle.cx_asm.proofs.constants.push_items.Given as goal

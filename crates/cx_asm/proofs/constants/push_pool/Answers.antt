@@ -1,4 +1,4 @@
-use Rattle.cx_second.specs.Whole.{told_by}
+use Rattle.cx_asm_pass2.specs.Whole.{told_by}
 use Rattle.cx_asm.proofs.FitLemmas.{kept_fits}
 use Rattle.cx_asm.proofs.JoinLemmas.{kept_more, pool_next}
 use Rattle.cx_asm.proofs.constants.push_pool.Goals as goal

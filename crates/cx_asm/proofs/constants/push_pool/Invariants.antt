@@ -1,5 +1,5 @@
 use Rattle.std.proofs.Common.{◌≡◌, drop}
-use Rattle.cx_second.specs.Whole.{told_by}
+use Rattle.cx_asm_pass2.specs.Whole.{told_by}
 use Rattle.cx_asm.specs.Parts.Kept.{kept}
 use Rattle.cx_asm.specs.Resolving.{pool_standing}
 use Rattle.cx_asm.proofs.constants.push_pool.Given as goal

@@ -1,9 +1,9 @@
 use Rattle.std.proofs.Common.{◌≡◌, Option, Some, rules, subst, sym}
 use Rattle.std.specs.Prelude.{IfOk}
-use Rattle.cx_operations.specs.declared.operations.Operation.{Operation}
-use Rattle.cx_operations.specs.declared.operations.Operation.TheVariants as operation
-use Rattle.cx_second.specs.Statements.{operation_of}
-use Rattle.cx_second.specs.Whole.{told_by}
+use Rattle.cx_asm_operations.specs.declared.operations.Operation.{Operation}
+use Rattle.cx_asm_operations.specs.declared.operations.Operation.TheVariants as operation
+use Rattle.cx_asm_pass2.specs.Statements.{operation_of}
+use Rattle.cx_asm_pass2.specs.Whole.{told_by}
 use Rattle.cx_asm.specs.Parts.Passing.{WithUsing}
 use Rattle.cx_asm.proofs.RoleLemmas.{with_these}
 use Rattle.cx_asm.proofs.section.pass_operands.Goals as goal

@@ -1,5 +1,5 @@
 use Rattle.std.proofs.Common.{◌≡◌, ◌<◌, length, get_or, arith, sym}
-use Rattle.cx_second.specs.Whole.{told_by}
+use Rattle.cx_asm_pass2.specs.Whole.{told_by}
 use Rattle.cx_asm.proofs.AllFaultsLemmas.{bases_more, faults_more}
 use Rattle.cx_asm.proofs.section.second_faults.Goals as goal
 

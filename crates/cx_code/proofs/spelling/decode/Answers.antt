@@ -1,4 +1,4 @@
--- What is read stands at the front of the bytes, and where nothing is read no front is an instruction.
+-- What is read is at the front of the bytes, and where nothing is read no front is an instruction.
 use Rattle.std.proofs.Common.{arith, sym}
 use Rattle.cx_code.proofs.ReadingLemmas.{reading-sound, reading-none}
 use Rattle.cx_code.proofs.spelling.decode.Goals as goal

@@ -1,5 +1,5 @@
 use Rattle.std.proofs.Common.{◌∙◌, Some, ap, sym}
-use Rattle.cx_display.specs.Displays.{display_of}
+use Rattle.cx_edf_display.specs.Displays.{display_of}
 use Rattle.cx_edf.specs.Sessions.{after_change}
 use Rattle.cx_edf.proofs.TableLemmas.{changed_in_place}
 use Rattle.cx_edf.proofs.table.altered.Goals as goal

@@ -1,5 +1,5 @@
 use Rattle.std.proofs.Common.{◌∙◌, Some, ap, sym}
-use Rattle.cx_display.specs.Displays.{display_of}
+use Rattle.cx_edf_display.specs.Displays.{display_of}
 use Rattle.cx_edf.specs.Sessions.{after_reply}
 use Rattle.cx_edf.proofs.TableLemmas.{changed_in_place}
 use Rattle.cx_edf.proofs.table.note.Goals as goal

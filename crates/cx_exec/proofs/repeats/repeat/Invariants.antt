@@ -2,7 +2,7 @@ use Rattle.std.proofs.Common.{length, ◌-◌, ◌≡◌, ℕ, ◌<◌, ◌≤�
 use Rattle.cx_exec.proofs.RepeatLemmas.{Repeats}
 use Rattle.cx_exec.proofs.repeats.repeat.Given as goal
 
--- so much of the buffer repeats its front
+-- the first `filled` bytes of the buffer repeat its front
 abbrev pub invariant-loop-filled : goal.invariant-loop-filled
 invariant-loop-filled l =
     (length l.new ≡ length l.initial.new) × (l.period ≤ l.filled) × Repeats l.new l.period l.filled

@@ -5,4 +5,4 @@ use Rattle.cx_exec.proofs.stepping.perform_apart.Goals as goal
 pub returns : goal.returns
 returns g c =
     let same : c.op.result ≡ c.args.inst.now.op = search rules in
-    made_effect _ _ _ _ _ _ c.with_fields-front.ensures.formed c.with_fields-front.ensures.fields (rw same at c.effect.ensures)
+    made_effect _ _ _ _ _ _ c.with_fields-prefix.ensures.formed c.with_fields-prefix.ensures.fields (rw same at c.effect.ensures)

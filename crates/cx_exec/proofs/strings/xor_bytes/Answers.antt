@@ -1,9 +1,9 @@
 use Rattle.std.proofs.Common.{rules, arith}
 use Rattle.std.proofs.lemmas.Grind.{common_steps}
 use Rattle.cx_exec.proofs.SequenceLemmas.{filled}
-use Rattle.cx_exec.specs.Strings.{xored}
+use Rattle.cx_exec.specs.Strings.{xored_byte}
 use Rattle.cx_exec.proofs.strings.xor_bytes.Goals as goal
 
 pub loop-k-preserved : goal.loop-k-preserved
-unfolding xored
+unfolding xored_byte
 loop-k-preserved g c = filled _ _ _ _ (search rules) c.loop-k.invariant (grind (arith, common_steps))

@@ -1,8 +1,8 @@
 use Rattle.std.proofs.Common.{◌≡◌, take}
 use Rattle.cx_exec.specs.Sequence.{stored_by}
-use Rattle.cx_exec.specs.Strings.{xored}
+use Rattle.cx_exec.specs.Strings.{xored_byte}
 use Rattle.cx_exec.proofs.strings.xor_bytes.Given as goal
 
--- so many bytes are made
+-- the first k bytes are made
 abbrev pub invariant-loop-k : goal.invariant-loop-k
-invariant-loop-k g l = take l.k l.new ≡ stored_by (xored (g.S.Store.storage l.store) l.a1 l.a2) l.k
+invariant-loop-k g l = take l.k l.new ≡ stored_by (xored_byte (g.S.Store.storage l.store) l.a1 l.a2) l.k

@@ -19,7 +19,7 @@ returns-clause-bytes g c _ =
       apart = apart.1;
       there = c.in-Some.ensures.bytes;
       long = span_length _ _ _ _ c.in-Some.ensures.bytes;
-      front = c.align.ensures.front;
+      prefix = c.align.ensures.prefix;
       each = c.align.ensures.bytes;
     })
     (omega (arith, c.requires.count1)) c.pack_aligned.array_long c.pack_aligned.ensures.each c.pack_aligned.ensures.last

@@ -19,7 +19,7 @@ returns-clause-bytes g c _ =
       apart = apart.1;
       there = c.in-Some.ensures.bytes;
       long = span_length _ _ _ _ c.in-Some.ensures.bytes;
-      front = c.align.ensures.front;
+      prefix = c.align.ensures.prefix;
       each = c.align.ensures.bytes;
     })
     (omega (arith, c.requires.count1)) c.unpack_aligned.array_long c.unpack_aligned.ensures.right c.unpack_aligned.ensures.left c.unpack_aligned.ensures.last

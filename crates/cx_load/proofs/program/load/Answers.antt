@@ -1,6 +1,6 @@
 use Rattle.std.proofs.Common.{◌≡◌, ◌∙◌, ap, length, Some, sym}
 use Rattle.cx_storage.specs.Facts.Places.{place_decides}
-use Rattle.cx_storage.specs.Storage.{with_area, written}
+use Rattle.cx_storage.specs.Storage.{with_area, after_write}
 use Rattle.cx_load.specs.Program.{IsProgramPlace, program_owner, text_at}
 use Rattle.cx_load.proofs.RelocateLemmas.{length-relocated}
 use Rattle.cx_load.proofs.LoadLemmas.{whole_list, loaded_from}
@@ -24,7 +24,7 @@ returns-clause-loaded g c =
     c.in_ok-bytes.bytes.ok.0 ∙ ap length copied ∙ ap length text ∙ sym size ∙ ap length (sym moved) in
     let bytes : c.as_slice-2.result.now ≡ text_at at image =
     c.as_slice-2.ensures.value ∙ whole_list c.relocate.new.bytes c.in_ok-bytes.bytes.items c.in_ok-bytes.bytes.len many ∙ moved in
-    let after : g.S.Store.storage c.write.new.self ≡ written (with_area before (Some at) (length image.text) program_owner) at (text_at at image) =
+    let after : g.S.Store.storage c.write.new.self ≡ after_write (with_area before (Some at) (length image.text) program_owner) at (text_at at image) =
     cc (c.write.ensures.after, c.in_ok-get_area.ensures.after, chosen, text, bytes) in
     let loaded = loaded_from before (g.S.Store.storage c.write.new.self) image at c.image-checked.ensures.fit place after in
     rw (text, same) loaded

@@ -1,11 +1,11 @@
 use Rattle.std.proofs.Common.{◌≡◌, ◌+◌, ◌-◌, ◌%◌, ◌^◌, ◌∙◌, arith}
 use Rattle.byteorder.specs.Endian.{big_bytes, big_from}
-use Rattle.cx_load.specs.Relocation.{raised}
+use Rattle.cx_load.specs.Relocation.{relocate_word}
 use Rattle.cx_load.proofs.RelocateLemmas.{put_word, word_of_part}
 use Rattle.cx_load.proofs.program.raise.Goals as goal
 
 pub returns : goal.returns
-unfolding raised
+unfolding relocate_word
 returns c =
     let bytes = c.args.bytes.now in
     let r = c.args.r in

@@ -1,6 +1,6 @@
 use Rattle.std.proofs.Common.{◌≡◌, ◌++◌, drop}
 use Rattle.cx_asm.specs.Assembly.{fault_at}
-use Rattle.cx_prepare.specs.Kinds.{of_assembly}
+use Rattle.cx_asm_build.specs.Kinds.{of_assembly}
 use Rattle.cx_look_faults.specs.Faults.{faulty_lines}
 use Rattle.cx_look_faults.proofs.faults.unassembled_lines.Given as goal
 

@@ -1,5 +1,5 @@
 use Rattle.std.proofs.Common.{◌≡◌, ◌++◌, drop}
-use Rattle.cx_prepare.specs.Kinds.{of_source}
+use Rattle.cx_asm_build.specs.Kinds.{of_source}
 use Rattle.cx_look_faults.specs.Faults.{faulty_lines}
 use Rattle.cx_look_faults.proofs.faults.unread_lines.Given as goal
 

@@ -1,5 +1,5 @@
 use Rattle.std.proofs.Common.{◌≡◌, ◌++◌, drop}
-use Rattle.cx_prepare.specs.Kinds.{of_translation}
+use Rattle.cx_asm_build.specs.Kinds.{of_translation}
 use Rattle.cx_look_faults.specs.Faults.{faulty_lines}
 use Rattle.cx_look_faults.proofs.faults.untranslated_lines.Given as goal
 

@@ -1,6 +1,6 @@
 use Rattle.std.proofs.Common.{◌≡◌, ◌++◌, drop}
 use Rattle.std.specs.List.{flat_map}
-use Rattle.cx_second.specs.Whole.{told_by}
+use Rattle.cx_asm_pass2.specs.Whole.{told_by}
 use Rattle.cx_look_xref.specs.Texts.{using_line}
 use Rattle.cx_look_xref.proofs.usings.push_registers.Given as goal
 

@@ -1,5 +1,5 @@
 use Rattle.std.proofs.Common.{◌≡◌, ◌++◌, drop}
-use Rattle.cx_second.specs.Whole.{told_by}
+use Rattle.cx_asm_pass2.specs.Whole.{told_by}
 use Rattle.cx_look_xref.specs.Texts.{usings_from}
 use Rattle.cx_look_xref.proofs.usings.push_usings.Given as goal
 

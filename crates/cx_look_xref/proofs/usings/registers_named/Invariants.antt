@@ -1,5 +1,5 @@
 use Rattle.std.proofs.Common.{◌≡◌, ◌++◌, drop, map}
-use Rattle.cx_second.specs.Whole.{told_by}
+use Rattle.cx_asm_pass2.specs.Whole.{told_by}
 use Rattle.cx_look_xref.specs.Usings.{registers_named}
 use Rattle.cx_look_xref.proofs.usings.registers_named.Given as goal
 

@@ -1,5 +1,5 @@
 use Rattle.std.proofs.Common.{◌≡◌, drop}
-use Rattle.cx_second.specs.Whole.{told_by}
+use Rattle.cx_asm_pass2.specs.Whole.{told_by}
 use Rattle.cx_look_xref.specs.Usings.{use_end}
 use Rattle.cx_look_xref.proofs.usings.use_end.Given as goal
 

@@ -1,5 +1,5 @@
 use Rattle.cx_script.proofs.WholeLemmas.{one_transcript}
-use Rattle.cx_actions.specs.Effects.{Performs}
+use Rattle.cx_script_actions.specs.Effects.{Performs}
 use Rattle.cx_script.proofs.laws.a_transcript_is_one.Goals as goal
 
 pub returns : goal.returns

@@ -1,5 +1,5 @@
 use Rattle.std.proofs.Common.{◌≡◌, drop, fold}
-use Rattle.cx_translate.specs.Refusals.{with_option}
+use Rattle.cx_translate.specs.Facts.Found.{with_option}
 use Rattle.cx_translate.proofs.refusals.option_byte.Given as goal
 
 abbrev pub invariant-loop-option : goal.invariant-loop-option

@@ -1,5 +1,5 @@
 use Rattle.std.proofs.Common.{◌≤◌, ap, subst, sym}
-use Rattle.cx_image.specs.Resolved.{end_behind}
+use Rattle.cx_asm_image.specs.Resolved.{end_behind}
 use Rattle.cx_asm.specs.Resolving.{Standing}
 use Rattle.cx_asm.proofs.FitLemmas.{line_fits}
 use Rattle.cx_asm.proofs.standing.Standing.push.Goals as goal

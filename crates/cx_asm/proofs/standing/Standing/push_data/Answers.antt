@@ -1,13 +1,13 @@
 use Rattle.std.proofs.Common.{arith, ap, ◌∙◌}
 use Rattle.std.specs.List.{repeat}
-use Rattle.cx_asm.specs.Resolving.{data_line, relocated, standing}
+use Rattle.cx_asm.specs.Resolving.{data_line, relocated_offsets, standing}
 use Rattle.cx_asm.proofs.FitLemmas.{data_fits, some_bytes, words_fit}
 use Rattle.cx_asm.proofs.standing.Standing.push_data.Goals as goal
 
 pub push_relocated-requires : goal.push_relocated-requires
 push_relocated-requires c =
     rw (c.is_relocated.ensures)
-    (words_fit c.args.self.now (standing (data_line c.args.at (repeat c.args.count c.args.made.now.bytes)) (relocated c.args.at c.args.count c.args.made.now.is_relocated)) 65536 (c.requires c.if-not-keeps.false))
+    (words_fit c.args.self.now (standing (data_line c.args.at (repeat c.args.count c.args.made.now.bytes)) (relocated_offsets c.args.at c.args.count c.args.made.now.is_relocated)) 65536 (c.requires c.if-not-keeps.false))
 
 pub overflow_cast-at : goal.overflow_cast-at
 overflow_cast-at c =

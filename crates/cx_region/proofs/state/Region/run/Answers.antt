@@ -18,13 +18,13 @@ loop-i-init g c =
 pub loop-i-preserved : goal.loop-i-preserved
 loop-i-preserved g c = (
   rw c.push_reserved.ensures.items
-      (run_more c.args.self.now c.loop-i.self c.happen.new.self c.args.events.now c.loop-i.i c.index-events-i.result _ c.in-Ok-happen.reply c.loop-i-test.true c.index-events-i.is c.loop-i.invariant.0 c.in-Ok-happen.ensures.done.happens),
-  c.in-Ok-happen.ensures.sound,
+      (run_more c.args.self.now c.loop-i.self c.apply.new.self c.args.events.now c.loop-i.i c.index-events-i.result _ c.in-Ok-apply.reply c.loop-i-test.true c.index-events-i.is c.loop-i.invariant.0 c.in-Ok-apply.ensures.done.happens),
+  c.in-Ok-apply.ensures.sound,
   omega (arith, c.push_reserved.ensures.len, c.loop-i.invariant.2),
   rw c.push_reserved.ensures.capacity c.loop-i.invariant.3,
 )
 
-pub returns-in_default-happen-clause-stopped : goal.returns-in_default-happen-clause-stopped
-returns-in_default-happen-clause-stopped g c =
-    run_stopped c.args.self.now c.loop-i.self c.happen.new.self c.args.events.now c.loop-i.i c.index-events-i.result _ c.loop-i-test.true c.index-events-i.is
-    c.loop-i.invariant.0 c.in_default-happen.ensures.done.err c.in_default-happen.ensures.done.memory
+pub returns-in_default-apply-clause-stopped : goal.returns-in_default-apply-clause-stopped
+returns-in_default-apply-clause-stopped g c =
+    run_stopped c.args.self.now c.loop-i.self c.apply.new.self c.args.events.now c.loop-i.i c.index-events-i.result _ c.loop-i-test.true c.index-events-i.is
+    c.loop-i.invariant.0 c.in_default-apply.ensures.done.err c.in_default-apply.ensures.done.memory

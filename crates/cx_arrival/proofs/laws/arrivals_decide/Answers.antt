@@ -1,9 +1,0 @@
--- Two machines that have arrived were reached by one run.
-use Rattle.cx_exec.specs.declared.machine.Halt.TheVariants as halt
-use Rattle.cx_arrival.specs.Arrives.{made_count}
-use Rattle.cx_arrival.proofs.TimeLemmas.{in_due_time}
-use Rattle.cx_arrival.proofs.laws.arrivals_decide.Goals as goal
-
-pub returns : goal.returns
-returns c m s a b first second =
-    (c.runs_decide.ensures (made_count s) m halt.AtEntry halt.AtEntry a b (in_due_time m s a first) (in_due_time m s b second)).1

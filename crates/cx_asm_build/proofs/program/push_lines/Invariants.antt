@@ -1,0 +1,6 @@
+use Rattle.std.proofs.Common.{◌≡◌, ◌++◌, drop, flat_map}
+use Rattle.std.specs.Prelude.{codes}
+use Rattle.cx_asm_build.proofs.program.push_lines.Given as goal
+
+abbrev pub invariant-loop-line : goal.invariant-loop-line
+invariant-loop-line l = l.text.items ++ flat_map (λ line. line ++ codes "\n") (drop l.line-index l.lines) ≡ l.fn.text.items ++ flat_map (λ line. line ++ codes "\n") l.lines

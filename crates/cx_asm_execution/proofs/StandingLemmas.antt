@@ -1,0 +1,396 @@
+-- The statements of a source, the bases in use before each, and what each makes.
+use Rattle.std.specs.Prelude.{option_and_then, option_map, reverse, Result, Err, unwrap_or, ⊤, ◌==◌}
+use Rattle.std.specs.Option.{option_map_or, option_zip}
+use Rattle.std.proofs.Common.{◌≡◌, ◌≤◌, ℕ, suc, ◌+◌, ◌-◌, ◌*◌, ◌/◌, ◌%◌, Bool, true, false, cond, Option, Some, None, Ok, List, [], ◌∷◌, ◌++◌, length, refl, sym, ◌∙◌, ap, subst, arith}
+use Rattle.std.specs.List.{AllByRecursion, cons_option, filter_map}
+use Rattle.std.specs.Result.{result_err, result_ok}
+use Rattle.std.proofs.lemmas.List.{append_assoc, append-nil, reverse-append}
+use Rattle.std.proofs.lemmas.List.Elements.{filter_map-append}
+use Rattle.cx_code.specs.declared.disassembly.Line.{Line}
+use Rattle.cx_code.specs.declared.disassembly.What.TheVariants.{Code}
+use Rattle.cx_code.specs.declared.table.Op.{Op}
+use Rattle.cx_code.specs.declared.table.Op.TheVariants.{Bc, Bcr}
+use Rattle.cx_code.specs.declared.table.Format.{Format}
+use Rattle.cx_code.specs.declared.table.Format.TheVariants as format
+use Rattle.cx_code.specs.Spelling.{Instruction, instruction}
+use Rattle.cx_code.specs.Table.{format_of, length_of, length_of_format}
+use Rattle.cx_source.specs.declared.source.Item.{Item}
+use Rattle.cx_source.specs.declared.source.Source.{Source}
+use Rattle.cx_source.specs.declared.source.Stmt.{Stmt}
+use Rattle.cx_asm_expressions.specs.Digits.{bound}
+use Rattle.cx_asm_expressions.specs.Faults.{lower, lower_of}
+use Rattle.cx_asm_expressions.specs.declared.faults.FaultKind.TheVariants.{BadOperand, UnknownOperation}
+use Rattle.cx_asm_expressions.specs.declared.faults.FaultKind.{FaultKind}
+use Rattle.cx_asm_operations.specs.Operations.{base_row, operation_named}
+use Rattle.cx_asm_operations.specs.declared.operations.Operation.{Operation}
+use Rattle.cx_asm_operations.specs.declared.operations.Operation.TheVariants as operation
+use Rattle.cx_asm_operations.specs.declared.operations.Directive.{Directive}
+use Rattle.cx_asm_operations.specs.declared.operations.Directive.TheVariants as is
+use Rattle.cx_asm_pass1.specs.Roles.{directive_role, role_of}
+use Rattle.cx_asm_pass1.specs.AllFaults.{with_fault}
+use Rattle.cx_asm_pass1.specs.Facts.Apart.{statement_stands, statement_within, section_ends}
+use Rattle.cx_asm_pass1.specs.Facts.Laid.{capped_same, lower_none}
+use Rattle.cx_asm_pass1.specs.PassState.{PassState, next_state, after_line, is_control, section_after, length_after, length_of_section, state_after, laid_in, line_fault, next_in, parts_in, place_in, role_in, section_fault, name_in}
+use Rattle.cx_asm_pass1.specs.Layout.{align, extent_of}
+use Rattle.cx_asm_pass1.specs.Laws.Apart.{Stands, section_length}
+use Rattle.cx_asm_pass1.specs.Placed.{known_of}
+use Rattle.cx_asm_pools.specs.Pools.{cap}
+use Rattle.cx_asm_pass1.specs.declared.place.LineFault.{LineFault}
+use Rattle.cx_asm_pass1.specs.declared.roles.Role.TheVariants as role
+use Rattle.cx_asm_operands.specs.Bases.{Bases, none_in_use}
+use Rattle.cx_asm_operands.specs.Directives.{bases_in}
+use Rattle.cx_asm_operands.specs.Forms.{fields_in, form_of, operands_of, instruction_or_fault}
+use Rattle.cx_asm_operands.specs.Context.{Context}
+use Rattle.cx_asm_operands.specs.Judging.{made_of as fields_made}
+use Rattle.cx_asm_operands.specs.declared.forms.Form.{Form}
+use Rattle.cx_code.specs.declared.instruction.Fields.{Fields}
+use Rattle.cx_asm_pass2.specs.Statements.{PlacedStatement, operation_of, placed_statement, stated_in, statements_of}
+use Rattle.cx_asm_pass2.specs.SecondFaults.{bases_after, bases_behind, literals_fault, operand_fault, second_fault, second_faults_after}
+use Rattle.cx_asm_pass2.specs.Whole.{Whole, directive_context, instruction_context, whole_of}
+use Rattle.cx_asm.specs.Resolving.{line, standing_from, statement_standing}
+use Rattle.cx_asm.specs.Assembly.{AssemblyParts, assembly_of, made_of, second_faults_of, section_of, size_of, standing_of}
+use Rattle.cx_asm.specs.Facts.Accepted as facts
+use Rattle.cx_asm_execution.specs.Standing.{code_lines}
+use Rattle.cx_asm_execution.proofs.Resolved.{AreResolved, InstructionsStand, bases_from, bases_in_use, is_instruction, is_instruction_role, placed_from, statements_from, placed_item, place_for}
+use Rattle.cx_asm_execution.proofs.BehindLemmas.{control_same, fault_kept, own_sound, reverse_step, section_sound, statements_are}
+use Rattle.cx_asm_image.specs.Resolved.{AreApart}
+use Rattle.cx_asm_image.specs.Text.{text_of}
+use Rattle.cx_asm_execution.proofs.InStorage.{TextsAreMade}
+
+-- ---- the statements of a source, in its order
+placed_joined : (xs ys before : List Item) → placed_from before (xs ++ ys) ≡ placed_from before xs ++ placed_from (reverse xs ++ before) ys
+placed_joined [] ys before = refl
+placed_joined (x ∷ xs) ys before =
+    ap (λ k. placed_item x (place_for x.stmt (state_after before)) ∷ k) (placed_joined xs ys (x ∷ before)
+    ∙ ap (λ k. placed_from (x ∷ before) xs ++ placed_from k ys) (sym (reverse_step x xs before)))
+
+statements_joined : (xs ys before : List Item) → statements_from before (xs ++ ys) ≡ statements_from before xs ++ statements_from (reverse xs ++ before) ys
+statements_joined xs ys before =
+    ap (filter_map stated_in) (placed_joined xs ys before) ∙ filter_map-append stated_in (placed_from before xs) (placed_from (reverse xs ++ before) ys)
+
+-- ---- no fault of the second pass
+NoFault : Whole → Bases → ℕ → List PlacedStatement → Type 0
+NoFault told bases number [] = ⊤
+NoFault told bases number (s ∷ statements) = (second_fault told bases number s ≡ None) × NoFault told (bases_after told bases s) (suc number) statements
+
+none_with : (line : ℕ) (fault : Option FaultKind) (faults : List LineFault) → with_fault line fault faults ≡ [] → (faults ≡ []) × (fault ≡ None)
+none_with line None faults e = (e, refl)
+none_with line (Some kind) [] e = absurd (cc)
+none_with line (Some kind) (first ∷ more) e = absurd (go (line == first.line) e)
+  where
+    go : (is : Bool) → cond is (line_fault first.line (lower_of first.kind kind) ∷ more) (first ∷ with_fault line (Some kind) more) ≡ [] → ⊥
+    go true f = cc
+    go false f = cc
+
+judged_kept : (told : Whole) (ss before : List PlacedStatement) → second_faults_after told (reverse ss ++ before) ≡ []
+    → (second_faults_after told before ≡ []) × NoFault told (bases_behind told before) (length before) ss
+unfolding NoFault
+judged_kept told [] before e = (e, tt)
+judged_kept told (s ∷ ss) before e =
+    let more = judged_kept told ss (s ∷ before) (subst (λ k. second_faults_after told k ≡ []) (reverse_step s ss before) e) in
+    let here = none_with s.line (second_fault told (bases_behind told before) (length before) s) (second_faults_after told before) more.0 in
+    (here.0, (here.1, more.1))
+
+no_fault_behind : (told : Whole) (xs ys : List PlacedStatement) (bases : Bases) (number : ℕ) → NoFault told bases number (xs ++ ys) → (n : ℕ) × NoFault told (bases_from told bases xs) n ys
+unfolding NoFault
+no_fault_behind told [] ys bases number e = (number, e)
+no_fault_behind told (x ∷ xs) ys bases number e = no_fault_behind told xs ys (bases_after told bases x) (suc number) e.1
+
+no_fault_in : (told : Whole) (xs ys : List PlacedStatement) (bases : Bases) (number : ℕ) → NoFault told bases number (xs ++ ys) → NoFault told bases number xs
+unfolding NoFault
+no_fault_in told [] ys bases number e = tt
+no_fault_in told (x ∷ xs) ys bases number e = (e.0, no_fault_in told xs ys (bases_after told bases x) (suc number) e.1)
+
+-- ---- what statements make
+made_from : Whole → List PlacedStatement → Bases → List PlacedStatement → List Line
+made_from told all bases [] = []
+made_from told all bases (s ∷ ss) = (statement_standing told all bases s).lines ++ made_from told all (bases_after told bases s) ss
+
+standing_joined : (told : Whole) (all : List PlacedStatement) (bases : Bases) (xs ys : List PlacedStatement)
+    → (standing_from told all bases (xs ++ ys)).lines ≡ made_from told all bases xs ++ (standing_from told all (bases_from told bases xs) ys).lines
+unfolding made_from
+standing_joined told all bases [] ys = refl
+standing_joined told all bases (x ∷ xs) ys =
+    ap (λ k. (statement_standing told all bases x).lines ++ k) (standing_joined told all (bases_after told bases x) xs ys)
+    ∙ sym (append_assoc (statement_standing told all bases x).lines (made_from told all (bases_after told bases x) xs) (standing_from told all (bases_from told (bases_after told bases x) xs) ys).lines)
+
+made_joined : (told : Whole) (all : List PlacedStatement) (bases : Bases) (xs ys : List PlacedStatement) → made_from told all bases (xs ++ ys) ≡ made_from told all bases xs ++ made_from told all (bases_from told bases xs) ys
+unfolding made_from
+made_joined told all bases [] ys = refl
+made_joined told all bases (x ∷ xs) ys =
+    ap (λ k. (statement_standing told all bases x).lines ++ k) (made_joined told all (bases_after told bases x) xs ys)
+    ∙ sym (append_assoc (statement_standing told all bases x).lines (made_from told all (bases_after told bases x) xs) (made_from told all (bases_from told (bases_after told bases x) xs) ys))
+
+-- ---- an accepted source
+abbrev pub Short : Type 0
+Short = (source : Source) (made : AssemblyParts) → assembly_of source ≡ Ok made → size_of source ≤ 65536
+
+abbrev pub Long : Type 0
+Long = (source : Source) (made : AssemblyParts) → assembly_of source ≡ Ok made → length made.section.image.text ≡ size_of source
+
+abbrev pub Apart : Type 0
+Apart = (source : Source) (made : AssemblyParts) → assembly_of source ≡ Ok made → AreApart 0 made.section.resolved (length made.section.image.text)
+
+pub record IsAccepted (source : Source) (assembly : AssemblyParts) : Type 0 where
+  pub first : (known_of source).fault ≡ None
+  pub second : second_faults_of source ≡ []
+  pub made : made_of source ≡ assembly
+
+pub accepted : (source : Source) (assembly : AssemblyParts) → assembly_of source ≡ Ok assembly → IsAccepted source assembly
+accepted source assembly e = (let ok = facts.accepted source assembly e in record { first = ok.sound; second = ok.second; made = ok.made_is })
+
+-- its text is that of its resolved lines
+pub texts_are_made : Short → Long → Apart → TextsAreMade
+unfolding section_of
+texts_are_made short long apart source assembly e =
+    let size = long source assembly e in
+    let lines : assembly.section.resolved ≡ (section_of source).resolved = ap (λ k. k.section.resolved) (sym (accepted source assembly e).made) in
+    let text : assembly.section.image.text ≡ text_of (section_of source).resolved (size_of source) = ap (λ k. k.section.image.text) (sym (accepted source assembly e).made) in
+    record {
+      apart = apart source assembly e;
+      text = text ∙ rw (lines, size) refl;
+      short = (let least = short source assembly e in omega (arith, least, size));
+    }
+
+-- ---- operations that make instructions
+no_directive : (d : Directive) → is_instruction_role (directive_role d) ≡ false
+no_directive is.Csect = refl
+no_directive is.Start = refl
+no_directive is.Dsect = refl
+no_directive is.Equ = refl
+no_directive is.Ds = refl
+no_directive is.Dc = refl
+no_directive is.Ltorg = refl
+no_directive is.Dfhregs = refl
+no_directive is.Copy = refl
+no_directive is.Using = refl
+no_directive is.Drop = refl
+no_directive is.End = refl
+no_directive is.Title = refl
+no_directive is.Print = refl
+no_directive is.Eject = refl
+no_directive is.Space = refl
+
+record HasRow (o : Operation) : Type 0 where
+  op : Op
+  row : base_row o ≡ Some op
+  role : role_of (Some o) ≡ role.Instruction (length_of op)
+  bases : (c : Context) (operand : List ℕ) → bases_in o c operand ≡ Ok c.bases
+  fault : (told : Whole) (bases : Bases) (number : ℕ) (s : PlacedStatement) → operand_fault told bases number s (Some o)
+      ≡ lower (result_err (instruction_or_fault o (instruction_context told bases s) s.stmt.operand)) (literals_fault told number s)
+
+has_row : (o : Operation) → is_instruction_role (role_of (Some o)) ≡ true → HasRow o
+unfolding bases_in
+has_row (operation.Machine op) e = record { op = op; row = refl; role = refl; bases = λ c operand. refl; fault = λ told bases number s. refl }
+has_row (operation.Branch b) e = record { op = Bc; row = refl; role = refl; bases = λ c operand. refl; fault = λ told bases number s. refl }
+has_row (operation.RegisterBranch b) e = record { op = Bcr; row = refl; role = refl; bases = λ c operand. refl; fault = λ told bases number s. refl }
+has_row (operation.Directive d) e = (let no = no_directive d in absurd (cc))
+
+record Makes (o : Operation) (c : Context) (operand : List ℕ) (op : Op) : Type 0 where
+  made : Instruction
+  is : instruction_or_fault o c operand ≡ Ok made
+  of : made.op ≡ op
+
+abbrev resolved_as : Option Op → Option Form → Context → List ℕ → Result Instruction FaultKind
+resolved_as row is c operand = option_map_or (λ (v : Op × Form). fields_made (instruction v.0) (fields_in v.1 c (operands_of operand))) (option_zip row is) (Err UnknownOperation)
+
+makes : (o : Operation) (c : Context) (operand : List ℕ) (op : Op) → base_row o ≡ Some op → result_err (instruction_or_fault o c operand) ≡ None → Makes o c operand op
+unfolding instruction_or_fault
+makes o c operand op row e = go (base_row o) (form_of o) refl refl row e
+  where
+    fields_there : (at : Option Op) (f : Form) (found : Result Fields FaultKind) → base_row o ≡ at → form_of o ≡ Some f → at ≡ Some op → fields_in f c (operands_of operand) ≡ found
+        → result_err (resolved_as at (Some f) c operand) ≡ None → Makes o c operand op
+    fields_there None f found a b row is e = absurd (cc)
+    fields_there (Some op') f (Err fault) a b row is e = (let no : result_err (fields_made (instruction op') (fields_in f c (operands_of operand))) ≡ None = e in let bad : result_err (fields_made (instruction op') (Err fault)) ≡ None = rw is at no in absurd (cc))
+    fields_there (Some op') f (Ok fields) a b row is e =
+        record { made = instruction op' fields; is = rw (a, b, is) refl; of = cc }
+
+    go : (at : Option Op) (f : Option Form) → base_row o ≡ at → form_of o ≡ f → at ≡ Some op → result_err (resolved_as at f c operand) ≡ None → Makes o c operand op
+    go None f a b row e = absurd (cc)
+    go (Some op') None a b row e = absurd (cc)
+    go (Some op') (Some f) a b row e = fields_there (Some op') f (fields_in f c (operands_of operand)) a b row refl e
+
+even_format : (f : Format) → length_of_format f % 2 ≡ 0
+even_format format.Rr = refl
+even_format format.Rx = refl
+even_format format.Rs = refl
+even_format format.Si = refl
+even_format format.Ss = refl
+even_format format.Ss2 = refl
+
+-- ---- one instruction's statement
+record Begins (item : Item) : Type 0 where
+  stmt : Stmt
+  begins : item.stmt ≡ Some stmt
+  operation : Operation
+  named : operation_named stmt.operation ≡ Some operation
+  row : HasRow operation
+
+begins_so : (item : Item) → is_instruction item.stmt ≡ true → Begins item
+begins_so item e = go item.stmt refl e
+  where
+    named_so : (stmt : Stmt) (o : Option Operation) → item.stmt ≡ Some stmt → operation_named stmt.operation ≡ o → is_instruction_role (role_of o) ≡ true → Begins item
+    named_so stmt None begins named e = absurd (cc)
+    named_so stmt (Some o) begins named e = record { stmt = stmt; begins = begins; operation = o; named = named; row = has_row o e }
+
+    go : (stmt : Option Stmt) → item.stmt ≡ stmt → is_instruction stmt ≡ true → Begins item
+    go None begins e = absurd (cc)
+    go (Some stmt) begins e = named_so stmt (operation_named stmt.operation) begins refl e
+
+controls : (section control : Option (List ℕ)) (size : ℕ) (name : Option (List ℕ)) → section_fault (role.Instruction size) name section control ≡ None → is_control section control ≡ true
+controls section control size name e = go (is_control section control) e
+  where
+    go : (b : Bool) → cond b None (Some BadOperand) ≡ None → b ≡ true
+    go true e = refl
+    go false e = absurd (cc)
+
+-- where it is, and where the next one is
+record IsPlaced (before : List Item) (line : ℕ) (stmt : Stmt) (size : ℕ) : Type 0 where
+  offset : (laid_in stmt (state_after before)).offset ≡ align 2 (next_in (state_after before))
+  within : is_control (state_after before).section (state_after before).control ≡ true
+  next : align 2 (next_in (next_state line stmt (state_after before))) ≡ align 2 (next_in (state_after before)) + size
+
+section_end : (known : PassState) (end : ℕ) (section : Option (List ℕ)) → known.section ≡ section → is_control section known.control ≡ true
+    → length_of_section section (length_after known.section end known.lengths) ≡ end
+section_end known end None e is = absurd (cc)
+section_end known end (Some name) e is = section_ends known end name e
+
+aligned_even : (n : ℕ) → n % 2 ≡ 0 → align 2 n ≡ n
+aligned_even n e = (let same : (n + (2 - 1)) / 2 * 2 ≡ n = omega (arith, e) in same)
+
+pub offset_is : (stmt : Stmt) (op : Op) (known : PassState) → role_in stmt ≡ role.Instruction (length_of op) → (laid_in stmt known).offset ≡ align 2 (next_in known)
+unfolding extent_of
+offset_is stmt op known is = rw is refl
+
+next_is : (line : ℕ) (stmt : Stmt) (op : Op) (known : PassState) → role_in stmt ≡ role.Instruction (length_of op) → is_control known.section known.control ≡ true → (laid_in stmt known).end ≤ bound
+    → next_in (next_state line stmt known) ≡ (laid_in stmt known).end
+unfolding next_state
+next_is line stmt op known is within small =
+    let same : length_of_section (section_after (role_in stmt) (name_in stmt) known.section) (length_after known.section (laid_in stmt known).end known.lengths) ≡ (laid_in stmt known).end =
+    ap (λ r. length_of_section (section_after r (name_in stmt) known.section) (length_after known.section (laid_in stmt known).end known.lengths)) is
+    ∙ section_end known (laid_in stmt known).end known.section refl within in
+    ap cap same ∙ capped_same (laid_in stmt known).end small
+
+is_placed : (before : List Item) (line : ℕ) (stmt : Stmt) (op : Op) → role_in stmt ≡ role.Instruction (length_of op) → (next_state line stmt (state_after before)).fault ≡ None
+    → IsPlaced before line stmt (length_of op)
+is_placed before line stmt op is sound =
+    let known = state_after before in
+    let within : is_control known.section known.control ≡ true =
+    controls known.section known.control (length_of op) (name_in stmt)
+    (subst (λ r. section_fault r (name_in stmt) known.section known.control ≡ None) is (section_sound stmt known (own_sound line stmt known sound))) in
+    let stands : Stands (role.Instruction (length_of op)) (parts_in stmt) known.pool (section_length known) (laid_in stmt known) =
+    subst (λ r. Stands r (parts_in stmt) known.pool (section_length known) (laid_in stmt known)) is (statement_stands before line stmt sound) in
+    let small : (laid_in stmt known).end ≤ bound = statement_within before line stmt sound in
+    let offset : (laid_in stmt known).offset ≡ align 2 (next_in known) = offset_is stmt op known is in
+    let even : length_of op % 2 ≡ 0 = even_format (format_of op) in
+    let end_even : (laid_in stmt known).end % 2 ≡ 0 = (let at = stands.1 in let ends = stands.2 in omega (arith, even, at, ends)) in
+    let next : next_in (next_state line stmt known) ≡ (laid_in stmt known).end = next_is line stmt op known is within small in
+    record {
+      offset = offset;
+      within = within;
+      next = rw next (aligned_even (laid_in stmt known).end end_even ∙ (let ends = stands.2 in omega (arith, ends, offset)));
+    }
+
+-- ---- lines with nothing but instructions on them
+record IsCode (told : Whole) (all : List PlacedStatement) (bases : Bases) (before items : List Item) : Type 0 where
+  code : List Instruction
+  resolved : AreResolved told bases before (align 2 (next_in (state_after before))) items code
+  lines : made_from told all bases (statements_from before items) ≡ code_lines (align 2 (next_in (state_after before))) code
+
+one_line : (told : Whole) (all : List PlacedStatement) (bases : Bases) (s : PlacedStatement) (o : Operation) (i : Instruction) (size : ℕ) → is_control s.place.section told.control ≡ true → role_in s.stmt ≡ role.Instruction size
+    → operation_of s ≡ Some o → instruction_or_fault o (instruction_context told bases s) s.stmt.operand ≡ Ok i → (statement_standing told all bases s).lines ≡ line s.place.offset (Code i) ∷ []
+unfolding statement_standing
+one_line told all bases s o i size within is named made = rw (within, is, named, made) refl
+
+sound_operand : (told : Whole) (bases : Bases) (number : ℕ) (s : PlacedStatement) (o : Operation) → HasRow o → operation_of s ≡ Some o → second_fault told bases number s ≡ None
+    → result_err (instruction_or_fault o (instruction_context told bases s) s.stmt.operand) ≡ None
+unfolding second_fault
+sound_operand told bases number s o row named e =
+    let own = sym (row.fault told bases number s) ∙ ap (operand_fault told bases number s) (sym named) ∙ e in
+    (lower_none (result_err (instruction_or_fault o (instruction_context told bases s) s.stmt.operand)) (literals_fault told number s) own).0
+
+same_bases : (told : Whole) (bases : Bases) (s : PlacedStatement) (o : Operation) → HasRow o → operation_of s ≡ Some o → bases_after told bases s ≡ bases
+unfolding bases_after
+same_bases told bases s o row named =
+    let c = directive_context told bases s in
+    ap (λ k. option_map_or (λ it. unwrap_or (result_ok (bases_in it c s.stmt.operand)) bases) k bases) named
+    ∙ ap (λ r. unwrap_or (result_ok r) bases) (row.bases c s.stmt.operand)
+
+all_code : (told : Whole) (all : List PlacedStatement) (bases : Bases) (number : ℕ) (before items more : List Item) → AllByRecursion (λ item. is_instruction item.stmt ≡ true) items
+    → (state_after (more ++ (reverse items ++ before))).fault ≡ None → told.control ≡ (state_after (more ++ (reverse items ++ before))).control
+    → NoFault told bases number (statements_from before items) → IsCode told all bases before items
+unfolding AreResolved code_lines made_from NoFault
+all_code told all bases number before [] more are sound control faults = record { code = []; resolved = tt; lines = refl }
+all_code told all bases number before (item ∷ items) more are sound control faults =
+    let known = state_after before in
+    let b = begins_so item are.0 in
+    let s = placed_statement item.line b.stmt (place_in b.stmt known) in
+    let heads : statements_from before (item ∷ items) ≡ s ∷ statements_from (item ∷ before) items =
+    ap (λ o. cons_option (option_and_then (λ stmt. option_map (placed_statement item.line stmt) (place_for o known)) o) (statements_from (item ∷ before) items)) b.begins in
+    let step : more ++ (reverse (item ∷ items) ++ before) ≡ more ++ (reverse items ++ (item ∷ before)) = ap (λ k. more ++ k) (reverse_step item items before) in
+    let sound' : (state_after (more ++ (reverse items ++ (item ∷ before)))).fault ≡ None = subst (λ k. (state_after k).fault ≡ None) step sound in
+    let control' : told.control ≡ (state_after (more ++ (reverse items ++ (item ∷ before)))).control = subst (λ k. told.control ≡ (state_after k).control) step control in
+    let after_is : state_after (item ∷ before) ≡ next_state item.line b.stmt known = ap (λ o. after_line item.line o known) b.begins in
+    let here : (next_state item.line b.stmt known).fault ≡ None =
+    subst (λ k. k.fault ≡ None) after_is (fault_kept (reverse items) (item ∷ before) (fault_kept more (reverse items ++ (item ∷ before)) sound')) in
+    let op = (b.row).op in
+    let role_is : role_in b.stmt ≡ role.Instruction (length_of op) = ap role_of b.named ∙ (b.row).role in
+    let placed = is_placed before item.line b.stmt op role_is here in
+    let faults' : NoFault told bases number (s ∷ statements_from (item ∷ before) items) = subst (NoFault told bases number) heads faults in
+    let made = makes b.operation (instruction_context told bases s) b.stmt.operand op (b.row).row (sound_operand told bases number s b.operation b.row b.named faults'.0) in
+    let same = same_bases told bases s b.operation b.row b.named in
+    let within : is_control known.section told.control ≡ true =
+    ap (is_control known.section) (control ∙ ap (λ k. (state_after k).control) (sym (append_assoc more (reverse (item ∷ items)) before)))
+    ∙ control_same (more ++ reverse (item ∷ items)) before known.section placed.within in
+    let own : (statement_standing told all bases s).lines ≡ line s.place.offset (Code made.made) ∷ [] =
+    one_line told all bases s b.operation made.made (length_of op) within role_is b.named made.is in
+    let rest = all_code told all bases (suc number) (item ∷ before) items more are.1 sound' control' (subst (λ k. NoFault told k (suc number) (statements_from (item ∷ before) items)) same faults'.1) in
+    let at = align 2 (next_in known) in
+    let next : align 2 (next_in (state_after (item ∷ before))) ≡ at + length_of made.made.op =
+    ap (λ k. align 2 (next_in k)) after_is ∙ placed.next ∙ ap (λ k. at + length_of k) (sym made.of) in
+    record {
+      code = made.made ∷ rest.code;
+      resolved = (
+        record { statement = b.stmt; begins = b.begins; place = placed.offset; operation = b.operation; named = b.named; resolves = made.is },
+        subst (λ n. AreResolved told bases (item ∷ before) n items rest.code) next rest.resolved,
+      );
+      lines =
+          ap (made_from told all bases) heads ∙ ap (λ k. k ++ made_from told all (bases_after told bases s) (statements_from (item ∷ before) items)) own
+          ∙ ap (λ k. line k (Code made.made) ∷ made_from told all (bases_after told bases s) (statements_from (item ∷ before) items)) placed.offset
+          ∙ ap (λ k. line at (Code made.made) ∷ made_from told all k (statements_from (item ∷ before) items)) same
+          ∙ ap (λ k. line at (Code made.made) ∷ k) rest.lines
+          ∙ ap (λ k. line at (Code made.made) ∷ code_lines k rest.code) next;
+    }
+
+pub instructions_stand : InstructionsStand
+unfolding section_of standing_of second_faults_of
+instructions_stand source assembly first items behind e is are =
+    let ok = accepted source assembly e in
+    let told = whole_of source in
+    let all = statements_of source in
+    let before = reverse first in
+    let front = statements_from [] first in
+    let own = statements_from before items in
+    let rest = statements_from (reverse (first ++ items) ++ []) behind in
+    let split : all ≡ (front ++ own) ++ rest =
+    statements_are source ∙ ap (statements_from []) is ∙ statements_joined (first ++ items) behind []
+    ∙ ap (λ k. k ++ rest) (statements_joined first items [] ∙ ap (λ k. front ++ statements_from k items) (append-nil (reverse first))) in
+    let turned : reverse source.items ≡ reverse behind ++ (reverse items ++ before) =
+    ap (λ k. reverse k) is ∙ reverse-append (first ++ items) behind ∙ ap (λ k. reverse behind ++ k) (reverse-append first items) in
+    let sound : (state_after (reverse behind ++ (reverse items ++ before))).fault ≡ None = subst (λ k. (state_after k).fault ≡ None) turned ok.first in
+    let control : told.control ≡ (state_after (reverse behind ++ (reverse items ++ before))).control = ap (λ k. (state_after k).control) turned in
+    let judged = judged_kept told all [] (subst (λ k. second_faults_after told k ≡ []) (sym (append-nil (reverse all))) ok.second) in
+    let none : NoFault told none_in_use 0 ((front ++ own) ++ rest) = subst (NoFault told none_in_use 0) split judged.1 in
+    let faults = no_fault_behind told front own none_in_use 0 (no_fault_in told (front ++ own) rest none_in_use 0 none) in
+    let code = all_code told all (bases_from told none_in_use front) faults.0 before items (reverse behind) are sound control faults.1 in
+    let same : bases_from told none_in_use front ≡ bases_in_use source first = ap (bases_from told none_in_use) (sym (statements_are (record { items = first }))) in
+    record {
+      at = align 2 (next_in (state_after before));
+      code = code.code;
+      resolved = subst (λ b. AreResolved told b before (align 2 (next_in (state_after before))) items code.code) same code.resolved;
+      front = made_from told all none_in_use front;
+      back = (standing_from told all (bases_from told none_in_use (front ++ own)) rest).lines;
+      stand =
+          ap (λ k. k.section.resolved) (sym ok.made) ∙ ap (λ k. (standing_from told all none_in_use k).lines) split ∙ standing_joined told all none_in_use (front ++ own) rest
+          ∙ ap (λ k. k ++ (standing_from told all (bases_from told none_in_use (front ++ own)) rest).lines) (made_joined told all none_in_use front own ∙ ap (λ k. made_from told all none_in_use front ++ k) code.lines);
+    }

@@ -1,0 +1,60 @@
+//! What holds of a translated source that was assembled.
+ghost use Rattle.std.specs.Prelude.{◌≡◌, ℕ};
+ghost use Rattle.cx_asm_arrival.specs.Made.{Statement};
+ghost use Rattle.cx_asm_execution.specs.Arriving.{CommandsArrive, IsStatement};
+ghost use Rattle.cx_asm_execution.specs.Laid.{EibIsLaidOut, HeadIsLaidOut};
+ghost use Rattle.cx_asm_execution.specs.Standing.{Site};
+
+/// The assembler places each field of DFHEIBLK at the offset, and with the length, at which the region writes it, and
+/// the block is as long as the region's.
+pub fn the_eib_is_laid_out()
+    ensures { EibIsLaidOut }
+{}
+
+/// The assembler places the fields of DFHEISTG's head, DFHEIPL, DFHEITP and DFHEICAP, at the offsets at which the
+/// region has them, and the head is as long as the region takes it to be.
+pub fn the_head_is_laid_out()
+    ensures { HeadIsLaidOut }
+{}
+
+/// A call is of one statement: where its made statements are, its command and its words determine it.
+#[tactic(auto, using(crate::proofs::OneLemmas::statements_decide))]
+pub fn a_statement_is_one()
+    ensures { (site : Site) (at other : ℕ) (s t : Statement) → IsStatement site at s → IsStatement site other t
+        → s ≡ t }
+{}
+
+/// Each EXEC statement of an accepted translation arrives as its command, and gets its pointers back. The statements
+/// made of it are together, with its line. They are resolved lines, one right after the other, at an offset that the
+/// EXEC statement's name stands for: the instructions made of the statement with the command, the option bytes and the
+/// conditions that the translator has put into the block, and right after them the loads of its pointers. Each argument
+/// has the address that its own expression has.
+///
+/// Where the program is loaded, a machine is ready if its next address is that of the first instruction; storage still
+/// holds the instructions, the block and the entry's word as loaded; DFHEIPL is in storage, apart from them; and the
+/// base registers around the arguments hold their USINGs' bases, none of them is 0, and the entry's isn't 1. It comes
+/// to the entry with the argument list that is read as that command, with the addresses that its arguments had at the
+/// first instruction.
+///
+/// At a machine that is at a pointer's load, the register that the pointer names, if it is an operand by itself, gets
+/// the word at the address that was handed over for the pointer, and all else stays, where DFHEITP's base register
+/// holds its USING's base as it did when the call began.
+pub fn commands_arrive()
+    ensures { CommandsArrive }
+{
+    cx_translate::laws::accepted_bytes_are_legal();
+    cx_translate::laws::accepted_conditions_are_legal();
+    cx_translate::laws::accepted_conditions_are_counted();
+    cx_translate::laws::accepted_lists_have_room();
+    cx_translate::laws::accepted_lists_are_read();
+    cx_storage::laws::span_is_bytes();
+    cx_code::laws::every_spelling();
+    cx_load::laws::relocation();
+    cx_asm_operands::laws::an_implied_address_is_nearest();
+    cx_asm_operands::laws::what_is_resolved_is_well_formed();
+    cx_asm_image::laws::the_text_is_told_by_its_bytes();
+    cx_asm::laws::an_assembly_stands_apart();
+    cx_asm_arrival::laws::made_are_counted();
+    cx_asm_arrival::laws::reaches_entry();
+    cx_asm_arrival::laws::loads_give_words();
+}

@@ -1,0 +1,14 @@
+mod NumberLemmas
+mod NameLemmas
+mod TableLemmas
+mod TermLemmas
+mod WeightLemmas
+mod FaultLemmas
+mod ItemLemmas
+mod FieldLemmas
+mod KindLemmas
+mod ByteLemmas
+mod WeighLemmas
+mod WrittenLemmas
+mod DigitLemmas
+mod LowestLemmas

@@ -1,0 +1,19 @@
+//! Relocated words.
+
+ghost use Rattle.std.specs.Prelude.{◌≡◌, ◌+◌, ◌*◌, ◌≤◌, ◌++◌, OnOk};
+ghost use Rattle.cx_asm_image.specs.Relocated.{words_at};
+
+use std::alloc::AllocError;
+
+/// Appends the offsets of `count` fullwords, one after the other, the first of them at an offset.
+///
+/// An error comes only where an allocation failed.
+pub fn push_words(relocs: &mut Vec<u32>, at: u32, count: u32) -> Result<(), AllocError>
+    requires { at + 4 * count ≤ 65536 }
+    ensures { OnOk result (relocs.new.items ≡ relocs.old.items ++ words_at at count) }
+{
+    for copy in 0..count {
+        relocs.push(at + 4 * copy)?;
+    }
+    Ok(())
+}

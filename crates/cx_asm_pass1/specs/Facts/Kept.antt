@@ -1,0 +1,86 @@
+-- What is known stays known, however many statements follow.
+use Rattle.std.specs.Prelude.{slice_get}
+use Rattle.std.proofs.Common.{◌≡◌, ℕ, zero, suc, Option, Some, None, List, [], ◌∷◌, ◌++◌, length, refl, ◌∙◌, ap}
+use Rattle.std.specs.Option.{option_or}
+use Rattle.cx_source.specs.declared.source.Item.{Item}
+use Rattle.cx_source.specs.declared.source.Stmt.{Stmt}
+use Rattle.cx_asm_expressions.specs.Symbols.{find_in}
+use Rattle.cx_asm_expressions.specs.declared.values.Value.{Value}
+use Rattle.cx_asm_pools.specs.Pools.{OpenLiterals, PlacedLiterals, cap, closed_pool}
+use Rattle.cx_asm_pass1.specs.PassState.{PassState, next_state, after_line, definitions_in, state_after, laid_in, place_in, pools_after, role_in}
+use Rattle.cx_asm_pass1.specs.Placed.{all_pools, last_pool_extent}
+use Rattle.cx_asm_pass1.specs.declared.place.Place.{Place}
+use Rattle.cx_asm_pass1.specs.declared.roles.Role.{Role}
+use Rattle.cx_asm_pass1.specs.declared.roles.Role.TheVariants.{Unknown, Instruction, Control, Dummy, Equate, Storage, Pool, Registers, Member, Nothing}
+
+got_front : {X : Type 0} (xs ys : List X) (k : ℕ) (x : X) → slice_get xs k ≡ Some x → slice_get (xs ++ ys) k ≡ Some x
+got_front [] ys k x e = cc
+got_front (y ∷ xs) ys zero x e = e
+got_front (y ∷ xs) ys (suc k) x e = got_front xs ys k x e
+
+got_last : {X : Type 0} (xs : List X) (x : X) → slice_get (xs ++ x ∷ []) (length xs) ≡ Some x
+got_last [] x = refl
+got_last (y ∷ xs) x = got_last xs x
+
+pools_step : (role : Role) (offset : ℕ) (pool : OpenLiterals) (pools : List PlacedLiterals) (k : ℕ) (it : PlacedLiterals) → slice_get pools k ≡ Some it → slice_get (pools_after role offset pool pools) k ≡ Some it
+pools_step Pool offset pool pools k it e = got_front pools (closed_pool (cap offset) pool ∷ []) k it e
+pools_step (Instruction size) offset pool pools k it e = e
+pools_step Unknown offset pool pools k it e = e
+pools_step Control offset pool pools k it e = e
+pools_step Dummy offset pool pools k it e = e
+pools_step Equate offset pool pools k it e = e
+pools_step (Storage is_ds) offset pool pools k it e = e
+pools_step Registers offset pool pools k it e = e
+pools_step Member offset pool pools k it e = e
+pools_step Nothing offset pool pools k it e = e
+
+place_line : (line : ℕ) (stmt : Option Stmt) (known : PassState) (k : ℕ) (it : Place) → slice_get known.places k ≡ Some it → slice_get (after_line line stmt known).places k ≡ Some it
+unfolding next_state
+place_line line None known k it e = e
+place_line line (Some stmt) known k it e = got_front known.places (place_in stmt known ∷ []) k it e
+
+pool_line : (line : ℕ) (stmt : Option Stmt) (known : PassState) (k : ℕ) (it : PlacedLiterals) → slice_get known.pools k ≡ Some it → slice_get (after_line line stmt known).pools k ≡ Some it
+unfolding next_state
+pool_line line None known k it e = e
+pool_line line (Some stmt) known k it e = pools_step (role_in stmt) (laid_in stmt known).offset known.pool known.pools k it e
+
+value_line : (line : ℕ) (stmt : Option Stmt) (known : PassState) (name : List ℕ) (value : Value) → known.symbols name ≡ Some value → (after_line line stmt known).symbols name ≡ Some value
+unfolding next_state
+value_line line None known name value e = e
+value_line line (Some stmt) known name value e = ap (λ o. option_or o (find_in (definitions_in stmt known None) name)) e
+
+-- a statement's place
+pub place_kept : (more before : List Item) (k : ℕ) (it : Place) → slice_get (state_after before).places k ≡ Some it → slice_get (state_after (more ++ before)).places k ≡ Some it
+place_kept [] before k it e = e
+place_kept (item ∷ more) before k it e = place_line item.line item.stmt (state_after (more ++ before)) k it (place_kept more before k it e)
+
+-- a closed pool
+pub pool_kept : (more before : List Item) (k : ℕ) (it : PlacedLiterals) → slice_get (state_after before).pools k ≡ Some it → slice_get (state_after (more ++ before)).pools k ≡ Some it
+pool_kept [] before k it e = e
+pool_kept (item ∷ more) before k it e = pool_line item.line item.stmt (state_after (more ++ before)) k it (pool_kept more before k it e)
+
+-- the value of a symbol
+pub value_kept : (more before : List Item) (name : List ℕ) (value : Value) → (state_after before).symbols name ≡ Some value → (state_after (more ++ before)).symbols name ≡ Some value
+value_kept [] before name value e = e
+value_kept (item ∷ more) before name value e = value_line item.line item.stmt (state_after (more ++ before)) name value (value_kept more before name value e)
+
+-- what is known of a statement itself
+pub place_told : (line : ℕ) (stmt : Stmt) (known : PassState) → slice_get (next_state line stmt known).places (length known.places) ≡ Some (place_in stmt known)
+unfolding next_state
+place_told line stmt known = got_last known.places (place_in stmt known)
+
+pool_closed : (role : Role) (offset : ℕ) (pool : OpenLiterals) (pools : List PlacedLiterals) → role ≡ Pool → slice_get (pools_after role offset pool pools) (length pools) ≡ Some (closed_pool (cap offset) pool)
+pool_closed role offset pool pools e = ap (λ r. slice_get (pools_after r offset pool pools) (length pools)) e ∙ got_last pools (closed_pool (cap offset) pool)
+
+-- LTORG closes the pool
+pub pool_told : (line : ℕ) (stmt : Stmt) (known : PassState) → role_in stmt ≡ Pool
+    → slice_get (next_state line stmt known).pools (length known.pools) ≡ Some (closed_pool (cap (laid_in stmt known).offset) known.pool)
+unfolding next_state
+pool_told line stmt known e = pool_closed (role_in stmt) (laid_in stmt known).offset known.pool known.pools e
+
+-- among all pools are those that were closed, and the last
+pub pool_among : (known : PassState) (k : ℕ) (it : PlacedLiterals) → slice_get known.pools k ≡ Some it → slice_get (all_pools known) k ≡ Some it
+pool_among known k it e = got_front known.pools (closed_pool (cap (last_pool_extent known).offset) known.pool ∷ []) k it e
+
+pub last_pool : (known : PassState) → slice_get (all_pools known) (length known.pools) ≡ Some (closed_pool (cap (last_pool_extent known).offset) known.pool)
+last_pool known = got_last known.pools (closed_pool (cap (last_pool_extent known).offset) known.pool)

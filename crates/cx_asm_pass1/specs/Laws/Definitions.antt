@@ -1,0 +1,15 @@
+-- Every name has one value (GC33-4010, "Symbols").
+use Rattle.std.specs.Prelude.{Option, Some, None, List, [], ◌∷◌, ◌++◌}
+use Rattle.cx_source.specs.declared.source.Item.{Item}
+use Rattle.cx_source.specs.declared.source.Stmt.{Stmt}
+use Rattle.cx_asm_expressions.specs.Symbols.{Symbols}
+use Rattle.cx_asm_pass1.specs.PassState.{PassState, definitions_in, state_after}
+
+-- all that the statements of lines define, in the source's order; the lines the latest first
+abbrev pub definitions_at : Option Stmt → PassState → Symbols
+definitions_at None known = []
+definitions_at (Some stmt) known = definitions_in stmt known None
+
+abbrev pub definitions_behind : List Item → Symbols
+definitions_behind [] = []
+definitions_behind (item ∷ before) = definitions_behind before ++ definitions_at item.stmt (state_after before)

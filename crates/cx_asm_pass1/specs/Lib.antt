@@ -1,0 +1,12 @@
+pub mod Roles
+pub mod Layout
+pub mod Given
+pub mod PassState
+pub mod Placed
+pub mod AllFaults
+-- Statements of laws.
+pub mod Laws
+-- Lemmas for the crates above.
+pub mod Facts
+-- Words of private functions.
+pub mod Parts

@@ -1,0 +1,198 @@
+-- What is known of a statement by those before it, the latest first (GC33-4010, "CSECT", "DSECT", "EQU", "LTORG" and
+-- "Literal Pool"; the faults are this product's own).
+use Rattle.std.specs.Prelude.{ℕ, Bool, false, ◌||◌, ◌==◌, if◌then◌else◌, Option, Some, None, option_and_then, option_map, Result, List, [], ◌∷◌, ◌++◌, length, is_none, is_some, map, unwrap_or, pos}
+use Rattle.std.specs.Option.{option_map_or, option_or}
+use Rattle.std.specs.Result.{result_err, result_ok}
+use Rattle.cx_asm_operations.specs.Operations.{operation_named}
+use Rattle.cx_source.specs.Marks.{parts}
+use Rattle.cx_source.specs.declared.marks.Delimiter.TheVariants.{TopComma}
+use Rattle.cx_source.specs.declared.source.Stmt.{Stmt}
+use Rattle.cx_source.specs.declared.source.Item.{Item}
+use Rattle.cx_asm_expressions.specs.Faults.{lower, lowest}
+use Rattle.cx_asm_expressions.specs.Names.{symbol_name}
+use Rattle.cx_asm_expressions.specs.Symbols.{Symbols, find_in, absolute}
+use Rattle.cx_asm_expressions.specs.Weights.{stands_in}
+use Rattle.cx_asm_expressions.specs.declared.faults.FaultKind.{FaultKind}
+use Rattle.cx_asm_expressions.specs.declared.faults.FaultKind.TheVariants.{UnknownOperation, BadOperand}
+use Rattle.cx_asm_expressions.specs.declared.values.Value.{Value}
+use Rattle.cx_asm_pools.specs.Pools.{OpenLiterals, PlacedLiterals, cap, part_fault, closed_pool, pool_extent, with_parts}
+use Rattle.cx_asm_pass1.specs.Roles.{role_of}
+use Rattle.cx_asm_pass1.specs.Layout.{fault_beyond, extent_of}
+use Rattle.cx_asm_pass1.specs.Given.{definitions, duplicate, value_given}
+use Rattle.cx_asm_pass1.specs.declared.layout.Extent.{Extent}
+use Rattle.cx_asm_pass1.specs.declared.place.Place.{Place}
+use Rattle.cx_asm_pass1.specs.declared.place.LineFault.{LineFault}
+use Rattle.cx_asm_pass1.specs.declared.roles.Role.{Role}
+use Rattle.cx_asm_pass1.specs.declared.roles.Role.TheVariants.{Unknown, Instruction, Control, Dummy, Equate, Storage, Pool}
+
+-- What is known of a statement by those before it.
+pub record PassState : Type 0 where
+  -- the section that it is in, and the control section
+  pub section : Option (List ℕ)
+  pub control : Option (List ℕ)
+  -- the length of each section so far
+  pub lengths : List ℕ → ℕ
+  -- the value of each symbol so far
+  pub symbols : List ℕ → Option Value
+  -- the literals of the open pool, and the pools that are closed
+  pub pool : OpenLiterals
+  pub pools : List PlacedLiterals
+  -- where each of them is
+  pub places : List Place
+  -- the first fault so far
+  pub fault : Option LineFault
+
+-- without a statement
+abbrev pub at_start : PassState
+at_start =
+    record { section = None; control = None; lengths = λ name. 0; symbols = λ name. None; pool = []; pools = []; places = []; fault = None }
+
+-- ---- a statement
+abbrev pub role_in : Stmt → Role
+role_in stmt = role_of (operation_named stmt.operation)
+
+abbrev pub name_in : Stmt → Option (List ℕ)
+name_in stmt = symbol_name stmt.name
+
+abbrev pub parts_in : Stmt → List (List ℕ)
+parts_in stmt = parts TopComma stmt.operand
+
+-- the length of a section so far; 0 where there is none
+abbrev pub length_of_section : Option (List ℕ) → (List ℕ → ℕ) → ℕ
+length_of_section section lengths = option_map_or lengths section 0
+
+-- the next offset in the section
+abbrev pub next_in : PassState → ℕ
+next_in known = cap (length_of_section known.section known.lengths)
+
+abbrev pub laid_in : Stmt → PassState → Extent
+laid_in stmt known = extent_of (role_in stmt) (parts_in stmt) (pool_extent known.pool) (next_in known)
+
+abbrev pub given_in : Stmt → PassState → Result (Option Value) FaultKind
+given_in stmt known = value_given (role_in stmt) (name_in stmt) known.symbols known.section stmt.operand (laid_in stmt known)
+
+-- what it defines; where its value is at fault, a different one stands for it
+abbrev pub definitions_in : Stmt → PassState → Option Value → Symbols
+definitions_in stmt known other =
+    let value = unwrap_or (result_ok (given_in stmt known)) other in
+    definitions (role_in stmt) (name_in stmt) known.control known.symbols stmt.operand value
+
+-- ---- what is wrong with it
+abbrev pub operation_fault : Role → Option FaultKind
+operation_fault Unknown = Some UnknownOperation
+operation_fault _ = None
+
+-- a name that must be one, and one that may be left out
+abbrev pub bad_name : List ℕ → Option FaultKind
+bad_name text = if is_some (symbol_name text) then None else Some BadOperand
+
+abbrev pub bad_label : List ℕ → Option FaultKind
+bad_label text = if length text == 0 then None else bad_name text
+
+abbrev pub name_fault : Role → List ℕ → Option FaultKind
+name_fault Control text = bad_name text
+name_fault Dummy text = bad_name text
+name_fault Equate text = bad_name text
+name_fault (Instruction size) text = bad_label text
+name_fault (Storage is_ds) text = bad_label text
+name_fault Pool text = bad_label text
+name_fault _ text = None
+
+abbrev pub is_control : Option (List ℕ) → Option (List ℕ) → Bool
+is_control section control = option_map_or (λ name. stands_in name control) section false
+
+-- An instruction and LTORG outside the control section, DS and DC before the first section, and a second control
+-- section
+abbrev pub section_fault : Role → Option (List ℕ) → Option (List ℕ) → Option (List ℕ) → Option FaultKind
+section_fault (Instruction size) name section control = if is_control section control then None else Some BadOperand
+section_fault Pool name section control = if is_control section control then None else Some BadOperand
+section_fault (Storage is_ds) name section control = if is_some section then None else Some BadOperand
+section_fault Control name section control =
+    if is_none name || is_none control || is_control name control then None else Some BadOperand
+section_fault _ name section control = None
+
+-- the literals of an instruction, among them that the pool would go beyond the bound
+abbrev pub literal_fault : Role → ℕ → List (List ℕ) → OpenLiterals → Option FaultKind
+literal_fault (Instruction size) user parts pool =
+    lower (lowest (map part_fault parts)) (option_and_then fault_beyond (pool_extent (with_parts user pool parts)))
+literal_fault _ user parts pool = None
+
+-- It defines a name again, whatever its value: where that is at fault, any stands for it.
+abbrev pub duplicate_in : Stmt → PassState → Option FaultKind
+duplicate_in stmt known = duplicate known.symbols (definitions_in stmt known (Some (absolute (pos 0))))
+
+-- all except the literals
+abbrev pub own_fault : Stmt → PassState → Option FaultKind
+own_fault stmt known =
+    lowest (operation_fault (role_in stmt) ∷ name_fault (role_in stmt) stmt.name
+    ∷ section_fault (role_in stmt) (name_in stmt) known.section known.control ∷ (laid_in stmt known).fault ∷ result_err (given_in stmt known)
+    ∷ duplicate_in stmt known ∷ [])
+
+-- the lowest fault of the statement
+abbrev pub fault_in : Stmt → PassState → Option FaultKind
+fault_in stmt known =
+    lower (own_fault stmt known) (literal_fault (role_in stmt) (length known.places) (parts_in stmt) known.pool)
+
+abbrev pub line_fault : ℕ → FaultKind → LineFault
+line_fault line kind = record { line = line; kind = kind }
+
+-- The first fault stays; of several on its line it is the lowest.
+abbrev pub first_fault_behind : ℕ → Option FaultKind → Option LineFault → Option LineFault
+first_fault_behind line fault None = option_map (line_fault line) fault
+first_fault_behind line fault (Some first) =
+    if line == first.line then option_map (line_fault first.line) (lower (Some first.kind) fault) else Some first
+
+-- ---- what else is known of the statement after it
+-- CSECT, START and DSECT begin or resume the section of their name.
+abbrev pub section_after : Role → Option (List ℕ) → Option (List ℕ) → Option (List ℕ)
+section_after Control (Some name) section = Some name
+section_after Dummy (Some name) section = Some name
+section_after _ name section = section
+
+-- The first CSECT or START names the control section.
+abbrev pub control_after : Role → Option (List ℕ) → Option (List ℕ) → Option (List ℕ)
+control_after Control name None = name
+control_after _ name control = control
+
+-- An instruction uses its literals, and LTORG closes the pool.
+abbrev pub pool_after : Role → ℕ → List (List ℕ) → OpenLiterals → OpenLiterals
+pool_after (Instruction size) user parts pool = with_parts user pool parts
+pool_after Pool user parts pool = []
+pool_after _ user parts pool = pool
+
+abbrev pub pools_after : Role → ℕ → OpenLiterals → List PlacedLiterals → List PlacedLiterals
+pools_after Pool offset pool pools = pools ++ closed_pool (cap offset) pool ∷ []
+pools_after _ offset pool pools = pools
+
+-- where it is: its section, offset, its items' offsets, and the number of its pool
+abbrev pub place_in : Stmt → PassState → Place
+place_in stmt known =
+    record { section = known.section; offset = (laid_in stmt known).offset; items = (laid_in stmt known).items; pool = length known.pools }
+
+-- The statement lengthens its own section alone.
+abbrev pub length_after : Option (List ℕ) → ℕ → (List ℕ → ℕ) → List ℕ → ℕ
+length_after section end lengths name = if stands_in name section then end else lengths name
+
+-- What is known after a statement of a line. A symbol has the value that the first statement gives it.
+unfoldable pub next_state : ℕ → Stmt → PassState → PassState
+next_state line stmt known =
+    record {
+      section = section_after (role_in stmt) (name_in stmt) known.section;
+      control = control_after (role_in stmt) (name_in stmt) known.control;
+      lengths = length_after known.section (laid_in stmt known).end known.lengths;
+      symbols = λ name. option_or (known.symbols name) (find_in (definitions_in stmt known None) name);
+      pool = pool_after (role_in stmt) (length known.places) (parts_in stmt) known.pool;
+      pools = pools_after (role_in stmt) (laid_in stmt known).offset known.pool known.pools;
+      places = known.places ++ place_in stmt known ∷ [];
+      fault = first_fault_behind line (fault_in stmt known) known.fault;
+    }
+
+-- a comment, and a line that continues a statement, add nothing
+abbrev pub after_line : ℕ → Option Stmt → PassState → PassState
+after_line line None known = known
+after_line line (Some stmt) known = next_state line stmt known
+
+-- what is known by lines, the latest first
+abbrev pub state_after : List Item → PassState
+state_after [] = at_start
+state_after (item ∷ before) = after_line item.line item.stmt (state_after before)

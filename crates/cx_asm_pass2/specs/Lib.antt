@@ -1,0 +1,4 @@
+-- The definitions, in reading order.
+pub mod Statements
+pub mod Whole
+pub mod SecondFaults

@@ -1,0 +1,40 @@
+-- Exceptional conditions (Application Programmer's Reference Manual, SC33-0077, "Exceptional conditions").
+-- The numbers and abend codes are this project's own.
+use Rattle.std.specs.Prelude.{ℕ, ◌==◌, Option, Some, None, List, [], ◌∷◌, codes, option_and_then, unwrap_or}
+use Rattle.std.specs.List.{position}
+use Rattle.cx_ebcdic.specs.Names.{name_of}
+use Rattle.cx_base_commands.specs.declared.conditions.Condition.{Condition}
+use Rattle.cx_base_commands.specs.declared.conditions.Condition.TheVariants.{Normal, Error, Invreq, Nospace, Lengerr, Itemerr, Pgmiderr, Nostg, Qiderr, Enqbusy}
+
+-- a condition's number, name, and the code of the abend that it leads to, where it leads to one
+pub record ConditionRow : Type 0 where
+  pub number : ℕ
+  pub name : List ℕ
+  pub abend : Option (List ℕ)
+
+abbrev pub entry : ℕ → List ℕ → Option (List ℕ) → ConditionRow
+entry number name abend = record { number = number; name = name; abend = abend }
+
+abbrev pub entry_of : Condition → ConditionRow
+entry_of Normal = entry 0 (codes "NORMAL") None
+entry_of Error = entry 1 (codes "ERROR") None
+entry_of Invreq = entry 16 (codes "INVREQ") (Some (codes "AEIP"))
+entry_of Nospace = entry 18 (codes "NOSPACE") None
+entry_of Lengerr = entry 22 (codes "LENGERR") (Some (codes "AEIV"))
+entry_of Itemerr = entry 26 (codes "ITEMERR") (Some (codes "AEIZ"))
+entry_of Pgmiderr = entry 27 (codes "PGMIDERR") (Some (codes "AEI0"))
+entry_of Nostg = entry 42 (codes "NOSTG") None
+entry_of Qiderr = entry 44 (codes "QIDERR") (Some (codes "AEYH"))
+entry_of Enqbusy = entry 55 (codes "ENQBUSY") None
+
+-- the conditions that a program can handle: all but NORMAL
+abbrev pub handled_conditions : List Condition
+handled_conditions = Error ∷ Invreq ∷ Nospace ∷ Lengerr ∷ Itemerr ∷ Pgmiderr ∷ Nostg ∷ Qiderr ∷ Enqbusy ∷ []
+
+-- a condition's place among all, from 0, which is NORMAL's
+abbrev pub place_of : Condition → ℕ
+place_of condition = unwrap_or (position (λ other. (entry_of other).number == (entry_of condition).number) (Normal ∷ handled_conditions)) 0
+
+-- the abend code as it is in storage
+unfoldable pub abend_code_of : Condition → Option (List ℕ)
+abend_code_of condition = option_and_then (name_of 4) (entry_of condition).abend

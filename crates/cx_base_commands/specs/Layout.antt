@@ -1,0 +1,14 @@
+-- Blocks of storage as fields: each with its name, its offset and its length in bytes (this product's own form).
+use Rattle.std.specs.Prelude.{ℕ, ◌+◌, List}
+
+pub record Field : Type 0 where
+  pub name : List ℕ
+  pub offset : ℕ
+  pub len : ℕ
+
+abbrev pub field : List ℕ → ℕ → ℕ → Field
+field name offset len = record { name = name; offset = offset; len = len }
+
+-- the offset after a field
+abbrev pub end_of : Field → ℕ
+end_of field = field.offset + field.len

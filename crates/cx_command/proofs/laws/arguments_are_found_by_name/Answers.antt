@@ -1,5 +1,0 @@
-use Rattle.cx_command.proofs.ArgumentLemmas.{found_argument}
-use Rattle.cx_command.proofs.laws.arguments_are_found_by_name.Goals as goal
-
-pub returns : goal.returns
-returns c = found_argument

@@ -1,5 +1,0 @@
-use Rattle.cx_command.proofs.RowLemmas.{lengths}
-use Rattle.cx_command.proofs.laws.bytes_have_a_length.Goals as goal
-
-pub returns : goal.returns
-returns c = lengths

@@ -1,8 +1,0 @@
--- Lines that stand among others, one right behind the other.
-use Rattle.std.specs.Prelude.{◌≡◌, List, ◌++◌}
-use Rattle.cx_source.specs.declared.source.Item.{Item}
-
-pub record StandTogether (part items : List Item) : Type 0 where
-  pub before : List Item
-  pub behind : List Item
-  pub is : items ≡ before ++ part ++ behind

@@ -1,6 +1,0 @@
--- The fields of the block.
-use Rattle.cx_command_arrival.proofs.BlockLemmas.{eib_laid_out}
-use Rattle.cx_command_arrival.proofs.laws.the_eib_is_laid_out.Goals as goal
-
-pub returns : goal.returns
-returns c = eib_laid_out

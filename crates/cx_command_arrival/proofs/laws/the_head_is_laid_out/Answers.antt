@@ -1,6 +1,0 @@
--- The fields of the head.
-use Rattle.cx_command_arrival.proofs.HeadLemmas.{head_laid_out}
-use Rattle.cx_command_arrival.proofs.laws.the_head_is_laid_out.Goals as goal
-
-pub returns : goal.returns
-returns c = head_laid_out

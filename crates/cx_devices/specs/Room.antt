@@ -1,7 +1,0 @@
--- Devices that move few bytes at a time (this product's own).
-use Rattle.std.specs.Prelude.{ℕ, max, min}
-
--- How many bytes a read or a write moves: as many as were asked for and there is room for, at most so many; that many is at
--- least one.
-abbrev pub moved : ℕ → ℕ → ℕ → ℕ
-moved most asked room = min (min asked room) (max most 1)

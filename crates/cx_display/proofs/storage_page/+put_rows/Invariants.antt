@@ -1,5 +1,0 @@
-use Rattle.std.proofs.Common.{length}
-use Rattle.cx_display.proofs.storage_page.+put_rows.Given as goal
-
-abbrev pub decreases-put_rows : goal.decreases-put_rows
-decreases-put_rows g l = length l.rows.now

@@ -1,7 +1,0 @@
--- How much working storage a program has (this product's own).
-use Rattle.std.specs.Prelude.{ℕ, min, max}
-
--- The length of the DSECT DFHEISTG, 0 where there is none, but 80 where it is shorter. From 65,521 on, which no image may have, it
--- is 65,521.
-abbrev pub working_storage : ℕ → ℕ
-working_storage length = max 80 (min length 65521)

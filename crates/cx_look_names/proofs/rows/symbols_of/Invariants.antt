@@ -1,7 +1,0 @@
-use Rattle.std.proofs.Common.{◌≡◌, reverse, take}
-use Rattle.cx_terms.specs.Symbols.{find_in}
-use Rattle.cx_look_names.specs.Parts.Rows.{table_behind}
-use Rattle.cx_look_names.proofs.rows.symbols_of.Given as goal
-
-abbrev pub invariant-loop-item : goal.invariant-loop-item
-invariant-loop-item l = l.rows.entries ≡ table_behind (find_in l.symbols) (reverse (take l.item-index l.items))

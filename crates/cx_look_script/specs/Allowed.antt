@@ -1,0 +1,11 @@
+-- Which actions may be asked (own).
+use Rattle.std.specs.Prelude.{⊤}
+use Rattle.cx_script_actions.specs.Allowed.{IsAllowed}
+use Rattle.cx_look_script.specs.declared.action.LookAction.{LookAction}
+use Rattle.cx_look_script.specs.declared.action.LookAction.TheVariants as action
+
+-- an action of `cicsedf` as it may be asked there
+abbrev pub IsAllowedLook : LookAction → Type 0
+IsAllowedLook (action.Script a) = IsAllowed a
+IsAllowedLook (action.Source name lines a) = IsAllowed a
+IsAllowedLook _ = ⊤

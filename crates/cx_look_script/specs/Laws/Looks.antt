@@ -1,0 +1,79 @@
+-- A look changes nothing (own).
+use Rattle.std.specs.Prelude.{◌≡◌, ◌⊎◌, ℕ, ◌≤◌, List, [], ◌∷◌, ◌++◌, replicate}
+use Rattle.std.specs.List.{flat_map}
+use Rattle.cx_script_actions.specs.Effects.{Performs}
+use Rattle.cx_script_actions.specs.declared.actions.Action.{Action}
+use Rattle.cx_script_actions.specs.declared.actions.Action.TheVariants as edf_action
+use Rattle.cx_script.specs.Transcript.{Runs}
+use Rattle.cx_look_words.specs.Marked.{IsOfLooks}
+use Rattle.cx_look.specs.declared.look.Look.{Look}
+use Rattle.cx_look_script.specs.Looking.{IsLookText, LookPerforms, NotedPerforms}
+use Rattle.cx_look_script.specs.Runs.{still_running, turn_of}
+use Rattle.cx_look_script.specs.Sources.{with_source}
+use Rattle.cx_look_script.specs.State.{LookState}
+use Rattle.cx_look_script.specs.declared.action.LookAction.{LookAction}
+use Rattle.cx_look_script.specs.declared.action.LookAction.TheVariants as action
+
+-- What became of an action of a script with looks: actions of `cicsedf`, what these wrote, and what a look wrote after
+-- it.
+pub record Part : Type 0 where
+  pub plain : List Action
+  pub written : List ℕ
+  pub looked : List ℕ
+
+-- RUN became turns of its terminal, no more than its number; where they were as many, its last line may say so.
+pub record IsPartOfRun (name : List ℕ) (n : ℕ) (part : Part) : Type 0 where
+  pub turns : ℕ
+  pub plain : part.plain ≡ replicate turns (edf_action.Event (turn_of name))
+  pub ended : ((turns ≤ n) × (part.looked ≡ [])) ⊎ ((turns ≡ n) × (part.looked ≡ still_running name))
+
+-- an action of `cicsedf` is itself, and a look is none: its text is that of the state there
+abbrev pub IsPart : LookState → LookAction → Part → Type 0
+IsPart there (action.Script a) part = (part.plain ≡ a ∷ []) × (part.looked ≡ [])
+IsPart there (action.Source name lines a) part = (part.plain ≡ a ∷ []) × (part.looked ≡ [])
+IsPart there (action.Run name n) part = IsPartOfRun name n part
+IsPart there (action.Look look) part = (part.plain ≡ []) × IsLookText look there part.looked
+
+-- after the actions of a source's part its lines are kept
+abbrev pub kept_after : LookState → LookAction → LookState → LookState
+kept_after old (action.Source name lines a) new = with_source old name lines new
+kept_after old _ new = new
+
+-- a part for each action, from the state that those before leave, with the last abends that their events lead to
+unfoldable pub ArePartsOf : LookState → List LookAction → List Part → LookState → Type 0
+ArePartsOf old [] [] new = new ≡ old
+ArePartsOf old (a ∷ actions) (part ∷ parts) new =
+    (done between : LookState) × IsPart old a part × Runs NotedPerforms old part.plain part.written done
+    × (between ≡ kept_after old a done) × ArePartsOf between actions parts new
+ArePartsOf old _ _ new = ⊥
+
+abbrev pub plain_of : Part → List Action
+plain_of part = part.plain
+
+abbrev pub written_of : Part → List ℕ
+written_of part = part.written
+
+-- what a part and the look after it wrote
+abbrev pub text_of : Part → List ℕ
+text_of part = part.written ++ part.looked
+
+-- There is a part for each action so that: the actions of all parts are a run of `cicsedf`, from the same state to the same
+-- state; and the text is what this writes, with that of each look at its place.
+pub record ChangesNothing (old : LookState) (actions : List LookAction) (text : List ℕ) (new : LookState) : Type 0 where
+  pub parts : List Part
+  pub each : ArePartsOf old actions parts new
+  pub runs : Runs Performs old.edf (flat_map plain_of parts) (flat_map written_of parts) new.edf
+  pub whole : text ≡ flat_map text_of parts
+
+abbrev pub LooksChangeNothing : Type 0
+LooksChangeNothing = (old : LookState) (actions : List LookAction) (text : List ℕ) (new : LookState)
+    → Runs LookPerforms old actions text new → ChangesNothing old actions text new
+
+-- what is written for a look is lines of looks
+abbrev pub LooksAreMarked : Type 0
+LooksAreMarked = (look : Look) (state : LookState) (text : List ℕ) → IsLookText look state text → IsOfLooks text
+
+-- the text of a look is a function of the state
+abbrev pub LooksAreToldOnce : Type 0
+LooksAreToldOnce = (look : Look) (state : LookState) (one other : List ℕ)
+    → IsLookText look state one → IsLookText look state other → one ≡ other

@@ -1,0 +1,36 @@
+-- The definitions, in reading order.
+pub mod State
+pub mod Sources
+pub mod Reading
+pub mod Allowed
+pub mod Runs
+pub mod Faults
+pub mod Looking
+pub mod Laws
+pub mod Parts
+pub use Rattle.cx_script_actions.specs.Actions
+pub use Rattle.cx_script_actions.specs.Language
+pub use Rattle.cx_script_actions.specs.Texts
+pub use Rattle.cx_script_actions.specs.Effects
+pub use Rattle.cx_look.specs.Looks
+pub use Rattle.cx_look_faults.specs.Faults as FaultyLines
+pub use Rattle.cx_asm_build.specs.Kinds
+pub use Rattle.cx_look_words.specs.Words
+pub use Rattle.cx_look_words.specs.Marked
+pub use Rattle.cx_look_tables.specs.Queues
+pub use Rattle.cx_look_tables.specs.Programs
+pub use Rattle.cx_look_storage.specs.Uses
+pub use Rattle.cx_look_storage.specs.Areas
+pub use Rattle.cx_look_storage.specs.Bytes
+pub use Rattle.cx_look_storage.specs.Places
+pub use Rattle.cx_look_levels.specs.Levels
+pub use Rattle.cx_look_levels.specs.Tasks as TasksLookedAt
+pub use Rattle.cx_look_command.specs.Commands
+pub use Rattle.cx_look_command.specs.Looks as LooksAtCommands
+pub use Rattle.cx_look_symbols.specs.Symbols
+pub use Rattle.cx_look_symbols.specs.Texts as SymbolTexts
+pub use Rattle.cx_look_tasks.specs.Activities
+pub use Rattle.cx_look_tasks.specs.Tasks
+pub use Rattle.cx_look_abend.specs.Abends as LastAbends
+pub use Rattle.cx_look_abend.specs.Noting
+pub use Rattle.cx_look_abend.specs.Texts as AbendTexts

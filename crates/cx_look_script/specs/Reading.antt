@@ -1,0 +1,59 @@
+-- What a line of a script with looks asks (own).
+use Rattle.std.specs.Prelude.{ℕ, if◌then◌else◌, Option, Some, None, List, codes}
+use Rattle.std.specs.Option.{option_and_then, option_map}
+use Rattle.std.specs.Str.{bytes_eq}
+use Rattle.cx_ebcdic.specs.Names.{name_of}
+use Rattle.cx_script_actions.specs.Words.{after_first_blank, word}
+use Rattle.cx_script_actions.specs.Actions.{line_of}
+use Rattle.cx_script_actions.specs.Language.{Language}
+use Rattle.cx_script_actions.specs.declared.actions.Action.{Action}
+use Rattle.cx_script_actions.specs.declared.actions.Line.{Line}
+use Rattle.cx_script_actions.specs.declared.actions.Line.TheVariants as line
+use Rattle.cx_look.specs.Looks.{count_of, look_of}
+use Rattle.cx_look.specs.declared.look.Look.TheVariants as look
+use Rattle.cx_look_script.specs.declared.action.LookAction.{LookAction}
+use Rattle.cx_look_script.specs.declared.action.LookAction.TheVariants as action
+
+-- RUN of a terminal: at most as many turns as the number after it says, 1,000 where there is none
+abbrev pub turns_of : List ℕ → Option (List ℕ) → Option LookAction
+turns_of name None = Some (action.Run name 1000)
+turns_of name (Some text) = option_map (λ n. action.Run name n) (count_of 4096 text)
+
+abbrev pub run_of : List ℕ → Option LookAction
+run_of text = option_and_then (λ name. turns_of name (after_first_blank text)) (name_of 4 (word text))
+
+-- RUN, the beginning of a source's block for FAULTS, or a look
+unfoldable pub own_line : List ℕ → Option (Line LookAction)
+own_line text =
+    if bytes_eq (word text) (codes "RUN") then option_map (λ a. line.Action a) (option_and_then run_of (after_first_blank text))
+    else if bytes_eq (word text) (codes "FAULTS") then option_map (λ name. line.Lines name) (option_and_then (name_of 8) (after_first_blank text))
+    else option_map (λ l. line.Action (action.Look l)) (look_of text)
+
+-- a line of `cicsedf`'s scripts as one of these
+abbrev pub as_look_line : Line Action → Line LookAction
+as_look_line line.Blank = line.Blank
+as_look_line (line.Image name stg_len) = line.Image name stg_len
+as_look_line (line.Source name wanted) = line.Source name wanted
+as_look_line (line.Lines name) = line.Lines name
+as_look_line (line.Action a) = line.Action (action.Script a)
+
+abbrev pub line_by : Option (Line Action) → Option (Line LookAction) → Option (Line LookAction)
+line_by (Some l) own = Some (as_look_line l)
+line_by None own = own
+
+-- A line asks what it asks in a script of `cicsedf`; where it is a bad line there, it may be RUN, FAULTS or a look.
+unfoldable pub look_line_of : List ℕ → Option (Line LookAction)
+look_line_of text = line_by (line_of text) (own_line text)
+
+-- the end of a block of FAULTS: the line that begins it, the name there, and the source's lines
+abbrev pub faults_asked : ℕ → List ℕ → List (List ℕ) → LookAction
+faults_asked first name lines = action.Look (look.Faults (record { first = first; name = name; lines = lines }))
+
+-- the language of `cicslook`
+abbrev pub look_language : Language LookAction
+look_language = record {
+  line_of = look_line_of;
+  of_block = λ a. action.Script a;
+  of_source = λ name lines a. action.Source name lines a;
+  of_lines = λ first name lines. Some (faults_asked first name lines);
+}

@@ -1,0 +1,49 @@
+-- RUN: turns of a terminal, one after another (own).
+use Rattle.std.specs.Prelude.{◌≡◌, ℕ, zero, suc, Bool, true, false, ◌&&◌, not, MatchBool, List, [], ◌∷◌, ◌++◌, codes}
+use Rattle.cx_base_text.specs.Texts.{shown_name}
+use Rattle.cx_region_state.specs.declared.replies.TurnReply.TheVariants as turn
+use Rattle.cx_region.specs.declared.replies.Event.TheVariants as event
+use Rattle.cx_region.specs.declared.replies.Reply.TheVariants as reply
+use Rattle.cx_edf.specs.declared.answers.Answer.{Answer}
+use Rattle.cx_edf.specs.declared.answers.Answer.TheVariants as answer
+use Rattle.cx_edf.specs.declared.answers.EdfEvent.{EdfEvent}
+use Rattle.cx_edf.specs.declared.answers.EdfEvent.TheVariants as edf_event
+use Rattle.cx_edf.specs.State.{EdfState, stopped_at}
+use Rattle.cx_script_actions.specs.Texts.{answer_text}
+use Rattle.cx_look_words.specs.Words.{look_line}
+use Rattle.cx_look_abend.specs.Noting.{AppliesWithAbends}
+use Rattle.cx_look_script.specs.State.{LookState}
+
+-- the task goes on with one more turn: it is due at a command, or one was performed, or taken by a label or an exit
+abbrev pub is_midway : Answer → Bool
+is_midway (answer.Region (reply.Turn turn.AtCommand)) = true
+is_midway (answer.Region (reply.Turn (turn.Performed c))) = true
+is_midway (answer.Region (reply.Turn turn.Entered)) = true
+is_midway (answer.Region (reply.Turn turn.Returned)) = true
+is_midway (answer.Region (reply.Turn (turn.TookLabel c))) = true
+is_midway (answer.Region (reply.Turn (turn.TookExit code))) = true
+is_midway _ = false
+
+-- one more turn follows one that was answered so, unless EDF stopped the task there
+abbrev pub goes_on : EdfState → List ℕ → Answer → Bool
+goes_on state name given = is_midway given && not (stopped_at state name)
+
+abbrev pub turn_of : List ℕ → EdfEvent
+turn_of name = edf_event.Plain (event.Turn name)
+
+-- the line of a RUN that its number of turns ended
+abbrev pub still_running : List ℕ → List ℕ
+still_running name = look_line (codes "RUN" ∷ shown_name name ∷ codes "STILL" ∷ codes "RUNNING" ∷ [])
+
+-- an event at a region that is looked at: its answer, the region after it, and the last abends that are kept
+pub record AppliesAtLooks (old : LookState) (e : EdfEvent) (given : Answer) (new : LookState) : Type 0 where
+  pub noted : AppliesWithAbends old.edf old.abends e given new.edf new.abends
+  pub sources : new.sources ≡ old.sources
+
+-- At most n turns of a terminal, one after another: the state before, what is written for them, and the state after.
+unfoldable pub RunsOn : LookState → List ℕ → ℕ → List ℕ → LookState → Type 0
+RunsOn old name zero text new = (text ≡ still_running name) × (new ≡ old)
+RunsOn old name (suc n) text new =
+    (given : Answer) × (between : LookState) × (rest : List ℕ) × AppliesAtLooks old (turn_of name) given between
+    × MatchBool (goes_on between.edf name given) (RunsOn between name n rest new) ((rest ≡ []) × (new ≡ between))
+    × (text ≡ answer_text (turn_of name) given ++ rest)

@@ -1,0 +1,21 @@
+-- A region under EDF that is looked at (own).
+use Rattle.std.specs.Prelude.{ℕ, List, []}
+use Rattle.cx_edf.specs.State.{EdfState}
+use Rattle.cx_script_actions.specs.Effects.{fresh_state}
+use Rattle.cx_look_abend.specs.Noting.{Abends}
+use Rattle.cx_look_symbols.specs.Lines.{SourcePlaces}
+
+-- of each program that a source defined the source's lines, and where its statements are
+pub record Sources : Type 0 where
+  pub lines : List (List ℕ × List (List ℕ))
+  pub places : SourcePlaces
+
+-- the region under EDF, each terminal's last abend, and what is kept of sources
+pub record LookState : Type 0 where
+  pub edf : EdfState
+  pub abends : Abends
+  pub sources : Sources
+
+-- as a script begins it: no terminal is defined, and no program
+abbrev pub fresh_looked : LookState
+fresh_looked = record { edf = fresh_state; abends = []; sources = record { lines = []; places = [] } }

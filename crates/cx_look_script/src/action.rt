@@ -1,0 +1,140 @@
+//! What a line of a script with looks asks.
+ghost use Rattle.std.specs.Prelude.{◌≡◌, ◌≤◌, IfOk, IfSome, OnErr, is_some, true};
+ghost use Rattle.std.specs.Option.{option_copied};
+ghost use Rattle.cx_script_actions.specs.Allowed.{IsAllowed, IsAllowedLine};
+ghost use Rattle.cx_look.specs.Looks.{count_of};
+ghost use Rattle.cx_look_script.specs.Allowed.{IsAllowedLook};
+ghost use Rattle.cx_look_script.specs.Reading.{look_language, look_line_of, own_line, run_of, as_look_line, turns_of};
+
+use cx_base_lists::List;
+use cx_ebcdic::{Name4, Name8};
+use cx_look::{Look, SourceLines, look_of};
+use cx_script_actions::{Action, Line, ScriptAction, line_of, name4, name8, number, split_word};
+use cx_source::Text;
+use std::alloc::{AllocError, Global};
+
+/// How many turns RUN does at most where no number says so.
+const TURNS: u16 = 1_000;
+
+/// The most turns that RUN does.
+const MOST_TURNS: u32 = 4_096;
+
+/// What is done for a line of a script with looks.
+#[derive(Drop)]
+pub enum LookAction {
+    /// What a script of `cicsedf` asks too.
+    Script(Action),
+    /// What the end of a source's block asks there: its program's name, its lines, and what they are made into.
+    Source(Name8, List<Text>, Action),
+    /// At most this many turns of a terminal.
+    Run(Name4, u16),
+    /// A look.
+    Look(Look),
+}
+
+/// The number from 1 to 4,096 that at most five decimal digits spell.
+#[tactic(auto, using(std::proofs::lemmas::Bool::Decides::nat_tests), unfolding(cx_look::specs::Looks::count_of))]
+fn count_of(word: &[u8]) -> Option<u16>
+    ensures value { result ≡ count_of 4096 word.now }
+{
+    let n = number(word, 1, 5)?;
+    if n < 1 || n > MOST_TURNS {
+        return None;
+    }
+    Some(n as u16)
+}
+
+/// At most as many turns of a terminal as the number after its name says.
+fn turns_of(name: Name4, rest: Option<&[u8]>) -> Option<LookAction>
+    ensures value { result ≡ turns_of name (option_copied rest.entry) }
+    ensures allowed { IfSome result IsAllowedLook }
+{
+    let Some(rest) = rest else {
+        return Some(LookAction::Run(name, TURNS));
+    };
+    let n = count_of(rest)?;
+    Some(LookAction::Run(name, n))
+}
+
+/// RUN, by what follows it.
+fn run_of(text: &[u8]) -> Option<LookAction>
+    ensures value { result ≡ run_of text.now }
+    ensures allowed { IfSome result IsAllowedLook }
+{
+    let (word, rest) = split_word(text);
+    let name = name4(word)?;
+    turns_of(name, rest)
+}
+
+/// What a line asks that a script of `cicsedf` doesn't have.
+#[tactic(auto, unfolding(crate::specs::Reading::own_line))]
+fn own_line(text: &[u8]) -> Option<Line<LookAction>>
+    ensures value { result ≡ own_line text.now }
+    ensures allowed { IfSome result (IsAllowedLine IsAllowedLook) }
+{
+    let (word, rest) = split_word(text);
+    if word == b"RUN".as_slice() {
+        let run = run_of(rest?)?;
+        return Some(Line::Action(run));
+    }
+    if word == b"FAULTS".as_slice() {
+        let name = name8(rest?)?;
+        return Some(Line::Lines(name));
+    }
+    let look = look_of(text)?;
+    Some(Line::Action(LookAction::Look(look)))
+}
+
+/// A line of `cicsedf`'s scripts as one of these.
+fn scripted(line: Line<Action>) -> Line<LookAction>
+    requires { IsAllowedLine IsAllowed line }
+    ensures value { result ≡ as_look_line line }
+    ensures allowed { IsAllowedLine IsAllowedLook result }
+{
+    match line {
+        Line::Blank => Line::Blank,
+        Line::Image(name, length) => Line::Image(name, length),
+        Line::Source(name, wanted) => Line::Source(name, wanted),
+        Line::Lines(name) => Line::Lines(name),
+        Line::Action(action) => Line::Action(LookAction::Script(action)),
+    }
+}
+
+/// What a line asks where it is not in a block; None, and never Memory, where it is a bad line.
+#[tactic(auto, unfolding(crate::specs::Reading::look_line_of))]
+fn look_line_of(alloc: Global, text: &[u8]) -> Result<Option<Line<LookAction>>, AllocError>
+    ensures value { IfOk result (λ line. line ≡ look_line_of text.now) }
+    ensures memory { OnErr result (is_some (look_line_of text.now) ≡ true) }
+    ensures allowed { IfOk result (λ line. IfSome line (IsAllowedLine IsAllowedLook)) }
+{
+    if let Some(line) = line_of(alloc, text)? {
+        return Ok(Some(scripted(line)));
+    }
+    Ok(own_line(text))
+}
+
+impl ScriptAction for LookAction {
+    ghost language = { look_language };
+
+    ghost allowed = { IsAllowedLook };
+
+    fn of_block(action: Action) -> LookAction {
+        LookAction::Script(action)
+    }
+
+    fn of_source(name: Name8, lines: Vec<Text>, action: Action) -> LookAction {
+        LookAction::Source(name, List::from_vec(lines), action)
+    }
+
+    fn of_lines(first: usize, name: Name8, lines: Vec<Text>) -> Option<LookAction> {
+        Some(LookAction::Look(Look::Faults(SourceLines {
+            first,
+            name,
+            lines: List::from_vec(lines),
+        })))
+    }
+
+    fn read_line(alloc: Global, text: &[u8]) -> Result<Option<Line<LookAction>>, AllocError> {
+        look_line_of(alloc, text)
+    }
+}

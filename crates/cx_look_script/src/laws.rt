@@ -1,0 +1,30 @@
+//! What follows from the definitions of a script with looks.
+
+ghost use Rattle.cx_look_script.specs.Laws.Looks.{LooksAreMarked, LooksAreToldOnce, LooksChangeNothing};
+ghost use Rattle.cx_look_script.specs.Laws.Scripts.{ActionsStay, ScriptsStay};
+
+/// A look changes nothing. Each run has for each of its actions a part, in which an action of `cicsedf` stands for itself, RUN for as
+/// many TURNs as it did, and a look for nothing: the actions of all parts are a run of `cicsedf` from the same state to the same
+/// state, and the text is the texts of that run, with each look's text, that of the state there, at its place. The
+/// lines of a source are kept after its part.
+pub fn looks_change_nothing()
+    ensures { LooksChangeNothing }
+{}
+
+/// The text of a look is lines that begin with `> `; no word of them has an LF.
+pub fn looks_are_marked()
+    ensures { LooksAreMarked }
+{}
+
+/// The text of a look is a function of the state.
+pub fn looks_are_told_once()
+    ensures { LooksAreToldOnce }
+{
+    cx_look_tasks::laws::texts_decide();
+}
+
+/// A script of `cicsedf` without a bad line is the same script here, and its actions do and write the same.
+pub fn scripts_of_cicsedf_stay()
+    ensures scripts { ScriptsStay }
+    ensures actions { ActionsStay }
+{}

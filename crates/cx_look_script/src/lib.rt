@@ -1,0 +1,13 @@
+//! Scripts with looks: what a script of `cicslook` is performed on.
+#![tactic(auto)]
+
+mod action;
+mod faults;
+pub mod laws;
+mod looks;
+mod performer;
+mod sources;
+mod turns;
+
+pub use action::LookAction;
+pub use performer::{LookStage, Looking, look_stage};

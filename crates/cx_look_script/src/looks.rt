@@ -1,0 +1,53 @@
+//! What is written for a look.
+ghost use Rattle.std.specs.Prelude.{IfOk};
+ghost use Rattle.cx_look_script.specs.Looking.{IsLookText};
+
+use crate::faults::faults_text;
+use crate::performer::Looking;
+use cx_look::Look;
+use cx_look_abend::abend_text;
+use cx_look_command::command_text;
+use cx_look_levels::task_text;
+use cx_look_storage::{areas_text, storage_text, task_areas_text};
+use cx_look_symbols::{symbol_text, symbols_text};
+use cx_look_tables::{item_text, programs_text, queue_text, queues_text};
+use cx_look_tasks::{resources_text, tasks_text};
+use cx_look_xref::xref_text;
+use cx_storage::Store;
+use std::alloc::{AllocError, Global};
+
+/// What is written for a look.
+#[tactic(auto, unfolding(crate::specs::Looking::IsLookText))]
+pub(crate) fn look_text<S: Store + Drop>(
+    alloc: Global,
+    looking: &Looking<S>,
+    look: Look,
+) -> Result<Vec<u8>, AllocError>
+    ensures { IfOk result (λ text. IsLookText look looking.now text.items) }
+{
+    let region = looking.state.region();
+    match look {
+        Look::Queues => queues_text(alloc, region),
+        Look::Queue(name) => queue_text(alloc, region, name),
+        Look::Item(name, n) => item_text(alloc, region, name, n as usize),
+        Look::Programs => programs_text(alloc, region),
+        Look::Tasks => tasks_text(alloc, region),
+        Look::Resources => resources_text(alloc, region),
+        Look::Command(name) => command_text(alloc, region, name),
+        Look::Task(name) => task_text(alloc, looking.sources.places(), region, name),
+        Look::Areas => areas_text(alloc, region),
+        Look::AreasOf(name) => task_areas_text(alloc, region, name),
+        Look::Storage(address, n) => storage_text(alloc, region, address, n),
+        Look::Abend(name) => abend_text(alloc, looking.sources.places(), &looking.abends, name),
+        Look::Faults(source) => faults_text(alloc, &source),
+        Look::Symbol(program, name) => {
+            let lines = looking.sources.lines_of(program);
+            symbol_text(alloc, region, program, lines, name)
+        }
+        Look::Symbols(program) => {
+            let lines = looking.sources.lines_of(program);
+            symbols_text(alloc, region, program, lines)
+        }
+        Look::Xref(program) => xref_text(alloc, program, looking.sources.lines_of(program)),
+    }
+}

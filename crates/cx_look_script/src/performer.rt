@@ -1,0 +1,132 @@
+//! What a script with looks is performed on.
+ghost use Rattle.std.specs.Prelude.{◌≡◌, [], IfOk};
+ghost use Rattle.cx_edf.specs.Runs.{IsAllowedEdf};
+ghost use Rattle.cx_script_actions.specs.Allowed.{IsAllowed};
+ghost use Rattle.cx_script_actions.specs.declared.actions.Action.TheVariants as edf_action;
+ghost use Rattle.cx_look_script.specs.Looking.{LookPerforms, NotedPerforms, SourcePerforms};
+ghost use Rattle.cx_look_script.specs.Runs.{AppliesAtLooks};
+ghost use Rattle.cx_look_script.specs.State.{fresh_looked};
+
+use crate::action::LookAction;
+use crate::looks::look_text;
+use crate::sources::{Sources, has_program, is_defined};
+use crate::turns::run;
+use cx_base_lists::List;
+use cx_ebcdic::Name8;
+use cx_edf::{Answer, Debugged, EdfEvent};
+use cx_look_abend::{LastAbends, happen_noted};
+use cx_look_symbols::statement_places;
+use cx_script::edf_stage;
+use cx_script_actions::{Action, Performer, answer_text};
+use cx_source::Text;
+use cx_storage::Store;
+use cx_storage_pages::PagedStore;
+use indexmap::IndexMap;
+use std::alloc::{AllocError, Global};
+use std::marker::Model;
+
+/// A region under EDF that is looked at, with each terminal's last abend, and what is kept of the sources that defined programs.
+#[derive(Drop)]
+pub struct Looking<S: Store + Drop> {
+    pub(crate) state: Debugged<S>,
+    pub(crate) abends: LastAbends,
+    pub(crate) sources: Sources,
+}
+
+impl<S: Store + Drop> Model for Looking<S> {
+    ghost use Rattle.cx_look_script.specs.State.{LookState};
+
+    ghost Value = { LookState };
+
+    ghost view = { λ held. record { edf = held.state; abends = held.abends.entries; sources = held.sources } };
+}
+
+impl<S: Store + Drop> Looking<S> {
+    /// A region under EDF without a terminal and without a program, to be looked at. It takes no memory.
+    pub fn new(alloc: Global, state: Debugged<S>) -> Looking<S>
+        ensures { result ≡ record { edf = state; abends = []; sources = record { lines = []; places = [] } } }
+    {
+        Looking {
+            state,
+            abends: IndexMap::new(alloc),
+            sources: Sources::new(alloc),
+        }
+    }
+
+    /// Does an event, and keeps the abend that it led to.
+    pub(crate) fn apply(&mut self, event: &EdfEvent) -> Result<Answer, AllocError>
+        requires { IsAllowedEdf event.now }
+        ensures { IfOk result (λ given. AppliesAtLooks self.old event.now given self.new) }
+    {
+        happen_noted(&mut self.state, &mut self.abends, event)
+    }
+
+    /// Does an event, and gives the text of its answer.
+    #[tactic(auto, unfolding(crate::specs::Looking::NotedPerforms))]
+    fn do_event(&mut self, alloc: Global, event: &EdfEvent) -> Result<Vec<u8>, AllocError>
+        requires { IsAllowedEdf event.now }
+        ensures { IfOk result (λ text. NotedPerforms self.old (edf_action.Event event.now) text.items self.new) }
+    {
+        let answer = self.apply(event)?;
+        answer_text(alloc, event, answer)
+    }
+
+    /// Does what a script of `cicsedf` asks too.
+    #[tactic(auto, unfolding(crate::specs::Looking::NotedPerforms))]
+    fn do_action(&mut self, alloc: Global, action: Action) -> Result<Vec<u8>, AllocError>
+        requires { IsAllowed action }
+        ensures { IfOk result (λ text. NotedPerforms self.old action text.items self.new) }
+    {
+        if let Action::Event(event) = &action {
+            return self.do_event(alloc, event);
+        }
+        self.state.perform(alloc, action)
+    }
+
+    /// Does what the end of a source's block asks in a script of `cicsedf`, and keeps the lines of the source where it defined its
+    /// program. Room for them is made before.
+    fn define(
+        &mut self,
+        alloc: Global,
+        name: Name8,
+        lines: List<Text>,
+        action: Action,
+    ) -> Result<Vec<u8>, AllocError>
+        requires { IsAllowed action }
+        ensures { IfOk result (λ text. SourcePerforms self.old name lines action text.items self.new) }
+    {
+        let was_there = has_program(self.state.region(), name);
+        let places = statement_places(alloc, lines.as_slice())?;
+        self.sources.make_room()?;
+        let text = self.do_action(alloc, action)?;
+        let is_new = is_defined(self.state.region(), name, was_there);
+        self.sources.keep(name, lines, places, is_new)?;
+        Ok(text)
+    }
+}
+
+/// What a script of `cicslook` is performed on.
+pub type LookStage = Looking<PagedStore>;
+
+/// The stage on which a script of `cicslook` begins: a fresh region, with EDF Off at each terminal.
+pub fn look_stage(alloc: Global) -> Result<LookStage, AllocError>
+    ensures { IfOk result (λ performer. performer ≡ fresh_looked) }
+{
+    Ok(Looking::new(alloc, edf_stage(alloc)?))
+}
+
+impl<S: Store + Drop> Performer for Looking<S> {
+    type Action = LookAction;
+
+    ghost performs = { LookPerforms };
+
+    #[tactic(auto, unfolding(crate::specs::Looking::LookPerforms))]
+    fn perform(&mut self, alloc: Global, action: LookAction) -> Result<Vec<u8>, AllocError> {
+        match action {
+            LookAction::Script(action) => self.do_action(alloc, action),
+            LookAction::Source(name, lines, action) => self.define(alloc, name, lines, action),
+            LookAction::Run(name, n) => run(self, alloc, name, n),
+            LookAction::Look(look) => look_text(alloc, self, look),
+        }
+    }
+}

@@ -1,0 +1,100 @@
+//! What is kept of the sources that programs were defined from.
+ghost use Rattle.std.specs.Prelude.{◌≡◌, ◌&&◌, [], if◌then◌else◌, is_some, not, OnOk};
+ghost use Rattle.cx_region.specs.Tables.{program_of};
+ghost use Rattle.cx_look_symbols.specs.Statements.{statement_places};
+ghost use Rattle.cx_look_script.specs.Sources.{source_lines, with_lines};
+
+use cx_base_lists::List;
+use cx_ebcdic::Name8;
+use cx_look_symbols::{SourcePlaces, StatementPlace};
+use cx_region::Region;
+use cx_source::Text;
+use cx_storage::Store;
+use indexmap::IndexMap;
+use std::alloc::{AllocError, Global};
+use std::marker::Model;
+
+/// Of each program that a source defined the source's lines, and where its statements are.
+#[derive(Drop)]
+pub(crate) struct Sources {
+    lines: IndexMap<Name8, List<Text>>,
+    places: SourcePlaces,
+}
+
+impl Model for Sources {
+    ghost use Rattle.cx_look_script.specs.State.{Sources as Kept};
+
+    ghost Value = { Kept };
+
+    ghost view = { λ sources. record { lines = sources.lines.entries; places = sources.places.entries } };
+}
+
+impl Sources {
+    /// Those of no program. It takes no memory.
+    pub(crate) fn new(alloc: Global) -> Sources
+        ensures { result ≡ record { lines = []; places = [] } }
+    {
+        Sources {
+            lines: IndexMap::new(alloc),
+            places: IndexMap::new(alloc),
+        }
+    }
+
+    /// The lines of a program's source; none of a program that no source defined.
+    pub(crate) fn lines_of(&self, name: Name8) -> &[Text]
+        ensures { result.now ≡ source_lines self.now name }
+    {
+        match self.lines.get(&name) {
+            Some(lines) => lines.as_slice(),
+            None => &[],
+        }
+    }
+
+    /// Where the statements of the programs are.
+    pub(crate) fn places(&self) -> &SourcePlaces
+        ensures { result.now.entries ≡ self.now.places }
+    {
+        &self.places
+    }
+
+    /// Makes room for one program more.
+    pub(crate) fn make_room(&mut self) -> Result<(), AllocError>
+        ensures { self.new ≡ self.old }
+    {
+        self.lines.reserve(1)?;
+        self.places.reserve(1)
+    }
+
+    /// Keeps a source's lines, and where its statements are, where it defined its program.
+    pub(crate) fn keep(
+        &mut self,
+        name: Name8,
+        lines: List<Text>,
+        places: List<StatementPlace>,
+        is_new: bool,
+    ) -> Result<(), AllocError>
+        requires { places ≡ statement_places lines }
+        ensures { OnOk result (self.new ≡ (if is_new then with_lines self.old name lines else self.old)) }
+    {
+        if !is_new {
+            return Ok(());
+        }
+        self.lines.insert(name, lines)?;
+        self.places.insert(name, places)?;
+        Ok(())
+    }
+}
+
+/// Whether a region has a program.
+pub(crate) fn has_program<S: Store + Drop>(region: &Region<S>, name: Name8) -> bool
+    ensures { result ≡ is_some (program_of region.now name) }
+{
+    region.shared().programs.get(&name).is_some()
+}
+
+/// Whether a program was defined that was there before, or wasn't.
+pub(crate) fn is_defined<S: Store + Drop>(region: &Region<S>, name: Name8, was_there: bool) -> bool
+    ensures { result ≡ (not was_there && is_some (program_of region.now name)) }
+{
+    !was_there && has_program(region, name)
+}

@@ -1,5 +1,0 @@
-use Rattle.cx_look_stage.proofs.MarkLemmas.{looks_are_marked as are_marked}
-use Rattle.cx_look_stage.proofs.laws.looks_are_marked.Goals as goal
-
-pub returns : goal.returns
-returns c = are_marked

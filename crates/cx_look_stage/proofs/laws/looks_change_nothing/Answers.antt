@@ -1,5 +1,0 @@
-use Rattle.cx_look_stage.proofs.LawLemmas.{looks_change_nothing as changed_nothing}
-use Rattle.cx_look_stage.proofs.laws.looks_change_nothing.Goals as goal
-
-pub returns : goal.returns
-returns c = changed_nothing

@@ -1,0 +1,431 @@
+-- The table of values and the lines give the symbols that the statements define.
+use Rattle.std.proofs.Common.{◌≡◌, ℕ, Bool, true, false, cond, Option, Some, None, Result, Ok, Err, List, [], ◌∷◌, ◌++◌, map, refl, sym, ◌∙◌, ap, append_assoc}
+use Rattle.std.specs.Prelude.{pos, ◌||◌, ◌&&◌, ◌==◌, not, length, reverse, codes, if◌then◌else◌, is_some, option_map, unwrap_or}
+use Rattle.std.specs.List.{AllByRecursion, IsDistinct, cons_option}
+use Rattle.std.specs.Map.{keys_of, lookup}
+use Rattle.std.specs.Option.{option_map_or, option_or}
+use Rattle.std.specs.Result.{result_err, result_ok}
+use Rattle.std.specs.Str.{bytes_eq}
+use Rattle.std.proofs.lemmas.Map.Keys.{IsDistinct-head, IsDistinct-tail}
+use Rattle.indexmap.specs.IndexMap.{insert_entry}
+use Rattle.cx_ebcdic.specs.Facts.Names.{is_name-laws, is_name-decides}
+use Rattle.cx_source.specs.declared.source.Item.{Item}
+use Rattle.cx_source.specs.declared.source.Source.{Source}
+use Rattle.cx_source.specs.declared.source.Stmt.{Stmt}
+use Rattle.cx_asm_expressions.specs.Expressions.{value_of}
+use Rattle.cx_asm_expressions.specs.Faults.{lower, lowest}
+use Rattle.cx_asm_expressions.specs.Names.{is_same, symbol_name}
+use Rattle.cx_asm_expressions.specs.Symbols.{Symbols, absolute, find_in}
+use Rattle.cx_asm_expressions.specs.Weights.{stands_in}
+use Rattle.cx_asm_expressions.specs.declared.faults.FaultKind.{FaultKind}
+use Rattle.cx_asm_expressions.specs.declared.faults.FaultKind.TheVariants.{DuplicateSymbol, ValueOutOfRange}
+use Rattle.cx_asm_expressions.specs.declared.values.Value.{Value}
+use Rattle.cx_asm_pass1.specs.Facts.Definitions.{defined_once_behind, first_value}
+use Rattle.cx_asm_pass1.specs.Facts.Faults.{none_before, sound_statement}
+use Rattle.cx_asm_pass1.specs.Facts.Laid.{lower_none}
+use Rattle.cx_asm_pass1.specs.Given.{aid_rows, definitions, is_any_known, is_in_range, value_in_range, location_counter, symbol_entry, register_rows, resumes, row_symbols, value_given}
+use Rattle.cx_asm_pass1.specs.PassState.{PassState, next_state, after_line, control_after, definitions_in, duplicate_in, fault_in, first_fault_behind, given_in, state_after, laid_in, line_fault, literal_fault, name_fault, name_in, operation_fault, own_fault, parts_in, role_in, section_fault}
+use Rattle.cx_asm_pass1.specs.Laws.Definitions.{definitions_at, definitions_behind}
+use Rattle.cx_asm_pass1.specs.Placed.{IsPlaced, last_pool_extent, known_of}
+use Rattle.cx_asm_pass1.specs.declared.place.ControlSection.{ControlSection}
+use Rattle.cx_asm_pass1.specs.declared.place.LineFault.{LineFault}
+use Rattle.cx_asm_pass1.specs.declared.places.Places.{Places}
+use Rattle.cx_asm_pass1.specs.declared.roles.Role.{Role}
+use Rattle.cx_asm_pass1.specs.declared.roles.Role.TheVariants.{Unknown, Instruction, Control, Dummy, Equate, Storage, Pool, Registers, Member, Nothing}
+use Rattle.cx_look_symbols.specs.Parts.Rows.{names_among, names_given, table_behind, with_name, with_names, with_stmt}
+use Rattle.cx_look_symbols.specs.Symbols.{Rows, named_of, rows_behind, rows_on, symbol_of}
+use Rattle.cx_look_symbols.specs.declared.rows.Symbol.{Symbol}
+
+-- ---- which names are there
+abbrev has : {V : Type 0} → List ℕ → List (List ℕ × V) → Bool
+has name rows = is_some (lookup (is_same name) rows)
+
+abbrev lined : ℕ → Symbols → Rows
+lined line symbols = map (λ symbol. (symbol.0, symbol_of line symbol.1)) symbols
+
+has_first : {V : Type 0} (test : Bool) (value : V) (rest : Option V) → is_some (cond test (Some value) rest) ≡ (test || is_some rest)
+has_first true value rest = refl
+has_first false value rest = refl
+
+or_assoc : (a b c : Bool) → (a || (b || c)) ≡ ((a || b) || c)
+or_assoc true b c = refl
+or_assoc false b c = refl
+
+has_both : {V : Type 0} (name : List ℕ) (one other : List (List ℕ × V)) → has name (one ++ other) ≡ (has name one || has name other)
+has_both name [] other = refl
+has_both name (row ∷ one) other =
+    has_first (is_same name row.0) row.1 (lookup (is_same name) (one ++ other))
+    ∙ ap (λ b. is_same name row.0 || b) (has_both name one other)
+    ∙ or_assoc (is_same name row.0) (has name one) (has name other)
+    ∙ ap (λ b. b || has name other) (sym (has_first (is_same name row.0) row.1 (lookup (is_same name) one)))
+
+has_lined : (name : List ℕ) (line : ℕ) (symbols : Symbols) → has name (lined line symbols) ≡ has name symbols
+has_lined name line [] = refl
+has_lined name line (s ∷ symbols) =
+    has_first (is_same name s.0) (symbol_of line s.1) (lookup (is_same name) (lined line symbols))
+    ∙ ap (λ b. is_same name s.0 || b) (has_lined name line symbols)
+    ∙ sym (has_first (is_same name s.0) s.1 (lookup (is_same name) symbols))
+
+rows_are_lined : (line : ℕ) (stmt : Option Stmt) (known : PassState) → rows_on line stmt known ≡ lined line (definitions_at stmt known)
+rows_are_lined line None known = refl
+rows_are_lined line (Some stmt) known = refl
+
+has_rows : (name : List ℕ) (items : List Item) → has name (rows_behind items) ≡ has name (definitions_behind items)
+has_rows name [] = refl
+has_rows name (item ∷ before) =
+    let defined : Symbols = definitions_at item.stmt (state_after before) in
+    ap (λ rows. has name (rows_behind before ++ rows)) (rows_are_lined item.line item.stmt (state_after before))
+    ∙ has_both name (rows_behind before) (lined item.line defined)
+    ∙ ap (λ b. b || has name (lined item.line defined)) (has_rows name before)
+    ∙ ap (λ b. has name (definitions_behind before) || b) (has_lined name item.line defined)
+    ∙ sym (has_both name (definitions_behind before) defined)
+
+pub has_known : (name : List ℕ) (items : List Item) → has name (rows_behind items) ≡ is_some ((state_after items).symbols name)
+has_known name items = has_rows name items ∙ ap is_some (sym (first_value items name))
+
+-- ---- symbols that are put after others
+absent : {V : Type 0} (found : Option V) → is_some found ≡ false → found ≡ None
+absent None e = refl
+absent (Some v) e = let f : true ≡ false = e in cc
+
+or_false : (a b : Bool) → (a || b) ≡ false → (a ≡ false) × (b ≡ false)
+or_false true b e = let f : true ≡ false = e in cc
+or_false false b e = (refl, e)
+
+insert_last : (rows : Rows) (name : List ℕ) (symbol : Symbol) → has name rows ≡ false → insert_entry is_same rows name symbol ≡ rows ++ (name, symbol) ∷ []
+insert_last [] name symbol e = refl
+insert_last (row ∷ rows) name symbol e =
+    let both = or_false (is_same name row.0) (has name rows) (sym (has_first (is_same name row.0) row.1 (lookup (is_same name) rows)) ∙ e) in
+    rw both.0 (ap (λ l. row ∷ l) (insert_last rows name symbol both.1))
+
+put_new : (find : List ℕ → Option Value) (line : ℕ) (rows : Rows) (name : List ℕ) (value : Value) → has name rows ≡ false → find name ≡ Some value
+    → with_name find line rows name ≡ rows ++ (name, symbol_of line value) ∷ []
+unfolding with_name
+put_new find line rows name value e found = rw (e, found) (insert_last rows name (symbol_of line value) e)
+
+put_old : (find : List ℕ → Option Value) (line : ℕ) (rows : Rows) (name : List ℕ) → has name rows ≡ true → with_name find line rows name ≡ rows
+unfolding with_name
+put_old find line rows name e = rw e refl
+
+-- none of the symbols is there
+AreNew : Rows → Symbols → Type 0
+AreNew rows symbols = AllByRecursion (λ s. has s.0 rows ≡ false) symbols
+
+one_more_new : (rows : Rows) (name : List ℕ) (symbol : Symbol) (symbols : Symbols) → AllByRecursion (λ k. is_same name k ≡ false) (keys_of symbols)
+    → AreNew rows symbols → AreNew (rows ++ (name, symbol) ∷ []) symbols
+unfolding AreNew
+one_more_new rows name symbol [] apart new = tt
+one_more_new rows name symbol (s ∷ symbols) apart new =
+    let last : has s.0 ((name, symbol) ∷ []) ≡ false = rw (is_name-laws.symm s.0 name ∙ apart.0) refl in
+    (has_both s.0 rows ((name, symbol) ∷ []) ∙ rw (new.0, last) refl, one_more_new rows name symbol symbols apart.1 new.1)
+
+append_none : (rows : Rows) → rows ≡ rows ++ []
+append_none [] = refl
+append_none (row ∷ rows) = ap (λ l. row ∷ l) (append_none rows)
+
+put_all : (find : List ℕ → Option Value) (line : ℕ) (rows : Rows) (symbols : Symbols) → AreNew rows symbols → IsDistinct is_same (keys_of symbols)
+    → AllByRecursion (λ s. find s.0 ≡ Some s.1) symbols → with_names find line rows (keys_of symbols) ≡ rows ++ lined line symbols
+unfolding AreNew
+put_all find line rows [] new apart found = append_none rows
+put_all find line rows (s ∷ symbols) new apart found =
+    let more : Rows = rows ++ (s.0, symbol_of line s.1) ∷ [] in
+    ap (λ l. with_names find line l (keys_of symbols)) (put_new find line rows s.0 s.1 new.0 found.0)
+    ∙ put_all find line more symbols (one_more_new rows s.0 (symbol_of line s.1) symbols (IsDistinct-head is_same s.0 (keys_of symbols) apart) new.1)
+    (IsDistinct-tail is_same s.0 (keys_of symbols) apart) found.1
+    ∙ append_assoc rows ((s.0, symbol_of line s.1) ∷ []) (lined line symbols)
+
+-- ---- what one statement defines
+-- the names of rows
+row_names : (rows : List (List ℕ × ℕ)) → names_among (map (λ row. row.0) rows) ≡ keys_of (row_symbols rows)
+row_names [] = refl
+row_names (row ∷ rows) = go (symbol_name row.0) (row_names rows)
+  where
+    go : (name : Option (List ℕ)) → names_among (map (λ r. r.0) rows) ≡ keys_of (row_symbols rows)
+        → cons_option name (names_among (map (λ r. r.0) rows)) ≡ keys_of (cons_option (option_map (λ n. (n, absolute (pos row.1))) name) (row_symbols rows))
+    go None h = h
+    go (Some n) h = ap (λ l. n ∷ l) h
+
+-- what is true of a list is true of what it is made of
+left_of : {X : Type 0} (P : X → Type 0) (one other : List X) → AllByRecursion P (one ++ other) → AllByRecursion P one
+left_of P [] other h = tt
+left_of P (x ∷ one) other h = (h.0, left_of P one other h.1)
+
+right_of : {X : Type 0} (P : X → Type 0) (one other : List X) → AllByRecursion P (one ++ other) → AllByRecursion P other
+right_of P [] other h = h
+right_of P (x ∷ one) other h = right_of P one other h.1
+
+distinct_right : (one other : Symbols) → IsDistinct is_same (keys_of (one ++ other)) → IsDistinct is_same (keys_of other)
+distinct_right [] other h = h
+distinct_right (s ∷ one) other h = distinct_right one other (IsDistinct-tail is_same s.0 (keys_of (one ++ other)) h)
+
+new_rows : (rows : Rows) (known : List ℕ → Option Value) (same : (name : List ℕ) → has name rows ≡ is_some (known name)) (symbols : Symbols)
+    → is_any_known known symbols ≡ false → AreNew rows symbols
+unfolding AreNew
+new_rows rows known same [] e = tt
+new_rows rows known same (s ∷ symbols) e =
+    let both = or_false (is_some (known s.0)) (is_any_known known symbols) e in
+    (same s.0 ∙ both.0, new_rows rows known same symbols both.1)
+
+-- a statement gives its name a value, or never gives one
+Gives : Role → Option Value → Type 0
+Gives Unknown value = is_some value ≡ true
+Gives Nothing value = value ≡ None
+Gives Registers value = Unit {0}
+Gives Member value = Unit {0}
+Gives (Instruction size) value = is_some value ≡ true
+Gives Control value = is_some value ≡ true
+Gives Dummy value = is_some value ≡ true
+Gives Equate value = is_some value ≡ true
+Gives (Storage is_ds) value = is_some value ≡ true
+Gives Pool value = is_some value ≡ true
+
+limited_gives : (given : Result Value FaultKind) → result_err (value_in_range given) ≡ None → is_some (unwrap_or (result_ok (value_in_range given)) None) ≡ true
+limited_gives (Err fault) e = cc
+limited_gives (Ok value) e = go (is_in_range value.number) e
+  where
+    go : (b : Bool) → result_err (if b then Ok (Some value) else Err ValueOutOfRange) ≡ None
+        → is_some (unwrap_or (result_ok (if b then Ok (Some value) else Err ValueOutOfRange)) None) ≡ true
+    go true e = refl
+    go false e = cc
+
+gives_value : (role : Role) (name : Option (List ℕ)) (find : List ℕ → Option Value) (section : Option (List ℕ)) (operand : List ℕ) (stmt : Stmt) (known : PassState)
+    → result_err (value_given role name find section operand (laid_in stmt known)) ≡ None
+    → Gives role (unwrap_or (result_ok (value_given role name find section operand (laid_in stmt known))) None)
+unfolding Gives
+gives_value Unknown name find section operand stmt known e = refl
+gives_value Nothing name find section operand stmt known e = refl
+gives_value Registers name find section operand stmt known e = tt
+gives_value Member name find section operand stmt known e = tt
+gives_value (Instruction size) name find section operand stmt known e = refl
+gives_value Control name find section operand stmt known e = refl
+gives_value Dummy name find section operand stmt known e = refl
+gives_value Equate name find section operand stmt known e = limited_gives (value_of find (location_counter section (laid_in stmt known).offset 1) operand) e
+gives_value (Storage is_ds) name find section operand stmt known e = refl
+gives_value Pool name find section operand stmt known e = refl
+
+fault_none : (line : ℕ) (fault : Option FaultKind) (first : Option LineFault) → first_fault_behind line fault first ≡ None → fault ≡ None
+fault_none line None first e = refl
+fault_none line (Some kind) None e = cc
+fault_none line (Some kind) (Some first) e = absurd (go (line == first.line) e)
+  where
+    go : (b : Bool) → (if b then option_map (line_fault first.line) (lower (Some first.kind) (Some kind)) else Some first) ≡ None → ⊥
+    go true e = cc
+    go false e = cc
+
+fifth : (a b c d e f : Option FaultKind) → lowest (a ∷ b ∷ c ∷ d ∷ e ∷ f ∷ []) ≡ None → e ≡ None
+fifth a b c d e f h =
+    let one = lower_none a (lower b (lower c (lower d (lower e (lower f None))))) h in
+    let two = lower_none b (lower c (lower d (lower e (lower f None)))) one.1 in
+    let three = lower_none c (lower d (lower e (lower f None))) two.1 in
+    let four = lower_none d (lower e (lower f None)) three.1 in
+    (lower_none e (lower f None) four.1).0
+
+value_sound : (line : ℕ) (stmt : Stmt) (known : PassState) → (next_state line stmt known).fault ≡ None → result_err (given_in stmt known) ≡ None
+unfolding next_state
+value_sound line stmt known e =
+    let none : fault_in stmt known ≡ None = fault_none line (fault_in stmt known) known.fault e in
+    let own = lower_none (own_fault stmt known) (literal_fault (role_in stmt) (length known.places) (parts_in stmt) known.pool) none in
+    fifth (operation_fault (role_in stmt)) (name_fault (role_in stmt) stmt.name)
+    (section_fault (role_in stmt) (name_in stmt) known.section known.control) (laid_in stmt known).fault (result_err (given_in stmt known))
+    (duplicate_in stmt known) own.0
+
+value_gives : (line : ℕ) (stmt : Stmt) (known : PassState) → (next_state line stmt known).fault ≡ None → Gives (role_in stmt) (unwrap_or (result_ok (given_in stmt known)) None)
+value_gives line stmt known e =
+    gives_value (role_in stmt) (name_in stmt) known.symbols known.section stmt.operand stmt known (value_sound line stmt known e)
+
+-- ---- sections that are resumed
+KnowsControl : Option (List ℕ) → (List ℕ → Option Value) → Type 0
+KnowsControl control find = (name : List ℕ) → control ≡ Some name → is_some (find name) ≡ true
+
+stands_known : (name : List ℕ) (control : Option (List ℕ)) (find : List ℕ → Option Value) → KnowsControl control find → stands_in name control ≡ true → is_some (find name) ≡ true
+unfolding KnowsControl
+stands_known name None find h e = cc
+stands_known name (Some section) find h e = ap (λ n. is_some (find n)) ((is_name-decides name section).0 e) ∙ h section refl
+
+found_true : (found : Option Value) (test : Value → Bool) (b : Bool) → (option_map_or test found false && b) ≡ true → is_some found ≡ true
+found_true None test b e = cc
+found_true (Some value) test b e = refl
+
+resumed_known : (role : Role) (name : List ℕ) (control : Option (List ℕ)) (find : List ℕ → Option Value) → KnowsControl control find
+    → resumes role name control find ≡ true → is_some (find name) ≡ true
+resumed_known Control name control find h e = stands_known name control find h e
+resumed_known Dummy name control find h e = found_true (find name) (λ v. stands_in name v.section) (not (stands_in name control)) e
+resumed_known Unknown name control find h e = cc
+resumed_known (Instruction size) name control find h e = cc
+resumed_known Equate name control find h e = cc
+resumed_known (Storage is_ds) name control find h e = cc
+resumed_known Pool name control find h e = cc
+resumed_known Registers name control find h e = cc
+resumed_known Member name control find h e = cc
+resumed_known Nothing name control find h e = cc
+
+or_one : (a b : Option Value) → is_some a ≡ true → is_some (option_or a b) ≡ true
+or_one None b e = cc
+or_one (Some value) b e = refl
+
+or_other : (a b : Option Value) → is_some b ≡ true → is_some (option_or a b) ≡ true
+or_other None b e = e
+or_other (Some value) b e = refl
+
+begun_known : (name : Option (List ℕ)) (find : List ℕ → Option Value) (value : Option Value) (n : List ℕ) → is_some value ≡ true → name ≡ Some n
+    → is_some (option_or (find n) (find_in (symbol_entry Control name None find value) n)) ≡ true
+begun_known None find value n given e = cc
+begun_known (Some name) find None n given e = cc
+begun_known (Some name) find (Some value) n given e =
+    let same : name ≡ n = cc in
+    let there : is_some (find_in ((name, value) ∷ []) n) ≡ true = rw (same, is_name-laws.refl n) refl in
+    or_other (find n) (find_in ((name, value) ∷ []) n) there
+
+control_step : (role : Role) (name control : Option (List ℕ)) (find : List ℕ → Option Value) (operand : List ℕ) (value : Option Value) → Gives role value
+    → KnowsControl control find
+    → KnowsControl (control_after role name control) (λ n. option_or (find n) (find_in (definitions role name control find operand value) n))
+unfolding Gives KnowsControl
+control_step Control name None find operand value given h = λ n e. begun_known name find value n given e
+control_step Control name (Some section) find operand value given h = λ n e. or_one (find n) _ (h n e)
+control_step Dummy name control find operand value given h = λ n e. or_one (find n) _ (h n e)
+control_step Unknown name control find operand value given h = λ n e. or_one (find n) _ (h n e)
+control_step (Instruction size) name control find operand value given h = λ n e. or_one (find n) _ (h n e)
+control_step Equate name control find operand value given h = λ n e. or_one (find n) _ (h n e)
+control_step (Storage is_ds) name control find operand value given h = λ n e. or_one (find n) _ (h n e)
+control_step Pool name control find operand value given h = λ n e. or_one (find n) _ (h n e)
+control_step Registers name control find operand value given h = λ n e. or_one (find n) _ (h n e)
+control_step Member name control find operand value given h = λ n e. or_one (find n) _ (h n e)
+control_step Nothing name control find operand value given h = λ n e. or_one (find n) _ (h n e)
+
+control_line : (line : ℕ) (stmt : Option Stmt) (known : PassState) → (after_line line stmt known).fault ≡ None → (known.fault ≡ None → KnowsControl known.control known.symbols)
+    → KnowsControl (after_line line stmt known).control (after_line line stmt known).symbols
+unfolding next_state
+control_line line None known e h = h e
+control_line line (Some stmt) known e h =
+    control_step (role_in stmt) (name_in stmt) known.control known.symbols stmt.operand _ (value_gives line stmt known e) (h (none_before line stmt known e))
+
+knows_control : (items : List Item) → (state_after items).fault ≡ None → KnowsControl (state_after items).control (state_after items).symbols
+unfolding KnowsControl
+knows_control [] e = λ n e. cc
+knows_control (item ∷ before) e = control_line item.line item.stmt (state_after before) e (knows_control before)
+
+-- ---- one statement
+nothing_put : (line : ℕ) (rows : Rows) (role : Role) (name control : Option (List ℕ)) (find : List ℕ → Option Value) (value : Option Value) → value ≡ None
+    → rows ≡ rows ++ lined line (symbol_entry role name control find value)
+nothing_put line rows role None control find None e = append_none rows
+nothing_put line rows role (Some name) control find None e = append_none rows
+nothing_put line rows role name control find (Some value) e = cc
+
+module _ (find : List ℕ → Option Value) (line : ℕ) (rows : Rows) (known : List ℕ → Option Value) (same : (name : List ℕ) → has name rows ≡ is_some (known name)) where
+  abbrev Found : Symbols → Type 0
+  Found symbols = AllByRecursion (λ s. find s.0 ≡ Some s.1) symbols
+
+  rows_put : (all : List (List ℕ × ℕ)) → is_any_known known (row_symbols all) ≡ false → IsDistinct is_same (keys_of (row_symbols all)) → Found (row_symbols all)
+      → with_names find line rows (names_among (map (λ row. row.0) all)) ≡ rows ++ lined line (row_symbols all)
+  rows_put all new apart found =
+      ap (λ names. with_names find line rows names) (row_names all)
+      ∙ put_all find line rows (row_symbols all) (new_rows rows known same (row_symbols all) new) apart found
+
+  one_put : (b : Bool) (name : List ℕ) (value : Value) → (b ≡ true → is_some (known name) ≡ true)
+      → is_any_known known (if b then [] else (name, value) ∷ []) ≡ false → Found (if b then [] else (name, value) ∷ [])
+      → with_names find line rows (name ∷ []) ≡ rows ++ lined line (if b then [] else (name, value) ∷ [])
+  one_put true name value h new found = put_old find line rows name (same name ∙ h refl) ∙ append_none rows
+  one_put false name value h new found = put_new find line rows name value (same name ∙ (or_false (is_some (known name)) false new).0) found.0
+
+  named_put : (role : Role) (name control : Option (List ℕ)) (value : Option Value) → KnowsControl control known → is_some value ≡ true
+      → is_any_known known (symbol_entry role name control known value) ≡ false → Found (symbol_entry role name control known value)
+      → with_names find line rows (cons_option name []) ≡ rows ++ lined line (symbol_entry role name control known value)
+  named_put role name control None h given new found = cc
+  named_put role None control (Some value) h given new found = append_none rows
+  named_put role (Some name) control (Some value) h given new found =
+      one_put (resumes role name control known) name value (resumed_known role name control known h) new found
+
+  member_put : (b : Bool) → is_any_known known (if b then row_symbols aid_rows else []) ≡ false
+      → IsDistinct is_same (keys_of (if b then row_symbols aid_rows else [])) → Found (if b then row_symbols aid_rows else [])
+      → with_names find line rows (if b then names_among (map (λ row. row.0) aid_rows) else []) ≡ rows ++ lined line (if b then row_symbols aid_rows else [])
+  member_put true new apart found = rows_put aid_rows new apart found
+  member_put false new apart found = append_none rows
+
+  role_put : (role : Role) (name control : Option (List ℕ)) (operand : List ℕ) (value : Option Value) → KnowsControl control known → Gives role value
+      → is_any_known known (definitions role name control known operand value) ≡ false
+      → IsDistinct is_same (keys_of (definitions role name control known operand value)) → Found (definitions role name control known operand value)
+      → with_names find line rows (names_given role name operand) ≡ rows ++ lined line (definitions role name control known operand value)
+  unfolding Gives
+  role_put Registers name control operand value h given new apart found = rows_put register_rows new apart found
+  role_put Member name control operand value h given new apart found = member_put (bytes_eq operand (codes "DFHAID")) new apart found
+  role_put Unknown name control operand value h given new apart found = named_put Unknown name control value h given new found
+  role_put Nothing name control operand value h given new apart found = nothing_put line rows Nothing name control known value given
+  role_put (Instruction size) name control operand value h given new apart found = named_put (Instruction size) name control value h given new found
+  role_put Control name control operand value h given new apart found = named_put Control name control value h given new found
+  role_put Dummy name control operand value h given new apart found = named_put Dummy name control value h given new found
+  role_put Equate name control operand value h given new apart found = named_put Equate name control value h given new found
+  role_put (Storage is_ds) name control operand value h given new apart found = named_put (Storage is_ds) name control value h given new found
+  role_put Pool name control operand value h given new apart found = named_put Pool name control value h given new found
+
+no_duplicate : (test : Bool) → (if test then Some DuplicateSymbol else None) ≡ None → test ≡ false
+no_duplicate true e = let f : Some DuplicateSymbol ≡ None = e in cc
+no_duplicate false e = refl
+
+-- ---- all statements
+line_put : (find : List ℕ → Option Value) (line : ℕ) (stmt : Option Stmt) (before : List Item) → (after_line line stmt (state_after before)).fault ≡ None
+    → IsDistinct is_same (keys_of (definitions_at stmt (state_after before))) → AllByRecursion (λ s. find s.0 ≡ Some s.1) (definitions_at stmt (state_after before))
+    → with_stmt find line stmt (rows_behind before) ≡ rows_behind before ++ lined line (definitions_at stmt (state_after before))
+line_put find line None before e apart found = append_none (rows_behind before)
+line_put find line (Some stmt) before e apart found =
+    let known = state_after before in
+    role_put find line (rows_behind before) known.symbols (λ name. has_known name before) (role_in stmt) (name_in stmt) known.control stmt.operand _
+    (knows_control before (none_before line stmt known e)) (value_gives line stmt known e)
+    (no_duplicate (is_any_known known.symbols (definitions_in stmt known None)) (sound_statement line stmt known e).definitions) apart found
+
+before_line : (line : ℕ) (stmt : Option Stmt) (known : PassState) → (after_line line stmt known).fault ≡ None → known.fault ≡ None
+before_line line None known e = e
+before_line line (Some stmt) known e = none_before line stmt known e
+
+table_is : (find : List ℕ → Option Value) (items : List Item) → (state_after items).fault ≡ None → AllByRecursion (λ s. find s.0 ≡ Some s.1) (definitions_behind items)
+    → table_behind find items ≡ rows_behind items
+table_is find [] e found = refl
+table_is find (item ∷ before) e found =
+    let known = state_after before in
+    let defined : Symbols = definitions_at item.stmt known in
+    ap (λ rows. with_stmt find item.line item.stmt rows)
+    (table_is find before (before_line item.line item.stmt known e) (left_of (λ s. find s.0 ≡ Some s.1) (definitions_behind before) defined found))
+    ∙ line_put find item.line item.stmt before e
+    (distinct_right (definitions_behind before) defined (defined_once_behind (item ∷ before) e))
+    (right_of (λ s. find s.0 ≡ Some s.1) (definitions_behind before) defined found)
+    ∙ sym (ap (λ rows. rows_behind before ++ rows) (rows_are_lined item.line item.stmt known))
+
+-- each symbol of a list without repeats is found in it
+behind_other : (s : List ℕ × Value) (all some : Symbols) → AllByRecursion (λ k. is_same s.0 k ≡ false) (keys_of some)
+    → AllByRecursion (λ o. find_in all o.0 ≡ Some o.1) some → AllByRecursion (λ o. find_in (s ∷ all) o.0 ≡ Some o.1) some
+behind_other s all [] apart found = tt
+behind_other s all (o ∷ some) apart found =
+    (rw (is_name-laws.symm o.0 s.0 ∙ apart.0) found.0, behind_other s all some apart.1 found.1)
+
+all_found : (symbols : Symbols) → IsDistinct is_same (keys_of symbols) → AllByRecursion (λ s. find_in symbols s.0 ≡ Some s.1) symbols
+all_found [] h = tt
+all_found (s ∷ symbols) h = (
+  rw (is_name-laws.refl s.0) refl,
+  behind_other s symbols symbols (IsDistinct-head is_same s.0 (keys_of symbols) h) (all_found symbols (IsDistinct-tail is_same s.0 (keys_of symbols) h)),
+)
+
+found_by : (find other : List ℕ → Option Value) → ((name : List ℕ) → find name ≡ other name) → (symbols : Symbols)
+    → AllByRecursion (λ s. other s.0 ≡ Some s.1) symbols → AllByRecursion (λ s. find s.0 ≡ Some s.1) symbols
+found_by find other same [] h = tt
+found_by find other same (s ∷ symbols) h = (same s.0 ∙ h.0, found_by find other same symbols h.1)
+
+rows_are : (find : List ℕ → Option Value) (items : List Item) → (state_after items).fault ≡ None
+    → ((name : List ℕ) → find name ≡ (state_after items).symbols name) → table_behind find items ≡ rows_behind items
+rows_are find items e same =
+    table_is find items e
+    (found_by find (find_in (definitions_behind items)) (λ name. same name ∙ first_value items name) (definitions_behind items)
+    (all_found (definitions_behind items) (defined_once_behind items e)))
+
+pub control_told : (control : Option (List ℕ)) (length : ℕ) → option_map (λ (c : ControlSection). c.name) (option_map (λ name. record { name = name; length = length }) control) ≡ control
+control_told None length = refl
+control_told (Some name) length = refl
+
+-- the names of a source without a fault
+pub named_is : (source : Source) (places : Places) (control : Option (List ℕ)) (rows : Rows) → (known_of source).fault ≡ None → IsPlaced (known_of source) places
+    → control ≡ option_map (λ (c : ControlSection). c.name) places.control → rows ≡ table_behind (find_in places.symbols) (reverse source.items)
+    → Some (record { control = control; rows = rows }) ≡ named_of source
+named_is source places control rows e placed c r =
+    let known = known_of source in
+    let same_control : control ≡ known.control =
+    c ∙ ap (λ (o : Option ControlSection). option_map (λ (c : ControlSection). c.name) o) placed.control ∙ control_told known.control (last_pool_extent known).end in
+    let same_rows : rows ≡ rows_behind (reverse source.items) = r ∙ rows_are (find_in places.symbols) (reverse source.items) e placed.symbols in
+    rw (e, same_control, same_rows) refl

@@ -1,0 +1,47 @@
+-- The symbols of a source's lines (GC33-4010, "Symbols").
+use Rattle.std.specs.Prelude.{ℕ, Option, Some, None, option_and_then, if◌then◌else◌, is_none, List, [], ◌∷◌, ◌++◌, map, reverse}
+use Rattle.std.specs.Result.{result_ok}
+use Rattle.cx_source.specs.Faults.{source_in}
+use Rattle.cx_source.specs.declared.source.Item.{Item}
+use Rattle.cx_source.specs.declared.source.Source.{Source}
+use Rattle.cx_source.specs.declared.source.Stmt.{Stmt}
+use Rattle.cx_translate.specs.Translation.{translation_of}
+use Rattle.cx_asm_expressions.specs.declared.values.Value.{Value}
+use Rattle.cx_asm_pass1.specs.PassState.{PassState, definitions_in, state_after}
+use Rattle.cx_asm_pass1.specs.Placed.{known_of}
+use Rattle.cx_look_symbols.specs.declared.rows.Symbol.{Symbol}
+
+abbrev pub Rows : Type 0
+Rows = List (List ℕ × Symbol)
+
+abbrev pub symbol_of : ℕ → Value → Symbol
+symbol_of line value = record { value = value; line = line }
+
+-- the symbols that a line's statement defines
+abbrev pub rows_on : ℕ → Option Stmt → PassState → Rows
+rows_on line None known = []
+rows_on line (Some stmt) known = map (λ symbol. (symbol.0, symbol_of line symbol.1)) (definitions_in stmt known None)
+
+-- those of lines in the source's order; the lines the latest first
+abbrev pub rows_behind : List Item → Rows
+rows_behind [] = []
+rows_behind (item ∷ before) = rows_behind before ++ rows_on item.line item.stmt (state_after before)
+
+-- the control section of a source, and its symbols
+pub record SourceSymbols : Type 0 where
+  pub control : Option (List ℕ)
+  pub rows : Rows
+
+-- where the first pass finds no fault
+abbrev pub named_of : Source → Option SourceSymbols
+named_of source =
+    if is_none (known_of source).fault then Some (record { control = (known_of source).control; rows = rows_behind (reverse source.items) })
+    else None
+
+-- the source that lines make, translated; None where it has a fault
+abbrev pub translated_in : List (List ℕ) → Option Source
+translated_in lines = option_and_then (λ source. result_ok (translation_of source)) (result_ok (source_in lines))
+
+-- the names of lines; None where these aren't a source without a fault
+unfoldable pub named_in : List (List ℕ) → Option SourceSymbols
+named_in lines = option_and_then named_of (translated_in lines)

@@ -1,0 +1,65 @@
+//! All symbols of a source, in the order of their names.
+ghost use Rattle.std.specs.Prelude.{◌≡◌, ◌++◌, IfOk, OnOk};
+ghost use Rattle.std.specs.List.{flat_map};
+ghost use Rattle.cx_look_symbols.specs.Symbols.{named_in};
+ghost use Rattle.cx_look_symbols.specs.Texts.{in_order, symbol_line, symbols_among};
+
+use crate::rows::Symbol;
+use crate::symbols::names_in;
+use crate::texts::symbol_line;
+use cx_ebcdic::Name8;
+use cx_load::Loaded;
+use cx_source::Text;
+use indexmap::IndexMap;
+use std::alloc::{AllocError, Global};
+use std::collections::BTreeMap;
+
+/// The symbols in the order of their names, letters before digits.
+///
+/// An error comes only where memory for them was refused.
+pub fn in_order(
+    alloc: Global,
+    symbols: &IndexMap<Name8, Symbol>,
+) -> Result<BTreeMap<Name8, Symbol>, AllocError>
+    ensures { IfOk result (λ sorted. sorted.entries ≡ in_order symbols.now.entries) }
+{
+    let mut sorted = BTreeMap::new(alloc);
+    for (name, symbol) in symbols.iter() {
+        sorted.insert(*name, *symbol)?;
+    }
+    Ok(sorted)
+}
+
+/// Adds the lines of symbols.
+fn push_symbols(
+    alloc: Global,
+    text: &mut Vec<u8>,
+    control: Option<Name8>,
+    program: Option<Loaded>,
+    symbols: &BTreeMap<Name8, Symbol>,
+) -> Result<(), AllocError>
+    ensures { let more = flat_map (symbol_line control program) symbols.now.entries in
+        OnOk result (text.new.items ≡ text.old.items ++ more) }
+{
+    for (name, symbol) in symbols.iter() {
+        text.extend_from_slice(&symbol_line(alloc, control, program, *name, symbol)?)?;
+    }
+    Ok(())
+}
+
+/// The lines of all symbols of lines.
+pub(crate) fn symbols_among(
+    alloc: Global,
+    program: Option<Loaded>,
+    lines: &[Text],
+) -> Result<Vec<u8>, AllocError>
+    ensures { IfOk result (λ text. text.items ≡ symbols_among program (named_in lines.now)) }
+{
+    let mut text = Vec::new(alloc);
+    let Some(names) = names_in(alloc, lines)? else {
+        return Ok(text);
+    };
+    let symbols = in_order(alloc, &names.symbols)?;
+    push_symbols(alloc, &mut text, names.control, program, &symbols)?;
+    Ok(text)
+}

@@ -1,0 +1,127 @@
+//! The statements of a source that have bytes.
+ghost use Rattle.std.specs.Prelude.{◌≡◌, ◌++◌, [], IfOk, OnOk, None};
+ghost use Rattle.std.specs.List.{cons_option, filter_map};
+ghost use Rattle.cx_asm_pass2.specs.Statements.{statements_of};
+ghost use Rattle.cx_asm_pass2.specs.Whole.{told_by};
+ghost use Rattle.cx_asm_pass1.specs.Placed.{IsPlaced, known_of};
+ghost use Rattle.cx_look_symbols.specs.Statements.{place_of, places_in, statement_places};
+
+use crate::reading::translated_in;
+use crate::texts::is_control;
+use cx_asm::object_length;
+use cx_asm_pass1::{Places, place_all};
+use cx_asm_pass2::{Statement, control_name, placed_lines, stated};
+use cx_asm_pools::capped;
+use cx_base_lists::List;
+use cx_ebcdic::Name8;
+use cx_source::{Source, Text};
+use std::alloc::{AllocError, Global};
+
+/// Where a statement's bytes are in the control section, and the line that it is on.
+#[derive(Clone, Copy, Debug, PartialEq, Eq)]
+pub struct StatementPlace {
+    /// The offset of its first byte.
+    pub start: u128,
+    /// The offset after its last byte.
+    pub end: u128,
+    /// The number of its line, from 1; of a statement that a translation made the number of its EXEC's.
+    pub line: usize,
+}
+
+/// Where a statement's bytes are; None where it has none in the control section.
+fn place_of(
+    alloc: Global,
+    control: Option<Name8>,
+    statement: &Statement<'_>,
+) -> Result<Option<StatementPlace>, AllocError>
+    ensures { IfOk result (λ place. place ≡ place_of control statement.now) }
+{
+    let place = statement.place();
+    if !is_control(place.section, control) {
+        return Ok(None);
+    }
+    let length = object_length(alloc, statement, statement.role())?;
+    if length == 0 {
+        return Ok(None);
+    }
+    let start = capped(place.offset);
+    Ok(Some(StatementPlace {
+        start,
+        end: start + capped(length),
+        line: statement.line(),
+    }))
+}
+
+/// Adds where a statement's bytes are, if it has any in the control section.
+fn push_place(
+    alloc: Global,
+    found: &mut Vec<StatementPlace>,
+    places: &Places<'_>,
+    statement: &Statement<'_>,
+) -> Result<(), AllocError>
+    ensures { let more = cons_option (place_of (told_by places.now).control statement.now) [] in
+        OnOk result (found.new.items ≡ found.old.items ++ more) }
+{
+    let Some(place) = place_of(alloc, control_name(places), statement)? else {
+        return Ok(());
+    };
+    found.push(place)?;
+    Ok(())
+}
+
+/// Where the bytes of statements are.
+#[tactic(auto, using(crate::proofs::StatementLemmas::added_before))]
+fn places_among(
+    alloc: Global,
+    places: &Places<'_>,
+    statements: &[Statement<'_>],
+) -> Result<List<StatementPlace>, AllocError>
+    ensures { IfOk result (λ found. found ≡ filter_map (place_of (told_by places.now).control) statements.now) }
+{
+    let mut found = Vec::new(alloc);
+    for statement in statements {
+        push_place(alloc, &mut found, places, statement)?;
+    }
+    Ok(List::from_vec(found))
+}
+
+/// Where the bytes of a source's statements are, if its first pass has no fault.
+#[tactic(auto, using(crate::proofs::StatementLemmas::control_is))]
+fn places_with(
+    alloc: Global,
+    source: &Source,
+    places: &Places<'_>,
+) -> Result<List<StatementPlace>, AllocError>
+    requires fault { (known_of source.now).fault ≡ None }
+    requires placed { IsPlaced (known_of source.now) places.now }
+    ensures { IfOk result (λ found. found ≡ places_in source.now) }
+{
+    let placed = placed_lines(alloc, source, places.statements.as_slice())?;
+    let statements = stated(alloc, placed.as_slice())?;
+    places_among(alloc, places, statements.as_slice())
+}
+
+/// Where the bytes of a source's statements are.
+fn places_in(alloc: Global, source: &Source) -> Result<List<StatementPlace>, AllocError>
+    ensures { IfOk result (λ found. found ≡ places_in source.now) }
+{
+    match place_all(alloc, source)? {
+        Ok(places) => places_with(alloc, source, &places),
+        Err(_) => Ok(List::from_vec(Vec::new(alloc))),
+    }
+}
+
+/// Where the bytes of a program's statements are, by the lines of its source: of each instruction and DC of the
+/// control section that has bytes, in their order; none where the lines are no source without a fault up to the
+/// assembler's first pass.
+///
+/// An error comes only where memory was refused.
+#[tactic(auto, unfolding(crate::specs::Statements::statement_places))]
+pub fn statement_places(alloc: Global, lines: &[Text]) -> Result<List<StatementPlace>, AllocError>
+    ensures { IfOk result (λ places. places ≡ statement_places lines.now) }
+{
+    match translated_in(alloc, lines)? {
+        Some(source) => places_in(alloc, &source),
+        None => Ok(List::from_vec(Vec::new(alloc))),
+    }
+}

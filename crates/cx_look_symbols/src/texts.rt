@@ -1,0 +1,111 @@
+//! What is written of symbols.
+ghost use Rattle.std.specs.Prelude.{◌≡◌, ◌++◌, IfOk, option_and_then};
+ghost use Rattle.std.specs.Fmt.{decimal};
+ghost use Rattle.cx_asm_pass1.specs.PassState.{is_control};
+ghost use Rattle.cx_look_symbols.specs.Texts.{address_in, section_word, symbol_line, value_word};
+
+use crate::rows::Symbol;
+use cx_asm_expressions::Value;
+use cx_base_text::hexadecimal;
+use cx_ebcdic::Name8;
+use cx_load::Loaded;
+use cx_look_words::{decimal, look_line, written_name};
+use std::alloc::{AllocError, Global};
+
+/// A value in hexadecimal digits.
+fn value_word(alloc: Global, number: i128) -> Result<Vec<u8>, AllocError>
+    ensures { IfOk result (λ text. text.items ≡ value_word number) }
+{
+    if number >= 0 && number < 0x100_0000 {
+        return hexadecimal::<6>(number as u32).to_vec(alloc);
+    }
+    if number < -2_147_483_648 || number > 4_294_967_295 {
+        return b"--".to_vec(alloc);
+    }
+    hexadecimal::<8>(number.rem_euclid(0x1_0000_0000) as u32).to_vec(alloc)
+}
+
+/// The section of a value.
+fn section_word(alloc: Global, section: Option<Name8>) -> Result<Vec<u8>, AllocError>
+    ensures { IfOk result (λ text. text.items ≡ section_word section) }
+{
+    let Some(name) = section else {
+        return b"ABSOLUTE".to_vec(alloc);
+    };
+    let name = written_name(alloc, &name.bytes())?;
+    let mut text = b"SECTION ".to_vec(alloc)?;
+    text.extend_from_slice(&name)?;
+    Ok(text)
+}
+
+/// A length attribute in decimal digits.
+fn length_word(alloc: Global, length: u128) -> Result<Vec<u8>, AllocError>
+    ensures { IfOk result (λ text. text.items ≡ decimal length) }
+{
+    Ok(length.to_string(alloc)?.into_bytes())
+}
+
+/// Whether a section is the control section.
+pub(crate) fn is_control(section: Option<Name8>, control: Option<Name8>) -> bool
+    ensures { result ≡ is_control section control }
+{
+    match (section, control) {
+        (Some(section), Some(control)) => section == control,
+        _ => false,
+    }
+}
+
+/// Where a value is in a loaded program.
+fn address_in(control: Option<Name8>, value: &Value, loaded: &Loaded) -> Option<u32>
+    ensures { result ≡ address_in control value.now loaded.now }
+{
+    if !is_control(value.section, control) {
+        return None;
+    }
+    if value.number < 0 || value.number > i128::from(loaded.len) {
+        return None;
+    }
+    Some(((u64::from(loaded.at) + value.number as u64) % 0x100_0000) as u32)
+}
+
+/// Where a value is in a program, if that is loaded.
+fn address_of(control: Option<Name8>, program: Option<Loaded>, value: &Value) -> Option<u32>
+    ensures { result ≡ option_and_then (address_in control value.now) program }
+{
+    let loaded = program?;
+    address_in(control, value, &loaded)
+}
+
+/// The line of a symbol.
+pub(crate) fn symbol_line(
+    alloc: Global,
+    control: Option<Name8>,
+    program: Option<Loaded>,
+    name: Name8,
+    symbol: &Symbol,
+) -> Result<Vec<u8>, AllocError>
+    ensures { IfOk result (λ text. text.items ≡ symbol_line control program (name, symbol.now)) }
+{
+    let address = address_of(control, program, &symbol.value);
+    let name = written_name(alloc, &name.bytes())?;
+    let value = value_word(alloc, symbol.value.number)?;
+    let section = section_word(alloc, symbol.value.section)?;
+    let length = length_word(alloc, symbol.value.length)?;
+    let line = decimal(alloc, symbol.line)?;
+    let Some(address) = address else {
+        return look_line(
+            alloc,
+            &[
+                b"SYMBOL", &name, b"VALUE", &value, &section, b"LENGTH", &length, b"LINE", &line,
+            ],
+        );
+    };
+    let address = hexadecimal::<6>(address);
+    look_line(
+        alloc,
+        &[
+            b"SYMBOL", &name, b"VALUE", &value, &section, b"LENGTH", &length, b"LINE", &line,
+            b"AT", &address,
+        ],
+    )
+}

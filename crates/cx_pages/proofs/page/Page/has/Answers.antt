@@ -1,6 +1,0 @@
-use Rattle.cx_pages.specs.Pages.{found}
-use Rattle.cx_pages.proofs.page.Page.has.Goals as goal
-
-pub returns-in-Some-clause-gap : goal.returns-in-Some-clause-gap
-unfolding found
-returns-in-Some-clause-gap c = λ all. c.has.ensures.gap (λ k low high. let here = rw c.in-Some.is at (all k low high) in rw c.deref.ensures here)

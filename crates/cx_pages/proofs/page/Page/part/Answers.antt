@@ -1,6 +1,0 @@
-use Rattle.cx_pages.specs.Pages.{found}
-use Rattle.cx_pages.proofs.page.Page.part.Goals as goal
-
-pub returns-in-Some-clause-gap : goal.returns-in-Some-clause-gap
-unfolding found
-returns-in-Some-clause-gap c = λ some fits all. c.part.ensures.gap fits (λ k low high. let here = rw c.in-Some.is at (all k low high) in rw c.deref.ensures here)

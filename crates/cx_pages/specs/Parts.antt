@@ -1,7 +1,0 @@
--- The vocabulary of private functions.
-pub mod Runs
-pub mod Reach
-pub mod Frame
-pub mod Page
-pub mod Directory
-pub mod Shown

@@ -1,7 +1,0 @@
--- Boundaries.
-use Rattle.std.proofs.Common.{ℕ, ◌+◌, ◌-◌, ◌≤◌, arith}
-use Rattle.std.proofs.Math.Nat.{div-mul-le_self}
-use Rattle.cx_places.specs.Layout.{aligned}
-
-pub aligned_bound : (boundary at : ℕ) → 1 ≤ boundary → boundary ≤ 8 → aligned boundary at ≤ at + 8
-aligned_bound boundary at lo hi = omega (arith, div-mul-le_self (at + (boundary - 1)) boundary)

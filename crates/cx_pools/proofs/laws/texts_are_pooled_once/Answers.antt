@@ -1,5 +1,0 @@
-use Rattle.cx_pools.specs.Facts.Literals.{pool_more}
-use Rattle.cx_pools.proofs.laws.texts_are_pooled_once.Goals as goal
-
-pub returns-clause-more : goal.returns-clause-more
-returns-clause-more c = pool_more

@@ -1,6 +1,0 @@
-use Rattle.std.proofs.Common.{◌≡◌, ◌++◌, drop, flat_map}
-use Rattle.cx_prepare.specs.Prepared.{ended}
-use Rattle.cx_prepare.proofs.program.push_lines.Given as goal
-
-abbrev pub invariant-loop-line : goal.invariant-loop-line
-invariant-loop-line l = l.text.items ++ flat_map ended (drop l.line-index l.lines) ≡ l.fn.text.items ++ flat_map ended l.lines

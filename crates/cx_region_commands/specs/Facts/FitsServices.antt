@@ -1,0 +1,277 @@
+-- What the commands of storage, queues and resources are judged to do can be done.
+use Rattle.std.proofs.Common.{◌≡◌, ℕ, ◌+◌, ◌<◌, ◌≤◌, ◌^◌, ◌==◌, Bool, true, false, List, [], ◌∷◌, Option, Some, None, refl, sym, ap, ◌∙◌, arith, inl, inr, nat_le, unwrap_or, is_none}
+use Rattle.std.specs.Prelude.{◌&&◌, if◌then◌else◌}
+use Rattle.std.specs.Option.{option_map_or}
+use Rattle.std.specs.List.{AllByRecursion}
+use Rattle.std.proofs.lemmas.Bool.{and_parts, cases_Bool, eqb-true, leb-true}
+use Rattle.cx_base_commands.specs.declared.commands.Command.TheVariants as command
+use Rattle.cx_base_commands.specs.declared.options.OptionName.TheVariants as option
+use Rattle.cx_base_commands.specs.declared.conditions.Condition.TheVariants.{Normal, Invreq, Lengerr, Qiderr}
+use Rattle.cx_region_state.specs.declared.verdict.TaskChange.TheVariants.{Ends, Makes}
+use Rattle.cx_region_state.specs.declared.verdict.Made.TheVariants.{ItemAt, ItemLast}
+use Rattle.cx_region_state.specs.declared.verdict.Verdict.TheVariants.{Meets}
+use Rattle.cx_region_call.specs.declared.outputs.OutputValue.TheVariants.{Half}
+use Rattle.cx_region_state.specs.declared.verdict.Ended.TheVariants.{Dequeues, Frees}
+use Rattle.cx_storage.specs.declared.areas.Area.{Area}
+use Rattle.cx_storage.specs.declared.areas.Kind.{Kind}
+use Rattle.cx_storage.specs.declared.areas.Kind.TheVariants.{Got, Fixed, System}
+use Rattle.cx_storage.specs.Storage.{Storage, area_at, area_from}
+use Rattle.cx_service.specs.declared.faults.ServiceFault.{ServiceFault}
+use Rattle.cx_service.specs.declared.faults.ServiceFault.TheVariants as fault
+use Rattle.cx_service.specs.declared.resources.Hold.{Hold}
+use Rattle.cx_service.specs.declared.resources.ResourceName.{ResourceName}
+use Rattle.cx_service.specs.Queues.{AreSoundQueues, Queues, count_of, delete_fault, item_len_of, read_fault, rewrite_fault, write_fault}
+use Rattle.cx_service.specs.Resources.{Resources, enq_fault, hold_fault, hold_of}
+use Rattle.cx_region_call.specs.Call.{Call, place_of}
+use Rattle.cx_region_call.specs.Inputs.{are_inputs_there, bytes_of, is_length_negative, length_option, piece_of}
+use Rattle.cx_region_call.specs.Facts.Inputs.{IsMeasuredInput, from_of_writeq_ts, place_below}
+use Rattle.cx_region_call.specs.declared.inputs.StorageSpan.{StorageSpan}
+use Rattle.cx_region_state.specs.Areas.{IsTaskPlace, got_owner}
+use Rattle.cx_region_state.specs.State.{TaskContext}
+use Rattle.cx_region_state.specs.Parts.Fits.{Fits}
+use Rattle.cx_region_state.specs.declared.verdict.Verdict.{Verdict}
+use Rattle.cx_region_commands.specs.Address.{address_row}
+use Rattle.cx_region_commands.specs.Common.{does, has, condition_alone, output}
+use Rattle.cx_region_commands.specs.DeleteqTs.{deleteq_row, deletes}
+use Rattle.cx_region_commands.specs.Deq.{deq_row}
+use Rattle.cx_region_commands.specs.Enq.{enq_row, enqueues, is_wrong_length, resource_named}
+use Rattle.cx_region_commands.specs.Freemain.{freemain_row, frees, is_got, is_got_by}
+use Rattle.cx_region_commands.specs.Getmain.{GetmainRow, asked_len, fill_byte, gets, is_area_length}
+use Rattle.cx_region_commands.specs.ReadqTs.{Reads, ReadsItem, ReadsQueue, ReadqRow, item_asked, reading_of, reads_into, reads_to}
+use Rattle.cx_region_commands.specs.Services.{fault_or_verdict}
+use Rattle.cx_region_commands.specs.WriteqTs.{item_named, writeq_row, written_to}
+use Rattle.cx_region_commands.specs.Facts.Queues.{few_bytes, some_bytes}
+use Rattle.cx_region_commands.specs.Facts.FitsParts.{by_option, by_test, enqbusy_fits, invreq_fits, itemerr_fits, lengerr_fits, normal_fits, nospace_fits, nostg_fits, piece_there, qiderr_fits}
+
+-- ---- the conditions of services
+
+-- a condition fits, and so does what is done without one; Memory is none of these conditions
+unless_fits : (o : Option ServiceFault) (r : TaskContext) (v : Verdict) → (o ≡ Some fault.Memory → ⊥) → (o ≡ None → Fits v r) → Fits (fault_or_verdict o v) r
+unless_fits None r v never fits = fits refl
+unless_fits (Some fault.Lengerr) r v never fits = (lengerr_fits, tt)
+unless_fits (Some fault.Itemerr) r v never fits = (itemerr_fits, tt)
+unless_fits (Some fault.Nospace) r v never fits = (nospace_fits, tt)
+unless_fits (Some fault.Qiderr) r v never fits = (qiderr_fits, tt)
+unless_fits (Some fault.Enqbusy) r v never fits = (enqbusy_fits, tt)
+unless_fits (Some fault.Invreq) r v never fits = (invreq_fits, tt)
+unless_fits (Some fault.Memory) r v never fits = absurd (never refl)
+
+first_or : (b : Bool) (x : ServiceFault) (o : Option ServiceFault) → (x ≡ fault.Memory → ⊥) → (o ≡ Some fault.Memory → ⊥)
+    → (if b then Some x else o) ≡ Some fault.Memory → ⊥
+first_or true x o first rest e = first (some_same e)
+  where
+    some_same : Some x ≡ Some fault.Memory → x ≡ fault.Memory
+    some_same e = cc
+first_or false x o first rest e = rest e
+
+no_fault : None ≡ Some fault.Memory → ⊥
+no_fault e = cc
+
+lengerr_other : fault.Lengerr ≡ fault.Memory → ⊥
+lengerr_other e = cc
+
+itemerr_other : fault.Itemerr ≡ fault.Memory → ⊥
+itemerr_other e = cc
+
+nospace_other : fault.Nospace ≡ fault.Memory → ⊥
+nospace_other e = cc
+
+qiderr_other : fault.Qiderr ≡ fault.Memory → ⊥
+qiderr_other e = cc
+
+enqbusy_other : fault.Enqbusy ≡ fault.Memory → ⊥
+enqbusy_other e = cc
+
+invreq_other : fault.Invreq ≡ fault.Memory → ⊥
+invreq_other e = cc
+
+write_never : (queues : Queues) (name : List ℕ) (len : ℕ) → write_fault queues name len ≡ Some fault.Memory → ⊥
+unfolding write_fault
+write_never queues name len =
+    first_or _ fault.Lengerr _ lengerr_other (first_or _ fault.Itemerr _ itemerr_other (first_or _ fault.Nospace _ nospace_other (first_or _ fault.Nospace _ nospace_other no_fault)))
+
+rewrite_never : (queues : Queues) (name : List ℕ) (n len : ℕ) → rewrite_fault queues name n len ≡ Some fault.Memory → ⊥
+unfolding rewrite_fault
+rewrite_never queues name n len =
+    first_or _ fault.Lengerr _ lengerr_other (first_or _ fault.Qiderr _ qiderr_other (first_or _ fault.Itemerr _ itemerr_other (first_or _ fault.Nospace _ nospace_other no_fault)))
+
+enq_never : (resources : Resources) (slot : ℕ) (name : ResourceName) → enq_fault resources slot name ≡ Some fault.Memory → ⊥
+unfolding enq_fault
+enq_never resources slot name = go (hold_of resources name)
+  where
+    go : (o : Option Hold) → hold_fault resources slot o ≡ Some fault.Memory → ⊥
+    go None = first_or _ fault.Enqbusy _ enqbusy_other no_fault
+    go (Some hold) = first_or _ fault.Enqbusy _ enqbusy_other (first_or _ fault.Invreq _ invreq_other no_fault)
+
+-- ---- each row
+
+pub address_fits : (r : TaskContext) (v : Verdict) → v ≡ address_row → Fits v r
+unfolding address_row
+address_fits r v e = rw e (normal_fits, tt)
+
+pub deleteq_fits : (call : Call) (r : TaskContext) (v : Verdict) → v ≡ deleteq_row r.shared.storage r.shared.queues call → Fits v r
+unfolding deleteq_row delete_fault
+deleteq_fits call r v e = rw e (go (bytes_of r.shared.storage call option.Queue 8))
+  where
+    go : (o : Option (List ℕ)) → Fits (option_map_or (deletes r.shared.queues) o (condition_alone Qiderr)) r
+    go None = (qiderr_fits, tt)
+    go (Some name) = elim (cases_Bool (is_none (count_of r.shared.queues name))) [
+      | inl t ↦ rw t (qiderr_fits, tt)
+      | inr f ↦ rw f (normal_fits, rw f refl)
+    ]
+
+pub enq_fits : (call : Call) (r : TaskContext) (v : Verdict) → v ≡ enq_row r.shared.storage r.shared.resources r.terminal_entry.slot call → Fits v r
+unfolding enq_row
+enq_fits call r v e = elim (cases_Bool (is_wrong_length r.shared.storage call)) [
+  | inl t ↦ rw (e, t) (lengerr_fits, tt)
+  | inr f ↦ rw (e, f) (go (resource_named r.shared.storage call))
+]
+  where
+    go : (o : Option ResourceName) → Fits (option_map_or (enqueues r.shared.resources r.terminal_entry.slot) o (condition_alone Lengerr)) r
+    go None = (lengerr_fits, tt)
+    go (Some name) = unless_fits (enq_fault r.shared.resources r.terminal_entry.slot name) r _ (enq_never r.shared.resources r.terminal_entry.slot name) (λ none. (normal_fits, none))
+
+pub deq_fits : (call : Call) (r : TaskContext) (v : Verdict) → v ≡ deq_row r.shared.storage call → Fits v r
+unfolding deq_row
+deq_fits call r v e = elim (cases_Bool (is_wrong_length r.shared.storage call)) [
+  | inl t ↦ rw (e, t) (lengerr_fits, tt)
+  | inr f ↦ rw (e, f) (go (resource_named r.shared.storage call))
+]
+  where
+    go : (o : Option ResourceName) → Fits (option_map_or (λ name. does (Ends (Dequeues name))) o (condition_alone Lengerr)) r
+    go None = (lengerr_fits, tt)
+    go (Some name) = (normal_fits, tt)
+
+-- a length that an area may have
+area_length : (len : ℕ) → is_area_length len ≡ true → (0 < len) × (len ≤ 65520)
+area_length len t = let both = and_parts (nat_le 1 len) (nat_le len 65520) t in let low = leb-true 1 len both.0 in (low, leb-true len 65520 both.1)
+
+pub getmain_fits : (call : Call) (r : TaskContext) (v : Verdict) → GetmainRow r.shared.storage call v → Fits v r
+unfolding GetmainRow
+getmain_fits call r v row =
+    by_test (is_area_length (asked_len r.shared.storage call)) row
+    (λ t at. placed (area_length (asked_len r.shared.storage call) t) at.place at.least at.is)
+    (λ f e. rw e (lengerr_fits, tt))
+  where
+    placed : (0 < asked_len r.shared.storage call) × (asked_len r.shared.storage call ≤ 65520) → (place : Option ℕ)
+        → IsTaskPlace r.shared.storage (asked_len r.shared.storage call) place
+        → v ≡ gets (asked_len r.shared.storage call) (fill_byte r.shared.storage call) place → Fits v r
+    placed len None least e = rw e (nostg_fits, tt)
+    placed len (Some place) least e = rw e (normal_fits, record { some = len.0; few = len.1; place = least; fill = tt })
+
+-- an area that the task got is the slot's own by that kind
+got_kind : (kind : Kind) → is_got kind ≡ true → kind ≡ Got
+got_kind Got t = refl
+got_kind Fixed t = cc
+got_kind System t = cc
+
+area_starts : (s : Storage) (place : ℕ) (area : Area) → area_at s place ≡ Some area → area.start ≡ place
+unfolding area_at
+area_starts [] place area at = cc
+area_starts (h ∷ hs) place area at = elim (cases_Bool (h.area.start == place)) [
+  | inl t ↦
+      let found : Some h.area ≡ Some area = rw t at at in
+      let same : h.area ≡ area = cc in
+      ap (λ (x : Area). x.start) (sym same) ∙ eqb-true h.area.start place t
+  | inr f ↦ area_starts hs place area (rw f at at)
+]
+
+same_area : (place slot : ℕ) (area : Area) → area.start ≡ place → area.owner.slot ≡ slot → area.owner.kind ≡ Got → area ≡ area_from place area.len (got_owner slot)
+same_area place slot area start mine got = λ i. record { start = start i; len = area.len; owner = record { slot = mine i; kind = got i } }
+
+got_area : (s : Storage) (slot place : ℕ) (area : Area) → area_at s place ≡ Some area → is_got_by slot area ≡ true
+    → area_at s place ≡ Some (area_from place area.len (got_owner slot))
+got_area s slot place area at t =
+    let both = and_parts (area.owner.slot == slot) (is_got area.owner.kind) t in
+    at ∙ ap Some (same_area place slot area (area_starts s place area at) (eqb-true area.owner.slot slot both.0) (got_kind area.owner.kind both.1))
+
+pub freemain_fits : (call : Call) (r : TaskContext) (v : Verdict) → AllByRecursion (λ place. place < 2 ^ 24) call.places
+    → v ≡ freemain_row r.shared.storage r.terminal_entry.slot call → Fits v r
+unfolding freemain_row
+freemain_fits call r v low e = rw e (go (place_of call option.Data) refl)
+  where
+    found : (place : ℕ) → place < 2 ^ 24 → (o : Option Area) → area_at r.shared.storage place ≡ o
+        → Fits (if option_map_or (is_got_by r.terminal_entry.slot) o false then does (Ends (Frees place)) else condition_alone Invreq) r
+    found place below None at = (invreq_fits, tt)
+    found place below (Some area) at = elim (cases_Bool (is_got_by r.terminal_entry.slot area)) [
+      | inl t ↦ rw t (normal_fits, record { below = below; len = area.len; area = got_area r.shared.storage r.terminal_entry.slot place area at t })
+      | inr f ↦ rw f (invreq_fits, tt)
+    ]
+
+    go : (o : Option ℕ) → place_of call option.Data ≡ o → Fits (option_map_or (frees r.shared.storage r.terminal_entry.slot) o (condition_alone Invreq)) r
+    go None at = (invreq_fits, tt)
+    go (Some place) at = found place (place_below call option.Data place low at) (area_at r.shared.storage place) refl
+
+pub writeq_fits : (call : Call) (r : TaskContext) (v : Verdict) → AllByRecursion (λ place. place < 2 ^ 24) call.places → call.command ≡ command.WriteqTs
+    → are_inputs_there r.shared.storage call ≡ true → v ≡ writeq_row r.shared.storage r.shared.queues call → Fits v r
+unfolding writeq_row
+writeq_fits call r v low is there e = rw e (go (bytes_of r.shared.storage call option.Queue 8))
+  where
+    row : IsMeasuredInput call.command option.From
+    row = rw is from_of_writeq_ts
+
+    written : (name : List ℕ) (o : Option StorageSpan) → piece_of r.shared.storage call option.From ≡ o
+        → Fits (written_to r.shared.storage r.shared.queues call name o) r
+    written name None at = (qiderr_fits, tt)
+    written name (Some piece) at = elim (cases_Bool (has call option.Rewrite)) [
+      | inl t ↦ rw t (unless_fits (rewrite_fault r.shared.queues name (item_named r.shared.storage call) piece.len) r
+          (does (Makes (ItemAt name (item_named r.shared.storage call) piece)))
+          (rewrite_never r.shared.queues name (item_named r.shared.storage call) piece.len)
+          (λ none. (normal_fits, record { rewrites = none; there = piece_there r.shared.storage call option.From piece low there row at })))
+      | inr f ↦ rw f (unless_fits (write_fault r.shared.queues name piece.len) r
+          (Meets Normal (output option.Item (Half (unwrap_or (count_of r.shared.queues name) 0 + 1)) ∷ []) (Makes (ItemLast name piece)))
+          (write_never r.shared.queues name piece.len)
+          (λ none. (normal_fits, record { writes = none; there = piece_there r.shared.storage call option.From piece low there row at })))
+    ]
+
+    go : (o : Option (List ℕ)) → Fits (option_map_or (λ name. written_to r.shared.storage r.shared.queues call name (piece_of r.shared.storage call option.From)) o (condition_alone Qiderr)) r
+    go None = (qiderr_fits, tt)
+    go (Some name) = written name (piece_of r.shared.storage call option.From) refl
+
+-- an item that is read has its length
+item_read : (o : Option ℕ) (no_queue : Bool) → (if no_queue then Some fault.Qiderr else if is_none o then Some fault.Itemerr else None) ≡ None → o ≡ Some (unwrap_or o 0)
+item_read None true e = cc
+item_read None false e = cc
+item_read (Some len) no_queue e = refl
+
+read_len : (queues : Queues) (name : List ℕ) (n : ℕ) → read_fault queues name n ≡ None → item_len_of queues name n ≡ Some (unwrap_or (item_len_of queues name n) 0)
+unfolding read_fault
+read_len queues name n e = item_read (item_len_of queues name n) (is_none (count_of queues name)) e
+
+read_never : (queues : Queues) (name : List ℕ) (n : ℕ) → read_fault queues name n ≡ Some fault.Memory → ⊥
+unfolding read_fault
+read_never queues name n = first_or _ fault.Qiderr _ qiderr_other (first_or _ fault.Itemerr _ itemerr_other no_fault)
+
+pub readq_fits : (call : Call) (r : TaskContext) (v : Verdict) → AreSoundQueues r.shared.queues → ReadqRow r.shared.storage r.shared.queues call v → Fits v r
+unfolding ReadqRow ReadsQueue Reads reading_of
+readq_fits call r v sound row =
+    by_test (has call option.Into && is_length_negative r.shared.storage call) row
+    (λ t e. rw e (lengerr_fits, tt))
+    (λ f named. by_option (bytes_of r.shared.storage call option.Queue 8) named
+    (λ e. rw e (qiderr_fits, tt))
+    (λ name is reads. item name (item_asked r.shared.storage r.shared.queues call name) reads))
+  where
+    to : (name : List ℕ) (n : ℕ) → read_fault r.shared.queues name n ≡ None → (place : Option ℕ)
+        → IsTaskPlace r.shared.storage (reading_of r.shared.queues name n).len place → v ≡ reads_to (reading_of r.shared.queues name n) place → Fits v r
+    to name n none None least e = rw e (nostg_fits, tt)
+    to name n none (Some place) least e =
+        let some = some_bytes r.shared.queues name n sound none in
+        let few = few_bytes r.shared.queues name n sound in
+        rw e (normal_fits, record { some = some; few = omega (arith, few); place = least; fill = read_len r.shared.queues name n none })
+
+    into : (name : List ℕ) (n room : ℕ) → read_fault r.shared.queues name n ≡ None → Fits (reads_into room (reading_of r.shared.queues name n)) r
+    into name n room none = elim (cases_Bool (nat_le (reading_of r.shared.queues name n).len room)) [
+      | inl t ↦ rw t (normal_fits, none)
+      | inr f ↦ rw f (lengerr_fits, none)
+    ]
+
+    by_fault : (name : List ℕ) (n : ℕ) (o : Option ServiceFault) → read_fault r.shared.queues name n ≡ o
+        → ReadsItem r.shared.storage r.shared.queues call name n o v → Fits v r
+    by_fault name n None none reads =
+        by_test (has call option.Set) reads
+        (λ t at. to name n none at.place at.least at.is)
+        (λ f e. rw e (into name n (length_option r.shared.storage call) none))
+    by_fault name n (Some fault) is e = rw e (unless_fits (Some fault) r (condition_alone Qiderr) (λ memory. read_never r.shared.queues name n (is ∙ memory)) (λ none. (qiderr_fits, tt)))
+
+    item : (name : List ℕ) (n : ℕ) → ReadsItem r.shared.storage r.shared.queues call name n (read_fault r.shared.queues name n) v → Fits v r
+    item name n reads = by_fault name n (read_fault r.shared.queues name n) refl reads

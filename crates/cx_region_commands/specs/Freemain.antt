@@ -1,0 +1,31 @@
+-- FREEMAIN (Application Programmer's Reference Manual, SC33-0077, "Storage Control").
+--   FREEMAIN DATA(address)
+-- INVREQ: no area that this task got, by GETMAIN or READQ TS SET, starts there. Else the area is freed. Reply: Performed.
+use Rattle.std.specs.Prelude.{ℕ, Bool, true, false, ◌&&◌, ◌==◌, if◌then◌else◌}
+use Rattle.std.specs.Option.{option_map_or}
+use Rattle.cx_base_commands.specs.declared.conditions.Condition.TheVariants.{Invreq}
+use Rattle.cx_base_commands.specs.declared.options.OptionName.TheVariants.{Data}
+use Rattle.cx_storage.specs.declared.areas.Area.{Area}
+use Rattle.cx_storage.specs.declared.areas.Kind.{Kind}
+use Rattle.cx_storage.specs.declared.areas.Kind.TheVariants.{Got}
+use Rattle.cx_storage.specs.Storage.{Storage, area_at}
+use Rattle.cx_region_call.specs.Call.{Call, place_of}
+use Rattle.cx_region_state.specs.declared.verdict.TaskChange.TheVariants.{Ends}
+use Rattle.cx_region_state.specs.declared.verdict.Ended.TheVariants.{Frees}
+use Rattle.cx_region_state.specs.declared.verdict.Verdict.{Verdict}
+use Rattle.cx_region_commands.specs.Common.{does, condition_alone}
+
+abbrev pub is_got : Kind → Bool
+is_got Got = true
+is_got _ = false
+
+-- an area that the task of this slot got
+abbrev pub is_got_by : ℕ → Area → Bool
+is_got_by slot area = (area.owner.slot == slot) && is_got area.owner.kind
+
+abbrev pub frees : Storage → ℕ → ℕ → Verdict
+frees storage slot place = if option_map_or (is_got_by slot) (area_at storage place) false then does (Ends (Frees place)) else condition_alone Invreq
+
+-- DATA is always there
+unfoldable pub freemain_row : Storage → ℕ → Call → Verdict
+freemain_row storage slot call = option_map_or (frees storage slot) (place_of call Data) (condition_alone Invreq)

@@ -1,0 +1,18 @@
+//! ABEND.
+ghost use Rattle.std.specs.Prelude.{◌≡◌};
+ghost use Rattle.cx_region_commands.specs.Abend.{abend_row};
+
+use crate::common::does;
+use cx_base_commands::{Abend, OptionName};
+use cx_region_call::{Call, name4};
+use cx_region_state::{TaskChange, Verdict};
+use cx_storage::Store;
+
+/// How an ABEND is judged.
+#[tactic(auto, unfolding(crate::specs::Abend::abend_row))]
+pub(crate) fn judge_abend<S: Store>(store: &S, call: &Call) -> Verdict
+    ensures { result ≡ abend_row (S.storage store.now) call.now }
+{
+    let code = name4(store, call, OptionName::Abcode).unwrap_or(Abend::Unnamed.code());
+    does(TaskChange::AbendsWith(code, call.has(OptionName::Cancel)))
+}

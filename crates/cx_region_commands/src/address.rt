@@ -1,0 +1,19 @@
+//! ADDRESS.
+ghost use Rattle.std.specs.Prelude.{◌≡◌};
+ghost use Rattle.cx_region_commands.specs.Address.{address_row};
+
+use cx_base_commands::{Condition, OptionName};
+use cx_region_call::{OutputValue, Outputs};
+use cx_region_state::{TaskChange, Verdict};
+
+/// The address of the common work area.
+const COMMON_WORK_AREA: u32 = 0x1000;
+
+/// How an ADDRESS is judged.
+#[tactic(auto, unfolding(crate::specs::Address::address_row))]
+pub(crate) fn judge_address() -> Verdict
+    ensures { result ≡ address_row }
+{
+    let outputs = Outputs::none().with(OptionName::Cwa, OutputValue::Word(COMMON_WORK_AREA));
+    Verdict::Meets(Condition::Normal, outputs, TaskChange::Nothing)
+}

@@ -1,0 +1,92 @@
+//! What the rows have in common.
+ghost use Rattle.std.specs.Prelude.{◌≡◌, ◌<◌, ◌≤◌, ◌+◌, ◌^◌, IfSome};
+ghost use Rattle.cx_region_state.specs.Areas.{IsSoundProgram, IsTaskPlace, first_of_tasks};
+ghost use Rattle.cx_region_commands.specs.Common.{AreSoundPrograms, commarea_of, does, named_program, new_level, condition_alone, program_of};
+
+use cx_base_commands::{Condition, OptionName};
+use cx_ebcdic::Name8;
+use cx_load::Loaded;
+use cx_region_call::{Call, Outputs, StorageSpan, measured_piece, name8};
+use cx_region_state::{FIRST_OF_TASKS, LAST_OF_TASKS, NewLevel, TaskChange, Verdict};
+use cx_storage::Store;
+use indexmap::IndexMap;
+
+/// A condition alone: no output, no change.
+pub(crate) fn only(condition: Condition) -> Verdict
+    ensures { result ≡ condition_alone condition }
+{
+    Verdict::Meets(condition, Outputs::none(), TaskChange::Nothing)
+}
+
+/// NORMAL, with a change and no output.
+pub(crate) fn does(change: TaskChange) -> Verdict
+    ensures { result ≡ does change }
+{
+    Verdict::Meets(Condition::Normal, Outputs::none(), change)
+}
+
+/// The least place in task storage for `len` bytes.
+#[tactic(auto, using(crate::proofs::PlaceLemmas::place_within))]
+pub(crate) fn task_place<S: Store>(store: &S, len: u32) -> Option<u32>
+    requires { 0 < len }
+    ensures least { IsTaskPlace (S.storage store.now) len result }
+    ensures within { IfSome result (λ place. (first_of_tasks ≤ place) × (place + len ≤ 2 ^ 24)) }
+{
+    store.place(FIRST_OF_TASKS, LAST_OF_TASKS, len)
+}
+
+/// A program: its name, and where it is.
+#[derive(Clone, Copy, Debug, PartialEq, Eq)]
+pub struct Called {
+    pub name: Name8,
+    pub loaded: Loaded,
+}
+
+/// Where the program of a name is.
+#[tactic(auto, unfolding(crate::specs::Common::program_of))]
+fn program_of(programs: &IndexMap<Name8, Loaded>, name: Name8) -> Option<Loaded>
+    ensures { result ≡ program_of programs.now.entries name }
+{
+    programs.get(&name).copied()
+}
+
+/// The program that PROGRAM names, where there is one.
+#[tactic(auto, using(crate::specs::Facts::Programs::program_sound), unfolding(crate::specs::Common::named_program))]
+pub(crate) fn named_program<S: Store>(
+    store: &S,
+    call: &Call,
+    programs: &IndexMap<Name8, Loaded>,
+) -> Option<Called>
+    requires { AreSoundPrograms programs.now.entries }
+    ensures value { result ≡ named_program (S.storage store.now) call.now programs.now.entries }
+    ensures sound { IfSome result (λ called. IsSoundProgram called.loaded) }
+{
+    let name = name8(store, call, OptionName::Program)?;
+    let loaded = program_of(programs, name)?;
+    Some(Called { name, loaded })
+}
+
+/// A level of the program that begins, with DFHEISTG at this place.
+pub(crate) fn new_level(called: Called, commarea: Option<StorageSpan>, stg: u32) -> NewLevel
+    ensures { result ≡ new_level called commarea stg }
+{
+    NewLevel {
+        program: called.name,
+        loaded: called.loaded,
+        commarea,
+        stg,
+    }
+}
+
+/// The COMMAREA that a call passes on, where it has bytes.
+#[tactic(auto, unfolding(crate::specs::Common::commarea_of))]
+pub(crate) fn commarea_of<S: Store>(store: &S, call: &Call) -> Option<StorageSpan>
+    ensures value { result ≡ commarea_of (S.storage store.now) call.now }
+    ensures some { IfSome result (λ piece. 0 < piece.len) }
+{
+    let piece = measured_piece(store, call, OptionName::Commarea)?;
+    if piece.len == 0 {
+        return None;
+    }
+    Some(piece)
+}

@@ -1,0 +1,24 @@
+//! DELETEQ TS.
+ghost use Rattle.std.specs.Prelude.{◌≡◌};
+ghost use Rattle.cx_region_commands.specs.DeleteqTs.{deleteq_row};
+
+use crate::common::{does, only};
+use cx_base_commands::{Condition, OptionName};
+use cx_region_call::{Call, name8};
+use cx_region_state::{Ended, TaskChange, Verdict};
+use cx_service::Queues;
+use cx_storage::Store;
+
+/// How a DELETEQ TS is judged.
+#[tactic(auto, unfolding(crate::specs::DeleteqTs::deleteq_row))]
+pub(crate) fn judge_deleteq_ts<S: Store>(store: &S, queues: &Queues, call: &Call) -> Verdict
+    ensures { result ≡ deleteq_row (S.storage store.now) queues.now call.now }
+{
+    let Some(name) = name8(store, call, OptionName::Queue) else {
+        return only(Condition::Qiderr);
+    };
+    if queues.items(name).is_none() {
+        return only(Condition::Qiderr);
+    }
+    does(TaskChange::Ends(Ended::QueueGone(name)))
+}

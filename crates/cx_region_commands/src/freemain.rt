@@ -1,0 +1,30 @@
+//! FREEMAIN.
+ghost use Rattle.std.specs.Prelude.{◌≡◌};
+ghost use Rattle.cx_region_commands.specs.Freemain.{freemain_row, is_got_by};
+
+use crate::common::{does, only};
+use cx_base_commands::{Condition, OptionName};
+use cx_region_call::Call;
+use cx_region_state::{Ended, TaskChange, Verdict};
+use cx_storage::{Area, Kind, Store};
+
+/// Whether the task of this slot got the area.
+fn is_got_by(slot: u8, area: Area) -> bool
+    ensures { result ≡ is_got_by slot area }
+{
+    area.owner.slot == slot && matches!(area.owner.kind, Kind::Got)
+}
+
+/// How a FREEMAIN is judged.
+#[tactic(auto, unfolding(crate::specs::Freemain::freemain_row))]
+pub(crate) fn judge_freemain<S: Store>(store: &S, slot: u8, call: &Call) -> Verdict
+    ensures { result ≡ freemain_row (S.storage store.now) slot call.now }
+{
+    let Some(place) = call.place(OptionName::Data) else {
+        return only(Condition::Invreq);
+    };
+    match store.area_at(place) {
+        Some(area) if is_got_by(slot, area) => does(TaskChange::Ends(Ended::Frees(place))),
+        _ => only(Condition::Invreq),
+    }
+}

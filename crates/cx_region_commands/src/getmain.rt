@@ -1,0 +1,62 @@
+//! GETMAIN.
+ghost use Rattle.std.specs.Prelude.{◌≡◌, ◌≤◌};
+ghost use Rattle.cx_region_commands.specs.Common.{AtPlace};
+ghost use Rattle.cx_region_commands.specs.Getmain.{GetmainRow, asked_len, fill_byte, gets, is_area_length};
+
+use crate::common::{only, task_place};
+use cx_base_commands::{Condition, OptionName};
+use cx_region_call::{Call, OutputValue, Outputs, halfword, read_argument};
+use cx_region_state::{Fill, Got, TaskChange, Verdict};
+use cx_storage::Store;
+
+/// The most bytes of an area.
+const MOST_BYTES: u16 = 65_520;
+
+/// How many bytes LENGTH asks for.
+fn asked_len<S: Store>(store: &S, call: &Call) -> u16
+    ensures { result ≡ asked_len (S.storage store.now) call.now }
+{
+    halfword(store, call, OptionName::Length).unwrap_or(0)
+}
+
+/// INITIMG's byte, or zero without it.
+#[tactic(auto, unfolding(crate::specs::Getmain::fill_byte))]
+fn filling<S: Store>(store: &S, call: &Call) -> u8
+    ensures { result ≡ fill_byte (S.storage store.now) call.now }
+{
+    let mut byte = [0];
+    if read_argument(store, call, OptionName::Initimg, &mut byte) {
+        byte[0]
+    } else {
+        0
+    }
+}
+
+/// By the area's place.
+fn gets(len: u16, byte: u8, place: Option<u32>) -> Verdict
+    ensures { result ≡ gets len byte place }
+{
+    let Some(place) = place else {
+        return only(Condition::Nostg);
+    };
+    let got = Got {
+        place,
+        len: u32::from(len),
+        fill: Fill::Byte(byte),
+    };
+    let outputs = Outputs::none().with(OptionName::Set, OutputValue::Word(place));
+    Verdict::Meets(Condition::Normal, outputs, TaskChange::Gets(got))
+}
+
+/// How a GETMAIN is judged.
+#[tactic(auto, unfolding(crate::specs::Getmain::GetmainRow))]
+pub(crate) fn judge_getmain<S: Store>(store: &S, call: &Call) -> Verdict
+    ensures { GetmainRow (S.storage store.now) call.now result }
+{
+    let len = asked_len(store, call);
+    if len == 0 || len > MOST_BYTES {
+        return only(Condition::Lengerr);
+    }
+    let place = task_place(store, u32::from(len));
+    gets(len, filling(store, call), place)
+}

@@ -1,0 +1,59 @@
+//! LINK.
+ghost use Rattle.std.specs.Prelude.{◌≡◌};
+ghost use Rattle.cx_region_state.specs.Areas.{IsSoundProgram};
+ghost use Rattle.cx_region_commands.specs.Common.{AreSoundPrograms, AtPlace};
+ghost use Rattle.cx_region_commands.specs.Link.{LinkRow, Links, enters};
+
+use crate::common::{Called, commarea_of, does, named_program, new_level, only, task_place};
+use cx_base_commands::{Abend, Condition};
+use cx_ebcdic::Name8;
+use cx_load::Loaded;
+use cx_program::LevelStack;
+use cx_region_call::{Call, StorageSpan, is_length_negative};
+use cx_region_state::{TaskChange, Verdict};
+use cx_storage::Store;
+use indexmap::IndexMap;
+
+/// By the place of DFHEISTG.
+fn enters(called: Called, commarea: Option<StorageSpan>, stg: Option<u32>) -> Verdict
+    ensures { result ≡ enters called commarea stg }
+{
+    match stg {
+        Some(stg) => does(TaskChange::Enters(new_level(called, commarea, stg))),
+        None => Verdict::Refuses(Abend::Xstg),
+    }
+}
+
+/// A LINK to a program that there is.
+#[tactic(auto, unfolding(crate::specs::Link::Links))]
+fn link_to<S: Store>(store: &S, call: &Call, levels: &LevelStack, called: Called) -> Verdict
+    requires { IsSoundProgram called.loaded }
+    ensures { Links (S.storage store.now) call.now levels.now called result }
+{
+    if levels.len() >= 16 {
+        return Verdict::Refuses(Abend::Xlvl);
+    }
+    let commarea = commarea_of(store, call);
+    let stg = task_place(store, called.loaded.stg_len);
+    enters(called, commarea, stg)
+}
+
+/// How a LINK is judged.
+#[tactic(auto, unfolding(crate::specs::Link::LinkRow))]
+pub(crate) fn judge_link<S: Store>(
+    store: &S,
+    programs: &IndexMap<Name8, Loaded>,
+    levels: &LevelStack,
+    call: &Call,
+) -> Verdict
+    requires { AreSoundPrograms programs.now.entries }
+    ensures { LinkRow (S.storage store.now) programs.now.entries levels.now call.now result }
+{
+    if is_length_negative(store, call) {
+        return only(Condition::Lengerr);
+    }
+    match named_program(store, call, programs) {
+        Some(called) => link_to(store, call, levels, called),
+        None => only(Condition::Pgmiderr),
+    }
+}

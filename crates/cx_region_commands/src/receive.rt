@@ -1,0 +1,27 @@
+//! RECEIVE.
+ghost use Rattle.std.specs.Prelude.{◌≡◌};
+ghost use Rattle.cx_region_commands.specs.Receive.{receive_row};
+
+use cx_base_commands::{Condition, OptionName};
+use cx_region_call::{OutputValue, Outputs};
+use cx_region_state::{Ended, Input, TaskChange, Verdict};
+
+/// How a RECEIVE is judged, by the held input and the number of bytes that LENGTH says.
+#[tactic(auto, unfolding(crate::specs::Receive::receive_row))]
+pub(crate) fn judge_receive(input: &Option<Input>, room: u16) -> Verdict
+    ensures { result ≡ receive_row input.now room }
+{
+    let Some(input) = input else {
+        return Verdict::Waits;
+    };
+    let len = input.bytes.as_slice().len();
+    let condition = if len <= usize::from(room) {
+        Condition::Normal
+    } else {
+        Condition::Lengerr
+    };
+    let outputs = Outputs::none()
+        .with(OptionName::Into, OutputValue::Text(room))
+        .with(OptionName::Length, OutputValue::Half(len as u16));
+    Verdict::Meets(condition, outputs, TaskChange::Ends(Ended::TakesInput))
+}

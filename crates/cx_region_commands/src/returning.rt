@@ -1,0 +1,59 @@
+//! RETURN.
+ghost use Rattle.std.specs.Prelude.{◌≡◌, ◌||◌, if◌then◌else◌};
+ghost use Rattle.cx_region_commands.specs.Return.{highest_return, next_of, return_row};
+ghost use Rattle.cx_region_commands.specs.Common.{does, has, condition_alone};
+
+use crate::common::{commarea_of, does, only};
+use cx_base_commands::{Condition, OptionName};
+use cx_program::LevelStack;
+use cx_region_call::{Call, is_length_negative, name4};
+use cx_region_state::{Next, TaskChange, Verdict};
+use cx_storage::Store;
+
+/// What the terminal's next key attaches.
+#[tactic(auto, unfolding(crate::specs::Return::next_of))]
+fn next_of<S: Store>(store: &S, call: &Call) -> Option<Next>
+    ensures { result ≡ next_of (S.storage store.now) call.now }
+{
+    let tran = name4(store, call, OptionName::Transid)?;
+    let commarea = commarea_of(store, call);
+    Some(Next { tran, commarea })
+}
+
+/// At a lower level.
+fn lower_return(call: &Call) -> Verdict
+    ensures { result ≡ (if has call.now OptionName.Transid || has call.now OptionName.Commarea
+        then condition_alone Condition.Invreq else does TaskChange.LevelEnds) }
+{
+    if call.has(OptionName::Transid) || call.has(OptionName::Commarea) {
+        only(Condition::Invreq)
+    } else {
+        does(TaskChange::LevelEnds)
+    }
+}
+
+/// At the highest level.
+fn highest_return<S: Store>(store: &S, call: &Call) -> Verdict
+    ensures { result ≡ highest_return (S.storage store.now) call.now }
+{
+    let lacks_transid = call.has(OptionName::Commarea) && !call.has(OptionName::Transid);
+    if lacks_transid {
+        return only(Condition::Invreq);
+    }
+    if is_length_negative(store, call) {
+        return only(Condition::Lengerr);
+    }
+    does(TaskChange::TaskEnds(next_of(store, call)))
+}
+
+/// How a RETURN is judged.
+#[tactic(auto, unfolding(crate::specs::Return::return_row))]
+pub(crate) fn judge_return<S: Store>(store: &S, levels: &LevelStack, call: &Call) -> Verdict
+    ensures { result ≡ return_row (S.storage store.now) levels.now.callers call.now }
+{
+    if levels.len() == 1 {
+        highest_return(store, call)
+    } else {
+        lower_return(call)
+    }
+}

@@ -1,0 +1,83 @@
+//! WRITEQ TS.
+ghost use Rattle.std.specs.Prelude.{◌≡◌, ◌+◌, [], ◌∷◌, unwrap_or};
+ghost use Rattle.cx_region_commands.specs.WriteqTs.{item_named, writeq_row, written_to};
+ghost use Rattle.cx_region_commands.specs.Services.{fault_or_verdict};
+ghost use Rattle.cx_region_commands.specs.Common.{does, output};
+ghost use Rattle.cx_service.specs.Queues.{count_of, rewrite_fault, write_fault};
+
+use crate::common::{does, only};
+use crate::services::unless;
+use cx_base_commands::{Condition, OptionName};
+use cx_ebcdic::Name8;
+use cx_region_call::{Call, OutputValue, Outputs, StorageSpan, halfword, measured_piece, name8};
+use cx_region_state::{Made, TaskChange, Verdict};
+use cx_service::Queues;
+use cx_storage::Store;
+
+/// A new item.
+#[tactic(auto, using(crate::specs::Facts::Queues::few_items))]
+fn writes(queues: &Queues, name: Name8, piece: StorageSpan) -> Verdict
+    ensures { let number = unwrap_or (count_of queues.now name) 0 + 1 in
+        result ≡ fault_or_verdict (write_fault queues.now name piece.len)
+        (Verdict.Meets Condition.Normal (output OptionName.Item (OutputValue.Half number) ∷ [])
+        (TaskChange.Makes (Made.ItemLast name piece))) }
+{
+    let number = queues.items(name).unwrap_or(0) as u16 + 1;
+    let outputs = Outputs::none().with(OptionName::Item, OutputValue::Half(number));
+    let change = TaskChange::Makes(Made::ItemLast(name, piece));
+    unless(
+        queues.can_write(name, usize::from(piece.len)),
+        Verdict::Meets(Condition::Normal, outputs, change),
+    )
+}
+
+/// An item replaced.
+fn rewrites(queues: &Queues, name: Name8, n: u16, piece: StorageSpan) -> Verdict
+    ensures { result
+        ≡ fault_or_verdict (rewrite_fault queues.now name n piece.len) (does (TaskChange.Makes (Made.ItemAt name n piece))) }
+{
+    let tested = queues.can_rewrite(name, usize::from(n), usize::from(piece.len));
+    unless(
+        tested,
+        does(TaskChange::Makes(Made::ItemAt(name, usize::from(n), piece))),
+    )
+}
+
+/// The item that REWRITE names.
+fn item_named<S: Store>(store: &S, call: &Call) -> u16
+    ensures { result ≡ item_named (S.storage store.now) call.now }
+{
+    halfword(store, call, OptionName::Item).unwrap_or(0)
+}
+
+/// By the bytes of FROM.
+fn written_to<S: Store>(
+    store: &S,
+    queues: &Queues,
+    call: &Call,
+    name: Name8,
+    piece: Option<StorageSpan>,
+) -> Verdict
+    ensures { result ≡ written_to (S.storage store.now) queues.now call.now name piece }
+{
+    let Some(piece) = piece else {
+        return only(Condition::Qiderr);
+    };
+    if call.has(OptionName::Rewrite) {
+        rewrites(queues, name, item_named(store, call), piece)
+    } else {
+        writes(queues, name, piece)
+    }
+}
+
+/// How a WRITEQ TS is judged.
+#[tactic(auto, unfolding(crate::specs::WriteqTs::writeq_row))]
+pub(crate) fn judge_writeq_ts<S: Store>(store: &S, queues: &Queues, call: &Call) -> Verdict
+    ensures { result ≡ writeq_row (S.storage store.now) queues.now call.now }
+{
+    let Some(name) = name8(store, call, OptionName::Queue) else {
+        return only(Condition::Qiderr);
+    };
+    let piece = measured_piece(store, call, OptionName::From);
+    written_to(store, queues, call, name, piece)
+}

@@ -1,0 +1,106 @@
+//! XCTL.
+ghost use Rattle.std.specs.Prelude.{◌≡◌, ◌<◌, ◌≤◌, ◌+◌, ◌^◌, ℕ, Some, option_map};
+ghost use Rattle.cx_region_state.specs.Areas.{IsSoundProgram, IsTaskPlace, first_of_tasks, with_copy_area};
+ghost use Rattle.cx_region_commands.specs.Common.{AreSoundPrograms, AtPlace};
+ghost use Rattle.cx_region_commands.specs.Xctl.{Copies, Transfers, XctlRow, XctlTo, replaces};
+
+use crate::common::{Called, commarea_of, does, named_program, new_level, only, task_place};
+use cx_base_commands::{Abend, Condition};
+use cx_ebcdic::Name8;
+use cx_load::Loaded;
+use cx_region_call::{Call, StorageSpan, is_length_negative};
+use cx_region_state::{Copying, LAST_OF_TASKS, TaskChange, Verdict};
+use cx_storage::Store;
+use indexmap::IndexMap;
+
+/// Where the program finds the copy.
+fn copied_piece(copying: Option<Copying>) -> Option<StorageSpan>
+    ensures { result ≡ option_map (λ copying. record { place = copying.to; len = copying.from.len }) copying }
+{
+    let copying = copying?;
+    Some(StorageSpan {
+        place: copying.to,
+        len: copying.from.len,
+    })
+}
+
+/// By the place of DFHEISTG.
+fn replaces(called: Called, copying: Option<Copying>, stg: Option<u32>) -> Verdict
+    ensures { result ≡ replaces called copying stg }
+{
+    let Some(stg) = stg else {
+        return Verdict::Refuses(Abend::Xstg);
+    };
+    let level = new_level(called, copied_piece(copying), stg);
+    does(TaskChange::Replaces(copying, level))
+}
+
+/// The least place in task storage for `len` bytes, once the copy is made. Where the least one without it would meet
+/// the copy, every place below does too.
+#[tactic(auto, using(crate::proofs::PlaceLemmas::none_beside, crate::proofs::PlaceLemmas::below_copy, crate::proofs::PlaceLemmas::above_copy, crate::proofs::PlaceLemmas::behind_copy))]
+fn place_beside<S: Store>(store: &S, copying: Copying, len: u32) -> Option<u32>
+    requires some { 0 < len }
+    requires low { first_of_tasks ≤ copying.to }
+    requires high { copying.to + copying.from.len ≤ 2 ^ 24 }
+    ensures { (slot : ℕ) → IsTaskPlace (with_copy_area (S.storage store.now) slot (Some copying)) len result }
+{
+    let Some(place) = task_place(store, len) else {
+        return None;
+    };
+    let end = copying.to + u32::from(copying.from.len);
+    if place + len <= copying.to {
+        return Some(place);
+    }
+    if end <= place {
+        return Some(place);
+    }
+    store.place(end, LAST_OF_TASKS, len)
+}
+
+/// An XCTL with a COMMAREA that has bytes.
+fn copy_to<S: Store>(store: &S, called: Called, piece: StorageSpan) -> Verdict
+    requires sound { IsSoundProgram called.loaded }
+    requires some { 0 < piece.len }
+    ensures { (slot : ℕ) → Copies (S.storage store.now) slot called piece result }
+{
+    let Some(to) = task_place(store, u32::from(piece.len)) else {
+        return Verdict::Refuses(Abend::Xstg);
+    };
+    let copying = Copying { from: piece, to };
+    let stg = place_beside(store, copying, called.loaded.stg_len);
+    replaces(called, Some(copying), stg)
+}
+
+/// An XCTL to a program that there is.
+#[tactic(auto, unfolding(crate::specs::Xctl::XctlTo, cx_region_state::specs::Areas::with_copy_area))]
+fn xctl_to<S: Store>(store: &S, call: &Call, called: Called) -> Verdict
+    requires { IsSoundProgram called.loaded }
+    ensures { (slot : ℕ) → XctlTo (S.storage store.now) slot call.now called result }
+{
+    match commarea_of(store, call) {
+        Some(piece) => copy_to(store, called, piece),
+        None => {
+            let stg = task_place(store, called.loaded.stg_len);
+            replaces(called, None, stg)
+        }
+    }
+}
+
+/// How an XCTL is judged.
+#[tactic(auto, unfolding(crate::specs::Xctl::XctlRow))]
+pub(crate) fn judge_xctl<S: Store>(
+    store: &S,
+    programs: &IndexMap<Name8, Loaded>,
+    call: &Call,
+) -> Verdict
+    requires { AreSoundPrograms programs.now.entries }
+    ensures { (slot : ℕ) → XctlRow (S.storage store.now) slot programs.now.entries call.now result }
+{
+    if is_length_negative(store, call) {
+        return only(Condition::Lengerr);
+    }
+    match named_program(store, call, programs) {
+        Some(called) => xctl_to(store, call, called),
+        None => only(Condition::Pgmiderr),
+    }
+}

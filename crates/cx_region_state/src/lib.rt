@@ -1,0 +1,13 @@
+//! What a half-turn of a task can reach, and how a command is judged, as data.
+#![tactic(auto)]
+
+mod replies;
+mod state;
+mod verdict;
+
+pub use replies::TurnReply;
+pub use state::{Following, Input, Shared, Task, TerminalEntry};
+pub use verdict::{
+    Copying, Ended, FIRST_OF_TASKS, Fill, Got, LAST_OF_TASKS, Made, NewLevel, Next, Request,
+    TaskChange, Verdict,
+};

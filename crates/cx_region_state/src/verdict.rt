@@ -1,0 +1,142 @@
+//! How a command is judged, as data, before anything changes.
+use cx_base_commands::{Abend, Condition};
+use cx_ebcdic::{Name4, Name8};
+use cx_load::Loaded;
+use cx_region_call::{ListedConditions, Outputs, StorageSpan};
+use cx_service::ResourceName;
+
+/// The first and the last address of the range in which the areas of tasks lie.
+pub const FIRST_OF_TASKS: u32 = 0x20_0000;
+
+pub const LAST_OF_TASKS: u32 = 0xFF_FFFF;
+
+/// A program level that begins.
+#[derive(Clone, Copy, Debug, PartialEq, Eq)]
+pub struct NewLevel {
+    /// The program, and where it is.
+    pub program: Name8,
+    pub loaded: Loaded,
+    /// The COMMAREA, where the program finds it; None where there is none, or its length is 0.
+    pub commarea: Option<StorageSpan>,
+    /// The place of its DFHEISTG.
+    pub stg: u32,
+}
+
+/// A COMMAREA that is copied to an area of its own.
+#[derive(Clone, Copy, Debug, PartialEq, Eq)]
+pub struct Copying {
+    /// Its bytes.
+    pub from: StorageSpan,
+    /// The place of the copy.
+    pub to: u32,
+}
+
+/// The transaction that the terminal's next key attaches, and the COMMAREA that is kept for it.
+#[derive(Clone, Copy, Debug, PartialEq, Eq)]
+pub struct Next {
+    pub tran: Name4,
+    pub commarea: Option<StorageSpan>,
+}
+
+/// What an area is filled with.
+#[derive(Clone, Copy, Debug, PartialEq, Eq)]
+pub enum Fill {
+    /// Each byte is this one.
+    Byte(u8),
+    /// An item of a queue, by the queue's name and its number, counted from 1.
+    Item(Name8, usize),
+}
+
+/// An area that the program gets.
+#[derive(Clone, Copy, Debug, PartialEq, Eq)]
+pub struct Got {
+    /// Its place.
+    pub place: u32,
+    /// Its length in bytes.
+    pub len: u32,
+    /// Its bytes.
+    pub fill: Fill,
+}
+
+/// What a program asks to be done for conditions and on an abend.
+#[derive(Debug, Drop)]
+pub enum Request {
+    /// HANDLE CONDITION: each condition's label takes control; one without a label has no entry any more.
+    Handle(ListedConditions),
+    /// IGNORE CONDITION: each condition is ignored.
+    Ignore(ListedConditions),
+    /// PUSH HANDLE.
+    Push,
+    /// POP HANDLE.
+    Pop,
+    /// HANDLE ABEND LABEL.
+    SetExit(u32),
+    /// HANDLE ABEND CANCEL.
+    ExitOff,
+    /// HANDLE ABEND RESET.
+    ExitOn,
+}
+
+/// What a command makes before its outputs are written.
+#[derive(Debug, Drop)]
+pub enum Made {
+    /// These bytes are a new item, the last of the queue.
+    ItemLast(Name8, StorageSpan),
+    /// These bytes replace the queue's item of that number, counted from 1.
+    ItemAt(Name8, usize, StorageSpan),
+    /// The task owns the resource once more.
+    Enqueues(ResourceName),
+    /// These bytes are shown on the screen, which is blanked first where the flag says so.
+    Shows(StorageSpan, bool),
+    /// The current level's handles.
+    Handles(Request),
+}
+
+/// What a command ends after all else is written.
+#[derive(Clone, Copy, Debug, PartialEq, Eq)]
+pub enum Ended {
+    /// The held input is gone.
+    TakesInput,
+    /// The queue's item of that number is the one last read.
+    ReadOf(Name8, usize),
+    /// The queue is gone.
+    QueueGone(Name8),
+    /// The task owns the resource once less.
+    Dequeues(ResourceName),
+    /// The area that starts there is freed.
+    Frees(u32),
+}
+
+/// What a command changes, beside its outputs, the EIB and RESP's word.
+#[derive(Debug, Drop)]
+pub enum TaskChange {
+    /// Nothing.
+    Nothing,
+    /// Something is made.
+    Makes(Made),
+    /// Something is ended.
+    Ends(Ended),
+    /// The program gets an area; where an item fills it, that item is the one last read.
+    Gets(Got),
+    /// LINK: a level begins under the current one.
+    Enters(NewLevel),
+    /// XCTL: a level begins in place of the current one, with a copy of the COMMAREA.
+    Replaces(Option<Copying>, NewLevel),
+    /// RETURN: the current level ends, and the one that linked to it goes on.
+    LevelEnds,
+    /// RETURN: the task ends, and leaves the terminal's next transaction.
+    TaskEnds(Option<Next>),
+    /// ABEND: the task abends with that code; no exit takes it where the flag says so.
+    AbendsWith(Name4, bool),
+}
+
+/// How a command is judged.
+#[derive(Debug, Drop)]
+pub enum Verdict {
+    /// The task abends, and nothing of the command is done.
+    Refuses(Abend),
+    /// The command waits, whatever the program asked for.
+    Waits,
+    /// The command meets a condition (NORMAL among them), with these outputs and this change.
+    Meets(Condition, Outputs, TaskChange),
+}

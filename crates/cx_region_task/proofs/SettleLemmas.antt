@@ -1,0 +1,60 @@
+-- What a change ends can still be ended when all else is written.
+use Rattle.std.proofs.Common.{◌≡◌, ℕ, List, Option, None, Some, refl, sym, ◌∙◌, subst}
+use Rattle.std.proofs.lemmas.Option.{none-some}
+use Rattle.cx_region_call.specs.declared.answer.Answer.{Answer}
+use Rattle.cx_region_call.specs.declared.outputs.Output.{Output}
+use Rattle.cx_region_call.specs.Call.{Call}
+use Rattle.cx_service.specs.Queues.{Queue, Queues, item_len_of, queue_of, read_fault}
+use Rattle.cx_region_state.specs.declared.verdict.TaskChange.{TaskChange}
+use Rattle.cx_region_state.specs.declared.verdict.TaskChange.TheVariants.{Nothing, Makes, Ends, Gets, Enters, Replaces, LevelEnds, TaskEnds, AbendsWith}
+use Rattle.cx_region_state.specs.declared.verdict.Ended.{Ended}
+use Rattle.cx_region_state.specs.declared.verdict.Ended.TheVariants.{TakesInput, ReadOf, QueueGone, Dequeues, Frees}
+use Rattle.cx_region_state.specs.declared.verdict.Fill.{Fill}
+use Rattle.cx_region_state.specs.declared.verdict.Fill.TheVariants.{Byte, Item}
+use Rattle.cx_region_state.specs.State.{TaskContext}
+use Rattle.cx_region_state.specs.Parts.Fits.{FitsChange, FitsEnded, FitsFill}
+use Rattle.cx_region_task.specs.Changes.{AppliesBefore, write_outputs, write_report}
+use Rattle.cx_region_task.specs.Parts.Making.{MatchEnded, MatchFill, MatchFinished}
+
+-- an item that has a length can be read
+readable : (queues : Queues) (name : List ℕ) (n len : ℕ) → item_len_of queues name n ≡ Some len → read_fault queues name n ≡ None
+unfolding read_fault
+readable queues name n len is = go (queue_of queues name) refl
+  where
+    go : (found : Option Queue) → queue_of queues name ≡ found → read_fault queues name n ≡ None
+    go None e = absurd (none-some len (sym (rw e refl) ∙ is))
+    go (Some queue) e = rw (is, e) refl
+
+ended_can : (it : Ended) (r : TaskContext) → FitsEnded it r → MatchEnded it r.shared.queues
+ended_can TakesInput r fits = tt
+ended_can (ReadOf name n) r fits = fits
+ended_can (QueueGone name) r fits = fits
+ended_can (Dequeues resource) r fits = tt
+ended_can (Frees place) r fits = fits.below
+
+fill_can : (fill : Fill) (len : ℕ) (r : TaskContext) → FitsFill fill len r → MatchFill fill r.shared.queues
+fill_can (Byte b) len r fits = tt
+fill_can (Item name n) len r fits = readable r.shared.queues name n len fits
+
+same_queues : (call : Call) (outputs : List Output) (change : TaskChange) (answer : Answer) (made given_r after : TaskContext)
+    → given_r ≡ write_outputs call outputs change made → after ≡ write_report call answer given_r → after.shared.queues ≡ made.shared.queues
+unfolding write_outputs write_report
+same_queues call outputs change answer made given_r after gives reports = rw (reports, gives) refl
+
+grown_can : (change : TaskChange) (before made : TaskContext) → FitsChange change before → AppliesBefore change before made → MatchFinished change made.shared.queues
+unfolding AppliesBefore
+grown_can Nothing before made fits grown = tt
+grown_can (Makes it) before made fits grown = tt
+grown_can (Ends it) before made fits grown = rw grown (ended_can it before fits)
+grown_can (Gets got) before made fits grown = rw grown (fill_can got.fill got.len before fits.fill)
+grown_can (Enters level) before made fits grown = tt
+grown_can (Replaces copying level) before made fits grown = tt
+grown_can LevelEnds before made fits grown = tt
+grown_can (TaskEnds next) before made fits grown = tt
+grown_can (AbendsWith code cancel) before made fits grown = tt
+
+pub fits_finished : (call : Call) (outputs : List Output) (change : TaskChange) (answer : Answer) (before made given_r after : TaskContext)
+    → FitsChange change before → AppliesBefore change before made → given_r ≡ write_outputs call outputs change made → after ≡ write_report call answer given_r
+    → MatchFinished change after.shared.queues
+fits_finished call outputs change answer before made given_r after fits grown gives reports =
+    subst (λ (queues : Queues). MatchFinished change queues) (sym (same_queues call outputs change answer made given_r after gives reports)) (grown_can change before made fits grown)

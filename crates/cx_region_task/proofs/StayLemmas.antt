@@ -1,0 +1,183 @@
+-- A half-turn leaves its slot and the programs, and is answered as a task's.
+use Rattle.std.proofs.Common.{◌≡◌, ◌∙◌, ℕ, Bool, true, false, Option, Some, None, List, [], ◌∷◌, refl, ap}
+use Rattle.std.specs.Prelude.{Result, Ok, Err, MatchBool, MatchResult}
+use Rattle.cx_base_commands.specs.Abends.{abend_code}
+use Rattle.cx_base_commands.specs.declared.abends.Abend.TheVariants as abend
+use Rattle.cx_base_commands.specs.declared.conditions.Condition.{Condition}
+use Rattle.cx_exec.specs.declared.machine.Halt.{Halt}
+use Rattle.cx_exec.specs.declared.machine.Halt.TheVariants as halt
+use Rattle.cx_program.specs.declared.level.Level.{Level}
+use Rattle.cx_region_call.specs.declared.call.CallFault.{CallFault}
+use Rattle.cx_region_call.specs.declared.outputs.Output.{Output}
+use Rattle.cx_region_call.specs.Call.{Call, call_of}
+use Rattle.cx_region_call.specs.Inputs.{are_inputs_there}
+use Rattle.cx_region_state.specs.declared.replies.TurnReply.{TurnReply}
+use Rattle.cx_region_state.specs.declared.replies.TurnReply.TheVariants as turn
+use Rattle.cx_region_state.specs.declared.verdict.TaskChange.{TaskChange}
+use Rattle.cx_region_state.specs.declared.verdict.TaskChange.TheVariants.{Nothing, Makes, Ends, Gets, Enters, Replaces, LevelEnds, TaskEnds, AbendsWith}
+use Rattle.cx_region_state.specs.declared.verdict.Ended.{Ended}
+use Rattle.cx_region_state.specs.declared.verdict.Ended.TheVariants.{TakesInput, ReadOf, QueueGone, Dequeues, Frees}
+use Rattle.cx_region_state.specs.declared.verdict.Fill.{Fill}
+use Rattle.cx_region_state.specs.declared.verdict.Fill.TheVariants.{Byte, Item}
+use Rattle.cx_region_state.specs.declared.verdict.Made.{Made}
+use Rattle.cx_region_state.specs.declared.verdict.Made.TheVariants as made
+use Rattle.cx_region_state.specs.declared.verdict.Verdict.{Verdict}
+use Rattle.cx_region_state.specs.declared.verdict.Verdict.TheVariants.{Refuses, Waits, Meets}
+use Rattle.cx_region_state.specs.State.{TaskContext}
+use Rattle.cx_region_task.specs.declared.continuation.Continuation.{Continuation}
+use Rattle.cx_region_task.specs.declared.continuation.Continuation.TheVariants as continuation
+use Rattle.cx_region_task.specs.Abends.{Abends, AbendsAt}
+use Rattle.cx_region_task.specs.Answers.{Answers, Does, LeavesAll, MeetsWith, has_room, continuation_at}
+use Rattle.cx_region_task.specs.Changes.{AppliesBefore, Commits, apply_after, write_outputs, read_for, write_report}
+use Rattle.cx_region_task.specs.Laws.HalfTurns.{HalfTurnStays, is_of_task}
+use Rattle.cx_region_task.specs.Performing.{PerformsCall, PerformsCommand, Performs, fault_abend, list_of}
+use Rattle.cx_region_task.specs.Turn.{HalfTurn, EndsRun, RunsOn}
+use Rattle.cx_region_task.specs.Continuations.{Goes, enter_level, is_wait, replace_level, return_to_caller, returned_to}
+
+-- the slot and the programs stay
+record Same (before after : TaskContext) : Type 0 where
+  slot : after.terminal_entry.slot ≡ before.terminal_entry.slot
+  programs : after.shared.programs ≡ before.shared.programs
+
+-- at what equals a state that has them
+same_at : (before to after : TaskContext) → after ≡ to → Same before to → Same before after
+same_at before to after e same =
+    record { slot = ap (λ (r : TaskContext). r.terminal_entry.slot) e ∙ same.slot; programs = ap (λ (r : TaskContext). r.shared.programs) e ∙ same.programs }
+
+joined : (before between after : TaskContext) → Same before between → Same between after → Same before after
+joined before between after one two = record { slot = two.slot ∙ one.slot; programs = two.programs ∙ one.programs }
+
+stays_at : (before after : TaskContext) (reply told : TurnReply) → Same before after → reply ≡ told → is_of_task told ≡ true → HalfTurnStays before reply after
+stays_at before after reply told same e of =
+    record { slot = same.slot; programs = same.programs; answers = ap is_of_task e ∙ of }
+
+-- ---- abends
+abends_stay : (before mid after : TaskContext) (reply : TurnReply) (code : List ℕ) (cancel : Bool) → Same before mid → Abends code cancel mid reply after → HalfTurnStays before reply after
+unfolding AbendsAt
+abends_stay before mid after reply code cancel same it = go it.exit it.ends
+  where
+    go : (o : Option ℕ) → AbendsAt o code mid reply after → HalfTurnStays before reply after
+    go None over = stays_at before after reply (turn.Abended code) (same_at before _ after over.1 (record { slot = same.slot; programs = same.programs })) over.0 refl
+    go (Some index) over = stays_at before after reply (turn.TookExit code) (same_at before _ after over.1 (record { slot = same.slot; programs = same.programs })) over.0 refl
+
+-- ---- the way
+returned_same : (callers : List Level) (r : TaskContext) → Same r (returned_to callers r)
+returned_same [] r = record { slot = refl; programs = refl }
+returned_same (caller ∷ callers) r = record { slot = refl; programs = refl }
+
+goes_stay : (gone : Continuation) (condition : Condition) (before settled after : TaskContext) (reply : TurnReply) → Same before settled → Goes gone condition settled reply after → HalfTurnStays before reply after
+unfolding Goes enter_level replace_level return_to_caller
+goes_stay continuation.GoesOn condition before settled after reply same goes =
+    stays_at before after reply (turn.Performed condition) (same_at before _ after goes.1 (record { slot = same.slot; programs = same.programs })) goes.0 refl
+goes_stay (continuation.TakesLabel label) condition before settled after reply same goes =
+    stays_at before after reply (turn.TookLabel condition) (same_at before _ after goes.1 (record { slot = same.slot; programs = same.programs })) goes.0 refl
+goes_stay continuation.Waits condition before settled after reply same goes =
+    stays_at before after reply turn.Waiting (same_at before _ after goes.1 same) goes.0 refl
+goes_stay (continuation.Abends code cancel) condition before settled after reply same goes = abends_stay before settled after reply code cancel same goes
+goes_stay (continuation.Enters level) condition before settled after reply same goes =
+    stays_at before after reply turn.Entered (same_at before _ after goes.1 (record { slot = same.slot; programs = same.programs })) goes.0 refl
+goes_stay (continuation.Replaces level) condition before settled after reply same goes =
+    stays_at before after reply turn.Entered (same_at before _ after goes.1 (record { slot = same.slot; programs = same.programs })) goes.0 refl
+goes_stay continuation.LevelEnds condition before settled after reply same goes =
+    stays_at before after reply turn.Returned (same_at before _ after goes.1 (joined before settled _ same (returned_same settled.task.levels.callers settled))) goes.0 refl
+goes_stay continuation.TaskEnds condition before settled after reply same goes =
+    stays_at before after reply turn.Ended (same_at before _ after goes.1 (record { slot = same.slot; programs = same.programs })) goes.0 refl
+
+-- ---- what the command does
+made_same : (it : Made) (before after : TaskContext) → AppliesBefore (Makes it) before after → Same before after
+unfolding AppliesBefore
+made_same (made.ItemLast name piece) before after grown = same_at before _ after grown (record { slot = refl; programs = refl })
+made_same (made.ItemAt name n piece) before after grown = same_at before _ after grown (record { slot = refl; programs = refl })
+made_same (made.Enqueues resource) before after grown = same_at before _ after grown (record { slot = refl; programs = refl })
+made_same (made.Shows piece erase) before after grown = same_at before _ after grown.others (record { slot = refl; programs = refl })
+made_same (made.Handles request) before after grown = same_at before _ after grown (record { slot = refl; programs = refl })
+
+grown_same : (change : TaskChange) (before after : TaskContext) → AppliesBefore change before after → Same before after
+unfolding AppliesBefore
+grown_same Nothing before after grown = same_at before _ after grown (record { slot = refl; programs = refl })
+grown_same (Makes it) before after grown = made_same it before after grown
+grown_same (Ends it) before after grown = same_at before _ after grown (record { slot = refl; programs = refl })
+grown_same (Gets got) before after grown = same_at before _ after grown (record { slot = refl; programs = refl })
+grown_same (Enters level) before after grown = same_at before _ after grown (record { slot = refl; programs = refl })
+grown_same (Replaces copying level) before after grown = same_at before _ after grown (record { slot = refl; programs = refl })
+grown_same LevelEnds before after grown = same_at before _ after grown (record { slot = refl; programs = refl })
+grown_same (TaskEnds next) before after grown = same_at before _ after grown (record { slot = refl; programs = refl })
+grown_same (AbendsWith code cancel) before after grown = same_at before _ after grown (record { slot = refl; programs = refl })
+
+ended_same : (it : Ended) (r : TaskContext) → Same r (apply_after (Ends it) r)
+unfolding apply_after
+ended_same TakesInput r = record { slot = refl; programs = refl }
+ended_same (ReadOf name n) r = record { slot = refl; programs = refl }
+ended_same (QueueGone name) r = record { slot = refl; programs = refl }
+ended_same (Dequeues resource) r = record { slot = refl; programs = refl }
+ended_same (Frees place) r = record { slot = refl; programs = refl }
+
+read_same : (fill : Fill) (r : TaskContext) → Same r (read_for fill r)
+read_same (Byte b) r = record { slot = refl; programs = refl }
+read_same (Item name n) r = record { slot = refl; programs = refl }
+
+finished_same : (change : TaskChange) (r : TaskContext) → Same r (apply_after change r)
+unfolding apply_after
+finished_same Nothing r = record { slot = refl; programs = refl }
+finished_same (Makes it) r = record { slot = refl; programs = refl }
+finished_same (Ends it) r = ended_same it r
+finished_same (Gets got) r = read_same got.fill r
+finished_same (Enters level) r = record { slot = refl; programs = refl }
+finished_same (Replaces copying level) r = record { slot = refl; programs = refl }
+finished_same LevelEnds r = record { slot = refl; programs = refl }
+finished_same (TaskEnds next) r = record { slot = refl; programs = refl }
+finished_same (AbendsWith code cancel) r = record { slot = refl; programs = refl }
+
+settled_same : (call : Call) (condition : Condition) (outputs : List Output) (change : TaskChange) (before after : TaskContext) → Commits call condition outputs change before after → Same before after
+unfolding write_outputs write_report
+settled_same call condition outputs change before after it =
+    let first = grown_same change before it.made it.grown in
+    same_at before _ after it.settled (joined before _ _ (record { slot = first.slot; programs = first.programs }) (finished_same change _))
+
+-- ---- a half-turn
+leaves_stay : (before after : TaskContext) (reply : TurnReply) → LeavesAll before reply after → HalfTurnStays before reply after
+leaves_stay before after reply it = stays_at before after reply turn.Waiting (same_at before before after it.same (record { slot = refl; programs = refl })) it.waiting refl
+
+meets_stay : (call : Call) (condition : Condition) (outputs : List Output) (change : TaskChange) (before after : TaskContext) (reply : TurnReply) → MeetsWith call condition outputs change before reply after
+    → HalfTurnStays before reply after
+unfolding MeetsWith
+meets_stay call condition outputs change before after reply meets = by_room (has_room call outputs change before) meets
+  where
+    by_wait : (b : Bool) → MatchBool b (LeavesAll before reply after) (Does call condition outputs change before reply after) → HalfTurnStays before reply after
+    by_wait true leaves = leaves_stay before after reply leaves
+    by_wait false it = goes_stay (continuation_at call condition change before) condition before it.settled after reply (settled_same call condition outputs change before it.settled it.settles) it.goes
+
+    by_room : (b : Bool) → MatchBool b (MatchBool (is_wait (continuation_at call condition change before)) (LeavesAll before reply after) (Does call condition outputs change before reply after))
+        (Abends (abend_code abend.Xarg) false before reply after) → HalfTurnStays before reply after
+    by_room true it = by_wait (is_wait (continuation_at call condition change before)) it
+    by_room false it = abends_stay before before after reply (abend_code abend.Xarg) false (record { slot = refl; programs = refl }) it
+
+answers_stay : (verdict : Verdict) (call : Call) (before after : TaskContext) (reply : TurnReply) → Answers verdict call before reply after → HalfTurnStays before reply after
+unfolding Answers
+answers_stay (Refuses code) call before after reply it = abends_stay before before after reply (abend_code code) false (record { slot = refl; programs = refl }) it
+answers_stay Waits call before after reply it = leaves_stay before after reply it
+answers_stay (Meets condition outputs change) call before after reply it = meets_stay call condition outputs change before after reply it
+
+pub half_turn_stays : (before after : TaskContext) (reply : TurnReply) → HalfTurn before reply after → HalfTurnStays before reply after
+unfolding HalfTurn PerformsCommand PerformsCall EndsRun
+half_turn_stays before after reply half = by_due before.task.due half
+  where
+    abends : (code : List ℕ) → Abends code false before reply after → HalfTurnStays before reply after
+    abends code it = abends_stay before before after reply code false (record { slot = refl; programs = refl }) it
+
+    by_inputs : (call : Call) (b : Bool) → MatchBool b (Performs call before reply after) (Abends (abend_code abend.Xarg) false before reply after) → HalfTurnStays before reply after
+    by_inputs call true it = answers_stay it.verdict call before after reply it.answers
+    by_inputs call false it = abends (abend_code abend.Xarg) it
+
+    by_call : (r : Result Call CallFault) → MatchResult r (λ call. PerformsCall call before reply after) (λ fault. Abends (abend_code (fault_abend fault)) false before reply after) → HalfTurnStays before reply after
+    by_call (Ok call) called = by_inputs call (are_inputs_there before.shared.storage call) called
+    by_call (Err fault) it = abends (abend_code (fault_abend fault)) it
+
+    by_halt : (mid : TaskContext) (how : Halt) → Same before mid → EndsRun how mid reply after → HalfTurnStays before reply after
+    by_halt mid halt.AtEntry same it = stays_at before after reply turn.AtCommand (same_at before _ after it.1 (record { slot = same.slot; programs = same.programs })) it.0 refl
+    by_halt mid (halt.Interrupt cause place) same it = abends_stay before mid after reply (abend_code abend.Asra) false same it
+    by_halt mid halt.Limit same it = abends_stay before mid after reply (abend_code abend.Aica) false same it
+
+    by_due : (b : Bool) → MatchBool b (PerformsCommand before reply after) (RunsOn before reply after) → HalfTurnStays before reply after
+    by_due true commanded = by_call (call_of before.shared.storage (list_of before.task)) commanded
+    by_due false runs = by_halt runs.between runs.how (same_at before _ runs.between runs.rest (record { slot = refl; programs = refl })) runs.ends

@@ -1,0 +1,157 @@
+-- A half-turn is decided by what was reached before.
+use Rattle.std.proofs.Common.{◌≡◌, ℕ, Bool, true, false, Option, Some, None, List, sym, ◌∙◌, ap, subst}
+use Rattle.std.specs.Prelude.{Result, Ok, Err, MatchBool, MatchResult}
+use Rattle.cx_base_commands.specs.Abends.{abend_code}
+use Rattle.cx_base_commands.specs.declared.abends.Abend.TheVariants as abend
+use Rattle.cx_base_commands.specs.declared.conditions.Condition.{Condition}
+use Rattle.cx_exec.specs.declared.machine.Halt.{Halt}
+use Rattle.cx_exec.specs.declared.machine.Halt.TheVariants as halt
+use Rattle.cx_exec.specs.Advance.{Advances}
+use Rattle.cx_exec_laws.specs.Laws.Decide.{RunsDecide}
+use Rattle.cx_program.specs.Facts.NearestExit.{nearest_exit_one}
+use Rattle.cx_program.specs.Levels.{Levels, all_levels}
+use Rattle.cx_service.specs.Screen.{ShowsText}
+use Rattle.cx_region_call.specs.declared.call.CallFault.{CallFault}
+use Rattle.cx_region_call.specs.declared.outputs.Output.{Output}
+use Rattle.cx_region_call.specs.Call.{Call, call_of}
+use Rattle.cx_region_call.specs.Inputs.{are_inputs_there}
+use Rattle.cx_region_commands.specs.Laws.Rows.{JudgedOnce}
+use Rattle.cx_region_state.specs.declared.replies.TurnReply.{TurnReply}
+use Rattle.cx_region_state.specs.declared.verdict.TaskChange.{TaskChange}
+use Rattle.cx_region_state.specs.declared.verdict.TaskChange.TheVariants.{Nothing, Makes, Ends, Gets, Enters, Replaces, LevelEnds, TaskEnds, AbendsWith}
+use Rattle.cx_region_state.specs.declared.verdict.Made.{Made}
+use Rattle.cx_region_state.specs.declared.verdict.Made.TheVariants as made
+use Rattle.cx_region_state.specs.declared.verdict.Verdict.{Verdict}
+use Rattle.cx_region_state.specs.declared.verdict.Verdict.TheVariants.{Refuses, Waits, Meets}
+use Rattle.cx_region_state.specs.Areas.{bytes_in}
+use Rattle.cx_region_state.specs.State.{TaskContext}
+use Rattle.cx_region_task.specs.declared.continuation.Continuation.{Continuation}
+use Rattle.cx_region_task.specs.declared.continuation.Continuation.TheVariants as continuation
+use Rattle.cx_region_task.specs.Abends.{Abends, AbendsAt, IsExit}
+use Rattle.cx_region_task.specs.Answers.{Answers, Does, LeavesAll, MeetsWith, has_room, continuation_at}
+use Rattle.cx_region_task.specs.Changes.{AppliesBefore, apply_after, write_outputs, report_of, write_report}
+use Rattle.cx_region_task.specs.Laws.HalfTurns.{HalfTurnsDecide}
+use Rattle.cx_region_task.specs.Performing.{PerformsCall, PerformsCommand, Performs, fault_abend, list_of}
+use Rattle.cx_region_task.specs.Turn.{HalfTurn, EndsRun, RunsOn, after_machine, machine_of, most_steps}
+use Rattle.cx_region_task.specs.Continuations.{Goes, is_wait}
+
+abbrev Same : TurnReply → TurnReply → TaskContext → TaskContext → Type 0
+Same p q a b = (p ≡ q) × (a ≡ b)
+
+abbrev ShownOnce : Type 0
+ShownOnce = (old : List (List ℕ)) (text : List ℕ) (erase : Bool) (one other : List (List ℕ)) → ShowsText old text erase one → ShowsText old text erase other → one ≡ other
+
+told : (p q x : TurnReply) (a b y : TaskContext) → (p ≡ x) × (a ≡ y) → (q ≡ x) × (b ≡ y) → Same p q a b
+told p q x a b y one two = (one.0 ∙ sym two.0, one.1 ∙ sym two.1)
+
+exits_decide : (cancel : Bool) (levels : Levels) (one other : Option ℕ) → IsExit cancel levels one → IsExit cancel levels other → one ≡ other
+exits_decide true levels one other p q = p ∙ sym q
+exits_decide false levels one other p q = nearest_exit_one (all_levels levels) one other p q
+
+abends_decide : (code : List ℕ) (cancel : Bool) (before : TaskContext) (p q : TurnReply) (a b : TaskContext) → Abends code cancel before p a → Abends code cancel before q b → Same p q a b
+unfolding AbendsAt
+abends_decide code cancel before p q a b h k =
+    by_exit k.exit (subst (λ (exit : Option ℕ). AbendsAt exit code before p a) (exits_decide cancel before.task.levels h.exit k.exit h.takes k.takes) h.ends) k.ends
+  where
+    by_exit : (exit : Option ℕ) → AbendsAt exit code before p a → AbendsAt exit code before q b → Same p q a b
+    by_exit None one two = told p q _ a b _ one two
+    by_exit (Some index) one two = told p q _ a b _ one two
+
+made_decides : ShownOnce → (it : Made) (before a b : TaskContext) → AppliesBefore (Makes it) before a → AppliesBefore (Makes it) before b → a ≡ b
+unfolding AppliesBefore
+made_decides shown (made.ItemLast name piece) before a b h k = h ∙ sym k
+made_decides shown (made.ItemAt name n piece) before a b h k = h ∙ sym k
+made_decides shown (made.Enqueues resource) before a b h k = h ∙ sym k
+made_decides shown (made.Handles request) before a b h k = h ∙ sym k
+made_decides shown (made.Shows piece erase) before a b h k =
+    h.others ∙ ap (λ (screen : List (List ℕ)). record before { terminal_entry = record before.terminal_entry { screen = screen } }) (shown before.terminal_entry.screen (bytes_in before.shared.storage piece) erase a.terminal_entry.screen b.terminal_entry.screen h.text k.text) ∙ sym k.others
+
+grown_decides : ShownOnce → (change : TaskChange) (before a b : TaskContext) → AppliesBefore change before a → AppliesBefore change before b → a ≡ b
+unfolding AppliesBefore
+grown_decides shown Nothing before a b h k = h ∙ sym k
+grown_decides shown (Makes it) before a b h k = made_decides shown it before a b h k
+grown_decides shown (Ends it) before a b h k = h ∙ sym k
+grown_decides shown (Gets got) before a b h k = h ∙ sym k
+grown_decides shown (Enters level) before a b h k = h ∙ sym k
+grown_decides shown (Replaces copying level) before a b h k = h ∙ sym k
+grown_decides shown LevelEnds before a b h k = h ∙ sym k
+grown_decides shown (TaskEnds next) before a b h k = h ∙ sym k
+grown_decides shown (AbendsWith code cancel) before a b h k = h ∙ sym k
+
+goes_decides : (gone : Continuation) (condition : Condition) (settled : TaskContext) (p q : TurnReply) (a b : TaskContext) → Goes gone condition settled p a → Goes gone condition settled q b → Same p q a b
+unfolding Goes
+goes_decides continuation.GoesOn condition settled p q a b h k = told p q _ a b _ h k
+goes_decides (continuation.TakesLabel label) condition settled p q a b h k = told p q _ a b _ h k
+goes_decides continuation.Waits condition settled p q a b h k = told p q _ a b _ h k
+goes_decides (continuation.Abends code cancel) condition settled p q a b h k = abends_decide code cancel settled p q a b h k
+goes_decides (continuation.Enters level) condition settled p q a b h k = told p q _ a b _ h k
+goes_decides (continuation.Replaces level) condition settled p q a b h k = told p q _ a b _ h k
+goes_decides continuation.LevelEnds condition settled p q a b h k = told p q _ a b _ h k
+goes_decides continuation.TaskEnds condition settled p q a b h k = told p q _ a b _ h k
+
+does_decides : ShownOnce → (call : Call) (condition : Condition) (outputs : List Output) (change : TaskChange) (before : TaskContext) (p q : TurnReply) (a b : TaskContext)
+    → Does call condition outputs change before p a → Does call condition outputs change before q b → Same p q a b
+does_decides shown call condition outputs change before p q a b h k =
+    let made = grown_decides shown change before h.settles.made k.settles.made h.settles.grown k.settles.grown in
+    let settled : h.settled ≡ k.settled =
+    h.settles.settled ∙ ap (λ (r : TaskContext). apply_after change (write_report call (report_of call condition change before) (write_outputs call outputs change r))) made ∙ sym k.settles.settled in
+    goes_decides (continuation_at call condition change before) condition k.settled p q a b
+    (subst (λ (r : TaskContext). Goes (continuation_at call condition change before) condition r p a) settled h.goes) k.goes
+
+meets_decide : ShownOnce → (call : Call) (condition : Condition) (outputs : List Output) (change : TaskChange) (before : TaskContext) (p q : TurnReply) (a b : TaskContext)
+    → MeetsWith call condition outputs change before p a → MeetsWith call condition outputs change before q b → Same p q a b
+unfolding MeetsWith
+meets_decide shown call condition outputs change before p q a b h k = by_room (has_room call outputs change before) h k
+  where
+    by_wait : (w : Bool) → MatchBool w (LeavesAll before p a) (Does call condition outputs change before p a) → MatchBool w (LeavesAll before q b) (Does call condition outputs change before q b) → Same p q a b
+    by_wait true one two = told p q _ a b _ (one.waiting, one.same) (two.waiting, two.same)
+    by_wait false one two = does_decides shown call condition outputs change before p q a b one two
+
+    by_room : (r : Bool)
+        → MatchBool r (MatchBool (is_wait (continuation_at call condition change before)) (LeavesAll before p a) (Does call condition outputs change before p a)) (Abends (abend_code abend.Xarg) false before p a)
+        → MatchBool r (MatchBool (is_wait (continuation_at call condition change before)) (LeavesAll before q b) (Does call condition outputs change before q b)) (Abends (abend_code abend.Xarg) false before q b)
+        → Same p q a b
+    by_room true one two = by_wait (is_wait (continuation_at call condition change before)) one two
+    by_room false one two = abends_decide (abend_code abend.Xarg) false before p q a b one two
+
+answers_decide : ShownOnce → (verdict : Verdict) (call : Call) (before : TaskContext) (p q : TurnReply) (a b : TaskContext) → Answers verdict call before p a → Answers verdict call before q b → Same p q a b
+unfolding Answers
+answers_decide shown (Refuses code) call before p q a b h k = abends_decide (abend_code code) false before p q a b h k
+answers_decide shown Waits call before p q a b h k = told p q _ a b _ (h.waiting, h.same) (k.waiting, k.same)
+answers_decide shown (Meets condition outputs change) call before p q a b h k = meets_decide shown call condition outputs change before p q a b h k
+
+performs_decide : ShownOnce → JudgedOnce → (call : Call) (before : TaskContext) (p q : TurnReply) (a b : TaskContext) → Performs call before p a → Performs call before q b → Same p q a b
+performs_decide shown judged call before p q a b h k =
+    let same = judged call before h.verdict k.verdict h.judged k.judged in
+    answers_decide shown k.verdict call before p q a b (subst (λ (v : Verdict). Answers v call before p a) same h.answers) k.answers
+
+halts_decide : (how : Halt) (before : TaskContext) (p q : TurnReply) (a b : TaskContext) → EndsRun how before p a → EndsRun how before q b → Same p q a b
+unfolding EndsRun
+halts_decide halt.AtEntry before p q a b h k = told p q _ a b _ h k
+halts_decide (halt.Interrupt cause place) before p q a b h k = abends_decide _ false before p q a b h k
+halts_decide halt.Limit before p q a b h k = abends_decide _ false before p q a b h k
+
+runs_decide : ((limit : ℕ) → RunsDecide (Advances limit)) → (before : TaskContext) (p q : TurnReply) (a b : TaskContext) → RunsOn before p a → RunsOn before q b → Same p q a b
+runs_decide runs before p q a b h k =
+    let same = runs most_steps (machine_of before) h.how k.how (machine_of h.between) (machine_of k.between) h.advances k.advances in
+    let between : h.between ≡ k.between = h.rest ∙ ap (after_machine before) same.1 ∙ sym k.rest in
+    let first : EndsRun k.how h.between p a = subst (λ (how : Halt). EndsRun how h.between p a) same.0 h.ends in
+    halts_decide k.how k.between p q a b (subst (λ (r : TaskContext). EndsRun k.how r p a) between first) k.ends
+
+pub half_turns_decide : ((limit : ℕ) → RunsDecide (Advances limit)) → ShownOnce → JudgedOnce → HalfTurnsDecide
+unfolding HalfTurn PerformsCommand PerformsCall
+half_turns_decide runs shown judged before a b p q h k = by_due before.task.due h k
+  where
+    by_inputs : (call : Call) (there : Bool) → MatchBool there (Performs call before p a) (Abends (abend_code abend.Xarg) false before p a)
+        → MatchBool there (Performs call before q b) (Abends (abend_code abend.Xarg) false before q b) → Same p q a b
+    by_inputs call true one two = performs_decide shown judged call before p q a b one two
+    by_inputs call false one two = abends_decide (abend_code abend.Xarg) false before p q a b one two
+
+    by_call : (r : Result Call CallFault) → MatchResult r (λ call. PerformsCall call before p a) (λ fault. Abends (abend_code (fault_abend fault)) false before p a)
+        → MatchResult r (λ call. PerformsCall call before q b) (λ fault. Abends (abend_code (fault_abend fault)) false before q b) → Same p q a b
+    by_call (Ok call) one two = by_inputs call (are_inputs_there before.shared.storage call) one two
+    by_call (Err fault) one two = abends_decide (abend_code (fault_abend fault)) false before p q a b one two
+
+    by_due : (due : Bool) → MatchBool due (PerformsCommand before p a) (RunsOn before p a) → MatchBool due (PerformsCommand before q b) (RunsOn before q b) → Same p q a b
+    by_due true one two = by_call (call_of before.shared.storage (list_of before.task)) one two
+    by_due false one two = runs_decide runs before p q a b one two

@@ -1,0 +1,7 @@
+use Rattle.std.proofs.Common.{◌∙◌}
+use Rattle.std.proofs.lemmas.Option.{slice_get-get_or}
+use Rattle.cx_region_task.proofs.HandleLemmas.{ignored_step}
+use Rattle.cx_region_task.proofs.making.ignore_all.Goals as goal
+
+pub loop-listed-preserved : goal.loop-listed-preserved
+loop-listed-preserved c = ignored_step _ _ c.args.conditions.now c.loop-listed.listed-index _ (slice_get-get_or _ _ _ c.loop-listed-test.true) c.ignore.ensures ∙ c.loop-listed.invariant

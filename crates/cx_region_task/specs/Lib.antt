@@ -1,0 +1,24 @@
+-- The definitions, in reading order.
+pub mod Abends
+pub mod Changes
+pub mod Continuations
+pub mod Answers
+pub mod Performing
+pub mod Turn
+pub mod Causes
+pub mod Sound
+pub mod Laws
+pub mod Parts
+pub use Rattle.cx_region_call.specs.Call
+pub use Rattle.cx_region_call.specs.Eib
+pub use Rattle.cx_region_call.specs.Inputs
+pub use Rattle.cx_region_call.specs.Outputs
+pub use Rattle.cx_region_call.specs.Answer
+pub use Rattle.cx_region_state.specs.State
+pub use Rattle.cx_region_state.specs.Areas
+pub use Rattle.cx_region_state.specs.Verdicts
+pub use Rattle.cx_region_commands.specs.Judged
+pub use Rattle.cx_base_commands.specs.Commands
+pub use Rattle.cx_base_commands.specs.Conditions
+pub use Rattle.cx_storage.specs.Address
+pub use Rattle.cx_storage.specs.Storage

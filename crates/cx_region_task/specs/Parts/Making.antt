@@ -1,0 +1,71 @@
+-- Words for the steps of making, which no public contract cites.
+use Rattle.std.specs.Prelude.{◌≡◌, ℕ, ◌<◌, ◌^◌, ⊤, List, [], length, Option, Some, None, unwrap_or}
+use Rattle.std.specs.Option.{option_map_or}
+use Rattle.cx_storage.specs.Storage.{Storage, starts_elsewhere, with_areas_kept}
+use Rattle.cx_service.specs.Queues.{Queues, delete_fault, item_len_of, item_of, read_fault}
+use Rattle.cx_region_state.specs.declared.verdict.TaskChange.{TaskChange}
+use Rattle.cx_region_state.specs.declared.verdict.TaskChange.TheVariants.{Ends, Gets}
+use Rattle.cx_region_state.specs.declared.verdict.Copying.{Copying}
+use Rattle.cx_region_state.specs.declared.verdict.Ended.{Ended}
+use Rattle.cx_region_state.specs.declared.verdict.Ended.TheVariants.{Frees, QueueGone, ReadOf, TakesInput}
+use Rattle.cx_region_state.specs.declared.verdict.Fill.{Fill}
+use Rattle.cx_region_state.specs.declared.verdict.Fill.TheVariants.{Item}
+use Rattle.cx_program.specs.declared.level.Level.{Level}
+use Rattle.cx_program.specs.Levels.{Levels}
+use Rattle.cx_region_state.specs.State.{Input, TaskState}
+use Rattle.cx_region_task.specs.declared.continuation.Continuation.{Continuation}
+use Rattle.cx_region_task.specs.declared.continuation.Continuation.TheVariants.{Enters, Replaces}
+use Rattle.cx_region_state.specs.declared.verdict.Request.{Request}
+use Rattle.cx_region_state.specs.declared.verdict.Request.TheVariants.{Push}
+
+-- what PUSH HANDLE needs
+abbrev pub MatchPush : Request → Type 0 → Type 0
+MatchPush Push needed = needed
+MatchPush _ needed = ⊤
+
+-- an item that fills an area is as long as the area
+abbrev pub MatchItem : Fill → Queues → ℕ → Type 0
+MatchItem (Item name n) queues len = item_len_of queues name n ≡ Some len
+MatchItem _ queues len = ⊤
+
+-- storage without the area of a copy
+abbrev pub without_copy : Option Copying → Storage → Storage
+without_copy None storage = storage
+without_copy (Some copying) storage = with_areas_kept (starts_elsewhere copying.to) storage
+
+-- how many bytes are copied
+abbrev pub copied_len : Option Copying → ℕ
+copied_len None = 0
+copied_len (Some copying) = copying.from.len
+
+-- what an ended thing needs of the queues, and of the address of the area that is freed
+abbrev pub MatchEnded : Ended → Queues → Type 0
+MatchEnded (ReadOf name n) queues = read_fault queues name n ≡ None
+MatchEnded (QueueGone name) queues = delete_fault queues name ≡ None
+MatchEnded (Frees place) queues = place < 2 ^ 24
+MatchEnded _ queues = ⊤
+
+abbrev pub MatchFill : Fill → Queues → Type 0
+MatchFill (Item name n) queues = read_fault queues name n ≡ None
+MatchFill _ queues = ⊤
+
+abbrev pub MatchFinished : TaskChange → Queues → Type 0
+MatchFinished (Ends it) queues = MatchEnded it queues
+MatchFinished (Gets got) queues = MatchFill got.fill queues
+MatchFinished _ queues = ⊤
+
+-- the text that a command hands over, of the input and the queues alone
+abbrev pub text_of : TaskChange → Option Input → Queues → List ℕ
+text_of (Ends TakesInput) input queues = option_map_or (λ held. held.bytes) input []
+text_of (Ends (ReadOf name n)) input queues = unwrap_or (item_of queues name n) []
+text_of _ input queues = []
+
+-- what a way needs: a level that begins has its entry at an address, and LINK fewer than sixteen levels
+abbrev pub MatchWay : Continuation → Levels → Type 0
+MatchWay (Enters level) levels = (level.loaded.entry < 2 ^ 24) × (length levels.callers < 15)
+MatchWay (Replaces level) levels = level.loaded.entry < 2 ^ 24
+MatchWay _ levels = ⊤
+
+-- the task with the registers and code that a level kept
+abbrev pub with_kept : TaskState → Level → TaskState
+with_kept task level = record task { regs = level.regs; cc = level.cc }

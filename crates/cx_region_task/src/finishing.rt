@@ -1,0 +1,203 @@
+//! What a command writes, and what it ends afterwards.
+ghost use Rattle.std.specs.Prelude.{◌≡◌, ◌<◌, ◌^◌, [], IfSome, None, Some, option_map, slice_get, unwrap_or};
+ghost use Rattle.std.specs.Option.{option_map_or};
+ghost use Rattle.cx_ebcdic.specs.Aids.{key_of};
+ghost use Rattle.cx_base_commands.specs.Commands.{row_of};
+ghost use Rattle.cx_storage.specs.Storage.{starts_elsewhere, with_areas_kept};
+ghost use Rattle.cx_service.specs.Queues.{delete_fault, item_of, read_fault, with_last_read, without_queue};
+ghost use Rattle.cx_service.specs.Resources.{dequeue};
+ghost use Rattle.cx_region_state.specs.State.{context, with_storage};
+ghost use Rattle.cx_region_state.specs.Verdicts.{handed_over};
+ghost use Rattle.cx_region_state.specs.Parts.Fits.{FitsChange, FitsEnded};
+ghost use Rattle.cx_region_task.specs.Changes.{apply_after, write_outputs, read_for, report_of, write_report, with_change, with_queues, with_resources};
+ghost use Rattle.cx_region_task.specs.Parts.Making.{MatchEnded, MatchFinished, text_of};
+ghost use Rattle.cx_region_task.specs.Answers.{has_room};
+ghost use Rattle.cx_region_call.specs.Outputs.{put_out};
+
+use crate::areas::length_or_zero;
+use crate::making::item_bytes;
+use cx_base_commands::{Command, Condition};
+use cx_ebcdic::Name8;
+use cx_program::LevelStack;
+use cx_region_call::{Answer, Call, Outputs, can_put, put_answer, put_outputs, resource};
+use cx_region_state::{Ended, Fill, Input, Shared, Task, TaskChange, TerminalEntry};
+use cx_service::Queues;
+use cx_storage::Store;
+
+/// The bytes of a held input; none where none is held.
+fn input_bytes(input: &Option<Input>) -> &[u8]
+    ensures { result.now ≡ option_map_or (λ held. held.bytes) input.now [] }
+{
+    match input {
+        Some(input) => input.bytes.as_slice(),
+        None => &[],
+    }
+}
+
+/// The text that a command hands over.
+fn text_of<'a>(change: &TaskChange, queues: &'a Queues, input: &'a Option<Input>) -> &'a [u8]
+    ensures { result.now ≡ text_of change.now input.now queues.now }
+{
+    match change {
+        TaskChange::Ends(Ended::TakesInput) => input_bytes(input),
+        TaskChange::Ends(Ended::ReadOf(name, n)) => item_bytes(queues, *name, *n),
+        _ => &[],
+    }
+}
+
+/// Whether each byte of a command's outputs is in storage, with the text that it hands over. An output whose option isn't
+/// there has none.
+#[tactic(auto, unfolding(crate::specs::Answers::has_room, cx_region_state::specs::Verdicts::handed_over))]
+pub fn has_room<S: Store + Drop>(
+    call: &Call,
+    outputs: &Outputs,
+    change: &TaskChange,
+    shared: &Shared<S>,
+    terminal_entry: &TerminalEntry,
+    task: &Task,
+) -> bool
+    ensures { result ≡ has_room call.now outputs.now change.now (context shared.now terminal_entry.now task.now) }
+{
+    let text = text_of(change, &shared.queues, &terminal_entry.input);
+    can_put(&shared.store, call, text, outputs)
+}
+
+/// Writes the outputs, of the text that the command hands over.
+#[tactic(auto, unfolding(crate::specs::Changes::write_outputs, cx_region_state::specs::Verdicts::handed_over))]
+pub(crate) fn write_outputs<S: Store + Drop>(
+    call: &Call,
+    outputs: &Outputs,
+    change: &TaskChange,
+    shared: &mut Shared<S>,
+    terminal_entry: &TerminalEntry,
+    task: &Task,
+)
+    ensures { let before = context shared.old terminal_entry.now task.now in
+        context shared.new terminal_entry.now task.now ≡ write_outputs call.now outputs.now change.now before }
+{
+    let text = text_of(change, &shared.queues, &terminal_entry.input);
+    put_outputs(&mut shared.store, call, text, outputs);
+}
+
+/// The EIBCALEN of the nearest caller, where there is one.
+#[tactic(auto, using(crate::proofs::CallerLemmas::calen_none, crate::proofs::CallerLemmas::calen_some, crate::proofs::CallerLemmas::calen_lost))]
+fn calen_above(levels: &LevelStack) -> Option<u16>
+    ensures { result ≡ option_map (λ caller. caller.calen) (slice_get levels.now.callers 0) }
+{
+    let count = levels.len();
+    if count < 2 {
+        return None;
+    }
+    match levels.get(count - 2) {
+        Some(caller) => Some(caller.calen),
+        None => None,
+    }
+}
+
+/// What the command reports.
+#[tactic(auto, unfolding(crate::specs::Changes::report_of))]
+pub(crate) fn report_of<S: Store + Drop>(
+    call: &Call,
+    condition: Condition,
+    change: &TaskChange,
+    shared: &Shared<S>,
+    terminal_entry: &TerminalEntry,
+    task: &Task,
+) -> Answer
+    ensures { result ≡ report_of call.now condition change.now (context shared.now terminal_entry.now task.now) }
+{
+    let plain = Answer {
+        function: call.command().function(),
+        condition: condition.number(),
+        resource: resource(&shared.store, call),
+        aid: None,
+        calen: None,
+    };
+    match change {
+        TaskChange::Ends(Ended::TakesInput) => Answer {
+            aid: terminal_entry.input.as_ref().map(|held| held.aid.code()),
+            ..plain
+        },
+        TaskChange::Enters(level) => Answer {
+            calen: Some(length_or_zero(level.commarea)),
+            ..plain
+        },
+        TaskChange::Replaces(_copying, level) => Answer {
+            calen: Some(length_or_zero(level.commarea)),
+            ..plain
+        },
+        TaskChange::LevelEnds => Answer {
+            function: Command::Link.function(),
+            calen: calen_above(&task.levels),
+            ..plain
+        },
+        _ => plain,
+    }
+}
+
+/// An item is the one last read.
+fn mark_read(queues: &mut Queues, name: Name8, n: usize)
+    requires { read_fault queues.old name n ≡ None }
+    ensures { queues.new ≡ with_last_read queues.old name n }
+{
+    match queues.read(name, n) {
+        Ok(_done) => (),
+        Err(_fault) => (),
+    }
+}
+
+/// A queue is gone.
+fn delete(queues: &mut Queues, name: Name8)
+    requires { delete_fault queues.old name ≡ None }
+    ensures { queues.new ≡ without_queue queues.old name }
+{
+    match queues.delete(name) {
+        Ok(_done) => (),
+        Err(_fault) => (),
+    }
+}
+
+/// What a change ends, after all else is written.
+#[tactic(auto, unfolding(crate::specs::Changes::apply_after))]
+pub(crate) fn apply_after<S: Store + Drop>(
+    change: &TaskChange,
+    shared: &mut Shared<S>,
+    terminal_entry: &mut TerminalEntry,
+    task: &Task,
+)
+    requires { MatchFinished change.now shared.old.queues }
+    ensures { context shared.new terminal_entry.new task.now
+        ≡ apply_after change.now (context shared.old terminal_entry.old task.now) }
+{
+    match change {
+        TaskChange::Ends(it) => match it {
+            Ended::TakesInput => terminal_entry.input = None,
+            Ended::ReadOf(name, n) => mark_read(&mut shared.queues, *name, *n),
+            Ended::QueueGone(name) => delete(&mut shared.queues, *name),
+            Ended::Dequeues(resource) => shared.enqueues.deq(terminal_entry.slot, resource),
+            Ended::Frees(place) => {
+                shared.store.free_area(*place);
+            }
+        },
+        TaskChange::Gets(got) => match &got.fill {
+            Fill::Item(name, n) => mark_read(&mut shared.queues, *name, *n),
+            Fill::Byte(_) => (),
+        },
+        _ => (),
+    }
+}
+
+/// Reports in the EIB, and in RESP's word.
+#[tactic(auto, unfolding(crate::specs::Changes::write_report))]
+pub(crate) fn write_report<S: Store + Drop>(
+    call: &Call,
+    answer: &Answer,
+    shared: &mut Shared<S>,
+    terminal_entry: &TerminalEntry,
+    task: &Task,
+)
+    ensures { let before = context shared.old terminal_entry.now task.now in
+        context shared.new terminal_entry.now task.now ≡ write_report call.now answer.now before }
+{
+    put_answer(&mut shared.store, task.eib, call, answer);
+}

@@ -1,9 +1,0 @@
--- SUSPEND (Application Programmer's Reference Manual, SC33-0077, "Task Control").
---   SUSPEND
--- Effect: none. Reply: Performed.
-use Rattle.cx_state.specs.declared.verdict.Verdict.{Verdict}
-use Rattle.cx_state.specs.declared.verdict.Change.TheVariants.{Nothing}
-use Rattle.cx_rows.specs.Common.{does}
-
-unfoldable pub suspend_row : Verdict
-suspend_row = does Nothing

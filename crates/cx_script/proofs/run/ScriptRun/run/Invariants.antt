@@ -1,0 +1,14 @@
+use Rattle.std.proofs.Common.{◌≡◌, ◌≤◌, false, []}
+use Rattle.std.specs.Str.Lines.{strip_carriage_return}
+use Rattle.cx_script_io.specs.Lines.{is_too_long}
+use Rattle.cx_script.specs.Parts.Progress.{Seen}
+use Rattle.cx_script_io.specs.Unbroken.{IsUnbroken}
+use Rattle.cx_script.proofs.run.ScriptRun.run.Given as goal
+
+abbrev pub invariant-pieces : goal.invariant-pieces
+invariant-pieces g l =
+    (g.R.ScriptIn.has_failed l.reader ≡ false) × (g.W.ScriptOut.has_failed l.writer ≡ false)
+    × (l.self.progress.waiting ≡ []) × IsUnbroken l.self.part.items × (is_too_long (strip_carriage_return l.self.part.items) ≡ false)
+    × (l.self.progress.lines ≤ l.read) × (l._turn ≤ l.read) × (l.read ≤ 16777216)
+    × Seen g.P.Action.ScriptAction.language g.P.Performer.performs l.initial.self.progress.performer (g.R.ScriptIn.left l.initial.reader) (g.R.ScriptIn.left l.reader) l.read
+    l.self.progress.performer l.self.progress.lines l.self.progress.block l.self.part.items (g.W.ScriptOut.written l.initial.writer) (g.W.ScriptOut.written l.writer)

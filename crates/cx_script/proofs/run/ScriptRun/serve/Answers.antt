@@ -1,0 +1,31 @@
+use Rattle.std.proofs.Common.{◌≡◌, ◌∙◌, sym, true, false, Result, Ok, Err, OnOk, OnErr, is_err}
+use Rattle.cx_script_blocks.specs.Faults.{is_write}
+use Rattle.cx_script.proofs.PieceLemmas.{served_failed, served_front, served_stopped}
+use Rattle.cx_script.proofs.run.ScriptRun.serve.Goals as goal
+
+on_err : {A E X : Type 0} (r : Result A E) → is_err r ≡ true → OnErr r X → X
+on_err (Ok a) e h = cc
+on_err (Err f) e h = h
+
+on_ok : {A E X : Type 0} (r : Result A E) → is_err r ≡ false → OnOk r X → X
+on_ok (Ok a) e h = h
+on_ok (Err f) e h = cc
+
+pub returns-then-failed-clause-err : goal.returns-then-failed-clause-err
+returns-then-failed-clause-err g c =
+    let wrote : is_write c.take_piece-answer.result ≡ true = sym c.take_piece-answer.ensures.failure ∙ sym c.failed.ensures ∙ c.if-failed.true in
+    let stopped = rw c.requires.waits at c.take_piece-answer.ensures.err in
+    served_failed _ g.P.Performer.performs c.take_piece-answer.result _ _ _ _ _ _ _ stopped wrote
+
+pub returns-then-is_err-clause-err : goal.returns-then-is_err-clause-err
+returns-then-is_err-clause-err g c =
+    let unwritten : is_write c.take_piece-answer.result ≡ false = sym c.take_piece-answer.ensures.failure ∙ sym c.failed.ensures ∙ c.if-failed.false in
+    let came = rw c.requires.waits at c.take_piece-answer.ensures.came in
+    let stopped = rw c.requires.waits at c.take_piece-answer.ensures.err in
+    served_front _ g.P.Performer.performs c.take_piece-answer.result _ _ _ _ _ _ _ _ _ _ _ _ came stopped unwritten (on_err c.flush.result (sym c.is_err.ensures.value ∙ c.if-is_err.true) c.flush.ensures.err)
+
+pub returns-clause-err : goal.returns-clause-err
+returns-clause-err g c =
+    let unwritten : is_write c.take_piece-answer.result ≡ false = sym c.take_piece-answer.ensures.failure ∙ sym c.failed.ensures ∙ c.if-failed.false in
+    let stopped = rw c.requires.waits at c.take_piece-answer.ensures.err in
+    served_stopped _ g.P.Performer.performs c.take_piece-answer.result _ _ _ _ _ _ _ _ stopped unwritten (on_ok c.flush.result (sym c.is_err.ensures.value ∙ c.if-is_err.false) c.flush.ensures.ok)

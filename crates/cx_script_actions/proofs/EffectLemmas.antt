@@ -1,0 +1,54 @@
+-- An action performed, by what the region answered.
+use Rattle.std.proofs.Common.{◌≡◌, ℕ, ◌++◌, List, Option, codes, subst, sym}
+use Rattle.cx_code.specs.declared.image.Image.{Image}
+use Rattle.cx_load.specs.Fault.{IsFit, IsLowestFault, fault_name}
+use Rattle.cx_load.specs.Facts.Faults.{answered_of_lowest, no_fault_of_fit}
+use Rattle.cx_load.specs.declared.fault.ImageFault.{ImageFault}
+use Rattle.cx_region.specs.declared.replies.Event.TheVariants as event
+use Rattle.cx_edf.specs.declared.answers.Answer.{Answer}
+use Rattle.cx_edf.specs.declared.answers.EdfEvent.{EdfEvent}
+use Rattle.cx_edf.specs.declared.answers.EdfEvent.TheVariants as edf_event
+use Rattle.cx_edf.specs.State.{EdfState}
+use Rattle.cx_edf.specs.Steps.{EdfApplies}
+use Rattle.cx_script_actions.specs.Texts.{answer_text, page_lines, refused_text}
+use Rattle.cx_script_actions.specs.Effects.{ByFault, Performs, Replies, main_page_back, shown_page, shown_screen}
+use Rattle.cx_script_actions.specs.declared.actions.Action.TheVariants as action
+
+pub event_replied : (old new : EdfState) (event : EdfEvent) (given : Answer) (text : List ℕ) → EdfApplies old event given new → text ≡ answer_text event given → Replies old event text new
+unfolding Replies
+event_replied old new event given text h t = (given, h, t)
+
+pub image_refused : (old new : EdfState) (name : List ℕ) (image : Image) (fault : ImageFault) (text : List ℕ)
+    → IsLowestFault image fault → text ≡ refused_text (codes "PROGRAM") name (fault_name fault) → new ≡ old → Performs old (action.Image name image) text new
+unfolding Performs
+image_refused old new name image fault text lowest t n =
+    subst (λ (due : Option ImageFault). ByFault due old name image text new) (sym (answered_of_lowest image fault lowest)) (t, n)
+
+pub image_defined : (old new : EdfState) (name : List ℕ) (image : Image) (text : List ℕ)
+    → IsFit image → Replies old (edf_event.Plain (event.Program name image)) text new → Performs old (action.Image name image) text new
+unfolding Performs
+image_defined old new name image text fit d = subst (λ (due : Option ImageFault). ByFault due old name image text new) (sym (no_fault_of_fit image fit)) d
+
+pub event_done : (old new : EdfState) (event : EdfEvent) (text : List ℕ) → Replies old event text new → Performs old (action.Event event) text new
+unfolding Performs
+event_done old new event text h = h
+
+pub screen_shown : (old new : EdfState) (name : List ℕ) (text : List ℕ) → new ≡ old
+    → text ≡ page_lines (codes "SCREEN") name (shown_screen old name) → Performs old (action.Screen name) text new
+unfolding Performs
+screen_shown old new name text n t = (t, n)
+
+pub display_shown : (old new : EdfState) (name : List ℕ) (text : List ℕ) → new ≡ old
+    → text ≡ page_lines (codes "DISPLAY") name (shown_page old name) → Performs old (action.Display name) text new
+unfolding Performs
+display_shown old new name text n t = (t, n)
+
+pub previous_shown : (old new : EdfState) (name : List ℕ) (k : ℕ) (text : List ℕ) → new ≡ old
+    → text ≡ page_lines (codes "DISPLAY") name (main_page_back old name k) → Performs old (action.Previous name k) text new
+unfolding Performs
+previous_shown old new name k text n t = (t, n)
+
+pub source_defined : (old new : EdfState) (name before : List ℕ) (image : Image) (own text : List ℕ)
+    → Performs old (action.Image name image) own new → text ≡ before ++ own → Performs old (action.Source name before image) text new
+unfolding Performs
+source_defined old new name before image own text checks written = (own, checks, written)

@@ -1,0 +1,66 @@
+-- What an action does to the region, and what is written for it (own).
+use Rattle.std.specs.Prelude.{◌≡◌, ℕ, ◌++◌, List, [], map, codes, Option, Some, None}
+use Rattle.std.specs.Option.{option_and_then, option_map}
+use Rattle.cx_base_text.specs.Texts.{shown_text}
+use Rattle.cx_code.specs.declared.image.Image.{Image}
+use Rattle.cx_load.specs.Fault.{fault_name, fault_of}
+use Rattle.cx_load.specs.declared.fault.ImageFault.{ImageFault}
+use Rattle.cx_region.specs.Defining.{fresh_region}
+use Rattle.cx_region.specs.Tables.{terminal_of}
+use Rattle.cx_region.specs.declared.replies.Event.TheVariants as event
+use Rattle.cx_edf_display.specs.declared.displays.Display.{Display}
+use Rattle.cx_edf.specs.declared.answers.Answer.{Answer}
+use Rattle.cx_edf.specs.declared.answers.EdfEvent.{EdfEvent}
+use Rattle.cx_edf.specs.declared.answers.EdfEvent.TheVariants as edf_event
+use Rattle.cx_edf.specs.declared.modes.PageName.{PageName}
+use Rattle.cx_edf.specs.declared.modes.PageName.TheVariants as page
+use Rattle.cx_edf.specs.Sessions.{nth_back, shown_of}
+use Rattle.cx_edf.specs.State.{EdfState, session_at}
+use Rattle.cx_edf.specs.Steps.{EdfApplies}
+use Rattle.cx_script_actions.specs.Texts.{answer_text, page_lines, refused_text}
+use Rattle.cx_script_actions.specs.declared.actions.Action.{Action}
+use Rattle.cx_script_actions.specs.declared.actions.Action.TheVariants as action
+
+-- a region as a script begins it, with EDF Off at each terminal
+abbrev pub fresh_state : EdfState
+fresh_state = record { region = fresh_region; sessions = [] }
+
+-- an event: some answer, and its text
+unfoldable pub Replies : EdfState → EdfEvent → List ℕ → EdfState → Type 0
+Replies old event text new = (given : Answer) × EdfApplies old event given new × (text ≡ answer_text event given)
+
+-- an image without a fault is defined as a program; for any other its lowest fault is reported
+abbrev pub ByFault : Option ImageFault → EdfState → List ℕ → Image → List ℕ → EdfState → Type 0
+ByFault None old name image text new = Replies old (edf_event.Plain (event.Program name image)) text new
+ByFault (Some fault) old name _ text new = (text ≡ refused_text (codes "PROGRAM") name (fault_name fault)) × (new ≡ old)
+
+-- the screen of a terminal, as it is shown
+abbrev pub shown_screen : EdfState → List ℕ → Option (List (List ℕ))
+shown_screen state name = option_map (map shown_text) (option_map (λ t. t.screen) (terminal_of state.region name))
+
+-- the page of a display that has this name
+abbrev pub page_of : Display → PageName → List (List ℕ)
+page_of display page.Main = display.main
+page_of display page.Storage = display.storage
+page_of display page.User = display.user
+
+-- the page that EDF shows at a terminal, in Stopped
+abbrev pub shown_page : EdfState → List ℕ → Option (List (List ℕ))
+shown_page state name = option_map (λ s. page_of s.0 s.1.page) (option_and_then shown_of (session_at state name))
+
+-- the main page of the display a given number before the newest one of a terminal's session
+abbrev pub main_page_back : EdfState → List ℕ → ℕ → Option (List (List ℕ))
+main_page_back state name k =
+    option_map (λ display. display.main) (option_and_then (λ s. nth_back s.displays k) (session_at state name))
+
+-- One action: the region under EDF before, the action, what is written for it, and the region after. What is written of a source
+-- comes before what its image gives.
+unfoldable pub Performs : EdfState → Action → List ℕ → EdfState → Type 0
+Performs old (action.Image name image) text new = ByFault (fault_of image) old name image text new
+Performs old (action.Source name before image) text new =
+    (own : List ℕ) × ByFault (fault_of image) old name image own new × (text ≡ before ++ own)
+Performs old (action.Event event) text new = Replies old event text new
+Performs old (action.Screen name) text new = (text ≡ page_lines (codes "SCREEN") name (shown_screen old name)) × (new ≡ old)
+Performs old (action.Display name) text new = (text ≡ page_lines (codes "DISPLAY") name (shown_page old name)) × (new ≡ old)
+Performs old (action.Previous name k) text new =
+    (text ≡ page_lines (codes "DISPLAY") name (main_page_back old name k)) × (new ≡ old)

@@ -1,0 +1,15 @@
+//! What the lines of a script ask, what it does to a region, and what is written for it.
+#![tactic(auto)]
+
+mod actions;
+mod alterations;
+mod effects;
+mod performer;
+mod texts;
+mod words;
+
+pub use actions::{Action, Line, Wanted, line_of};
+pub use alterations::hex_address;
+pub use performer::{Performer, ScriptAction};
+pub use texts::answer_text;
+pub use words::{name4, name8, number, split_word};

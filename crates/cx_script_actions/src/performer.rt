@@ -1,0 +1,80 @@
+//! What the actions of a script are, and what they are performed on.
+
+ghost use Rattle.std.specs.Prelude.{◌≡◌, ℕ, List as Elements, IfOk, IfSome, OnErr, is_some, true};
+ghost use Rattle.cx_script_actions.specs.Allowed.{IsAllowed, IsAllowedLine};
+ghost use Rattle.cx_script_actions.specs.Language.{Language, edf_language};
+
+use crate::actions::{Action, Line, line_of};
+use cx_base_lists::List;
+use cx_ebcdic::Name8;
+use std::alloc::{AllocError, Global};
+
+/// The actions of a script's language.
+pub trait ScriptAction: Drop {
+    /// What a script's lines ask of these actions.
+    ghost language: { Language Self };
+
+    /// Which of them may be asked.
+    ghost allowed: { Self → Type 0 };
+
+    /// The action that the end of a block gives, as one of these.
+    fn of_block(action: Action) -> Self
+        requires { IsAllowed action }
+        ensures value { result ≡ language.of_block action }
+        ensures allowed { allowed result };
+
+    /// The action that the end of a source's block gives, as one of these: by its program's name, its lines, and the action that
+    /// they are made into.
+    fn of_source(name: Name8, lines: Vec<List<u8>>, action: Action) -> Self
+        requires { IsAllowed action }
+        ensures value { result ≡ language.of_source name lines.items action }
+        ensures allowed { allowed result };
+
+    /// The action that the end of a block of lines gives: by the number of the line that begins it, its name and its lines; None
+    /// in a language without such blocks.
+    fn of_lines(first: usize, name: Name8, lines: Vec<List<u8>>) -> Option<Self>
+        ensures value { result ≡ language.of_lines first name lines.items }
+        ensures allowed { IfSome result allowed };
+
+    /// What a line asks where it is not in a block; None, and never Memory, where it is a bad line.
+    fn read_line(alloc: Global, text: &[u8]) -> Result<Option<Line<Self>>, AllocError>
+        ensures value { IfOk result (λ line. line ≡ language.line_of text.now) }
+        ensures memory { OnErr result (is_some (language.line_of text.now) ≡ true) }
+        ensures allowed { IfOk result (λ line. IfSome line (IsAllowedLine allowed)) };
+}
+
+impl ScriptAction for Action {
+    ghost language = { edf_language };
+
+    ghost allowed = { IsAllowed };
+
+    fn of_block(action: Action) -> Action {
+        action
+    }
+
+    fn of_source(_name: Name8, _lines: Vec<List<u8>>, action: Action) -> Action {
+        action
+    }
+
+    fn of_lines(_first: usize, _name: Name8, _lines: Vec<List<u8>>) -> Option<Action> {
+        None
+    }
+
+    fn read_line(alloc: Global, text: &[u8]) -> Result<Option<Line<Action>>, AllocError> {
+        line_of(alloc, text)
+    }
+}
+
+/// What the actions of a script are performed on.
+pub trait Performer {
+    /// An action of its scripts.
+    type Action: ScriptAction;
+
+    /// One action: the state before, the action, what is written for it, and the state after.
+    ghost performs: { Self → Self.Action → Elements ℕ → Self → Type 0 };
+
+    /// Performs an action, and gives what is written for it.
+    fn perform(&mut self, alloc: Global, action: Self::Action) -> Result<Vec<u8>, AllocError>
+        requires { Self.Action.allowed action }
+        ensures { IfOk result (λ text. performs self.old action text.items self.new) };
+}

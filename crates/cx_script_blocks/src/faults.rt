@@ -1,0 +1,69 @@
+//! Why a run of a script ends early.
+
+ghost use Rattle.std.specs.Prelude.{◌≡◌};
+ghost use Rattle.cx_script_blocks.specs.Status.{status_of};
+ghost use Rattle.cx_script_blocks.specs.declared.faults.RunFault.TheVariants.{Memory};
+
+use cx_asm_build::SourceKind;
+use std::alloc::{AllocError, AllocFailed};
+use thiserror::Error;
+
+/// Why a run of a script ends early. The lines before the fault are done, and their transcript is written.
+/// It is shown as the program's line on standard error.
+#[derive(Clone, Copy, Debug, PartialEq, Eq, Error)]
+pub enum RunFault {
+    /// The line with this number, counted from 1, is no line of a script; or it begins a block that is not ended.
+    #[error("cicsedf: line {0}: BadLine")]
+    BadLine(usize),
+    /// The line with this number, counted from 1, is a faulty one of a source; of NoEnd it is the line that ends the block.
+    #[error("cicsedf: line {0}: {1}")]
+    Source(usize, SourceKind),
+    /// A read failed.
+    #[error("cicsedf: read")]
+    Read,
+    /// A write failed, or took no byte. What was written is a front of the transcript.
+    #[error("cicsedf: write")]
+    Write,
+    /// An allocation failed.
+    #[error("cicsedf: memory")]
+    Memory,
+    /// The script has more than 16,777,216 bytes.
+    #[error("cicsedf: too much input")]
+    ReadBound,
+}
+
+impl From<AllocError> for RunFault {
+    ghost from_gives = { λ _ fault. fault ≡ Memory };
+
+    fn from(_refused: AllocError) -> RunFault {
+        RunFault::Memory
+    }
+}
+
+impl<T: Drop> From<AllocFailed<T>> for RunFault {
+    ghost from_gives = { λ _ fault. fault ≡ Memory };
+
+    fn from(_refused: AllocFailed<T>) -> RunFault {
+        RunFault::Memory
+    }
+}
+
+/// What a whole script was.
+#[derive(Clone, Copy, Debug, PartialEq, Eq)]
+pub struct Summary {
+    /// How many lines it has: those of blocks, comments and empty lines among them.
+    pub lines: usize,
+}
+
+/// The program's status: 0; 1 for a fault in the script; 3 for reading, writing or too much input; 4 for memory.
+/// It takes no memory.
+pub fn status(answer: &Result<Summary, RunFault>) -> u8
+    ensures { result ≡ status_of answer.now }
+{
+    match answer {
+        Ok(_) => 0,
+        Err(RunFault::BadLine(_) | RunFault::Source(_, _)) => 1,
+        Err(RunFault::Read | RunFault::Write | RunFault::ReadBound) => 3,
+        Err(RunFault::Memory) => 4,
+    }
+}

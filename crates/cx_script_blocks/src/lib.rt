@@ -1,0 +1,10 @@
+//! What each line of a script leads to, and the faults that a script may have.
+#![tactic(auto)]
+
+mod blocks;
+mod faults;
+
+#[doc(hidden)]
+pub use blocks::{Block, Body, LineStep, step_at};
+pub use cx_asm_build::SourceKind;
+pub use faults::{RunFault, Summary, status};

@@ -1,0 +1,77 @@
+//! Devices over the standard library's readers and writers.
+
+ghost use Rattle.std.specs.Prelude.{◌≡◌, ◌||◌, IfOk, Ok, false, is_err};
+
+use crate::devices::{DeviceFault, ScriptIn, ScriptOut};
+use std::io;
+use std::io::{Read, Write};
+
+/// A reader or writer of the standard library, with whether it has failed.
+#[derive(Drop)]
+pub struct Std<T> {
+    inner: T,
+    failed: bool,
+}
+
+impl<T> Std<T> {
+    /// The device over this reader or writer, which has not failed.
+    pub fn new(inner: T) -> Std<T>
+        ensures { (result.inner ≡ inner) × (result.failed ≡ false) }
+    {
+        Std {
+            inner,
+            failed: false,
+        }
+    }
+
+    /// What the reader or writer answered, as the device reports it: an error is a failure of the device, and nothing
+    /// else is.
+    fn told(&mut self, answer: io::Result<usize>) -> Result<usize, DeviceFault>
+        ensures count { IfOk answer (λ n. result ≡ Ok n) }
+        ensures fault { is_err result ≡ is_err answer }
+        ensures failure { self.new.failed ≡ (self.old.failed || is_err answer) }
+        ensures inner { self.new.inner ≡ self.old.inner }
+    {
+        match answer {
+            Ok(n) => Ok(n),
+            Err(_) => {
+                self.failed = true;
+                Err(DeviceFault)
+            }
+        }
+    }
+}
+
+impl<T: Read> ScriptIn for Std<T> {
+    ghost left = { λ s. T.remaining s.inner };
+
+    ghost has_failed = { λ s. s.failed };
+
+    fn read(&mut self, buffer: &mut [u8]) -> Result<usize, DeviceFault> {
+        let answer = self.inner.read(buffer);
+        self.told(answer)
+    }
+
+    fn failed(&self) -> bool {
+        self.failed
+    }
+}
+
+impl<T: Write> ScriptOut for Std<T> {
+    ghost written = { λ s. T.contents s.inner };
+
+    ghost has_failed = { λ s. s.failed };
+
+    fn write(&mut self, bytes: &[u8]) -> Result<usize, DeviceFault> {
+        let answer = self.inner.write(bytes);
+        let n = self.told(answer)?;
+        if n == 0 && !bytes.is_empty() {
+            self.failed = true;
+        }
+        Ok(n)
+    }
+
+    fn failed(&self) -> bool {
+        self.failed
+    }
+}

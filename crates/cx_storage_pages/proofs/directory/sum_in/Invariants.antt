@@ -1,0 +1,7 @@
+use Rattle.std.proofs.Common.{◌≡◌, ℕ}
+use Rattle.cx_storage_pages.specs.Pages.{byte_in_pages}
+use Rattle.cx_storage_pages.proofs.directory.sum_in.Given as goal
+
+-- no byte has changed
+abbrev pub invariant-loop-i : goal.invariant-loop-i
+invariant-loop-i l = (x : ℕ) → byte_in_pages l.pages.items x ≡ byte_in_pages l.fn.pages.items x

@@ -1,0 +1,6 @@
+use Rattle.cx_storage_pages.specs.Pages.{page_byte}
+use Rattle.cx_storage_pages.proofs.page.Page.part.Goals as goal
+
+pub returns-in-Some-clause-gap : goal.returns-in-Some-clause-gap
+unfolding page_byte
+returns-in-Some-clause-gap c = λ some fits all. c.part.ensures.gap fits (λ k low high. let here = rw c.in-Some.is at (all k low high) in rw c.deref.ensures here)

@@ -1,8 +1,0 @@
-use Rattle.std.proofs.Common.{◌≡◌, ◌++◌}
-use Rattle.std.specs.List.{filter}
-use Rattle.cx_terms.proofs.WeighLemmas.{is_heavy}
-use Rattle.cx_terms.proofs.weights.heavy_sections.Given as goal
-
-abbrev pub invariant-loop-section : goal.invariant-loop-section
-invariant-loop-section l =
-    l.found.items ++ filter is_heavy l.section-iterator ≡ filter is_heavy l.weights.entries

@@ -1,8 +1,0 @@
-use Rattle.std.proofs.Common.{◌≡◌, ◌≤◌, map, take, length}
-use Rattle.cx_text.specs.Texts.{joined}
-use Rattle.cx_text.specs.Parts.Fields.{Holds}
-use Rattle.cx_text.proofs.texts.in_columns.Given as goal
-
-abbrev pub invariant-loop-piece : goal.invariant-loop-piece
-invariant-loop-piece g l =
-    (length l.field ≡ g.row.COLUMNS) × (l.at ≤ length l.field) × Holds l.field l.at (joined (map (λ piece. piece.now) (take l.piece-index l.pieces)))

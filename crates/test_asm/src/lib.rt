@@ -1,0 +1,44 @@
+//! Tests of the assembler, over public calls: of its parts, and of whole sources. `examples/refuse-places` refuses each allocation of the
+//! first pass in turn.
+#![tactic(auto)]
+
+#[cfg(test)]
+mod addresses;
+#[cfg(test)]
+mod constants;
+#[cfg(test)]
+mod directives;
+#[cfg(test)]
+mod expression_memory;
+#[cfg(test)]
+mod expressions;
+#[cfg(test)]
+mod image_row;
+#[cfg(test)]
+mod image_sections;
+#[cfg(test)]
+mod item_lists;
+#[cfg(test)]
+mod listing;
+#[cfg(test)]
+mod long_expressions;
+#[cfg(test)]
+mod operand_memory;
+#[cfg(test)]
+mod operand_tables;
+#[cfg(test)]
+mod pass1_faults;
+#[cfg(test)]
+mod pass1_places;
+#[cfg(test)]
+mod pass1_texts;
+#[cfg(test)]
+mod refused_sources;
+#[cfg(test)]
+mod statements;
+#[cfg(test)]
+mod symbols;
+#[cfg(test)]
+mod whole_images;
+#[cfg(test)]
+mod whole_texts;

@@ -1,0 +1,124 @@
+//! What the tests' statements are in: a control section P, a dummy section Q, and base registers.
+use cx_asm_expressions::{FaultKind, SymbolTable, TermFault, Value, symbol_name};
+use cx_asm_operands::{Bases, Context, read_using, resolve};
+use cx_asm_operations::{Directive, Operation};
+use cx_code::{CodeBytes, encode};
+use cx_ebcdic::Name8;
+use std::alloc::Global;
+
+/// Each symbol: its name, its section, its number, its length attribute.
+const SYMBOLS: &[(&[u8], &[u8], i128, u128)] = &[
+    (b"P", b"P", 0, 1),
+    (b"LOOP", b"P", 4, 4),
+    (b"X", b"P", 8, 4),
+    (b"Y", b"P", 12, 2),
+    (b"FIELD", b"P", 16, 256),
+    (b"LONG", b"P", 16, 257),
+    (b"BELOW", b"P", 40, 4),
+    (b"FAR", b"P", 4096, 4),
+    (b"Q", b"Q", 0, 1),
+    (b"Z", b"Q", 8, 4),
+    (b"R3", b"", 3, 1),
+];
+
+/// The name of a text; None of an empty one.
+pub(crate) fn name(text: &[u8]) -> Option<Name8> {
+    symbol_name(text)
+}
+
+/// Defines a symbol; a text that is no name is a bad operand.
+fn define(table: &mut SymbolTable, text: &[u8], value: Value) -> Result<(), TermFault> {
+    match name(text) {
+        Some(found) => table.define(found, value),
+        None => Err(TermFault::Refused(FaultKind::BadOperand)),
+    }
+}
+
+/// The table of the tests' symbols; an error where one of them isn't defined.
+pub(crate) fn table(alloc: Global) -> Result<SymbolTable, TermFault> {
+    let mut table = SymbolTable::new(alloc);
+    for &(text, section, number, length) in SYMBOLS {
+        let value = Value {
+            section: name(section),
+            number,
+            length,
+        };
+        define(&mut table, text, value)?;
+    }
+    Ok(table)
+}
+
+/// A place in P.
+pub(crate) fn place(number: i128, length: u128) -> Value {
+    Value {
+        section: name(b"P"),
+        number,
+        length,
+    }
+}
+
+/// Puts a USING into force, if one is written.
+pub(crate) fn put_in_use(
+    alloc: Global,
+    symbols: &SymbolTable,
+    bases: &mut Bases,
+    operand: &[u8],
+) -> Result<(), TermFault> {
+    if operand.is_empty() {
+        return Ok(());
+    }
+    let given = {
+        let c = Context::new(symbols, Some(place(0, 1)), bases, None);
+        read_using(alloc, &c, operand)?
+    };
+    bases.put_in_use(&given);
+    Ok(())
+}
+
+/// Goes past a DROP.
+pub(crate) fn end_use(
+    alloc: Global,
+    symbols: &SymbolTable,
+    bases: &mut Bases,
+    operand: &[u8],
+) -> Result<Option<FaultKind>, TermFault> {
+    let drop = Operation::Directive(Directive::Drop);
+    let fault = bases.pass(alloc, symbols, Some(place(0, 1)), drop, operand)?;
+    Ok(fault)
+}
+
+/// The bytes of a statement at P+20, whose literal, if it has one, is at P+24 with one byte in each copy.
+pub(crate) fn assembled(
+    alloc: Global,
+    symbols: &SymbolTable,
+    bases: &Bases,
+    operation: &[u8],
+    operand: &[u8],
+) -> Result<CodeBytes, TermFault> {
+    let Some(operation) = Operation::from_name(operation) else {
+        return Err(TermFault::Refused(FaultKind::UnknownOperation));
+    };
+    let length = match operation.op() {
+        Some(op) => op.length() as u128,
+        None => 1,
+    };
+    let c = Context::new(symbols, Some(place(20, length)), bases, Some(place(24, 1)));
+    let inst = resolve(alloc, &c, operation, operand)?;
+    Ok(encode(&inst))
+}
+
+/// Whether a statement makes these bytes.
+pub(crate) fn makes(made: Result<CodeBytes, TermFault>, bytes: &[u8]) -> bool {
+    match made {
+        Ok(made) => made.as_slice() == bytes,
+        Err(_) => false,
+    }
+}
+
+/// Whether a statement has this fault.
+pub(crate) fn is_refused(made: Result<CodeBytes, TermFault>, fault: FaultKind) -> bool {
+    match made {
+        Ok(_) => false,
+        Err(found) => found == TermFault::Refused(fault),
+    }
+}

@@ -1,0 +1,21 @@
+//! Runs of scripts between devices over memory.
+
+use cx_script::{RunFault, Summary, run_script};
+use std::process::Abort;
+use test_devices::{PieceIn, PieceOut};
+
+/// Runs a script byte by byte and in whole pieces, and looks at the answer and the transcript.
+pub fn expect_run<R: Abort + AllocGlobal>(
+    rt: &R,
+    script: &[u8],
+    answer: Result<Summary, RunFault>,
+    transcript: &[u8],
+) {
+    for most in [1, usize::MAX] {
+        let mut buffer = [0; 2048];
+        let mut output = PieceOut::new(&mut buffer, most);
+        let ran = run_script(rt.alloc(), &mut PieceIn::new(script, most), &mut output);
+        assert_eq!(rt; ran, answer, "by {most}");
+        assert_eq!(rt; output.text(), transcript, "by {most}");
+    }
+}

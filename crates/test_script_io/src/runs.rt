@@ -1,0 +1,58 @@
+//! Runs of scripts from a reader of pieces, and the scripts that several tests run.
+
+ghost use Rattle.std.specs.Prelude.{◌≡◌, false};
+
+use cx_script::{RunFault, ScriptIn, ScriptOut, Summary, run_script};
+use std::process::Abort;
+use std::test::Fail;
+use test_devices::{PieceIn, PieceOut};
+
+/// Runs a script between devices that have not failed.
+pub fn run<'a, 'b, R: AllocGlobal>(
+    rt: &R,
+    input: &mut PieceIn<'a>,
+    output: &mut PieceOut<'b>,
+) -> Result<Summary, RunFault>
+    requires reader { ⟦<PieceIn<'a> as ScriptIn>⟧.has_failed input.old ≡ false }
+    requires writer { ⟦<PieceOut<'b> as ScriptOut>⟧.has_failed output.old ≡ false }
+{
+    run_script(rt.alloc(), input, output)
+}
+
+/// Runs what a reader has, and looks at the answer, the reader and the transcript. The place is reported where these
+/// differ.
+pub fn expect_read<'a, R: Abort + AllocGlobal>(
+    rt: &R,
+    input: PieceIn<'a>,
+    place: usize,
+    answer: Result<Summary, RunFault>,
+    transcript: &[u8],
+)
+    requires { ⟦<PieceIn<'a> as ScriptIn>⟧.has_failed input ≡ false }
+{
+    let mut buffer = [0; 2048];
+    let mut output = PieceOut::new(&mut buffer, usize::MAX);
+    let mut reader = input;
+    let ran = run(rt, &mut reader, &mut output);
+    assert_eq!(rt; ran, answer, "at {place}");
+    assert_eq!(rt;
+        reader.failed(),
+        answer == Err(RunFault::Read),
+        "at {place}"
+    );
+    assert!(rt; !output.failed(), "at {place}");
+    assert_eq!(rt; output.text(), transcript, "at {place}");
+}
+
+/// `len` bytes of comments: an LF is where what is left, divided by 64, leaves `end`.
+pub fn comments<R: AllocGlobal>(rt: &R, len: usize, end: usize) -> Result<Vec<u8>, Fail> {
+    let mut text = vec![in rt.alloc(); b'*'; len]?;
+    let mut left = len;
+    for byte in text.iter_mut() {
+        if left % 64 == end {
+            *byte = b'\n';
+        }
+        left = left.saturating_sub(1);
+    }
+    Ok(text)
+}

@@ -1,0 +1,133 @@
+//! What is done to a region, with or without EDF.
+
+ghost use Rattle.std.specs.Prelude.{◌≤◌, length};
+
+use cx_ebcdic::{Aid, Name4};
+use cx_edf::{Answer, Debugged, KeyAnswer, TurnAnswer};
+use cx_region::{Change, Region, Reply};
+use cx_storage_pages::PagedStore;
+use std::alloc::AllocError;
+
+/// What a key sends.
+#[derive(Clone, Copy, PartialEq, Eq)]
+pub enum Sent {
+    /// Nothing.
+    Nothing,
+    /// The hostile program's transaction and twelve letters after it.
+    Hostile,
+    /// The other transaction.
+    Other,
+    /// The stop conditions ABEND and END.
+    AbendEnd,
+    /// The stop condition ERROR.
+    Error,
+    /// What is no list of stop conditions: `ERROR HELLO`.
+    Wrong,
+}
+
+const HOSTILE: [u8; 14] = [
+    0xC1, 0x40, 0xC1, 0xC2, 0xC3, 0xC4, 0xC5, 0xC6, 0xC7, 0xC8, 0xC9, 0xD1, 0xD2, 0xD3,
+];
+
+const OTHER: [u8; 1] = [0xC2];
+
+const ABEND_END: [u8; 9] = [0xC1, 0xC2, 0xC5, 0xD5, 0xC4, 0x40, 0xC5, 0xD5, 0xC4];
+
+const ERROR: [u8; 5] = [0xC5, 0xD9, 0xD9, 0xD6, 0xD9];
+
+const WRONG: [u8; 11] = [
+    0xC5, 0xD9, 0xD9, 0xD6, 0xD9, 0x40, 0xC8, 0xC5, 0xD3, 0xD3, 0xD6,
+];
+
+impl Sent {
+    /// The bytes that are sent.
+    fn bytes(self) -> &'static [u8]
+        ensures { length result.now ≤ 1920 }
+    {
+        match self {
+            Sent::Nothing => &[],
+            Sent::Hostile => &HOSTILE,
+            Sent::Other => &OTHER,
+            Sent::AbendEnd => &ABEND_END,
+            Sent::Error => &ERROR,
+            Sent::Wrong => &WRONG,
+        }
+    }
+}
+
+/// What is done at a terminal.
+#[derive(Clone, Copy, PartialEq, Eq)]
+pub enum Act {
+    /// A key, and what it sends.
+    Key(Aid, Sent),
+    /// A turn.
+    Turn,
+    /// EDF ON.
+    On,
+    /// EDF OFF.
+    Off,
+}
+
+/// What was done at a terminal, which had a task or not, and what that was answered.
+#[derive(Clone, Copy)]
+pub struct Done {
+    pub terminal: Name4,
+    pub act: Act,
+    pub had_task: bool,
+    pub answer: Answer,
+}
+
+/// What an act is answered under EDF.
+fn answer(
+    debugged: &mut Debugged<PagedStore>,
+    terminal: Name4,
+    act: Act,
+) -> Result<Answer, AllocError> {
+    match act {
+        Act::Key(aid, sent) => match debugged.key(terminal, aid, sent.bytes())? {
+            KeyAnswer::Region(reply) => Ok(Answer::Region(Reply::Key(reply))),
+            KeyAnswer::ToEdf => Ok(Answer::ToEdf),
+        },
+        Act::Turn => match debugged.turn(terminal)? {
+            TurnAnswer::Region(reply) => Ok(Answer::Region(Reply::Turn(reply))),
+            TurnAnswer::Held => Ok(Answer::Held),
+        },
+        Act::On => Ok(Answer::Edf(debugged.edf_on(terminal)?)),
+        Act::Off => Ok(Answer::Edf(debugged.edf_off(terminal))),
+    }
+}
+
+/// Does it under EDF.
+pub fn perform(
+    debugged: &mut Debugged<PagedStore>,
+    terminal: Name4,
+    act: Act,
+) -> Result<Done, AllocError> {
+    let had_task = debugged.task(terminal).is_some();
+    let answer = answer(debugged, terminal, act)?;
+    Ok(Done {
+        terminal,
+        act,
+        had_task,
+        answer,
+    })
+}
+
+/// Does in a region without EDF what was done with it. None where it is EDF's own: then nothing is done. PF12 that EDF took is the
+/// task's end by an alteration.
+pub fn perform_alone(
+    region: &mut Region<PagedStore>,
+    done: &Done,
+) -> Result<Option<Reply>, AllocError> {
+    let terminal = done.terminal;
+    match (done.act, done.answer) {
+        (Act::Key(Aid::Pf12, _), Answer::ToEdf) if done.had_task => {
+            Ok(Some(Reply::Alter(region.alter(terminal, Change::Abend))))
+        }
+        (Act::Key(aid, sent), Answer::Region(_)) => {
+            Ok(Some(Reply::Key(region.key(terminal, aid, sent.bytes())?)))
+        }
+        (Act::Turn, Answer::Region(_)) => Ok(Some(Reply::Turn(region.turn(terminal)?))),
+        _ => Ok(None),
+    }
+}

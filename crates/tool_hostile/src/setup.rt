@@ -1,0 +1,75 @@
+//! The region of a trial.
+
+ghost use Rattle.std.specs.Prelude.{IfOk};
+ghost use Rattle.cx_region.specs.Sound.{IsSound};
+
+use crate::calls::linking;
+use crate::code::STG_LEN;
+use crate::stop::{Stop, Violation};
+use cx_code::{Bytes, Image, Offsets};
+use cx_ebcdic::{Name4, Name8};
+use cx_load::{CheckedImage, check};
+use cx_region::{DefineFault, Region};
+use cx_storage_pages::PagedStore;
+use std::alloc::Global;
+
+/// The terminal T001, and the others, T002 and T003.
+pub const HOSTILE: [u8; 4] = [0xE3, 0xF0, 0xF0, 0xF1];
+
+pub const OTHERS: [[u8; 4]; 2] = [[0xE3, 0xF0, 0xF0, 0xF2], [0xE3, 0xF0, 0xF0, 0xF3]];
+
+/// The transactions A, the hostile program's, and B, and the programs A and B.
+const TRANSACTIONS: [[u8; 4]; 2] = [[0xC1, 0x40, 0x40, 0x40], [0xC2, 0x40, 0x40, 0x40]];
+
+const A: [u8; 8] = [0xC1, 0x40, 0x40, 0x40, 0x40, 0x40, 0x40, 0x40];
+
+const B: [u8; 8] = [0xC2, 0x40, 0x40, 0x40, 0x40, 0x40, 0x40, 0x40];
+
+/// An image of a text, entered at its first byte; None where it has a fault.
+pub fn image_of(text: Vec<u8>, stg_len: u32, alloc: Global) -> Option<CheckedImage> {
+    check(Image {
+        text: Bytes::from_vec(text),
+        entry: 0,
+        relocs: Offsets::from_vec(Vec::new(alloc)),
+        stg_len,
+    })
+    .ok()
+}
+
+/// Defines the programs, their transactions and the terminals.
+fn define(
+    region: &mut Region<PagedStore>,
+    other: &CheckedImage,
+    hostile: &CheckedImage,
+) -> Result<(), DefineFault> {
+    region.define_program(Name8::from_bytes(B), other)?;
+    region.define_program(Name8::from_bytes(A), hostile)?;
+    let [a, b] = TRANSACTIONS;
+    region.define_transaction(Name4::from_bytes(a), Name8::from_bytes(A))?;
+    region.define_transaction(Name4::from_bytes(b), Name8::from_bytes(B))?;
+    let [second, third] = OTHERS;
+    region.define_terminal(Name4::from_bytes(HOSTILE))?;
+    region.define_terminal(Name4::from_bytes(second))?;
+    region.define_terminal(Name4::from_bytes(third))
+}
+
+/// The image of the program B.
+pub fn other_image(alloc: Global) -> Result<CheckedImage, Stop> {
+    match image_of(linking(alloc)?, STG_LEN, alloc) {
+        Some(image) => Ok(image),
+        None => Err(Stop::Met(Violation::Definition)),
+    }
+}
+
+/// A region in which all is defined.
+pub fn defined(
+    alloc: Global,
+    other: &CheckedImage,
+    hostile: &CheckedImage,
+) -> Result<Region<PagedStore>, Stop>
+    ensures sound { IfOk result IsSound }
+{
+    let mut region = Region::new(alloc, PagedStore::new(alloc))?;
+    define(&mut region, other, hostile)?;
+    Ok(region)
+}

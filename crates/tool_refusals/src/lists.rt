@@ -1,0 +1,211 @@
+//! Lists of events, line by line.
+
+ghost use Rattle.cx_script_actions.specs.Allowed.{IsAllowed, IsAllowedLine};
+ghost use Rattle.cx_edf.specs.Runs.{IsAllowedEdf};
+
+use crate::answers::{print_answer, print_refused};
+use crate::events::{allowed_line, begun_over_areas, begun_over_pages, done};
+use crate::images::{image_of, split_block};
+use crate::pages::{print_all, print_displays, print_screen};
+use crate::sources::program_of;
+use cx_code::Image;
+use cx_ebcdic::{Name4, Name8};
+use cx_edf::{Answer, Debugged, EdfEvent};
+use cx_load::check;
+use cx_region::{Event, Reply};
+use cx_script_actions::{Action, Line, Wanted};
+use cx_script_io::split_line;
+use cx_storage::Store;
+use std::alloc::AllocError;
+use std::io;
+
+/// No list has more lines.
+const MOST_LINES: usize = 65_536;
+
+/// A list up to some line of it.
+#[derive(Drop)]
+struct List<S: Store + Drop> {
+    region: Debugged<S>,
+    /// The terminals that are defined.
+    terminals: Vec<Name4>,
+}
+
+impl<S: Store + Drop> List<S> {
+    /// A list of which nothing is done.
+    fn new(rt: &HostRuntime, region: Debugged<S>) -> List<S> {
+        List {
+            region,
+            terminals: Vec::new(rt.alloc()),
+        }
+    }
+
+    /// Keeps the name of a terminal that was defined.
+    fn defined(&mut self, name: Name4) -> Result<(), AllocError> {
+        if self.terminals.push(name).is_err() {
+            self.terminals.push(name)?;
+        }
+        Ok(())
+    }
+
+    /// Does an event, and prints its answer.
+    fn event(&mut self, rt: &HostRuntime, event: &EdfEvent) -> io::Result<()>
+        requires { IsAllowedEdf event.now }
+    {
+        let answer = done(&mut self.region, event)?;
+        if let (EdfEvent::Plain(Event::Terminal(name)), Answer::Region(Reply::Terminal(Ok(())))) = (
+            event, answer,
+        ) {
+            self.defined(*name)?;
+        }
+        print_answer(rt, event, answer)
+    }
+
+    /// Defines a program from an image.
+    fn image(&mut self, rt: &HostRuntime, name: Name8, image: Image) -> io::Result<()> {
+        match check(image) {
+            Ok(image) => self.event(rt, &EdfEvent::Plain(Event::Program(name, image))),
+            Err((_, fault)) => print_refused(rt, name, fault.name()),
+        }
+    }
+
+    /// Defines a program from a source, and prints what is wanted of it; of a faulty one its fault.
+    fn source(
+        &mut self,
+        rt: &HostRuntime,
+        name: Name8,
+        wanted: Wanted,
+        text: &[u8],
+    ) -> io::Result<()> {
+        match program_of(rt, wanted, text)? {
+            Some(image) => self.image(rt, name, image),
+            None => Ok(()),
+        }
+    }
+
+    /// Does what a line asks that begins no block.
+    fn action(&mut self, rt: &HostRuntime, action: Action) -> io::Result<()>
+        requires { IsAllowed action }
+    {
+        match action {
+            Action::Event(event) => self.event(rt, &event),
+            Action::Screen(name) => print_screen(rt, &self.region, name),
+            Action::Display(name) => print_displays(rt, &self.region, name, None),
+            Action::Previous(name, back) => print_displays(rt, &self.region, name, Some(back)),
+            Action::Image(_, _) | Action::Source(_, _, _) => Ok(()),
+        }
+    }
+
+    /// Defines a program from an image whose text some lines spell.
+    fn image_block(
+        &mut self,
+        rt: &HostRuntime,
+        name: Name8,
+        stg_len: u32,
+        block: &[u8],
+    ) -> io::Result<()> {
+        match image_of(rt.alloc(), block, stg_len)? {
+            Some(image) => self.image(rt, name, image),
+            None => println!(rt; "a bad image"),
+        }
+    }
+
+    /// Does what a line asks, and the block after it where it begins one.
+    fn line(&mut self, rt: &HostRuntime, line: Line<Action>, block: &[u8]) -> io::Result<()>
+        requires { IsAllowedLine IsAllowed line }
+    {
+        match line {
+            Line::Blank | Line::Lines(_) => Ok(()),
+            Line::Action(action) => self.action(rt, action),
+            Line::Image(name, stg_len) => self.image_block(rt, name, stg_len, block),
+            Line::Source(name, wanted) => self.source(rt, name, wanted, block),
+        }
+    }
+
+    /// Does what a text asks; the lines after it begin with its block where it begins one. Answers the lines that are
+    /// left.
+    fn text<'a>(
+        &mut self,
+        rt: &HostRuntime,
+        text: &[u8],
+        behind: &'a [u8],
+    ) -> io::Result<&'a [u8]> {
+        let Some(line) = allowed_line(rt.alloc(), text)? else {
+            println!(rt; "a bad line")?;
+            return Ok(behind);
+        };
+        let (block, rest) = block_of(&line, behind);
+        self.line(rt, line, block)?;
+        Ok(rest)
+    }
+
+    /// Prints what is left at the end.
+    fn end(self, rt: &HostRuntime) -> io::Result<()> {
+        for name in &self.terminals {
+            print_all(rt, &self.region, *name)?;
+        }
+        Ok(())
+    }
+}
+
+/// The lines of the block that a line begins, none where it begins none, and those after it.
+fn block_of<'a>(line: &Line<Action>, behind: &'a [u8]) -> (&'a [u8], &'a [u8]) {
+    match line {
+        Line::Image(_, _) | Line::Source(_, _) | Line::Lines(_) => split_block(behind),
+        Line::Blank | Line::Action(_) => (b"", behind),
+    }
+}
+
+/// Does a list, which may have a heading.
+fn do_list<S: Store + Drop>(rt: &HostRuntime, region: Debugged<S>, lines: &[u8]) -> io::Result<()> {
+    let mut list = List::new(rt, region);
+    let mut rest = lines;
+    for _ in 0..MOST_LINES {
+        let Some((line, behind)) = split_line(rest) else {
+            break;
+        };
+        if line.starts_with(b"LIST ") {
+            println!(rt; "{}", std::str::from_utf8(line).unwrap_or("LIST"))?;
+            rest = behind;
+        } else {
+            rest = list.text(rt, line, behind)?;
+        }
+    }
+    list.end(rt)
+}
+
+/// The lines of a list, and those after it, which begin with the next one's heading.
+fn split_list(lines: &[u8]) -> (&[u8], &[u8]) {
+    let mut rest = lines;
+    for _ in 0..MOST_LINES {
+        let Some((_, behind)) = split_line(rest) else {
+            break;
+        };
+        rest = behind;
+        if rest.starts_with(b"LIST ") {
+            let end = lines.len().saturating_sub(rest.len());
+            return (lines.get(..end).unwrap_or(lines), rest);
+        }
+    }
+    (lines, b"")
+}
+
+/// Does lists, one after the other: over the plain store where a line `FLAT` comes before them, else over pages.
+pub fn do_lists(rt: &HostRuntime, input: &[u8]) -> io::Result<()> {
+    let (is_flat, mut rest) = match input.strip_prefix(b"FLAT\n".as_slice()) {
+        Some(lists) => (true, lists),
+        None => (false, input),
+    };
+    for _ in 0..MOST_LINES {
+        if rest.is_empty() {
+            break;
+        }
+        let (list, behind) = split_list(rest);
+        if is_flat {
+            do_list(rt, begun_over_areas(rt.alloc())?, list)?;
+        } else {
+            do_list(rt, begun_over_pages(rt.alloc())?, list)?;
+        }
+        rest = behind;
+    }
+    Ok(())
+}
