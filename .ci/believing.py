@@ -21,7 +21,7 @@ HEADLINE = "cx_headline"  # laws too, of all of it
 APART = ("Laws", "Facts", "Parts")  # modules of specs/ without definitions: statements of laws, lemmas, words of private functions
 IMPORT = re.compile(r"^[ \t]*(?:pub )?(?:use|mod)\b[^{\n]*(?:\{[^}]*\})?[^\n]*\n?", re.M)
 USE = re.compile(r"\buse Rattle\.(\w+)\.([\w.]+?)(?:\.\{([^}]*)\})?(?: as (\w+))?[ \t]*(?:;|$)", re.M)
-BEFORE, BEHIND = r"[\s(){}\[\],;]", r"[\s(){}\[\],;.]"  # what may be before a word and after it
+BEFORE, AFTER = r"[\s(){}\[\],;]", r"[\s(){}\[\],;.]"  # what may be before a word and after it
 
 
 @functools.cache
@@ -43,7 +43,7 @@ def filled(text, comment="--"):
 
 def cites(text, word):
     """Returns whether a text cites this word."""
-    return word in text and re.search(rf"(?:^|(?<={BEFORE})){re.escape(word)}(?={BEHIND}|$)", text) is not None
+    return word in text and re.search(rf"(?:^|(?<={BEFORE})){re.escape(word)}(?={AFTER}|$)", text) is not None
 
 
 @functools.cache

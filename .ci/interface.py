@@ -351,7 +351,7 @@ def type_named(words):
     return name
 
 
-def behind_angles(words):
+def after_angles(words):
     """Returns what follows the parameters that an impl's head begins with."""
     depth = 0
     for at, word in enumerate(words):
@@ -363,7 +363,7 @@ def behind_angles(words):
 
 def impl_head(words):
     """Returns the names in an impl's head, that of its type and that of its trait if it has one, and whether it has one."""
-    words = behind_angles(words)
+    words = after_angles(words)
     at = words.index("for") if "for" in words else -1
     return {type_named(words[at + 1 :]), type_named(words[: max(at, 0)])} - {None}, at >= 0
 

@@ -82,11 +82,11 @@ def made(number, *parts):
 def statements(lines):
     found, at = [], 0
     while at < len(lines):
-        behind = at + 1
-        while len(lines[behind - 1]) > 71:
-            behind += 1
-        found.append(Statement(at + 1, lines[at:behind]))
-        at = behind
+        after = at + 1
+        while len(lines[after - 1]) > 71:
+            after += 1
+        found.append(Statement(at + 1, lines[at:after]))
+        at = after
     return found
 
 
@@ -229,11 +229,11 @@ class Assembly:
                 self.symbols[one.name] = (self.control, self.place_pool())
                 self.places.append(None)
                 continue
-            at, behind, attribute = self.extent(one, self.sections[section])
+            at, after, attribute = self.extent(one, self.sections[section])
             self.places.append(at)
             if one.name:
                 self.symbols[one.name], self.lengths[one.name] = (section, at), attribute
-            self.sections[section] = behind
+            self.sections[section] = after
 
     def extent(self, one, at):
         """Where a statement begins and ends, and its length attribute."""

@@ -207,7 +207,7 @@ class Session:
         os.close(self.told)
 
     def overdue(self, why):
-        return Overdue(f"{self.name}: FAILED, {why}, behind {self.typed!r}")
+        return Overdue(f"{self.name}: FAILED, {why}, after {self.typed!r}")
 
     def wait_for(self, readers=(), writers=()):
         """Waits until one of these can be read or written."""

@@ -47,7 +47,7 @@ class RawTerminal:
         while len(self.raw) < count:
             data = self.socket.recv(65536)
             if not data:
-                raise EOFError(f"closed, behind {self.told!r}")
+                raise EOFError(f"closed, after {self.told!r}")
             self.raw += data
         taken, self.raw = self.raw[:count], self.raw[count:]
         return taken

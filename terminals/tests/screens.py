@@ -39,7 +39,7 @@ def a_conversation(make):
 
 
 @test
-def keys_one_behind_the_other():
+def keys_one_after_the_other():
     """A key that comes before the last one is answered is taken after that."""
     with Session(TALK) as session:
         terminal = session.terminal().type("talk")

@@ -126,7 +126,7 @@ def exchange(connection, sent, wanted):
     length, answer = len(bytes.fromhex(wanted)), b""
     while len(answer) < length:
         data = connection.recv(length - len(answer))
-        assert data, f"closed behind {answer.hex()}"
+        assert data, f"closed after {answer.hex()}"
         answer += data
     expect(f"answer to {sent}", answer.hex(" ").upper(), wanted)
 

@@ -5,9 +5,9 @@ use Rattle.std.proofs.lemmas.List.{length-reverse, length-take-le, reverse-appen
 use Rattle.cx_asm_operands.specs.Bases.{Bases}
 use Rattle.cx_asm_pass1.specs.AllFaults.{with_fault}
 use Rattle.cx_asm_pass1.specs.Facts.AllFaults.{first_with_fault}
-use Rattle.cx_asm_pass1.specs.PassState.{first_fault_behind}
+use Rattle.cx_asm_pass1.specs.PassState.{first_fault_after}
 use Rattle.cx_asm_pass1.specs.declared.place.LineFault.{LineFault}
-use Rattle.cx_asm_pass2.specs.SecondFaults.{bases_after, bases_behind, second_fault, second_faults_after}
+use Rattle.cx_asm_pass2.specs.SecondFaults.{bases_after, bases_after_all, second_fault, second_faults_after}
 use Rattle.cx_asm_pass2.specs.Statements.{PlacedStatement}
 use Rattle.cx_asm_pass2.specs.Whole.{Whole}
 use Rattle.cx_asm_expressions.specs.declared.faults.FaultKind.{FaultKind}
@@ -19,32 +19,32 @@ so_many : (xs : List PlacedStatement) (i : ℕ) → i < length xs → length (re
 so_many xs i within = let le : i ≤ length xs = omega (arith, within) in length-reverse (take i xs) ∙ length-take-le i xs le
 
 pub bases_more : (told : Whole) (xs : List PlacedStatement) (s : PlacedStatement) (i : ℕ) (bases new : Bases) → i < length xs → s ≡ get_or xs i s
-    → bases ≡ bases_behind told (reverse (take i xs)) → new ≡ bases_after told bases s
-    → new ≡ bases_behind told (reverse (take (i + 1) xs))
+    → bases ≡ bases_after_all told (reverse (take i xs)) → new ≡ bases_after told bases s
+    → new ≡ bases_after_all told (reverse (take (i + 1) xs))
 bases_more told xs s i bases new within is so_far e =
     e ∙ ap (λ (b : Bases). bases_after told b s) so_far
-    ∙ ap (λ (x : PlacedStatement). bases_behind told (x ∷ reverse (take i xs))) is
-    ∙ sym (ap (λ (l : List PlacedStatement). bases_behind told l) (take_one xs s i within))
+    ∙ ap (λ (x : PlacedStatement). bases_after_all told (x ∷ reverse (take i xs))) is
+    ∙ sym (ap (λ (l : List PlacedStatement). bases_after_all told l) (take_one xs s i within))
 
 pub faults_more : (told : Whole) (xs : List PlacedStatement) (s : PlacedStatement) (i : ℕ) (bases : Bases) (faults new : List LineFault) (fault : Option FaultKind)
     → i < length xs → s ≡ get_or xs i s
-    → bases ≡ bases_behind told (reverse (take i xs)) → faults ≡ second_faults_after told (reverse (take i xs))
+    → bases ≡ bases_after_all told (reverse (take i xs)) → faults ≡ second_faults_after told (reverse (take i xs))
     → fault ≡ second_fault told bases i s → new ≡ with_fault s.line fault faults
     → new ≡ second_faults_after told (reverse (take (i + 1) xs))
 faults_more told xs s i bases faults new fault within is at so_far one e =
     let before : List PlacedStatement = reverse (take i xs) in
     e ∙ ap (λ (l : List LineFault). with_fault s.line fault l) so_far
     ∙ ap (λ (f : Option FaultKind). with_fault s.line f (second_faults_after told before))
-    (one ∙ ap (λ (b : Bases). second_fault told b i s) at ∙ ap (λ (n : ℕ). second_fault told (bases_behind told before) n s) (sym (so_many xs i within)))
+    (one ∙ ap (λ (b : Bases). second_fault told b i s) at ∙ ap (λ (n : ℕ). second_fault told (bases_after_all told before) n s) (sym (so_many xs i within)))
     ∙ ap (λ (x : PlacedStatement). second_faults_after told (x ∷ before)) is
     ∙ sym (ap (λ (l : List PlacedStatement). second_faults_after told l) (take_one xs s i within))
 
 pub first_more : (told : Whole) (xs : List PlacedStatement) (s : PlacedStatement) (i : ℕ) (bases : Bases) (first new : Option LineFault) (fault : Option FaultKind)
     → i < length xs → s ≡ get_or xs i s
-    → bases ≡ bases_behind told (reverse (take i xs)) → first ≡ slice_get (second_faults_after told (reverse (take i xs))) 0
-    → fault ≡ second_fault told bases i s → new ≡ first_fault_behind s.line fault first
+    → bases ≡ bases_after_all told (reverse (take i xs)) → first ≡ slice_get (second_faults_after told (reverse (take i xs))) 0
+    → fault ≡ second_fault told bases i s → new ≡ first_fault_after s.line fault first
     → new ≡ slice_get (second_faults_after told (reverse (take (i + 1) xs))) 0
 first_more told xs s i bases first new fault within is at so_far one e =
     let before = second_faults_after told (reverse (take i xs)) in
-    e ∙ ap (λ (o : Option LineFault). first_fault_behind s.line fault o) so_far ∙ sym (first_with_fault s.line fault before)
+    e ∙ ap (λ (o : Option LineFault). first_fault_after s.line fault o) so_far ∙ sym (first_with_fault s.line fault before)
     ∙ ap (λ (l : List LineFault). slice_get l 0) (faults_more told xs s i bases before (with_fault s.line fault before) fault within is at refl one refl)

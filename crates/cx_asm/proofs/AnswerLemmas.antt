@@ -4,11 +4,11 @@ use Rattle.std.proofs.Common.{◌≡◌, ◌≤◌, ℕ, None, List, length, ref
 use Rattle.cx_code.specs.declared.disassembly.Line.{Line}
 use Rattle.cx_asm_image.specs.Resolved.{AreApart}
 use Rattle.cx_asm_image.specs.Text.{text_of}
-use Rattle.cx_asm_pass1.specs.Placed.{known_of}
+use Rattle.cx_asm_pass1.specs.Locations.{known_of}
 use Rattle.cx_source.specs.declared.source.Source.{Source}
 use Rattle.cx_asm.specs.Assembly.{Assembles, AssemblyParts, assembly_of, made_of, section_of, size_of, standing_of}
 use Rattle.cx_asm.specs.Facts.Accepted.{accepted}
-use Rattle.cx_asm.specs.Laws.Standing.{IsWithin, WordsApart}
+use Rattle.cx_asm.specs.Laws.SectionLines.{IsWithin, WordsApart}
 use Rattle.cx_asm.specs.declared.faults.AsmFault.{AsmFault}
 use Rattle.cx_asm.specs.declared.faults.AsmFault.TheVariants as fault
 

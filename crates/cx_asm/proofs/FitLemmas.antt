@@ -6,12 +6,12 @@ use Rattle.std.proofs.Common.{◌≡◌, ◌≤◌, ◌<◌, ℕ, zero, suc, ◌
 use Rattle.cx_code.specs.declared.disassembly.Line.{Line}
 use Rattle.cx_code.specs.declared.disassembly.What.TheVariants.{Code, Data, Space}
 use Rattle.cx_asm_image.specs.Relocated.{words_at}
-use Rattle.cx_asm_image.specs.Resolved.{AreApart, end_behind, end_of}
-use Rattle.cx_asm.specs.Laws.Standing.{IsWithin, WordsApart}
+use Rattle.cx_asm_image.specs.Resolved.{AreApart, end_after, end_of}
+use Rattle.cx_asm.specs.Laws.SectionLines.{IsWithin, WordsApart}
 use Rattle.cx_asm.specs.Parts.Kept.{kept}
 use Rattle.cx_asm.specs.Resolving.{Standing, data_line, join_sections, line as line_of, relocated_offsets, space_line, standing_from}
 use Rattle.cx_source.specs.declared.source.Source.{Source}
-use Rattle.cx_asm_pass1.specs.Placed.{IsPlaced, known_of}
+use Rattle.cx_asm_pass1.specs.Locations.{IsPlaced, known_of}
 use Rattle.cx_asm_pass1.specs.declared.places.Places.{Places}
 use Rattle.cx_asm_operands.specs.Bases.{none_in_use}
 use Rattle.cx_asm_pass2.specs.Statements.{PlacedStatement, statements_of}
@@ -54,7 +54,7 @@ kept_fits true old part rest left first all end e f h is = fits_first old part r
 kept_fits false old part rest left first all end e f h is = cc
 
 -- ---- the last of them
-pub line_fits : (from : ℕ) (lines : List Line) (l : Line) (end : ℕ) → AreApart from (lines ++ l ∷ []) end → (end_behind from lines ≤ l.at) × (end_of l ≤ end)
+pub line_fits : (from : ℕ) (lines : List Line) (l : Line) (end : ℕ) → AreApart from (lines ++ l ∷ []) end → (end_after from lines ≤ l.at) × (end_of l ≤ end)
 line_fits from [] l end apart = (apart.0, apart.1)
 line_fits from (m ∷ lines) l end apart = line_fits (end_of m) lines l end apart.1
 

@@ -11,7 +11,7 @@ use Rattle.cx_asm_expressions.specs.Bytes.{CopyOfConstant, address_made, body_ma
 use Rattle.cx_asm_expressions.specs.Digits.{at_most, is_digit, number_in}
 use Rattle.cx_asm_expressions.specs.Expressions.{value_of}
 use Rattle.cx_asm_expressions.specs.Faults.{lowest}
-use Rattle.cx_asm_expressions.specs.Items.{Constant, behind_digits, constant, constant_in, duplication_in, length_of, constant_or_fault, modifier_in, value_in, value_length, values_in, with_modifier, with_value}
+use Rattle.cx_asm_expressions.specs.Items.{Constant, after_digits, constant, constant_in, duplication_in, length_of, constant_or_fault, modifier_in, value_in, value_length, values_in, with_modifier, with_value}
 use Rattle.cx_asm_expressions.specs.Kinds.{bounded_decimal, half_bytes, integer_bytes, is_below, kind_of, row_of}
 use Rattle.cx_asm_expressions.specs.Weights.{stands_in}
 use Rattle.cx_asm_expressions.specs.declared.faults.FaultKind.{FaultKind}
@@ -192,16 +192,16 @@ kind_modified is_ds duplication rest None item e = cc
 kind_modified is_ds duplication rest (Some kind) item e =
     go (slice_index rest 0 == 76) (not ((row_of kind).greatest_in_dc == 0) && not (length (take_while (is_digit 10) (drop 1 rest)) == 0)) e
   where
-    go : (is takes : Bool) → cond is (cond takes (with_value is_ds duplication kind (Some (take_while (is_digit 10) (drop 1 rest))) (behind_digits (drop 1 rest))) (Err BadOperand))
+    go : (is takes : Bool) → cond is (cond takes (with_value is_ds duplication kind (Some (take_while (is_digit 10) (drop 1 rest))) (after_digits (drop 1 rest))) (Err BadOperand))
         (with_value is_ds duplication kind None rest) ≡ Ok item → Modified item.kind item.modifier
-    go true true e = value_modified is_ds duplication kind (Some (take_while (is_digit 10) (drop 1 rest))) (behind_digits (drop 1 rest)) item e
+    go true true e = value_modified is_ds duplication kind (Some (take_while (is_digit 10) (drop 1 rest))) (after_digits (drop 1 rest)) item e
     go true false e = cc
     go false takes e = value_modified is_ds duplication kind None rest item e
 
 constant_modified : (is_ds : Bool) (text : List ℕ) (item : Constant) → constant_in is_ds text ≡ Ok item → Modified item.kind item.modifier
 unfolding constant_in
 constant_modified is_ds text item e =
-    kind_modified is_ds (take_while (is_digit 10) text) (drop 1 (behind_digits text)) (kind_of (slice_index (behind_digits text) 0)) item e
+    kind_modified is_ds (take_while (is_digit 10) text) (drop 1 (after_digits text)) (kind_of (slice_index (after_digits text) 0)) item e
 
 made_fits : (find : List ℕ → Option Value) (here : Option Value) (control : Option (List ℕ)) (item : Constant) (m : CopyOfConstant) → Modified item.kind item.modifier
     → made_of find here control item ≡ Ok m → MadeFits m (length_of item)

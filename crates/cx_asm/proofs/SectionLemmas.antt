@@ -14,23 +14,23 @@ use Rattle.cx_asm_expressions.specs.declared.faults.FaultKind.TheVariants.{BadOp
 use Rattle.cx_asm_pools.specs.Pools.{PlacedLiterals, OpenLiterals, cap, closed_pool, pool_extent}
 use Rattle.cx_asm_pass1.specs.Facts.Apart.{closing_apart, in_control, lengths_grow, section_ends, statement_stands}
 use Rattle.cx_asm_pass1.specs.Facts.Faults.{none_before}
-use Rattle.cx_asm_pass1.specs.Facts.Laid.{lower_none}
+use Rattle.cx_asm_pass1.specs.Facts.StatementExtents.{lower_none}
 use Rattle.cx_asm_pass1.specs.declared.place.ControlSection.{ControlSection}
 use Rattle.cx_asm_pass1.specs.declared.place.LineFault.{LineFault}
 use Rattle.cx_asm_pass1.specs.Facts.Kept.{last_pool as last_told, pool_among, pool_kept, pool_told}
-use Rattle.cx_asm_pass1.specs.PassState.{PassState, next_state, after_line, at_start, control_after, fault_in, first_fault_behind, is_control, literal_fault, name_fault, name_in, operation_fault, own_fault, pool_after, section_fault, state_after, laid_in, length_of_section, parts_in, place_in, role_in}
+use Rattle.cx_asm_pass1.specs.PassState.{PassState, next_state, after_line, at_start, control_after, fault_in, first_fault_after, is_control, literal_fault, name_fault, name_in, operation_fault, own_fault, pool_after, section_fault, state_after, laid_in, length_of_section, parts_in, place_in, role_in}
 use Rattle.cx_asm_pass1.specs.Laws.Apart.{Stands, section_length}
 use Rattle.cx_asm_pass1.specs.Layout.{extent_of}
-use Rattle.cx_asm_pass1.specs.Placed.{all_pools, last_pool_extent, known_of}
+use Rattle.cx_asm_pass1.specs.Locations.{all_pools, last_pool_extent, known_of}
 use Rattle.cx_asm_pass1.specs.declared.roles.Role.{Role}
 use Rattle.cx_asm_pass1.specs.declared.roles.Role.TheVariants.{Unknown, Instruction, Control, Dummy, Equate, Storage, Pool, Registers, Member, Nothing}
 use Rattle.cx_asm_operands.specs.Bases.{Bases, none_in_use}
 use Rattle.cx_asm_pass2.specs.SecondFaults.{bases_after}
 use Rattle.cx_asm_pass1.specs.declared.place.Place.{Place}
-use Rattle.cx_asm_pass2.specs.Statements.{PlacedItem, PlacedStatement, operation_of, placed_behind, placed_of, placed_statement, stated_in, statements_of}
+use Rattle.cx_asm_pass2.specs.Statements.{PlacedItem, PlacedStatement, operation_of, placed_latest_first, placed_of, placed_statement, stated_in, statements_of}
 use Rattle.cx_asm_pass2.specs.Whole.{Whole, pool_of, whole_known, whole_of}
 use Rattle.cx_asm.specs.Assembly.{size_of, standing_of}
-use Rattle.cx_asm.specs.Laws.Standing.{IsWithin}
+use Rattle.cx_asm.specs.Laws.SectionLines.{IsWithin}
 use Rattle.cx_asm.specs.Resolving.{Standing, last_pool, empty_section, pool_standing, role_standing, standing_from, statement_standing}
 use Rattle.cx_asm.specs.Facts.Bases.{after_sixteen}
 use Rattle.cx_asm.proofs.WithinLemmas.{Resolves, Spelled, instruction_within, items_within, pool_within, within_joined, within_later, within_nothing}
@@ -42,7 +42,7 @@ abbrev place_for : Option Stmt → PassState → Option Place
 place_for stmt known = option_map (λ s. place_in s known) stmt
 
 -- ---- without a control section
-first_none : (line : ℕ) (fault : Option FaultKind) (first : Option LineFault) → first ≡ None → first_fault_behind line fault first ≡ None → fault ≡ None
+first_none : (line : ℕ) (fault : Option FaultKind) (first : Option LineFault) → first ≡ None → first_fault_after line fault first ≡ None → fault ≡ None
 first_none line None None e f = refl
 first_none line (Some fault) None e f = cc
 first_none line fault (Some first) e f = cc
@@ -204,9 +204,9 @@ module _ (resolves : Resolves) (spelled : Spelled) (statements : List PlacedStat
       (within_later _ (last_pool_extent (state_after items)).offset _ _ apart.begins (pool_within (whole_known (state_after items)) statements _ 8 _ _ apart.literals.stand))
 
   -- ---- all lines
-  behind : List Item → List Item → List Item
-  behind [] before = before
-  behind (item ∷ later) before = behind later (item ∷ before)
+  after : List Item → List Item → List Item
+  after [] before = before
+  after (item ∷ later) before = after later (item ∷ before)
 
   placed_after : List Item → List Item → List PlacedItem
   placed_after before [] = []
@@ -216,23 +216,23 @@ module _ (resolves : Resolves) (spelled : Spelled) (statements : List PlacedStat
   sound_line line None known e = e
   sound_line line (Some stmt) known e = none_before line stmt known e
 
-  sound_back : (later before : List Item) → (state_after (behind later before)).fault ≡ None → (state_after before).fault ≡ None
-  unfolding behind
+  sound_back : (later before : List Item) → (state_after (after later before)).fault ≡ None → (state_after before).fault ≡ None
+  unfolding after
   sound_back [] before e = e
   sound_back (item ∷ later) before e = sound_line item.line item.stmt (state_after before) (sound_back later (item ∷ before) e)
 
-  pools_back : (later before : List Item) (k : ℕ) (it : PlacedLiterals) → slice_get (state_after before).pools k ≡ Some it → slice_get (state_after (behind later before)).pools k ≡ Some it
-  unfolding behind
+  pools_back : (later before : List Item) (k : ℕ) (it : PlacedLiterals) → slice_get (state_after before).pools k ≡ Some it → slice_get (state_after (after later before)).pools k ≡ Some it
+  unfolding after
   pools_back [] before k it e = e
   pools_back (item ∷ later) before k it e = pools_back later (item ∷ before) k it (pool_kept (item ∷ []) before k it e)
 
-  along : (later before : List Item) (bases : Bases) → length bases ≡ 16 → (state_after (behind later before)).fault ≡ None → (last_pool_extent (state_after (behind later before))).end ≤ bound
-      → IsWithin (so_far (state_after (behind later before)).control (state_after before))
-      (standing_from (whole_known (state_after (behind later before))) statements bases (filter_map stated_in (placed_after before later))) (last_pool_extent (state_after (behind later before))).end
-  unfolding behind placed_after
+  along : (later before : List Item) (bases : Bases) → length bases ≡ 16 → (state_after (after later before)).fault ≡ None → (last_pool_extent (state_after (after later before))).end ≤ bound
+      → IsWithin (so_far (state_after (after later before)).control (state_after before))
+      (standing_from (whole_known (state_after (after later before))) statements bases (filter_map stated_in (placed_after before later))) (last_pool_extent (state_after (after later before))).end
+  unfolding after placed_after
   along [] before bases sixteen sound le = closing_within before bases sound le
   along (item ∷ later) before bases sixteen sound le =
-      onward (state_after (behind later (item ∷ before))) before item.line item.stmt (filter_map stated_in (placed_after (item ∷ before) later)) _ bases sixteen
+      onward (state_after (after later (item ∷ before))) before item.line item.stmt (filter_map stated_in (placed_after (item ∷ before) later)) _ bases sixteen
       (sound_back later (item ∷ before) sound) (pools_back later (item ∷ before))
       (λ bases sixteen. along later (item ∷ before) bases sixteen sound le)
 
@@ -240,31 +240,31 @@ module _ (resolves : Resolves) (spelled : Spelled) (statements : List PlacedStat
   reverse_first : {X : Type 0} (x : X) (xs : List X) → reverse (x ∷ xs) ≡ reverse xs ++ x ∷ []
   reverse_first x xs = reverse_onto xs x []
 
-  behind_is : (later before : List Item) → behind later before ≡ reverse later ++ before
-  unfolding behind
-  behind_is [] before = refl
-  behind_is (item ∷ later) before =
-      behind_is later (item ∷ before) ∙ sym (ap (λ (l : List Item). l ++ before) (reverse_first item later) ∙ append_assoc (reverse later) (item ∷ []) before)
+  after_is : (later before : List Item) → after later before ≡ reverse later ++ before
+  unfolding after
+  after_is [] before = refl
+  after_is (item ∷ later) before =
+      after_is later (item ∷ before) ∙ sym (ap (λ (l : List Item). l ++ before) (reverse_first item later) ∙ append_assoc (reverse later) (item ∷ []) before)
 
-  placed_is : (later before : List Item) → reverse (placed_behind (behind later before)) ≡ reverse (placed_behind before) ++ placed_after before later
-  unfolding behind placed_after
-  placed_is [] before = sym (append-nil (reverse (placed_behind before)))
+  placed_is : (later before : List Item) → reverse (placed_latest_first (after later before)) ≡ reverse (placed_latest_first before) ++ placed_after before later
+  unfolding after placed_after
+  placed_is [] before = sym (append-nil (reverse (placed_latest_first before)))
   placed_is (item ∷ later) before =
       placed_is later (item ∷ before)
-      ∙ ap (λ (l : List PlacedItem). l ++ placed_after (item ∷ before) later) (reverse_first (placed_item item (place_for item.stmt (state_after before))) (placed_behind before))
-      ∙ append_assoc (reverse (placed_behind before)) (placed_item item (place_for item.stmt (state_after before)) ∷ []) (placed_after (item ∷ before) later)
+      ∙ ap (λ (l : List PlacedItem). l ++ placed_after (item ∷ before) later) (reverse_first (placed_item item (place_for item.stmt (state_after before))) (placed_latest_first before))
+      ∙ append_assoc (reverse (placed_latest_first before)) (placed_item item (place_for item.stmt (state_after before)) ∷ []) (placed_after (item ∷ before) later)
 
-  reversed : (items : List Item) → behind items [] ≡ reverse items
-  reversed items = behind_is items [] ∙ append-nil (reverse items)
+  reversed : (items : List Item) → after items [] ≡ reverse items
+  reversed items = after_is items [] ∙ append-nil (reverse items)
 
   start : (control : Option (List ℕ)) → so_far control at_start ≡ 0
   start None = refl
   start (Some name) = refl
 
-  placed_here : (items : List Item) → placed_after [] items ≡ reverse (placed_behind (reverse items))
-  placed_here items = sym (placed_is items []) ∙ ap (λ (l : List Item). reverse (placed_behind l)) (reversed items)
+  placed_here : (items : List Item) → placed_after [] items ≡ reverse (placed_latest_first (reverse items))
+  placed_here items = sym (placed_is items []) ∙ ap (λ (l : List Item). reverse (placed_latest_first l)) (reversed items)
 
-  all_within : (items before : List Item) → behind items [] ≡ before → (state_after before).fault ≡ None → (last_pool_extent (state_after before)).end ≤ bound
+  all_within : (items before : List Item) → after items [] ≡ before → (state_after before).fault ≡ None → (last_pool_extent (state_after before)).end ≤ bound
       → IsWithin (so_far (state_after before).control at_start)
       (standing_from (whole_known (state_after before)) statements none_in_use (filter_map stated_in (placed_after [] items))) (last_pool_extent (state_after before)).end
   all_within items before e =

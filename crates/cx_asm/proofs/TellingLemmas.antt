@@ -10,7 +10,7 @@ use Rattle.cx_asm_expressions.specs.declared.faults.FaultKind.TheVariants as kin
 use Rattle.cx_asm_pass1.specs.AllFaults.{place_faults}
 use Rattle.cx_asm_pass1.specs.Facts.AllFaults.{first_of_faults}
 use Rattle.cx_asm_pass1.specs.PassState.{PassState, line_fault}
-use Rattle.cx_asm_pass1.specs.Placed.{IsPlaced, known_of}
+use Rattle.cx_asm_pass1.specs.Locations.{IsPlaced, known_of}
 use Rattle.cx_asm_pass1.specs.declared.place.ControlSection.{ControlSection}
 use Rattle.cx_asm_pass1.specs.declared.place.LineFault.{LineFault}
 use Rattle.cx_asm_pass1.specs.declared.places.Places.{Places}

@@ -31,7 +31,7 @@ use Rattle.cx_asm_expressions.specs.Bytes.{CopyOfConstant}
 use Rattle.cx_asm_expressions.specs.Items.{Constant, constant_in, length_of, size_of}
 use Rattle.cx_asm_expressions.specs.declared.faults.FaultKind.{FaultKind}
 use Rattle.cx_asm_expressions.specs.declared.values.Value.{Value}
-use Rattle.cx_asm.specs.Laws.Standing.{IsWithin, WordsApart}
+use Rattle.cx_asm.specs.Laws.SectionLines.{IsWithin, WordsApart}
 use Rattle.cx_asm.specs.Resolving.{Standing, constant_standing, counter_at, data_line, data_standing, instruction_standing, items_standing, item_standing, join_sections, line, empty_section, pool_standing, relocated_offsets, space_line, space_standing}
 use Rattle.cx_asm.proofs.MadeLemmas.{MadeFits, item_fits}
 

@@ -8,7 +8,7 @@ use Rattle.cx_asm_expressions.specs.declared.faults.FaultKind.{FaultKind}
 use Rattle.cx_asm_expressions.specs.declared.faults.FaultKind.TheVariants as kind
 use Rattle.cx_asm_pass1.specs.AllFaults.{place_faults}
 use Rattle.cx_asm_pass1.specs.PassState.{line_fault}
-use Rattle.cx_asm_pass1.specs.Placed.{control_section, known_of, storage_length}
+use Rattle.cx_asm_pass1.specs.Locations.{control_section, known_of, storage_length}
 use Rattle.cx_asm_pass1.specs.declared.place.LineFault.{LineFault}
 use Rattle.cx_asm_operands.specs.Bases.{none_in_use}
 use Rattle.cx_asm_operands.specs.Directives.{entry_in}

@@ -1,3 +1,3 @@
 -- Statements of laws.
-pub mod Standing
+pub mod SectionLines
 pub mod SecondFirst

@@ -5,7 +5,7 @@ ghost use Rattle.std.specs.Option.{option_map_or};
 ghost use Rattle.cx_source.specs.declared.source.Source.{Source};
 ghost use Rattle.cx_asm_image.specs.Assembled.{IsAssembled};
 ghost use Rattle.cx_asm_pass1.specs.AllFaults.{place_faults};
-ghost use Rattle.cx_asm_pass1.specs.Placed.{IsPlaced, known_of};
+ghost use Rattle.cx_asm_pass1.specs.Locations.{IsPlaced, known_of};
 ghost use Rattle.cx_asm_pass2.specs.Whole.{told_by};
 ghost use Rattle.cx_asm_pass2.specs.Statements.{end_of, placed_of, statements_of};
 ghost use Rattle.cx_asm.specs.Assembly.{Assembles, assembly_faults, assembly_of, end_line, entry_by, first_found, made_of, second_faults_of, section_of, size_faults, size_of, standing_of};

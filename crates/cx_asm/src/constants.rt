@@ -7,7 +7,7 @@ ghost use Rattle.cx_asm_expressions.specs.Items.{constant_in};
 ghost use Rattle.cx_asm_pools.specs.Pools.{PlacedLiterals};
 ghost use Rattle.cx_asm_pass2.specs.SecondFaults.{item_fault};
 ghost use Rattle.cx_asm_pass2.specs.Whole.{item_made, told_by};
-ghost use Rattle.cx_asm.specs.Laws.Standing.{IsWithin};
+ghost use Rattle.cx_asm.specs.Laws.SectionLines.{IsWithin};
 ghost use Rattle.cx_asm.specs.Parts.Kept.{Fits, kept};
 ghost use Rattle.cx_asm.specs.Parts.Passing.{literal_standing};
 ghost use Rattle.cx_asm.specs.Resolving.{constant_standing, counter_at, data_standing, item_standing, items_standing, pool_standing, space_standing};

@@ -6,14 +6,14 @@ ghost use Rattle.cx_asm_expressions.specs.Bytes.{CopyOfConstant};
 ghost use Rattle.cx_asm_expressions.specs.Items.{Constant, constant_in, length_of};
 ghost use Rattle.cx_asm_expressions.specs.declared.values.Value.{Value};
 ghost use Rattle.cx_asm_pass1.specs.Laws.FirstFaults.{IsFirstOf};
-ghost use Rattle.cx_asm_pass1.specs.Placed.{known_of};
+ghost use Rattle.cx_asm_pass1.specs.Locations.{known_of};
 ghost use Rattle.cx_source.specs.declared.source.Source.{Source};
 ghost use Rattle.cx_asm_pass2.specs.SecondFaults.{second_faults_after};
 ghost use Rattle.cx_asm_pass2.specs.Statements.{PlacedStatement};
 ghost use Rattle.cx_asm_pass2.specs.Whole.{Whole, item_made};
 ghost use Rattle.cx_asm.specs.Assembly.{Assembles, AssemblyParts, assembly_of, size_of, standing_of};
-ghost use Rattle.cx_asm.specs.Laws.SecondFirst.{second_faults_behind};
-ghost use Rattle.cx_asm.specs.Laws.Standing.{IsWithin, WordsApart};
+ghost use Rattle.cx_asm.specs.Laws.SecondFirst.{faults_by_statement};
+ghost use Rattle.cx_asm.specs.Laws.SectionLines.{IsWithin, WordsApart};
 ghost use Rattle.cx_asm.specs.declared.faults.AsmFault.{AsmFault};
 ghost use Rattle.cx_asm.specs.declared.faults.AsmFault.TheVariants.{Memory};
 
@@ -42,7 +42,7 @@ pub fn what_stands_stands_apart()
 /// on that line; and no statement of that line has one with a lower number. Where there is none no statement has one.
 pub fn the_second_pass_tells_its_first_fault()
     ensures { (told : Whole) (statements : List PlacedStatement)
-        → IsFirstOf (second_faults_behind told statements) (slice_get (second_faults_after told statements) 0) }
+        → IsFirstOf (faults_by_statement told statements) (slice_get (second_faults_after told statements) 0) }
 {}
 
 /// There is one assembly of a source: two answers to one source, neither of them Memory, are one answer.

@@ -5,7 +5,7 @@ ghost use Rattle.cx_asm_pools.specs.Pools.{cap, literal_size};
 ghost use Rattle.cx_asm_pass1.specs.PassState.{role_in};
 ghost use Rattle.cx_asm_image.specs.Listing.{listing_line};
 ghost use Rattle.cx_asm_pass2.specs.Whole.{told_by};
-ghost use Rattle.cx_asm.specs.Listing.{end_behind, line_with, item_listing, object_length, object_of, offset_shown};
+ghost use Rattle.cx_asm.specs.Listing.{end_after, line_with, item_listing, object_length, object_of, offset_shown};
 
 use crate::section::is_control;
 use cx_asm_expressions::Constant;
@@ -44,8 +44,8 @@ fn item_end(item: &StatementItem<'_>) -> u128
 }
 
 /// The offset after a DC's items.
-fn end_behind(at: u128, items: &[StatementItem<'_>]) -> u128
-    ensures { result ≡ end_behind at items.now }
+fn end_after(at: u128, items: &[StatementItem<'_>]) -> u128
+    ensures { result ≡ end_after at items.now }
 {
     match items.last() {
         Some(item) => item_end(item),
@@ -69,7 +69,7 @@ pub fn object_length(
         Role::Storage { is_ds: false } => {
             let items = placed_items(alloc, statement)?;
             let at = statement.place().offset;
-            Ok(end_behind(at, items.as_slice()).saturating_sub(at))
+            Ok(end_after(at, items.as_slice()).saturating_sub(at))
         }
         _ => Ok(0),
     }
@@ -79,8 +79,8 @@ pub fn object_length(
 fn bytes_at(text: &[u8], at: u128, count: u128) -> &[u8]
     ensures { result.now ≡ take count (drop at text.now) }
 {
-    let (_, behind) = text.split_at((text.len() as u128).min(at) as usize);
-    let (bytes, _) = behind.split_at((behind.len() as u128).min(count) as usize);
+    let (_, after) = text.split_at((text.len() as u128).min(at) as usize);
+    let (bytes, _) = after.split_at((after.len() as u128).min(count) as usize);
     bytes
 }
 

@@ -12,7 +12,7 @@ ghost use Rattle.cx_asm_pass1.specs.Roles.{directive_role};
 ghost use Rattle.cx_asm_pass2.specs.SecondFaults.{bases_after, items_fault, literals_fault, operand_fault, second_fault, second_faults_after};
 ghost use Rattle.cx_asm_pass2.specs.Statements.{operation_of, placed_items};
 ghost use Rattle.cx_asm_pass2.specs.Whole.{instruction_context, pool_of, told_by};
-ghost use Rattle.cx_asm.specs.Laws.Standing.{IsWithin};
+ghost use Rattle.cx_asm.specs.Laws.SectionLines.{IsWithin};
 ghost use Rattle.cx_asm.specs.Parts.Kept.{Fits, kept};
 ghost use Rattle.cx_asm.specs.Parts.Passing.{WithUsing};
 ghost use Rattle.cx_asm.specs.Resolving.{instruction_standing, items_standing, join_sections, last_pool, pool_standing, role_standing, standing_from, statement_standing};
@@ -22,7 +22,7 @@ use crate::standing::Standing;
 use cx_asm_expressions::{FaultKind, TermFault, lower};
 use cx_asm_operands::{Bases, copy_fault};
 use cx_asm_operations::{Directive, Operation};
-use cx_asm_pass1::{LineFault, LineFaults, Places, first_fault_behind};
+use cx_asm_pass1::{LineFault, LineFaults, Places, first_fault_after};
 use cx_asm_pass2::{
     Statement, control_name, entry_of, instruction_of, literals_fault, pass_bases, placed_items,
     pool_of,
@@ -60,7 +60,8 @@ fn pass_instruction(
         let made = instruction_standing told bases.now statement.now operation in
         OnOk result (standing.new ≡ kept keeps standing.old made) }
     ensures fault { let told = told_by places.now in
-        let made = instruction_or_fault operation (instruction_context told bases.now statement.now) statement.now.stmt.operand in
+        let made = instruction_or_fault operation (instruction_context told bases.now statement.now)
+        statement.now.stmt.operand in
         IfOk result (λ fault. fault ≡ lower (result_err made) (literals_fault told number statement.now)) }
 {
     let literals = literals_fault(alloc, places, number, statement)?;
@@ -329,7 +330,7 @@ pub(crate) fn second_pass(
             &mut bases,
             &mut standing,
         )?;
-        first = first_fault_behind(statement.line(), fault, first);
+        first = first_fault_after(statement.line(), fault, first);
     }
     push_last_pool(alloc, places, statements, keeps, &mut standing)?;
     Ok(Found { first, standing })

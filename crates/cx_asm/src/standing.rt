@@ -2,7 +2,7 @@
 
 ghost use Rattle.std.specs.Prelude.{◌≡◌, ◌++◌, ◌∷◌, [], IfOk, OnOk, true};
 ghost use Rattle.std.specs.List.{repeat};
-ghost use Rattle.cx_asm.specs.Laws.Standing.{IsWithin, WordsApart};
+ghost use Rattle.cx_asm.specs.Laws.SectionLines.{IsWithin, WordsApart};
 ghost use Rattle.cx_asm.specs.Parts.Kept.{Fits, kept};
 ghost use Rattle.cx_asm.specs.Resolving.{data_line, join_sections, line as resolved_line, empty_section, relocated_offsets, space_line, standing};
 ghost use Rattle.cx_code.specs.declared.disassembly.What.TheVariants.{Code};

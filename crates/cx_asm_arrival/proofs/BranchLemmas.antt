@@ -11,7 +11,7 @@ use Rattle.cx_exec.specs.Branches.{link_word}
 use Rattle.cx_exec.specs.Machine.{Machine, effective}
 use Rattle.cx_exec.specs.Step.{entry, updated_by}
 use Rattle.cx_exec.specs.Advance.{Passes}
-use Rattle.cx_asm_arrival.specs.Made.{Statement, branch, address_reached}
+use Rattle.cx_asm_arrival.specs.Expansion.{Statement, branch, address_reached}
 use Rattle.cx_asm_arrival.specs.Stands.{IsWord, IsApart, list_length}
 use Rattle.cx_asm_arrival.proofs.Ready.{Known, Ready}
 use Rattle.cx_asm_arrival.proofs.SpanLemmas.{word_agree}

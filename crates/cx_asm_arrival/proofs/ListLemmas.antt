@@ -14,7 +14,7 @@ use Rattle.cx_storage.specs.Facts.Spans.{span_at, span_from}
 use Rattle.cx_region_call.specs.Call.{has_high_bit, listed_in}
 use Rattle.cx_region_call.specs.Laws.Calls.{IsCallAt, bytes_of_block}
 use Rattle.cx_exec.specs.Machine.{effective}
-use Rattle.cx_asm_arrival.specs.Made.{Statement, words_of, block_bytes, address_reached, argument_address, call_made}
+use Rattle.cx_asm_arrival.specs.Expansion.{Statement, words_of, block_bytes, address_reached, argument_address, call_made}
 use Rattle.cx_asm_arrival.specs.Stands.{IsLegal}
 use Rattle.cx_asm_arrival.proofs.StoreLemmas.{reaches}
 
@@ -112,12 +112,12 @@ is_call s first list statement ll legal based block words = record {
     start : address_after place 0 ≡ place
     start = omega arith
 
-    behind : option_map listed_in (bytes_of_block s list 4 (2 * length statement.conditions)) ≡ Some statement.conditions
-    behind =
+    after : option_map listed_in (bytes_of_block s list 4 (2 * length statement.conditions)) ≡ Some statement.conditions
+    after =
         let bytes = rest_of_span s place _ _ _ _ (condition_bytes statement.conditions) (omega arith) block in
         rw (head, at, sym (condition_length statement.conditions), bytes) (ap Some (conditions_read statement.conditions))
 
     listed : (lists : Bool) → MatchBool lists ((statement.first ≡ length statement.conditions) × IsTrue (is_legal_list statement.command statement.conditions)) (statement.conditions ≡ [])
         → MatchBool lists ((option_map listed_in (bytes_of_block s list 4 (2 * statement.first)) ≡ Some statement.conditions) × IsTrue (is_legal_list statement.command statement.conditions)) (statement.conditions ≡ [])
-    listed true h = (rw h.0 behind, h.1)
+    listed true h = (rw h.0 after, h.1)
     listed false h = h

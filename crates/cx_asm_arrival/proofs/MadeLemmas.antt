@@ -5,7 +5,7 @@ use Rattle.cx_code.specs.declared.table.Op.TheVariants as op
 use Rattle.cx_code.specs.declared.instruction.Fields.TheVariants.{Rx}
 use Rattle.cx_code.specs.Table.{length_of, row_of}
 use Rattle.cx_code.specs.Spelling.{Instruction, instruction}
-use Rattle.cx_asm_arrival.specs.Made.{Argument, Statement, instructions_made, stores, branch, words_of}
+use Rattle.cx_asm_arrival.specs.Expansion.{Argument, Statement, instructions_made, stores, branch, words_of}
 use Rattle.cx_asm_arrival.specs.Stands.{code_length}
 
 longer : (i : Instruction) (rest : List Instruction) → length_of i.op ≡ 4 → code_length (i ∷ rest) ≡ 4 + code_length rest

@@ -33,13 +33,13 @@ code_longer i rest = sum_by-cons (λ (x : Instruction). length_of x.op) i rest
 pub still : (s t : Storage) (list a : ℕ) (code : List Instruction) → a < 2 ^ 24 → Agree list s t → IsApart list a (code_length code) → AreAt s a code → AreAt t a code
 unfolding AreAt
 still s t list a [] la same apart at = tt
-still s t list a (i ∷ rest) la same apart (well, here, behind) =
+still s t list a (i ∷ rest) la same apart (well, here, later) =
     let longer = code_longer i rest in (
       well,
       span_agree s t a (length_of i.op) la (λ k h. same (address_after a k) (omega arith) (apart k (omega (arith, h, longer)))) ∙ here,
       still s t list (address_after a (length_of i.op)) rest (omega arith) same (λ k h.
           let e : address_after (address_after a (length_of i.op)) k ≡ address_after a (length_of i.op + k) = omega arith in
-          rw e (apart (length_of i.op + k) (omega (arith, h, longer)))) behind,
+          rw e (apart (length_of i.op + k) (omega (arith, h, longer)))) later,
     )
 
 -- after an instruction of four bytes, which changed the list alone, the machine is ready for the next ones
@@ -54,12 +54,12 @@ goes_on list i rest m after ready size next regs sound there same =
     let apart : IsApart list (address_after m.next 4) (code_length rest) = λ k h.
     let e : address_after (address_after m.next 4) k ≡ address_after m.next (4 + k) = omega arith in
     rw e (ready.apart (4 + k) (omega (arith, h, longer, size))) in
-    let behind : AreAt m.storage (address_after m.next 4) rest = rw size at ready.stands.2 in
+    let later : AreAt m.storage (address_after m.next 4) rest = rw size at ready.stands.2 in
     record {
       machine = record { regs = regs; next = omega arith; storage = sound };
       even = omega arith;
       there = there;
-      stands = rw next (still m.storage after.storage list (address_after m.next 4) rest (omega arith) same apart behind);
+      stands = rw next (still m.storage after.storage list (address_after m.next 4) rest (omega arith) same apart later);
       apart = rw next apart;
       outside = λ k h.
           let e : address_after after.next (4 * k) ≡ address_after m.next (4 * suc k) = omega arith in

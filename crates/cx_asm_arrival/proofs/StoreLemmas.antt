@@ -11,7 +11,7 @@ use Rattle.cx_code.specs.declared.instruction.Fields.TheVariants.{Rx}
 use Rattle.cx_code.specs.Spelling.{Instruction, instruction}
 use Rattle.cx_exec.specs.Machine.{Machine, effective, address_part}
 use Rattle.cx_exec.specs.Advance.{Passes}
-use Rattle.cx_asm_arrival.specs.Made.{ImpliedAddress, Argument, stores, address_reached, argument_address}
+use Rattle.cx_asm_arrival.specs.Expansion.{ImpliedAddress, Argument, stores, address_reached, argument_address}
 use Rattle.std.specs.List.{AllByRecursion, enumerate_from}
 use Rattle.cx_asm_arrival.specs.Stands.{IsWord, list_length}
 use Rattle.cx_asm_arrival.proofs.Ready.{Known, Ready}
@@ -118,7 +118,7 @@ stored_more known first list k a arguments m mid after ll room inside one more =
 
     others : (x : ℕ) → x < 2 ^ 24 → (distance list x < 4 * k) ⊎ (4 * (k + suc (length arguments)) ≤ distance list x) → byte_at after.storage x ≡ byte_at m.storage x
     others x lx (inl before) = more.others x lx (inl (omega (arith, before))) ∙ one.others x lx (inl before)
-    others x lx (inr behind) = more.others x lx (inr (omega (arith, behind))) ∙ one.others x lx (inr (omega (arith, behind)))
+    others x lx (inr beyond) = more.others x lx (inr (omega (arith, beyond))) ∙ one.others x lx (inr (omega (arith, beyond)))
 
 -- each has its own word, from word k on
 abbrev pub HaveWords : List ℕ → ℕ → ℕ → List Argument → Type 0

@@ -3,7 +3,7 @@ use Rattle.std.proofs.Common.{ℕ, ◌≤◌, arith, length}
 use Rattle.cx_exec.specs.declared.machine.Halt.TheVariants as halt
 use Rattle.cx_exec.specs.Machine.{Machine}
 use Rattle.cx_exec.specs.Advance.{Advances}
-use Rattle.cx_asm_arrival.specs.Made.{Statement, instructions_made}
+use Rattle.cx_asm_arrival.specs.Expansion.{Statement, instructions_made}
 use Rattle.cx_asm_arrival.specs.Arrives.{Arrives}
 
 pub in_time : (m : Machine) (s : Statement) (after : Machine) (limit : ℕ) → Arrives m s after → length (instructions_made s) ≤ limit → Advances limit m halt.AtEntry after

@@ -13,7 +13,7 @@ use Rattle.cx_asm_arrival.specs.Stands.{list_length}
 -- addresses before and after word k of a list are not among the four from its own on
 far_from_word : (list k x : ℕ) → list < 2 ^ 24 → x < 2 ^ 24 → 4 * k + 4 ≤ list_length → (distance list x < 4 * k) ⊎ (4 * k + 4 ≤ distance list x) → 4 ≤ distance (address_after list (4 * k)) x
 far_from_word list k x ll lx room (inl before) = omega arith
-far_from_word list k x ll lx room (inr behind) = omega arith
+far_from_word list k x ll lx room (inr after) = omega arith
 
 -- bytes stored into word k leave all others
 pub others_stay : (s : Storage) (list k : ℕ) (bytes : List ℕ) (x : ℕ) → list < 2 ^ 24 → x < 2 ^ 24 → 4 * k + 4 ≤ list_length → length bytes ≤ 4

@@ -6,7 +6,7 @@ use Rattle.cx_exec.specs.Machine.{Machine, reg}
 use Rattle.cx_exec.specs.Step.{entry}
 use Rattle.cx_exec.specs.Advance.{Passes}
 use Rattle.cx_region_call.specs.Call.{call_of}
-use Rattle.cx_asm_arrival.specs.Made.{Statement, call_made, instructions_made, address_reached, words_of}
+use Rattle.cx_asm_arrival.specs.Expansion.{Statement, call_made, instructions_made, address_reached, words_of}
 use Rattle.cx_asm_arrival.specs.Stands.{code_length}
 
 -- After as many steps as there are instructions the next address is the entry, and the list at the address in register

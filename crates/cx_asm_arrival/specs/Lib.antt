@@ -1,5 +1,5 @@
 -- The definitions, in reading order, and then what the laws state.
-pub mod Made
+pub mod Expansion
 pub mod Stands
 pub mod Arrives
 pub mod Laws

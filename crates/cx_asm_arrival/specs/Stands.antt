@@ -15,7 +15,7 @@ use Rattle.cx_code.specs.Spelling.{Instruction, IsWellFormed, spelling}
 use Rattle.cx_exec.specs.Machine.{Machine}
 use Rattle.cx_exec.specs.Step.{entry}
 use Rattle.cx_region_call.specs.Call.{has_label, has_resp}
-use Rattle.cx_asm_arrival.specs.Made.{ImpliedAddress, Statement, instructions_made, words_of, block_bytes, address_reached}
+use Rattle.cx_asm_arrival.specs.Expansion.{ImpliedAddress, Statement, instructions_made, words_of, block_bytes, address_reached}
 
 -- What every processor and store are: sixteen registers, an address below 2^24, and areas that don't meet.
 pub record IsMachine (m : Machine) : Type 0 where

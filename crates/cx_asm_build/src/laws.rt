@@ -11,7 +11,7 @@ pub fn no_source_is_refused_for_memory()
 
 /// Lines after the 10,001st don't matter: a source that has not ended with the 10,000th is refused.
 #[tactic(auto, using(crate::proofs::KeptLemmas::prepared_kept))]
-pub fn lines_behind_the_10001st_do_not_matter()
+pub fn lines_after_the_10001st_do_not_matter()
     ensures { (listing code : Bool) (all : List (List ℕ)) → let made = prepared_of listing code in
         made (take 10001 all) ≡ made all }
 {}

@@ -59,7 +59,7 @@ at_register sections regs bases register d x section number (Some None) is holds
 at_register sections regs bases register d x section number (Some (Some base)) is holds h =
     let same : base.section ≡ section = (is_name-decides base.section section).0 holds.0 in
     let place : sections.place section number ≡ address_after (sections.place base.section base.number) d =
-    ap (sections.place section) (sym holds.1) ∙ sections.behind section base.number d ∙ ap (λ s. address_after (sections.place s base.number) d) (sym same) in
+    ap (sections.place section) (sym holds.1) ∙ sections.after section base.number d ∙ ap (λ s. address_after (sections.place s base.number) d) (sym same) in
     let held : address_in (address_part regs register) ≡ sections.place base.section base.number = h base is in
     rw (place, ← held) (modulo (address_part regs register) (address_part regs x) d)
   where

@@ -4,7 +4,7 @@ use Rattle.std.proofs.Common.{zero, suc, ◌≡◌, ◌≤◌, ◌<◌, ℕ, ◌
 use Rattle.std.proofs.lemmas.List.{append_assoc, map-append, reverse-append, reverse-reverse}
 use Rattle.cx_asm_arrival.specs.Arrives.{Arrives}
 use Rattle.cx_asm_arrival.specs.Laws.Entry.{MadeAreCounted, ReachesEntry}
-use Rattle.cx_asm_arrival.specs.Made.{Argument, Statement, block_bytes as statement_bytes, instructions_made as made_code, address_reached, words_of}
+use Rattle.cx_asm_arrival.specs.Expansion.{Argument, Statement, block_bytes as statement_bytes, instructions_made as made_code, address_reached, words_of}
 use Rattle.cx_asm_arrival.specs.Stands.{AreAt, IsAddressed, IsClear, Stands, code_length}
 use Rattle.cx_base_commands.specs.declared.commands.Command.{Command}
 use Rattle.cx_exec.specs.Machine.{Machine}
@@ -20,7 +20,7 @@ use Rattle.cx_storage.specs.Storage.{Storage, span}
 use Rattle.cx_code.specs.declared.table.Op.TheVariants as op
 use Rattle.cx_translate.specs.declared.words.Word.{Word}
 use Rattle.cx_translate.specs.Call.{block_bytes, list_of}
-use Rattle.cx_translate.specs.Made.{call, label, made_item, stmt, stores}
+use Rattle.cx_translate.specs.Expansion.{call, label, made_item, stmt, stores}
 use Rattle.cx_translate.specs.Refusals.{fault_in}
 use Rattle.cx_translate.specs.Sections.{lines}
 use Rattle.cx_translate.specs.Words.{words_of as words_of_operand}
@@ -39,13 +39,13 @@ use Rattle.cx_asm_operations.specs.Operations.{operation_named}
 use Rattle.cx_asm_operands.specs.Forms.{instruction_or_fault}
 use Rattle.cx_asm_pass1.specs.PassState.{place_in}
 use Rattle.cx_asm_execution.specs.Arguments.{IsAddressed as IsAddressedBy, Sections}
-use Rattle.cx_asm_execution.specs.Arriving.{AreKept, CommandsArrive, IsReady}
-use Rattle.cx_asm_execution.specs.Standing.{AreResolved, IsMade, IsResolved, Site, bases_of, lines_after, call_of, code_lines, context_in, site_of}
+use Rattle.cx_asm_execution.specs.Arrival.{AreKept, CommandsArrive, IsReady}
+use Rattle.cx_asm_execution.specs.MadeLines.{AreResolved, IsMade, IsResolved, Site, bases_of, lines_after, call_of, code_lines, context_in, site_of}
 use Rattle.cx_asm_execution.proofs.Arguments.{OperandsAddress}
 use Rattle.cx_asm_execution.proofs.Called.{call_statements}
 use Rattle.cx_asm_execution.proofs.Calls.{mark_of}
 use Rattle.cx_asm_execution.proofs.CodeInStorage.{CodeIsLoaded}
-use Rattle.cx_asm_execution.proofs.Commands.{AreArguments, CallsAreMade, IsStatementOf, ResolvesTo, behind_list, behind_mark, behind_stores, last_word}
+use Rattle.cx_asm_execution.proofs.Commands.{AreArguments, CallsAreMade, IsStatementOf, ResolvesTo, after_list, after_mark, after_stores, last_word}
 use Rattle.cx_asm_execution.proofs.Handed.{BlockStands, EntryStands, LiteralsAreLoaded, block_of}
 use Rattle.cx_asm_execution.proofs.InStorage.{TextsAreMade}
 use Rattle.cx_asm_execution.proofs.Literals.{StandsInSection}
@@ -60,8 +60,8 @@ use Rattle.cx_asm_execution.proofs.LegalLemmas.{Accepts, legal_so, same_bytes, s
 use Rattle.cx_asm_execution.proofs.MadeLemmas.{list_begins, rest_of}
 use Rattle.cx_asm_execution.proofs.PlaceLemmas.{HasBase, HaveWords, have_words, lies_at}
 use Rattle.cx_asm_execution.proofs.PointerLemmas.{loads_pointers}
-use Rattle.cx_asm_execution.proofs.ReturnedLemmas.{comes_back, lines_behind, Laws as ReturnLaws}
-use Rattle.cx_asm_execution.proofs.TogetherLemmas.{made_items, no_fault_in, stand_together, words_behind}
+use Rattle.cx_asm_execution.proofs.ReturnedLemmas.{comes_back, lines_joined, Laws as ReturnLaws}
+use Rattle.cx_asm_execution.proofs.TogetherLemmas.{made_items, no_fault_in, stand_together, words_after}
 
 -- what the laws say
 pub record Laws : Type 0 where
@@ -96,7 +96,7 @@ abbrev IsControl : Sections → Source → ℕ → Type 0
 IsControl sections source at = (name : List ℕ) (offset : ℕ) → (whole_of source).control ≡ Some name → sections.place name (pos offset) ≡ address_after at offset
 
 -- ---- the literals
-abbrev based : Address → Rattle.cx_asm_arrival.specs.Made.ImpliedAddress
+abbrev based : Address → Rattle.cx_asm_arrival.specs.Expansion.ImpliedAddress
 based at = record { base = at.base; displacement = at.displacement }
 
 literal_at : (source : Source) (assembly : AssemblyParts) (c : Context) (bytes : List ℕ) (index : ℕ) (at : Address) (sections : Sections) (regs : List ℕ) (program : ℕ)
@@ -138,7 +138,7 @@ module _ (laws : Laws) (translated : Source) (assembly : AssemblyParts) (line : 
   before_entry : List Item
   before_entry = first ++ lines line (stores 0 (list_of command words)) ++ (made_item line (mark_of (last_word command words)) ∷ made_item line list_of_1 ∷ [])
 
-  entry_turned : reverse before_entry ≡ behind_list line (reverse first) command words
+  entry_turned : reverse before_entry ≡ after_list line (reverse first) command words
   unfolding before_entry
   entry_turned =
       reverse-append (first ++ lines line (stores 0 (list_of command words))) (made_item line (mark_of (last_word command words)) ∷ made_item line list_of_1 ∷ [])
@@ -156,11 +156,11 @@ module _ (laws : Laws) (translated : Source) (assembly : AssemblyParts) (line : 
       ∙ append_assoc (first ++ front ++ one) two case.rest
 
   abbrev entry_context : Context
-  entry_context = context_of (whole_of translated) (bases_in_use translated first) line (behind_list line (reverse first) command words) entry_in_15
+  entry_context = context_of (whole_of translated) (bases_in_use translated first) line (after_list line (reverse first) command words) entry_in_15
 
   entry_stands : StandsInSection translated assembly entry_context (0 ∷ 0 ∷ 8 ∷ 0 ∷ []) 0 (address s.entry.base s.entry.displacement)
   entry_stands =
-      laws.entry translated assembly (bases_in_use translated first) line (behind_list line (reverse first) command words) (made_item line (stmt [] (codes "BALR") (codes "14,15")) ∷ case.rest) 0
+      laws.entry translated assembly (bases_in_use translated first) line (after_list line (reverse first) command words) (made_item line (stmt [] (codes "BALR") (codes "14,15")) ∷ case.rest) 0
       (address s.entry.base s.entry.displacement) case.accepts
       (entry_items ∙ ap (λ k. k ++ (made_item line entry_in_15 ∷ made_item line (stmt [] (codes "BALR") (codes "14,15")) ∷ case.rest)) (sym (reverse-reverse before_entry) ∙ ap (λ k. reverse k) entry_turned))
       case.statement.entry
@@ -226,7 +226,7 @@ module _ (laws : Laws) (translated : Source) (assembly : AssemblyParts) (line : 
 
     -- DFHEIPL's place
     list_context : Context
-    list_context = context_of (whole_of translated) (bases_in_use translated first) line (behind_mark line (reverse first) command words) list_of_1
+    list_context = context_of (whole_of translated) (bases_in_use translated first) line (after_mark line (reverse first) command words) list_of_1
 
     knows : HasSomeList (whole_of translated).find
     unfolding list_context
@@ -249,7 +249,7 @@ module _ (laws : Laws) (translated : Source) (assembly : AssemblyParts) (line : 
         (let same = counts.0 in let most = counts.1 in omega (arith, same, most)) case.statement.arguments ready.bases.1.1.1.1)
 
     last_context : Context
-    last_context = context_of (whole_of translated) (bases_in_use translated first) line (behind_stores line (reverse first) command words) (mark_of (last_word command words))
+    last_context = context_of (whole_of translated) (bases_in_use translated first) line (after_stores line (reverse first) command words) (mark_of (last_word command words))
 
     last_reached : address_reached m.regs s.last ≡ address_after (address_reached m.regs s.list) (4 * length s.arguments)
     unfolding last_context list_context
@@ -310,9 +310,9 @@ module _ (laws : Laws) (translated : Source) (assembly : AssemblyParts) (line : 
         stands addressed clear
 
 -- ---- the arguments
-behind_two : (line : ℕ) (one other : Stmt) (rest : List Stmt) (before : List Item)
+after_two : (line : ℕ) (one other : Stmt) (rest : List Stmt) (before : List Item)
     → reverse (lines line rest) ++ (made_item line other ∷ made_item line one ∷ before) ≡ reverse (lines line (one ∷ other ∷ rest)) ++ before
-behind_two line one other rest before =
+after_two line one other rest before =
     sym (ap (λ k. k ++ before) (reverse-append (made_item line one ∷ made_item line other ∷ []) (lines line rest))
     ∙ append_assoc (reverse (lines line rest)) (made_item line other ∷ made_item line one ∷ []) before)
 
@@ -330,7 +330,7 @@ each_addressed addresses sections regs told bases line before k (t ∷ list) (b 
     (addresses sections regs (context_of told bases line before (load_of t)) t b.index (address b.base b.displacement) are.0))
 each_addressed addresses sections regs told bases line before k (t ∷ list) (b ∷ arguments) are (suc j) text a e f =
     subst (λ l. IsAddressedBy sections regs (context_of told bases line l (load_of text)) text a.index (address a.base a.displacement))
-    (behind_two line (load_of t) (store_of k) (stores (k + 1) (take j list)) before)
+    (after_two line (load_of t) (store_of k) (stores (k + 1) (take j list)) before)
     (each_addressed addresses sections regs told bases line (made_item line (store_of k) ∷ made_item line (load_of t) ∷ before) (k + 1) list arguments are.2 j text a e f)
 
 -- ---- the public relations
@@ -359,30 +359,30 @@ call_code : (source : Source) (assembly : AssemblyParts) (line : ℕ) (first : L
     → StandInCode source first (lines line (call_statements command words)) assembly.section.resolved
 call_code source assembly line first command words all =
     let at = all.code.at in
-    let behind = code_lines (at + code_length all.calls) all.loads in
+    let later = code_lines (at + code_length all.calls) all.loads in
     record {
       at = at;
       code = all.calls;
       resolved = all.here;
       front = all.code.front;
-      back = behind ++ all.code.back;
+      back = later ++ all.code.back;
       stand =
-          all.code.stand ∙ ap (λ k. all.code.front ++ k ++ all.code.back) (ap (code_lines at) all.split ∙ lines_behind at all.calls all.loads)
-          ∙ ap (λ k. k ++ all.code.back) (sym (append_assoc all.code.front (code_lines at all.calls) behind))
-          ∙ append_assoc (all.code.front ++ code_lines at all.calls) behind all.code.back;
+          all.code.stand ∙ ap (λ k. all.code.front ++ k ++ all.code.back) (ap (code_lines at) all.split ∙ lines_joined at all.calls all.loads)
+          ∙ ap (λ k. k ++ all.code.back) (sym (append_assoc all.code.front (code_lines at all.calls) later))
+          ∙ append_assoc (all.code.front ++ code_lines at all.calls) later all.code.back;
     }
 
 -- the lines before the call, it, the loads, and the lines that follow
 parts_of : (item : Item) (exec : Stmt) (items : List Item) (made : IsMade item exec items)
     → items ≡ (made.before ++ lines item.line (label exec.name))
-    ++ (lines item.line (call_statements made.command (words_behind exec made.named)) ++ lines item.line (pointer_loads made.command (words_behind exec made.named))) ++ made.behind
+    ++ (lines item.line (call_statements made.command (words_after exec made.named)) ++ lines item.line (pointer_loads made.command (words_after exec made.named))) ++ made.after
 parts_of item exec items made =
-    let words = words_behind exec made.named in
+    let words = words_after exec made.named in
     let one = lines item.line (label exec.name) in
     let two = lines item.line (call_statements made.command words) in
     let loads = lines item.line (pointer_loads made.command words) in
-    made_items item exec items made ∙ ap (λ k. made.before ++ k ++ made.behind) (made_split item.line exec.name made.command words)
-    ∙ ap (λ k. k ++ made.behind) (ap (λ k. made.before ++ k) (append_assoc one two loads) ∙ sym (append_assoc made.before one (two ++ loads)))
+    made_items item exec items made ∙ ap (λ k. made.before ++ k ++ made.after) (made_split item.line exec.name made.command words)
+    ∙ ap (λ k. k ++ made.after) (ap (λ k. made.before ++ k) (append_assoc one two loads) ∙ sym (append_assoc made.before one (two ++ loads)))
 
 pub commands_arrive : Laws → ReturnLaws → CallsAreMade → CommandsArrive
 unfolding call_code
@@ -398,14 +398,14 @@ commands_arrive laws returns make source translated assembly item exec translate
     let two = lines line (call_statements command words) in
     let loads = lines line (pointer_loads command words) in
     let parts = parts_of item exec translated.items made in
-    let all = loads_pointers make translated assembly line first made.behind command words accepts parts in
+    let all = loads_pointers make translated assembly line first made.after command words accepts parts in
     let code = call_code translated assembly line first command words all in
     let s = all.called.statement in
-    let split : translated.items ≡ first ++ two ++ (loads ++ made.behind) =
-    parts ∙ ap (λ k. k ++ made.behind) (sym (append_assoc first two loads)) ∙ append_assoc (first ++ two) loads made.behind in
+    let split : translated.items ≡ first ++ two ++ (loads ++ made.after) =
+    parts ∙ ap (λ k. k ++ made.after) (sym (append_assoc first two loads)) ∙ append_assoc (first ++ two) loads made.after in
     let case : Case translated assembly line first command words s = record {
       accepts = accepts;
-      rest = loads ++ made.behind;
+      rest = loads ++ made.after;
       items = split;
       cics = take 1 (words_of_operand exec.operand);
       named = take made.named (drop 1 (words_of_operand exec.operand));
@@ -434,7 +434,7 @@ commands_arrive laws returns make source translated assembly item exec translate
         front = all.code.front;
         back = all.code.back;
         stand = all.code.stand ∙ ap (λ k. all.code.front ++ code_lines all.code.at k ++ all.code.back) (all.split ∙ ap (λ k. k ++ all.loads) all.called.made);
-        named = named_so translated exec.name line made.before (loads ++ made.behind) command words assembly.section.resolved split (accepted translated assembly accepts).first code;
+        named = named_so translated exec.name line made.before (loads ++ made.after) command words assembly.section.resolved split (accepted translated assembly accepts).first code;
         places = λ sections regs. each_addressed laws.addresses sections regs told bases line (reverse first) 0 (list_of command words) (words_of s) called.arguments;
         arrives = λ storage loaded program sections m fit done ready.
             arrives_so laws translated assembly line first command words s case storage loaded program sections m fit done ready;

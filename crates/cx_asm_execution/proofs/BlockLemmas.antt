@@ -14,11 +14,11 @@ use Rattle.cx_base_commands.specs.declared.eib.EibPiece.{EibPiece}
 use Rattle.cx_base_commands.specs.Eib.{eib_field, eib_len, eib_pieces}
 use Rattle.cx_ebcdic.specs.Facts.Names.{is_name-decides, is_name-laws}
 use Rattle.cx_ebcdic.specs.Characters.{code_of, table}
-use Rattle.cx_ebcdic.specs.Names.{name_of, name_code, is_name_character}
+use Rattle.cx_ebcdic.specs.Names.{padded_name, name_code, is_name_character}
 use Rattle.cx_asm_operations.specs.Operations.{branches, directives, operation_named, operations, register_branches}
 use Rattle.cx_source.specs.Lines.{is_name, is_letter}
 use Rattle.cx_source.specs.Lines.{is_name_character as is_written_in_names}
-use Rattle.cx_source.specs.Marks.{parts, within_behind}
+use Rattle.cx_source.specs.Marks.{parts, within_after}
 use Rattle.cx_source.specs.declared.marks.Delimiter.TheVariants.{TopComma}
 use Rattle.cx_source.specs.declared.source.Item.{Item}
 use Rattle.cx_source.specs.declared.source.Stmt.{Stmt}
@@ -31,19 +31,19 @@ use Rattle.cx_asm_expressions.specs.declared.faults.FaultKind.TheVariants.{Dupli
 use Rattle.cx_asm_expressions.specs.declared.kinds.ConstantKind.TheVariants.{Hexadecimal}
 use Rattle.cx_asm_expressions.specs.declared.values.Value.{Value}
 use Rattle.cx_asm_pools.specs.Pools.{cap, pool_extent}
-use Rattle.cx_translate.specs.Made.{made_item, stmt}
+use Rattle.cx_translate.specs.Expansion.{made_item, stmt}
 use Rattle.cx_translate.specs.Sections.{field, is_end, lines, with_bases, with_eib, with_storage}
 use Rattle.cx_translate.specs.Translation.{expanded_items, translation}
 use Rattle.cx_translate.specs.Facts.AllFaults.{translated_so}
 use Rattle.cx_asm_pass1.specs.Facts.Faults.{none_before, sound_statement}
 use Rattle.cx_asm_pass1.specs.Facts.Kept.{value_kept}
-use Rattle.cx_asm_pass1.specs.Facts.Laid.{capped_same}
+use Rattle.cx_asm_pass1.specs.Facts.StatementExtents.{capped_same}
 use Rattle.cx_asm_pass1.specs.Given.{duplicate}
 use Rattle.cx_asm_pass1.specs.PassState.{PassState, next_state, after_line, definitions_in, state_after, laid_in, length_of_section, parts_in, role_in}
 use Rattle.cx_asm_pass1.specs.Layout.{fault_beyond, extent_of, laid_at}
 use Rattle.cx_asm_pass1.specs.declared.roles.Role.TheVariants.{Storage, Dummy}
 use Rattle.cx_translate.specs.Facts.Found.{eib_before, eib_section, line_of}
-use Rattle.cx_asm_execution.specs.Laid.{EibIsLaidOut, LaysOut}
+use Rattle.cx_asm_execution.specs.FieldLayouts.{EibIsLaidOut, LaysOut}
 
 -- ---- what is to be shown
 abbrev block_name : Option (List ℕ)
@@ -76,31 +76,31 @@ record Fits (len : ℕ) : Type 0 where
   item : constant_in true (bytes_text len) ≡ Ok (constant 1 Hexadecimal (Some len) None)
 
 fits_1 : Fits 1
-unfolding constant_in kind_of digit within_behind digits
+unfolding constant_in kind_of digit within_after digits
 fits_1 = record { part = refl; item = refl }
 
 fits_2 : Fits 2
-unfolding constant_in kind_of digit within_behind digits
+unfolding constant_in kind_of digit within_after digits
 fits_2 = record { part = refl; item = refl }
 
 fits_4 : Fits 4
-unfolding constant_in kind_of digit within_behind digits
+unfolding constant_in kind_of digit within_after digits
 fits_4 = record { part = refl; item = refl }
 
 fits_6 : Fits 6
-unfolding constant_in kind_of digit within_behind digits
+unfolding constant_in kind_of digit within_after digits
 fits_6 = record { part = refl; item = refl }
 
 fits_8 : Fits 8
-unfolding constant_in kind_of digit within_behind digits
+unfolding constant_in kind_of digit within_after digits
 fits_8 = record { part = refl; item = refl }
 
 fits_16 : Fits 16
-unfolding constant_in kind_of digit within_behind digits
+unfolding constant_in kind_of digit within_after digits
 fits_16 = record { part = refl; item = refl }
 
 fits_17 : Fits 17
-unfolding constant_in kind_of digit within_behind digits
+unfolding constant_in kind_of digit within_after digits
 fits_17 = record { part = refl; item = refl }
 
 -- ---- names
@@ -109,7 +109,7 @@ pub record Named (text : List ℕ) : Type 0 where
   pub is : symbol_name text ≡ Some name
 
 field_named : (f : EibField) → Named (eib_field f).name
-unfolding symbol_name name_of is_name is_letter name_code is_name_character code_of table is_written_in_names
+unfolding symbol_name padded_name is_name is_letter name_code is_name_character code_of table is_written_in_names
 field_named Time = record { name = _; is = refl }
 field_named Date = record { name = _; is = refl }
 field_named Trnid = record { name = _; is = refl }
@@ -123,7 +123,7 @@ field_named Rsrce = record { name = _; is = refl }
 field_named Resp = record { name = _; is = refl }
 
 block_named : Named (codes "DFHEIBLK")
-unfolding symbol_name name_of is_name is_letter name_code is_name_character code_of table is_written_in_names
+unfolding symbol_name padded_name is_name is_letter name_code is_name_character code_of table is_written_in_names
 block_named = record { name = _; is = refl }
 
 -- ---- a field
@@ -299,7 +299,7 @@ has_block before rest line =
       first = first;
       more = [];
       line = line;
-      behind = rest;
+      after = rest;
       begins = refl;
       follow = tt;
       is = refl;

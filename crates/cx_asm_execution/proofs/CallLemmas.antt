@@ -7,7 +7,7 @@ use Rattle.cx_code.specs.declared.instruction.Fields.TheVariants.{Si}
 use Rattle.cx_code.specs.Spelling.{Instruction, instruction}
 use Rattle.cx_code.specs.Table.{is_shift, length_of, ops, row_of}
 use Rattle.cx_source.specs.Lines.{is_letter, is_name}
-use Rattle.cx_source.specs.Marks.{depth_behind, is_length_attribute, parts_from, within_behind}
+use Rattle.cx_source.specs.Marks.{depth_after, is_length_attribute, parts_from, within_after}
 use Rattle.cx_source.specs.declared.marks.Delimiter.TheVariants.{TopComma}
 use Rattle.cx_source.specs.declared.source.Item.{Item}
 use Rattle.cx_asm_expressions.specs.declared.faults.FaultKind.{FaultKind}
@@ -16,7 +16,7 @@ use Rattle.cx_asm_expressions.specs.Expressions.{sum_of_values, value_of}
 use Rattle.cx_asm_expressions.specs.Terms.{read_term, terms_of}
 use Rattle.cx_asm_expressions.specs.Weights.{relocation}
 use Rattle.cx_asm_expressions.specs.Worth.{term_worth}
-use Rattle.cx_translate.specs.Made.{made_item}
+use Rattle.cx_translate.specs.Expansion.{made_item}
 use Rattle.cx_asm_operations.specs.Operations.{operation_named, operations}
 use Rattle.cx_asm_operations.specs.declared.operations.Operation.TheVariants as operation
 use Rattle.cx_asm_operands.specs.Bases.{Bases}
@@ -36,18 +36,18 @@ use Rattle.cx_asm_execution.proofs.PlainLemmas.{ArePlain, decimal_plain, plain_c
 
 -- ---- the two operands
 byte_is : (c : Context) → number_in 255 c (codes "X'80'") ≡ Ok 128
-unfolding number_in value_of terms_of within_behind is_length_attribute read_term is_name is_letter digit term_worth sum_of_values relocation
+unfolding number_in value_of terms_of within_after is_length_attribute read_term is_name is_letter digit term_worth sum_of_values relocation
 byte_is c = refl
 
-behind_comma : (before last : ℕ) (part : List ℕ) → parts_from TopComma (record { within = false; depth = 0; before = before; last = last }) part (codes ",X'80'") ≡ part ∷ codes "X'80'" ∷ []
-unfolding within_behind depth_behind is_length_attribute
-behind_comma before last part = refl
+after_comma : (before last : ℕ) (part : List ℕ) → parts_from TopComma (record { within = false; depth = 0; before = before; last = last }) part (codes ",X'80'") ≡ part ∷ codes "X'80'" ∷ []
+unfolding within_after depth_after is_length_attribute
+after_comma before last part = refl
 
 word_cut : (text : List ℕ) → ArePlain text → operands_of (codes "DFHEIPL+" ++ text ++ codes ",X'80'") ≡ (codes "DFHEIPL+" ++ text) ∷ codes "X'80'" ∷ []
-unfolding within_behind depth_behind
+unfolding within_after depth_after
 word_cut text plain =
     let cut = plain_cut (record { within = false; depth = 0; before = 76; last = 43 }) (codes "DFHEIPL+") text (codes ",X'80'") plain in
-    cut.is ∙ behind_comma cut.before cut.last (codes "DFHEIPL+" ++ text)
+    cut.is ∙ after_comma cut.before cut.last (codes "DFHEIPL+" ++ text)
 
 -- ---- the instruction
 oi_named : operation_named (codes "OI") ≡ Some (operation.Machine op.Oi)

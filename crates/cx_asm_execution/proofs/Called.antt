@@ -5,7 +5,7 @@ use Rattle.cx_source.specs.declared.source.Stmt.{Stmt}
 use Rattle.cx_asm_expressions.specs.Names.{symbol_name}
 use Rattle.cx_translate.specs.declared.words.Word.{Word}
 use Rattle.cx_translate.specs.Call.{list_of}
-use Rattle.cx_translate.specs.Made.{call, stores}
+use Rattle.cx_translate.specs.Expansion.{call, stores}
 use Rattle.cx_asm_pass1.specs.Given.{location_counter}
 use Rattle.cx_asm_pass2.specs.Whole.{Whole}
 

@@ -12,7 +12,7 @@ use Rattle.cx_code.specs.Spelling.{Instruction}
 use Rattle.cx_base_commands.specs.declared.commands.Command.{Command}
 use Rattle.cx_ebcdic.specs.Facts.Names.{is_name-laws}
 use Rattle.cx_source.specs.Lines.{is_letter, is_name}
-use Rattle.cx_source.specs.Marks.{parts, within_behind}
+use Rattle.cx_source.specs.Marks.{parts, within_after}
 use Rattle.cx_source.specs.declared.marks.Delimiter.TheVariants.{TopComma}
 use Rattle.cx_source.specs.declared.source.Item.{Item}
 use Rattle.cx_source.specs.declared.source.Source.{Source}
@@ -27,17 +27,17 @@ use Rattle.cx_asm_pools.specs.Pools.{cap, pool_extent}
 use Rattle.cx_asm_operations.specs.Operations.{branches, directives, operation_named, operations, register_branches}
 use Rattle.cx_translate.specs.declared.words.Word.{Word}
 use Rattle.cx_translate.specs.Call.{list_of, pointers_of}
-use Rattle.cx_translate.specs.Made.{call, label, load, made_in, made_item, stmt, stores}
+use Rattle.cx_translate.specs.Expansion.{call, label, load, made_in, made_item, stmt, stores}
 use Rattle.cx_translate.specs.Sections.{lines}
 use Rattle.cx_base_commands.specs.Commands.{row_of as row_of_command}
 use Rattle.cx_asm_pass1.specs.Facts.Apart.{in_control, section_ends, statement_within}
 use Rattle.cx_asm_pass1.specs.Facts.Faults.{none_before, sound_statement}
 use Rattle.cx_asm_pass1.specs.Facts.Kept.{value_kept}
-use Rattle.cx_asm_pass1.specs.Facts.Laid.{capped_same, capped_within}
+use Rattle.cx_asm_pass1.specs.Facts.StatementExtents.{capped_same, capped_within}
 use Rattle.cx_asm_pass1.specs.Given.{duplicate, location_counter, place_value}
 use Rattle.cx_asm_pass1.specs.PassState.{PassState, next_state, definitions_in, is_control, state_after, laid_in, length_after, length_of_section, name_in, next_in, role_in, section_after, section_fault}
 use Rattle.cx_asm_pass1.specs.Layout.{align, fault_beyond, extent_of, laid_at}
-use Rattle.cx_asm_pass1.specs.Placed.{known_of}
+use Rattle.cx_asm_pass1.specs.Locations.{known_of}
 use Rattle.cx_asm_pass1.specs.declared.roles.Role.TheVariants as role
 use Rattle.cx_asm_operands.specs.Bases.{Bases}
 use Rattle.cx_asm_pass2.specs.Whole.{Whole, whole_of}
@@ -45,7 +45,7 @@ use Rattle.cx_asm_execution.proofs.Called.{StandsFor, call_statements}
 use Rattle.cx_asm_execution.proofs.Handed.{block_of}
 use Rattle.cx_asm_execution.proofs.Resolved.{AreResolved, IsResolved, StandInCode, bases_in_use, is_instruction}
 use Rattle.cx_asm_execution.proofs.Stores.{load_of}
-use Rattle.cx_asm_execution.proofs.BehindLemmas.{control_same, fault_kept, own_sound, section_sound}
+use Rattle.cx_asm_execution.proofs.AfterLemmas.{control_same, fault_kept, own_sound, section_sound}
 use Rattle.cx_asm_execution.proofs.StandingLemmas.{offset_is}
 use Rattle.cx_asm_execution.proofs.BlockLemmas.{none_known}
 
@@ -93,11 +93,11 @@ unfolding operation_named operations ops row_of branches register_branches direc
 role_ds name operand = refl
 
 half_part : parts TopComma (codes "0H") ≡ codes "0H" ∷ []
-unfolding within_behind
+unfolding within_after
 half_part = refl
 
 half_item : constant_in true (codes "0H") ≡ Ok (constant 0 Halfword None None)
-unfolding constant_in kind_of digit within_behind
+unfolding constant_in kind_of digit within_after
 half_item = refl
 
 -- it takes nothing, on a boundary of two
@@ -155,10 +155,10 @@ aligned_even : (n : ℕ) → align 2 (align 2 n) ≡ align 2 n
 aligned_even n = omega arith
 
 -- and what follows it begins at its place
-next_behind : (line : ℕ) (name : List ℕ) (before : List Item) (section : List ℕ) → (state_after before).section ≡ Some section → (next_state line (ds name) (state_after before)).fault ≡ None
+next_after : (line : ℕ) (name : List ℕ) (before : List Item) (section : List ℕ) → (state_after before).section ≡ Some section → (next_state line (ds name) (state_after before)).fault ≡ None
     → align 2 (next_in (next_state line (ds name) (state_after before))) ≡ align 2 (next_in (state_after before))
 unfolding next_state
-next_behind line name before section e sound =
+next_after line name before section e sound =
     let known = state_after before in
     let end = (laid_in (ds name) known).end in
     let lengths = length_after known.section end known.lengths in
@@ -180,17 +180,17 @@ name_stands line name symbol more before s op named is sound = go known.section 
     known : PassState
     known = state_after before
 
-    behind : PassState
-    behind = next_state line (ds name) known
+    after : PassState
+    after = next_state line (ds name) known
 
-    last : (next_state line s behind).fault ≡ None
+    last : (next_state line s after).fault ≡ None
     last = fault_kept more (made_item line s ∷ made_item line (ds name) ∷ before) sound
 
-    first : behind.fault ≡ None
-    first = none_before line s behind last
+    first : after.fault ≡ None
+    first = none_before line s after last
 
-    within : is_control behind.section behind.control ≡ true
-    within = stands_within line s op behind is last
+    within : is_control after.section after.control ≡ true
+    within = stands_within line s op after is last
 
     all : List Item
     all = more ++ (made_item line s ∷ made_item line (ds name) ∷ before)
@@ -200,18 +200,18 @@ name_stands line name symbol more before s op named is sound = go known.section 
         value_kept more (made_item line s ∷ made_item line (ds name) ∷ before) symbol (place_value known.section (align 2 (next_in known)) 2)
         (value_kept (made_item line s ∷ []) (made_item line (ds name) ∷ before) symbol (place_value known.section (align 2 (next_in known)) 2) (name_value line name symbol before named first))
 
-    go : (section : Option (List ℕ)) → known.section ≡ section → Placed all symbol (laid_in s behind).offset
+    go : (section : Option (List ℕ)) → known.section ≡ section → Placed all symbol (laid_in s after).offset
     go None e =
-        let none : behind.section ≡ None = same_section line name known ∙ e in
-        let no : is_control None behind.control ≡ true = subst (λ k. is_control k behind.control ≡ true) none within in
+        let none : after.section ≡ None = same_section line name known ∙ e in
+        let no : is_control None after.control ≡ true = subst (λ k. is_control k after.control ≡ true) none within in
         absurd (cc)
     go (Some section) e =
-        let there : behind.section ≡ Some section = same_section line name known ∙ e in
-        let same : is_control behind.section (state_after all).control ≡ true =
-        control_same more (made_item line s ∷ made_item line (ds name) ∷ before) behind.section (control_same (made_item line s ∷ []) (made_item line (ds name) ∷ before) behind.section within) in
-        let kept : (state_after all).control ≡ Some section = sym (in_control behind.section (state_after all).control same) ∙ there in
-        let at : (laid_in s behind).offset ≡ align 2 (next_in known) = offset_is s op behind is ∙ next_behind line name before section e first in
-        value ∙ ap (λ k. Some (place_value k (align 2 (next_in known)) 2)) e ∙ sym (ap (λ k. location_counter k (laid_in s behind).offset 2) kept ∙ ap (λ n. Some (place_value (Some section) n 2)) at)
+        let there : after.section ≡ Some section = same_section line name known ∙ e in
+        let same : is_control after.section (state_after all).control ≡ true =
+        control_same more (made_item line s ∷ made_item line (ds name) ∷ before) after.section (control_same (made_item line s ∷ []) (made_item line (ds name) ∷ before) after.section within) in
+        let kept : (state_after all).control ≡ Some section = sym (in_control after.section (state_after all).control same) ∙ there in
+        let at : (laid_in s after).offset ≡ align 2 (next_in known) = offset_is s op after is ∙ next_after line name before section e first in
+        value ∙ ap (λ k. Some (place_value k (align 2 (next_in known)) 2)) e ∙ sym (ap (λ k. location_counter k (laid_in s after).offset 2) kept ∙ ap (λ n. Some (place_value (Some section) n 2)) at)
 
 -- ---- a call's first instruction
 pub record HasFirst (told : Whole) (bases : Bases) (before : List Item) (at : ℕ) (item : Item) : Type 0 where
@@ -253,12 +253,12 @@ has_label : (c : ℕ) (cs : List ℕ) → label (c ∷ cs) ≡ ds (c ∷ cs) ∷
 has_label c cs = (let some : (length (c ∷ cs) == 0) ≡ false = grind (arith, nat_tests) in rw some refl)
 
 -- a statement's name
-pub named_so : (source : Source) (name : List ℕ) (line : ℕ) (before behind : List Item) (command : Command) (words : List Word) (lines_of : List Line)
-    → source.items ≡ before ++ lines line (label name) ++ lines line (call_statements command words) ++ behind → (known_of source).fault ≡ None
+pub named_so : (source : Source) (name : List ℕ) (line : ℕ) (before after : List Item) (command : Command) (words : List Word) (lines_of : List Line)
+    → source.items ≡ before ++ lines line (label name) ++ lines line (call_statements command words) ++ after → (known_of source).fault ≡ None
     → (code : StandInCode source (before ++ lines line (label name)) (lines line (call_statements command words)) lines_of) → StandsFor (whole_of source) name code.at
 unfolding symbol_name is_name is_letter
-named_so source [] line before behind command words lines_of is sound code = λ symbol named. absurd (cc)
-named_so source (c ∷ cs) line before behind command words lines_of is sound code =
+named_so source [] line before after command words lines_of is sound code = λ symbol named. absurd (cc)
+named_so source (c ∷ cs) line before after command words lines_of is sound code =
     λ symbol named.
     let name = c ∷ cs in
     let one = made_item line (ds name) in
@@ -273,11 +273,11 @@ named_so source (c ∷ cs) line before behind command words lines_of is sound co
     (subst (λ k. AreResolved (whole_of source) bases (one ∷ reverse before) code.at k code.code) (call_begins line command words)
     (subst (λ k. AreResolved (whole_of source) bases k code.at (lines line (call_statements command words)) code.code) turn code.resolved)) in
     let at : (laid_in s (state_after (one ∷ reverse before))).offset ≡ code.at = first_offset (whole_of source) bases (one ∷ reverse before) code.at line s first in
-    let split : source.items ≡ before ++ (one ∷ []) ++ (other ∷ (tail ++ behind)) =
-    is ∙ ap (λ k. before ++ k ++ lines line (call_statements command words) ++ behind) labelled ∙ ap (λ k. before ++ (one ∷ []) ++ k ++ behind) (call_begins line command words) ∙ append_assoc (before ++ (one ∷ [])) (other ∷ tail) behind in
-    let all : reverse source.items ≡ reverse (tail ++ behind) ++ (other ∷ one ∷ reverse before) = ap (λ k. reverse k) split ∙ turned before (tail ++ behind) one other in
-    let placed : Placed (reverse (tail ++ behind) ++ (other ∷ one ∷ reverse before)) symbol (laid_in s (state_after (one ∷ reverse before))).offset =
-    name_stands line name symbol (reverse (tail ++ behind)) (reverse before) s op.La named (la_role (codes "0," ++ block_of command words)) (subst (λ k. (state_after k).fault ≡ None) all sound) in
+    let split : source.items ≡ before ++ (one ∷ []) ++ (other ∷ (tail ++ after)) =
+    is ∙ ap (λ k. before ++ k ++ lines line (call_statements command words) ++ after) labelled ∙ ap (λ k. before ++ (one ∷ []) ++ k ++ after) (call_begins line command words) ∙ append_assoc (before ++ (one ∷ [])) (other ∷ tail) after in
+    let all : reverse source.items ≡ reverse (tail ++ after) ++ (other ∷ one ∷ reverse before) = ap (λ k. reverse k) split ∙ turned before (tail ++ after) one other in
+    let placed : Placed (reverse (tail ++ after) ++ (other ∷ one ∷ reverse before)) symbol (laid_in s (state_after (one ∷ reverse before))).offset =
+    name_stands line name symbol (reverse (tail ++ after)) (reverse before) s op.La named (la_role (codes "0," ++ block_of command words)) (subst (λ k. (state_after k).fault ≡ None) all sound) in
     subst (λ n. Placed (reverse source.items) symbol n) at (subst (λ k. Placed k symbol (laid_in s (state_after (one ∷ reverse before))).offset) (sym all) placed)
 
 -- ---- the statements made, in three parts

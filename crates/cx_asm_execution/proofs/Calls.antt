@@ -7,7 +7,7 @@ use Rattle.cx_code.specs.declared.instruction.Fields.TheVariants.{Si}
 use Rattle.cx_code.specs.Spelling.{Instruction, instruction}
 use Rattle.cx_source.specs.declared.source.Item.{Item}
 use Rattle.cx_source.specs.declared.source.Stmt.{Stmt}
-use Rattle.cx_translate.specs.Made.{call, made_item, stmt}
+use Rattle.cx_translate.specs.Expansion.{call, made_item, stmt}
 use Rattle.cx_translate.specs.Sections.{lines}
 use Rattle.cx_asm_operands.specs.Bases.{Bases}
 use Rattle.cx_asm_operands.specs.Context.{Context}

@@ -23,7 +23,7 @@ use Rattle.cx_asm_pass2.specs.Whole.{Whole, whole_of}
 use Rattle.cx_asm.specs.Facts.Bases.{after_sixteen}
 use Rattle.cx_asm_execution.proofs.CodeInStorage.{CodeIsLoaded}
 use Rattle.cx_asm_execution.proofs.InStorage.{CodeIsUnraised, IsUnraised, LinesAreLoaded, StandsAt, TextsAreMade}
-use Rattle.cx_asm_execution.specs.Standing.{code_lines}
+use Rattle.cx_asm_execution.specs.MadeLines.{code_lines}
 use Rattle.cx_asm_execution.proofs.Resolved.{AreResolved, bases_from, bases_in_use}
 use Rattle.cx_asm_execution.proofs.LoadedLemmas.{along_twice}
 
@@ -65,9 +65,9 @@ all_at forms sizes told bases sixteen before (item ∷ items) (i ∷ code) at pl
       subst (λ n. AreAt after n code) (sym (along_twice place at (length_of i.op))) rest,
     )
 
-pub behind_front : (P : Line → Type 0) (front rest : List Line) → AllByRecursion P (front ++ rest) → AllByRecursion P rest
-behind_front P [] rest all = all
-behind_front P (l ∷ front) rest all = behind_front P front rest all.1
+pub after_front : (P : Line → Type 0) (front rest : List Line) → AllByRecursion P (front ++ rest) → AllByRecursion P rest
+after_front P [] rest all = all
+after_front P (l ∷ front) rest all = after_front P front rest all.1
 
 pub code_loaded : Forms → Sizes → TextsAreMade → LinesAreLoaded → CodeIsUnraised → CodeIsLoaded
 code_loaded forms sizes texts lines clear source assembly first items storage after loaded accepts fit done code =
@@ -76,5 +76,5 @@ code_loaded forms sizes texts lines clear source assembly first items storage af
     let all : AreLoaded after loaded.at relocs assembly.section.resolved = lines storage after assembly.section loaded (texts source assembly accepts) fit done in
     let none : AreClear relocs assembly.section.resolved = clear source assembly accepts in
     all_at forms sizes (whole_of source) (bases_in_use source first) (in_use_sixteen source first) (reverse first) items code.code code.at loaded.at code.back after relocs code.resolved
-    (behind_front (λ l. IsUnraised relocs l → StandsAt after loaded.at l) code.front (code_lines code.at code.code ++ code.back) (subst (AreLoaded after loaded.at relocs) split all))
-    (behind_front (λ l. is_code l.what ≡ true → IsUnraised relocs l) code.front (code_lines code.at code.code ++ code.back) (subst (AreClear relocs) split none))
+    (after_front (λ l. IsUnraised relocs l → StandsAt after loaded.at l) code.front (code_lines code.at code.code ++ code.back) (subst (AreLoaded after loaded.at relocs) split all))
+    (after_front (λ l. is_code l.what ≡ true → IsUnraised relocs l) code.front (code_lines code.at code.code ++ code.back) (subst (AreClear relocs) split none))

@@ -1,14 +1,14 @@
 -- The statement that an EXEC statement's made instructions are of (Application Programmer's Reference Manual,
 -- SC33-0077, the expansion of a command; the instructions and the argument list are this project's own).
 use Rattle.std.specs.Prelude.{◌≡◌, ℕ, ◌+◌, ◌-◌, false, Ok, List, [], ◌∷◌, ◌++◌, codes, length, reverse}
-use Rattle.cx_asm_arrival.specs.Made.{Argument, Statement, instructions_made, words_of}
+use Rattle.cx_asm_arrival.specs.Expansion.{Argument, Statement, instructions_made, words_of}
 use Rattle.cx_code.specs.Spelling.{Instruction}
 use Rattle.cx_base_commands.specs.declared.commands.Command.{Command}
 use Rattle.cx_source.specs.declared.source.Item.{Item}
 use Rattle.cx_source.specs.declared.source.Stmt.{Stmt}
 use Rattle.cx_translate.specs.declared.words.Word.{Word}
 use Rattle.cx_translate.specs.Call.{list_of, listed_of}
-use Rattle.cx_translate.specs.Made.{made_item, stores}
+use Rattle.cx_translate.specs.Expansion.{made_item, stores}
 use Rattle.cx_translate.specs.Refusals.{first_byte, second_byte}
 use Rattle.cx_translate.specs.Sections.{lines}
 use Rattle.cx_asm_operands.specs.Addresses.{address}
@@ -35,17 +35,17 @@ AreArguments told bases line before k (text ∷ list) (a ∷ arguments) =
 AreArguments told bases line before k list arguments = ⊥
 
 -- the lines up to the end of the stores, the latest first, and those up to the mark and up to the list's address
-abbrev pub behind_stores : ℕ → List Item → Command → List Word → List Item
-behind_stores line before command words = reverse (lines line (stores 0 (list_of command words))) ++ before
+abbrev pub after_stores : ℕ → List Item → Command → List Word → List Item
+after_stores line before command words = reverse (lines line (stores 0 (list_of command words))) ++ before
 
 abbrev pub last_word : Command → List Word → ℕ
 last_word command words = length (list_of command words) - 1
 
-abbrev pub behind_mark : ℕ → List Item → Command → List Word → List Item
-behind_mark line before command words = made_item line (mark_of (last_word command words)) ∷ behind_stores line before command words
+abbrev pub after_mark : ℕ → List Item → Command → List Word → List Item
+after_mark line before command words = made_item line (mark_of (last_word command words)) ∷ after_stores line before command words
 
-abbrev pub behind_list : ℕ → List Item → Command → List Word → List Item
-behind_list line before command words = made_item line list_of_1 ∷ behind_mark line before command words
+abbrev pub after_list : ℕ → List Item → Command → List Word → List Item
+after_list line before command words = made_item line list_of_1 ∷ after_mark line before command words
 
 -- The statement of a command with these words, whose made statements come after these lines: what the translator has
 -- put into the block, and what the operands are resolved to.
@@ -55,10 +55,10 @@ pub record IsStatementOf (told : Whole) (bases : Bases) (line : ℕ) (before : L
   pub second : s.second ≡ second_byte words
   pub conditions : s.conditions ≡ listed_of words
   pub arguments : AreArguments told bases line before 0 (list_of command words) (words_of s)
-  pub last : plain_in false (context_of told bases line (behind_stores line before command words) (mark_of (last_word command words)))
+  pub last : plain_in false (context_of told bases line (after_stores line before command words) (mark_of (last_word command words)))
       (word_of_list (last_word command words)) ≡ Ok (address s.last.base s.last.displacement)
-  pub list : ResolvesTo told bases line (behind_mark line before command words) list_of_1 (codes "DFHEIPL") 0 s.list.base s.list.displacement
-  pub entry : ResolvesTo told bases line (behind_list line before command words) entry_in_15 (codes "=V(DFHEI1)") 0 s.entry.base s.entry.displacement
+  pub list : ResolvesTo told bases line (after_mark line before command words) list_of_1 (codes "DFHEIPL") 0 s.list.base s.list.displacement
+  pub entry : ResolvesTo told bases line (after_list line before command words) entry_in_15 (codes "=V(DFHEI1)") 0 s.entry.base s.entry.displacement
 
 -- Instructions that are made of such a statement.
 pub record AreMade (told : Whole) (bases : Bases) (line : ℕ) (before : List Item) (command : Command) (words : List Word) (code : List Instruction) : Type 0 where

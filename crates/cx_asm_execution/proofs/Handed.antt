@@ -12,7 +12,7 @@ use Rattle.cx_storage.specs.Address.{address_after}
 use Rattle.cx_storage.specs.Storage.{Storage, span}
 use Rattle.cx_translate.specs.declared.words.Word.{Word}
 use Rattle.cx_translate.specs.Call.{block_bytes, block_literal}
-use Rattle.cx_translate.specs.Made.{made_item}
+use Rattle.cx_translate.specs.Expansion.{made_item}
 use Rattle.cx_translate.specs.Refusals.{fault_in}
 use Rattle.cx_asm_operands.specs.Bases.{Bases}
 use Rattle.cx_asm_operands.specs.Context.{Context}
@@ -30,17 +30,17 @@ block_of command words = block_literal (block_bytes command words)
 -- The block of an accepted EXEC statement is in the control section where that operand says; `before` are the lines
 -- before it, the latest first.
 abbrev pub BlockStands : Type 0
-BlockStands = (source : Source) (assembly : AssemblyParts) (bases : Bases) (number line : ℕ) (before behind : List Item)
+BlockStands = (source : Source) (assembly : AssemblyParts) (bases : Bases) (number line : ℕ) (before later : List Item)
     (command : Command) (cics named words : List Word) (index : ℕ) (address : Address) → assembly_of source ≡ Ok assembly
     → fault_in line command cics named words ≡ None
-    → source.items ≡ reverse before ++ made_item number (load_of (block_of command words)) ∷ behind
+    → source.items ≡ reverse before ++ made_item number (load_of (block_of command words)) ∷ later
     → indexed_in (context_of (whole_of source) bases number before (load_of (block_of command words))) (block_of command words) ≡ Ok (index, address)
     → StandsInSection source assembly (context_of (whole_of source) bases number before (load_of (block_of command words))) (block_bytes command words) index address
 
 -- So is the word with the entry's address, 00000800.
 abbrev pub EntryStands : Type 0
-EntryStands = (source : Source) (assembly : AssemblyParts) (bases : Bases) (number : ℕ) (before behind : List Item) (index : ℕ)
-    (address : Address) → assembly_of source ≡ Ok assembly → source.items ≡ reverse before ++ made_item number entry_in_15 ∷ behind
+EntryStands = (source : Source) (assembly : AssemblyParts) (bases : Bases) (number : ℕ) (before later : List Item) (index : ℕ)
+    (address : Address) → assembly_of source ≡ Ok assembly → source.items ≡ reverse before ++ made_item number entry_in_15 ∷ later
     → indexed_in (context_of (whole_of source) bases number before entry_in_15) (codes "=V(DFHEI1)") ≡ Ok (index, address)
     → StandsInSection source assembly (context_of (whole_of source) bases number before entry_in_15) (0 ∷ 0 ∷ 8 ∷ 0 ∷ []) index address
 

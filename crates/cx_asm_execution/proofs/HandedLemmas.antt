@@ -19,7 +19,7 @@ use Rattle.cx_base_commands.specs.Conditions.{entry_of}
 use Rattle.cx_base_commands.specs.Legal.{is_legal, is_legal_second, is_legal_set, lists_conditions}
 use Rattle.cx_base_commands.specs.Options.{common_of, option_name}
 use Rattle.cx_asm_operations.specs.Operations.{operation_named, operations}
-use Rattle.cx_source.specs.Marks.{depth_behind, is_length_attribute, within_behind}
+use Rattle.cx_source.specs.Marks.{depth_after, is_length_attribute, within_after}
 use Rattle.cx_source.specs.declared.source.Item.{Item}
 use Rattle.cx_source.specs.declared.source.Source.{Source}
 use Rattle.cx_source.specs.declared.source.Stmt.{Stmt}
@@ -32,8 +32,8 @@ use Rattle.cx_asm_pass1.specs.PassState.{role_in}
 use Rattle.cx_translate.specs.declared.words.Word.{Word}
 use Rattle.cx_translate.specs.Facts.Found.{listed_by, with_option}
 use Rattle.cx_translate.specs.Call.{block_bytes, hex_pair, listed_of, text_in}
-use Rattle.cx_translate.specs.Due.{condition_called}
-use Rattle.cx_translate.specs.Made.{made_item}
+use Rattle.cx_translate.specs.PendingStatements.{condition_called}
+use Rattle.cx_translate.specs.Expansion.{made_item}
 use Rattle.cx_translate.specs.Refusals.{fault_in, first_byte, is_given, second_byte}
 use Rattle.cx_asm_operands.specs.Forms.{literal_in}
 use Rattle.cx_asm_pass2.specs.Whole.{Whole, whole_of}
@@ -131,35 +131,35 @@ l_role : is_instruction_role (role_in entry_in_15) ≡ true
 unfolding operation_named operations ops op_row_of
 l_role = refl
 
-made_stands : (source : Source) (before behind : List Item) (number : ℕ) (s : Stmt) → source.items ≡ reverse before ++ made_item number s ∷ behind → is_instruction_role (role_in s) ≡ true
+made_stands : (source : Source) (before later : List Item) (number : ℕ) (s : Stmt) → source.items ≡ reverse before ++ made_item number s ∷ later → is_instruction_role (role_in s) ≡ true
     → HasInstruction source before number s
 unfolding made_item
-made_stands source before behind number s is role =
-    record { item = made_item number s; behind = behind; is = is; numbered = refl; begins = refl; role = role }
+made_stands source before later number s is role =
+    record { item = made_item number s; after = later; is = is; numbered = refl; begins = refl; role = role }
 
 pub block_stands : LegalBytes → LiteralsStand → BlockStands
-block_stands legal stand source assembly bases number line before behind command cics named words index address e accepted is resolves =
+block_stands legal stand source assembly bases number line before later command cics named words index address e accepted is resolves =
     let bytes = block_bytes command words in
     let text = block_of command words in
     let small = block_small legal line command cics named words accepted in
     stand source assembly bases number before (load_of (text)) (88 ∷ 39 ∷ (flat_map hex_pair bytes ++ 39 ∷ [])) bytes index address e
-    (made_stands source before behind number (load_of (text)) is (la_role (text)))
+    (made_stands source before later number (load_of (text)) is (la_role (text)))
     (block_is_last bytes small) (hex_has_bytes (whole_of source) bytes small (block_some command words)) (block_some command words) resolves
 
 -- ---- the entry
 entry_has_bytes : (told : Whole) → HasBytes told (codes "V(DFHEI1)") (0 ∷ 0 ∷ 8 ∷ 0 ∷ [])
-unfolding made_of constant_in kind_of digit within_behind depth_behind is_length_attribute
+unfolding made_of constant_in kind_of digit within_after depth_after is_length_attribute
 entry_has_bytes told =
     record { constant = constant 1 External None (Some (codes "DFHEI1")); written = refl; once = 0 ∷ 0 ∷ 8 ∷ 0 ∷ []; everywhere = λ counter. refl; all = refl }
 
 entry_is_last : literal_in (codes "15,=V(DFHEI1)") ≡ Some (codes "=V(DFHEI1)")
-unfolding literal_in within_behind depth_behind is_length_attribute
+unfolding literal_in within_after depth_after is_length_attribute
 entry_is_last = refl
 
 pub entry_stands : LiteralsStand → EntryStands
-entry_stands stand source assembly bases number before behind index address e is resolves =
+entry_stands stand source assembly bases number before later index address e is resolves =
     stand source assembly bases number before entry_in_15 (codes "V(DFHEI1)") (0 ∷ 0 ∷ 8 ∷ 0 ∷ []) index address e
-    (made_stands source before behind number entry_in_15 is l_role) entry_is_last (entry_has_bytes (whole_of source)) (omega arith) resolves
+    (made_stands source before later number entry_in_15 is l_role) entry_is_last (entry_has_bytes (whole_of source)) (omega arith) resolves
 
 -- ---- in storage
 one_of : (P : Line → Type 0) (front : List Line) (mine : Line) (back : List Line) → AllByRecursion P (front ++ mine ∷ back) → P mine

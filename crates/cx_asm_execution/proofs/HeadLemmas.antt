@@ -15,10 +15,10 @@ use Rattle.cx_base_commands.specs.declared.eistg.EistgField.TheVariants.{Eipl, E
 use Rattle.cx_base_commands.specs.Eistg.{eistg_field, eistg_head}
 use Rattle.cx_ebcdic.specs.Facts.Names.{is_name-decides, is_name-laws}
 use Rattle.cx_ebcdic.specs.Characters.{code_of, table}
-use Rattle.cx_ebcdic.specs.Names.{name_of, name_code, is_name_character}
+use Rattle.cx_ebcdic.specs.Names.{padded_name, name_code, is_name_character}
 use Rattle.cx_source.specs.Lines.{is_name, is_letter}
 use Rattle.cx_source.specs.Lines.{is_name_character as is_written_in_names}
-use Rattle.cx_source.specs.Marks.{parts, within_behind}
+use Rattle.cx_source.specs.Marks.{parts, within_after}
 use Rattle.cx_source.specs.Statements.{is_continued}
 use Rattle.cx_source.specs.declared.marks.Delimiter.TheVariants.{TopComma}
 use Rattle.cx_source.specs.declared.source.Item.{Item}
@@ -36,12 +36,12 @@ use Rattle.cx_asm_pass1.specs.Given.{duplicate}
 use Rattle.cx_asm_pass1.specs.PassState.{PassState, next_state, after_line, definitions_in, state_after, laid_in, length_of_section, parts_in, role_in}
 use Rattle.cx_asm_pass1.specs.Layout.{extent_of, laid_at}
 use Rattle.cx_asm_pass1.specs.declared.roles.Role.TheVariants.{Storage, Dummy}
-use Rattle.cx_translate.specs.Made.{made_item, stmt}
+use Rattle.cx_translate.specs.Expansion.{made_item, stmt}
 use Rattle.cx_translate.specs.Sections.{begins_section, begins_storage, place_after, continuation_count, is_end, lines, insert_items, storage_fields, with_bases, with_eib, with_storage}
 use Rattle.cx_translate.specs.Translation.{expanded_items, translation}
 use Rattle.cx_translate.specs.Facts.AllFaults.{translated_so}
-use Rattle.cx_translate.specs.Facts.Found.{bases_behind, continued, eib_before, eib_section, line_of, storage_before, storage_behind}
-use Rattle.cx_asm_execution.specs.Laid.{HeadIsLaidOut, LaysOut}
+use Rattle.cx_translate.specs.Facts.Found.{bases_after, continued, eib_before, eib_section, line_of, storage_before, storage_after}
+use Rattle.cx_asm_execution.specs.FieldLayouts.{HeadIsLaidOut, LaysOut}
 use Rattle.cx_asm_execution.proofs.Together.{StandTogether}
 use Rattle.cx_asm_execution.proofs.BlockLemmas.{Named, fault_kept, none_from, none_known, reverse_cons, role_ds, role_dsect}
 use Rattle.cx_asm_execution.proofs.TogetherLemmas.{Begins, HaveNot, with_bases_has, with_eib_has}
@@ -61,25 +61,25 @@ record Fits (operand : List ℕ) (f : EistgField) : Type 0 where
   place : cap (eistg_field f).offset ≡ (eistg_field f).offset
 
 eipl_fits : Fits (codes "18F") Eipl
-unfolding constant_in kind_of digit within_behind extent_of length_of
+unfolding constant_in kind_of digit within_after extent_of length_of
 eipl_fits = record { laid = λ extent. refl; place = refl }
 
 eitp_fits : Fits (codes "F") Eitp
-unfolding constant_in kind_of digit within_behind extent_of length_of
+unfolding constant_in kind_of digit within_after extent_of length_of
 eitp_fits = record { laid = λ extent. refl; place = refl }
 
 eicap_fits : Fits (codes "A") Eicap
-unfolding constant_in kind_of digit within_behind extent_of length_of
+unfolding constant_in kind_of digit within_after extent_of length_of
 eicap_fits = record { laid = λ extent. refl; place = refl }
 
 field_named : (f : EistgField) → Named (eistg_field f).name
-unfolding symbol_name name_of is_name is_letter name_code is_name_character code_of table is_written_in_names
+unfolding symbol_name padded_name is_name is_letter name_code is_name_character code_of table is_written_in_names
 field_named Eipl = record { name = _; is = refl }
 field_named Eitp = record { name = _; is = refl }
 field_named Eicap = record { name = _; is = refl }
 
 storage_named : Named (codes "DFHEISTG")
-unfolding symbol_name name_of is_name is_letter name_code is_name_character code_of table is_written_in_names
+unfolding symbol_name padded_name is_name is_letter name_code is_name_character code_of table is_written_in_names
 storage_named = record { name = _; is = refl }
 
 abbrev storage : List ℕ
@@ -216,7 +216,7 @@ has_head before first more line rest begins none =
       first = first;
       more = more;
       line = line;
-      behind = rest;
+      after = rest;
       begins = begins;
       follow = none;
       is = refl;
@@ -255,7 +255,7 @@ record IsPart (items : List Item) : Type 0 where
 
 from_part : (items : List Item) → IsPart items → HasHead items
 from_part items p =
-    subst HasHead (sym p.together.is) (has_head p.together.before p.first p.more p.line p.together.behind p.begins p.none)
+    subst HasHead (sym p.together.is) (has_head p.together.before p.first p.more p.line p.together.after p.begins p.none)
 
 dsect_is : (line : ℕ) → begins_storage (made_item line (stmt (codes "DFHEISTG") (codes "DSECT") [])) ≡ true
 unfolding made_item begins_storage
@@ -291,9 +291,9 @@ cut_at (x ∷ items) (suc place) n d less =
     ∙ ap (λ k. x ∷ k) (cut_at items place n d (omega (arith, less)))
     ∙ ap (λ k. x ∷ (take place items ++ (get_or items place d ∷ take n (drop k (x ∷ items))))) front
 
-behind_part : (items : List Item) (place : ℕ) (d : Item) → position begins_storage items ≡ Some place → IsPart (storage_behind (Some place) items)
+after_part : (items : List Item) (place : ℕ) (d : Item) → position begins_storage items ≡ Some place → IsPart (storage_after (Some place) items)
 unfolding place_after
-behind_part items place d found =
+after_part items place d found =
     let there = position-Some begins_storage items place d found in
     let continues = continued (slice_get items place) in
     let n = continuation_count continues (drop (place + 1) items) in
@@ -308,7 +308,7 @@ behind_part items place d found =
       none = continuing_none continues (drop (place + 1) items);
       together = record {
         before = take place items;
-        behind = drop (place + 1 + n) items;
+        after = drop (place + 1 + n) items;
         is =
             ap (λ k. k ++ lines line storage_fields ++ drop (place + 1 + n) items) (cut_at items place n d there.0)
             ∙ ap (λ k. k ++ drop (place + 1 + n) items) (append_assoc (take place items) (first ∷ more) (lines line storage_fields));
@@ -324,7 +324,7 @@ before_part items place =
       line = line;
       begins = dsect_is line;
       none = tt;
-      together = record { before = take place items; behind = drop place items; is = refl };
+      together = record { before = take place items; after = drop place items; is = refl };
     }
 
 -- ---- what is put in after it
@@ -432,7 +432,7 @@ no_more p items eib e = go (position is_end items)
 
 bases_none : (items : List Item) → position begins_section items ≡ None → with_bases items ≡ items
 unfolding with_bases
-bases_none items e = ap (λ place. bases_behind place items) e
+bases_none items e = ap (λ place. bases_after place items) e
 
 has_part : (items : List Item) → (list_any begins_section (with_eib (with_bases (with_storage items))) ≡ true) ⊎ (list_any begins_storage (with_eib (with_bases (with_storage items))) ≡ true)
     → HasHead (with_eib (with_bases (with_storage items)))
@@ -463,12 +463,12 @@ has_part items some = own (position begins_storage items) refl some
     before (Some place) e f some = from_part (with_eib (with_bases (storage_before (Some place) items))) (stays (storage_before (Some place) items) (before_part items place))
 
     own : (place : Option ℕ) → position begins_storage items ≡ place
-        → (list_any begins_section (with_eib (with_bases (storage_behind place items))) ≡ true) ⊎ (list_any begins_storage (with_eib (with_bases (storage_behind place items))) ≡ true)
-        → HasHead (with_eib (with_bases (storage_behind place items)))
+        → (list_any begins_section (with_eib (with_bases (storage_after place items))) ≡ true) ⊎ (list_any begins_storage (with_eib (with_bases (storage_after place items))) ≡ true)
+        → HasHead (with_eib (with_bases (storage_after place items)))
     own None f some = before (position begins_section items) refl f some
     own (Some place) f some =
         let d = made_item 0 (stmt [] [] []) in
-        from_part (with_eib (with_bases (storage_behind (Some place) items))) (stays (storage_behind (Some place) items) (behind_part items place d f))
+        from_part (with_eib (with_bases (storage_after (Some place) items))) (stays (storage_after (Some place) items) (after_part items place d f))
 
 pub head_laid_out : HeadIsLaidOut
 unfolding translation

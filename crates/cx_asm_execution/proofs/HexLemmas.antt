@@ -6,7 +6,7 @@ use Rattle.std.specs.List.{AllByRecursion, list_all}
 use Rattle.std.proofs.Math.Seq.{get_or-append_seam, take-append_seam}
 use Rattle.std.proofs.lemmas.Bool.Decides.{nat_tests}
 use Rattle.std.proofs.lemmas.List.{append_assoc, append-nil}
-use Rattle.cx_source.specs.Marks.{depth_behind, is_length_attribute, parts_from, within_behind}
+use Rattle.cx_source.specs.Marks.{depth_after, is_length_attribute, parts_from, within_after}
 use Rattle.cx_source.specs.declared.marks.Delimiter.TheVariants.{TopComma}
 use Rattle.cx_asm_expressions.specs.Bytes.{copy_of_constant, made_of}
 use Rattle.cx_asm_expressions.specs.Digits.{digit, is_digit, worth_of}
@@ -51,13 +51,13 @@ hex_length [] = omega arith
 hex_length (b ∷ bytes) = (let more = hex_length bytes in omega (arith, more))
 
 -- ---- half bytes
-digit_at : (front : List ℕ) (glyph : ℕ) (behind : List ℕ) (j : ℕ) → j ≡ length behind → digit_from_right (front ++ glyph ∷ behind) j ≡ worth_of glyph
-digit_at front glyph behind j e =
-    let all = length_joined front (glyph ∷ behind) in
-    let at : length (front ++ glyph ∷ behind) - 1 - j ≡ length front = omega (arith, all, e) in
-    let fits : j < length (front ++ glyph ∷ behind) = omega (arith, all, e) in
-    let less : nat_lt j (length (front ++ glyph ∷ behind)) ≡ true = grind (arith, nat_tests, fits) in
-    rw (less, at) (ap worth_of (get_or-append_seam front glyph behind 0))
+digit_at : (front : List ℕ) (glyph : ℕ) (after : List ℕ) (j : ℕ) → j ≡ length after → digit_from_right (front ++ glyph ∷ after) j ≡ worth_of glyph
+digit_at front glyph after j e =
+    let all = length_joined front (glyph ∷ after) in
+    let at : length (front ++ glyph ∷ after) - 1 - j ≡ length front = omega (arith, all, e) in
+    let fits : j < length (front ++ glyph ∷ after) = omega (arith, all, e) in
+    let less : nat_lt j (length (front ++ glyph ∷ after)) ≡ true = grind (arith, nat_tests, fits) in
+    rw (less, at) (ap worth_of (get_or-append_seam front glyph after 0))
 
 half_bytes_are : (front bytes : List ℕ) → AreBytes bytes → half_bytes Hexadecimal (front ++ flat_map hex_pair bytes) (length bytes) ≡ bytes
 half_bytes_are front [] h = refl
@@ -92,9 +92,9 @@ none_doubled (c ∷ hex) h = rw (other c 39 h.0 (omega arith), none_doubled hex 
 
 value_is : (hex : List ℕ) → ArePlain hex → 0 < length hex → value_in false Hexadecimal false (39 ∷ (hex ++ 39 ∷ [])) ≡ Some (Some hex)
 value_is hex plain some =
-    let behind : (suc (length (hex ++ 39 ∷ [])) == 0) ≡ false = grind (arith, nat_tests) in
+    let after : (suc (length (hex ++ 39 ∷ [])) == 0) ≡ false = grind (arith, nat_tests) in
     let filled : (length hex == 0) ≡ false = grind (arith, nat_tests, some) in
-    rw (behind, closed_is hex, filled, none_doubled hex plain) refl
+    rw (after, closed_is hex, filled, none_doubled hex plain) refl
 
 constant_is : (hex : List ℕ) → ArePlain hex → 0 < length hex → constant_in false (88 ∷ 39 ∷ (hex ++ 39 ∷ [])) ≡ Ok (constant 1 Hexadecimal None (Some hex))
 unfolding constant_in kind_of digit
@@ -125,11 +125,11 @@ hex_has_bytes told bytes h some =
 
 -- ---- as a last operand
 last_mark : (before last : ℕ) (part : List ℕ) → parts_from TopComma (record { within = true; depth = 0; before = before; last = last }) part (39 ∷ []) ≡ (part ++ 39 ∷ []) ∷ []
-unfolding within_behind depth_behind
+unfolding within_after depth_after
 last_mark before last part = refl
 
 literal_cut : (hex : List ℕ) → ArePlain hex → operands_of (codes "0,=X'" ++ hex ++ codes "'") ≡ codes "0" ∷ (codes "=X'" ++ hex ++ codes "'") ∷ []
-unfolding within_behind depth_behind is_length_attribute
+unfolding within_after depth_after is_length_attribute
 literal_cut hex plain =
     let cut = plain_cut (record { within = true; depth = 0; before = 88; last = 39 }) (codes "=X'") hex (39 ∷ []) plain in
     ap (λ k. codes "0" ∷ k) (cut.is ∙ last_mark cut.before cut.last (codes "=X'" ++ hex))

@@ -17,8 +17,8 @@ use Rattle.cx_storage.specs.Place.{CanPlace, IsLeastPlace}
 use Rattle.cx_storage.specs.Storage.{Storage, span}
 use Rattle.cx_storage.specs.Word.{word_at}
 use Rattle.cx_asm.specs.Resolving.{line}
-use Rattle.cx_asm_execution.specs.Arriving.{AreKept}
-use Rattle.cx_asm_execution.specs.Standing.{code_lines}
+use Rattle.cx_asm_execution.specs.Arrival.{AreKept}
+use Rattle.cx_asm_execution.specs.MadeLines.{code_lines}
 use Rattle.cx_asm_execution.proofs.InStorage.{HasText}
 
 -- ---- spans
@@ -31,8 +31,8 @@ pub word_kept : SpanIsBytes → (s t : Storage) (a : ℕ) → a < 2 ^ 24 → Are
 unfolding word_at
 word_kept spans s t a small kept e = ap (option_map (big_number 4)) (span_kept spans s t a 4 (0 ∷ 0 ∷ 8 ∷ 0 ∷ []) small kept e)
 
-kept_behind : (s t : Storage) (a m n : ℕ) → AreKept s t a (m + n) → AreKept s t (address_after a m) n
-kept_behind s t a m n kept = λ k less.
+kept_after : (s t : Storage) (a m n : ℕ) → AreKept s t a (m + n) → AreKept s t (address_after a m) n
+kept_after s t a m n kept = λ k less.
     let at : address_after (address_after a m) k ≡ address_after a (m + k) = omega arith in
     rw at (kept (m + k) (omega (arith, less)))
 
@@ -46,7 +46,7 @@ code_kept spans s t a (i ∷ code) small kept stands =
     let all : AreKept s t a (length_of i.op + code_length code) = subst (AreKept s t a) (sum_by-cons (λ (x : Instruction). length_of x.op) i code) kept in (
       stands.0,
       span_kept spans s t a (length_of i.op) (spelling i) small (kept_front s t a (length_of i.op) (code_length code) all) stands.1,
-      code_kept spans s t (address_after a (length_of i.op)) code (omega arith) (kept_behind s t a (length_of i.op) (code_length code) all) stands.2,
+      code_kept spans s t (address_after a (length_of i.op)) code (omega arith) (kept_after s t a (length_of i.op) (code_length code) all) stands.2,
     )
 
 -- ---- where code is

@@ -1,7 +1,7 @@
 -- An accepted statement's block is that of a legal call.
 use Rattle.std.specs.Prelude.{◌≤◌, IsTrue, MatchBool, count_by, if◌then◌else◌}
 use Rattle.std.proofs.Common.{◌≡◌, ℕ, ◌+◌, Bool, true, false, None, List, [], ◌∷◌, length, refl, arith}
-use Rattle.cx_asm_arrival.specs.Made.{Statement, block_bytes as statement_bytes, words_of}
+use Rattle.cx_asm_arrival.specs.Expansion.{Statement, block_bytes as statement_bytes, words_of}
 use Rattle.cx_asm_arrival.specs.Stands.{IsLegal}
 use Rattle.cx_region_call.specs.Call.{has_label, has_resp}
 use Rattle.cx_base_commands.specs.Arguments.{arguments_in}

@@ -23,7 +23,7 @@ pub mod PlainLemmas
 pub mod WordLemmas
 pub mod CallLemmas
 pub mod HeldLemmas
-pub mod BehindLemmas
+pub mod AfterLemmas
 pub mod LiteralLemmas
 pub mod HexLemmas
 pub mod HandedLemmas

@@ -23,10 +23,10 @@ use Rattle.cx_asm_expressions.specs.declared.values.Value.{Value}
 use Rattle.cx_asm_pools.specs.Pools.{PlacedLiterals, OpenLiterals, cap, literal_text, closed_pool}
 use Rattle.cx_asm_pools.specs.declared.closed.Literal.{Literal}
 use Rattle.cx_asm_pass1.specs.Facts.Apart.{in_control}
-use Rattle.cx_asm_pass1.specs.Facts.Laid.{capped_same}
+use Rattle.cx_asm_pass1.specs.Facts.StatementExtents.{capped_same}
 use Rattle.cx_asm_pass1.specs.Given.{location_counter, place_value}
 use Rattle.cx_asm_pass1.specs.PassState.{PassState, next_state, after_line, is_control, state_after, laid_in, name_in, place_in, pools_after, role_in, section_fault}
-use Rattle.cx_asm_pass1.specs.Placed.{last_pool_extent, known_of}
+use Rattle.cx_asm_pass1.specs.Locations.{last_pool_extent, known_of}
 use Rattle.cx_asm_pass1.specs.declared.roles.Role.{Role}
 use Rattle.cx_asm_pass1.specs.declared.roles.Role.TheVariants as role
 use Rattle.cx_asm_operands.specs.Bases.{Bases, none_in_use}
@@ -49,7 +49,7 @@ use Rattle.cx_asm_execution.proofs.Literals.{HasBytes, HasInstruction, LiteralsS
 use Rattle.cx_asm_execution.proofs.Resolved.{is_instruction_role, statements_from, place_for}
 use Rattle.cx_asm_execution.proofs.Stores.{context_of}
 use Rattle.cx_asm_execution.proofs.ArgumentLemmas.{both_ok}
-use Rattle.cx_asm_execution.proofs.BehindLemmas.{control_same, fault_kept, own_sound, reverse_step, section_sound, statements_are}
+use Rattle.cx_asm_execution.proofs.AfterLemmas.{control_same, fault_kept, own_sound, reverse_step, section_sound, statements_are}
 use Rattle.cx_asm_execution.proofs.HeldLemmas.{HasWord, HaveWords, IsHeld, all_back, all_front, all_held, both_have, data_held, pool_held, statement_held}
 use Rattle.cx_asm_execution.proofs.StandingLemmas.{accepted}
 use Rattle.cx_asm_execution.proofs.TogetherLemmas.{length_joined}
@@ -96,18 +96,18 @@ begins from (l ∷ front) mine back size apart =
     let first = apart.0 in
     let rest = more.0 in (omega (arith, rest, first), more.1)
 
-word_behind : (from : ℕ) (lines : List Line) (size r : ℕ) → AreApart from lines size → HasWord r lines → from ≤ r
+word_after : (from : ℕ) (lines : List Line) (size r : ℕ) → AreApart from lines size → HasWord r lines → from ≤ r
 unfolding HasWord
-word_behind from [] size r apart h = absurd h
-word_behind from (l ∷ lines) size r apart (inl h) = (let at = h.begins in let first = apart.0 in omega (arith, at, first))
-word_behind from (l ∷ lines) size r apart (inr h) = (let rest = word_behind (end_of l) lines size r apart.1 h in let first = apart.0 in omega (arith, rest, first))
+word_after from [] size r apart h = absurd h
+word_after from (l ∷ lines) size r apart (inl h) = (let at = h.begins in let first = apart.0 in omega (arith, at, first))
+word_after from (l ∷ lines) size r apart (inr h) = (let rest = word_after (end_of l) lines size r apart.1 h in let first = apart.0 in omega (arith, rest, first))
 
 beside : (from : ℕ) (front : List Line) (mine : Line) (back : List Line) (size r : ℕ) → AreApart from (front ++ mine ∷ back) size → HasWord r (front ++ back)
     → (r + 4 ≤ mine.at) ⊎ (end_of mine ≤ r)
 unfolding HasWord
-beside from [] mine back size r apart h = inr (word_behind (end_of mine) back size r apart.1 h)
+beside from [] mine back size r apart h = inr (word_after (end_of mine) back size r apart.1 h)
 beside from (l ∷ front) mine back size r apart (inl h) =
-    (let behind = (begins (end_of l) front mine back size apart.1).0 in let last = h.ends in inl (omega (arith, behind, last)))
+    (let after = (begins (end_of l) front mine back size apart.1).0 in let last = h.ends in inl (omega (arith, after, last)))
 beside from (l ∷ front) mine back size r apart (inr h) = beside (end_of l) front mine back size r apart.1 h
 
 own_unraised : (front : List Line) (mine : Line) (back : List Line) (size : ℕ) (relocs : List ℕ) → AreApart 0 (front ++ mine ∷ back) size → HaveWords relocs (front ++ back) → IsUnraised relocs mine
@@ -397,15 +397,15 @@ stands_so knows source assembly bases number before s text byte bytes index addr
     subst (λ k. AreApart 0 k (length assembly.section.image.text)) resolved (knows.apart source assembly e) in
     let inside = (begins 0 own.front mine own.back (length assembly.section.image.text) apart).1 in
     let small : f.literal.offset ≤ bound = (let size = knows.size source assembly e in let short = knows.short source assembly e in omega (arith, inside, size, short)) in
-    let turned : reverse source.items ≡ reverse has.behind ++ (has.item ∷ before) =
-    ap (λ k. reverse k) has.is ∙ reverse-append (reverse before) (has.item ∷ has.behind) ∙ ap (λ k. reverse (has.item ∷ has.behind) ++ k) (reverse-reverse before)
-    ∙ reverse_step has.item has.behind before in
-    let sound : (state_after (reverse has.behind ++ (has.item ∷ before))).fault ≡ None = subst (λ k. (state_after k).fault ≡ None) turned ok.first in
-    let fault = own_section number s before (reverse has.behind) has.item has.numbered has.begins sound in
+    let turned : reverse source.items ≡ reverse has.after ++ (has.item ∷ before) =
+    ap (λ k. reverse k) has.is ∙ reverse-append (reverse before) (has.item ∷ has.after) ∙ ap (λ k. reverse (has.item ∷ has.after) ++ k) (reverse-reverse before)
+    ∙ reverse_step has.item has.after before in
+    let sound : (state_after (reverse has.after ++ (has.item ∷ before))).fault ≡ None = subst (λ k. (state_after k).fault ≡ None) turned ok.first in
+    let fault = own_section number s before (reverse has.after) has.item has.numbered has.begins sound in
     let within = instruction_within (role_in s) (name_in s) known.section known.control has.role fault in
     let there : is_control known.section told.control ≡ true =
-    ap (is_control known.section) (ap (λ k. (state_after k).control) (turned ∙ sym (append_assoc (reverse has.behind) (has.item ∷ []) before)))
-    ∙ control_same (reverse has.behind ++ (has.item ∷ [])) before known.section within in
+    ap (is_control known.section) (ap (λ k. (state_after k).control) (turned ∙ sym (append_assoc (reverse has.after) (has.item ∷ []) before)))
+    ∙ control_same (reverse has.after ++ (has.item ∷ [])) before known.section within in
     record {
       none = literal.none;
       section = f.name;

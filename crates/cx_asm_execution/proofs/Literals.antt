@@ -22,7 +22,7 @@ use Rattle.cx_asm.specs.Assembly.{AssemblyParts, assembly_of}
 use Rattle.cx_asm_execution.proofs.InStorage.{IsUnraised}
 use Rattle.cx_asm_execution.proofs.Resolved.{is_instruction_role}
 use Rattle.cx_asm_execution.proofs.Stores.{context_of}
-use Rattle.cx_asm_execution.proofs.Words.{LiesBehind}
+use Rattle.cx_asm_execution.proofs.Words.{LiesAfter}
 
 -- A literal's text, after its equals sign, and the bytes of all its copies: at each place the same ones, and no word
 -- that loading raises.
@@ -36,8 +36,8 @@ pub record HasBytes (told : Whole) (text bytes : List ℕ) : Type 0 where
 -- An instruction's statement on a line of a source; `before` are the lines before it, the latest first.
 pub record HasInstruction (source : Source) (before : List Item) (number : ℕ) (s : Stmt) : Type 0 where
   pub item : Item
-  pub behind : List Item
-  pub is : source.items ≡ reverse before ++ item ∷ behind
+  pub after : List Item
+  pub is : source.items ≡ reverse before ++ item ∷ after
   pub numbered : item.line ≡ number
   pub begins : item.stmt ≡ Some s
   pub role : is_instruction_role (role_in s) ≡ true
@@ -50,7 +50,7 @@ pub record StandsInSection (source : Source) (assembly : AssemblyParts) (c : Con
   pub section : List ℕ
   pub control : (whole_of source).control ≡ Some section
   pub offset : ℕ
-  pub lies : LiesBehind c section (pos offset) 0 address
+  pub lies : LiesAfter c section (pos offset) 0 address
   pub front : List Line
   pub back : List Line
   pub stands : assembly.section.resolved ≡ front ++ line offset (Data bytes) ∷ back

@@ -36,7 +36,7 @@ of_none (r ∷ relocs) line k clear low high = rw (here clear.0) (of_none relocs
   where
     here : (r + 4 ≤ line.at) ⊎ (end_of line ≤ r) → is_of_word k r ≡ false
     here (inl before) = grind (arith, nat_tests)
-    here (inr behind) = grind (arith, nat_tests)
+    here (inr beyond) = grind (arith, nat_tests)
 
 size_is : (what : What) → length (bytes_of what) ≡ size_of what
 size_is (Code i) = refl

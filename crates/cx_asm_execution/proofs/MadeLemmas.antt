@@ -4,20 +4,20 @@ use Rattle.std.specs.Option.{ok_or, option_map_or}
 use Rattle.std.proofs.Common.{◌≡◌, ℕ, ◌+◌, ◌*◌, true, false, ◌==◌, Some, Ok, Err, List, [], ◌∷◌, ◌++◌, drop, length, refl, sym, ◌∙◌, ap, subst, arith}
 use Rattle.std.proofs.lemmas.Bool.Decides.{nat_tests}
 use Rattle.std.proofs.lemmas.List.{append_assoc, map-append, reverse-append}
-use Rattle.cx_asm_arrival.specs.Made.{Argument, Statement, branch as made_branch, instructions_made as made_code, stores as made_stores, words_of}
+use Rattle.cx_asm_arrival.specs.Expansion.{Argument, Statement, branch as made_branch, instructions_made as made_code, stores as made_stores, words_of}
 use Rattle.cx_code.specs.Spelling.{Instruction, instruction}
 use Rattle.cx_code.specs.Table.{length_of}
 use Rattle.cx_code.specs.declared.table.Op.TheVariants as op
 use Rattle.cx_code.specs.declared.instruction.Fields.TheVariants.{Rr, Rx, Si}
 use Rattle.cx_base_commands.specs.declared.commands.Command.{Command}
-use Rattle.cx_source.specs.Marks.{depth_behind, within_behind}
+use Rattle.cx_source.specs.Marks.{depth_after, within_after}
 use Rattle.cx_source.specs.declared.source.Item.{Item}
 use Rattle.cx_asm_expressions.specs.declared.faults.FaultKind.{FaultKind}
 use Rattle.cx_asm_expressions.specs.declared.faults.FaultKind.TheVariants.{BadOperand}
 use Rattle.cx_asm_expressions.specs.declared.values.Value.{Value}
 use Rattle.cx_translate.specs.declared.words.Word.{Word}
 use Rattle.cx_translate.specs.Call.{block_bytes, block_literal, list_of, listed_of}
-use Rattle.cx_translate.specs.Made.{call, made_item, stores}
+use Rattle.cx_translate.specs.Expansion.{call, made_item, stores}
 use Rattle.cx_translate.specs.Refusals.{first_byte, second_byte}
 use Rattle.cx_translate.specs.Sections.{lines}
 use Rattle.cx_asm_operands.specs.Addresses.{implied_address}
@@ -28,7 +28,7 @@ use Rattle.cx_asm_operands.specs.Storage.{indexed_by, indexed_in, is_literal, op
 use Rattle.cx_asm_operands.specs.declared.addresses.Address.{Address}
 use Rattle.cx_asm_pass2.specs.Whole.{Whole}
 use Rattle.cx_asm_execution.proofs.Calls.{MarkIsResolved}
-use Rattle.cx_asm_execution.proofs.Commands.{AreArguments, CallsAreMade, behind_list, behind_mark, behind_stores, last_word}
+use Rattle.cx_asm_execution.proofs.Commands.{AreArguments, CallsAreMade, after_list, after_mark, after_stores, last_word}
 use Rattle.cx_asm_execution.proofs.Resolved.{AreResolved}
 use Rattle.cx_asm_execution.proofs.Stores.{AreStores, StoresAreResolved, context_of, entry_in_15, list_of_1, load_of, store_of, word_of_list}
 use Rattle.cx_asm_execution.proofs.ArgumentLemmas.{both_ok}
@@ -72,7 +72,7 @@ alone c text place x address is e =
     cc
 
 list_index : (c : Context) (x : ℕ) (address : Address) → indexed_in c (codes "DFHEIPL") ≡ Ok (x, address) → x ≡ 0
-unfolding operand_in within_behind depth_behind
+unfolding operand_in within_after depth_after
 list_index c x address e = alone c (codes "DFHEIPL") (expression_value c (codes "DFHEIPL")) x address refl e
 
 literal_index : (c : Context) (text : List ℕ) (x : ℕ) (address : Address) → is_literal text ≡ true → indexed_in c text ≡ Ok (x, address) → x ≡ 0
@@ -80,7 +80,7 @@ unfolding operand_in
 literal_index c text x address is e = alone c text (ok_or c.literal BadOperand) x address (rw is refl) e
 
 word_operand : (c : Context) (text : List ℕ) → ArePlain text → operand_in true c (codes "DFHEIPL+" ++ text) ≡ Some (operand (expression_value c (codes "DFHEIPL+" ++ text)) [])
-unfolding operand_in within_behind depth_behind
+unfolding operand_in within_after depth_after
 word_operand c text plain =
     let tail = no_parenthesis (record { within = false; depth = 0; before = 76; last = 43 }) text plain in
     let same : (1 + (1 + (1 + (1 + (1 + (1 + (1 + (1 + length text))))))) == length (codes "DFHEIPL+" ++ text)) ≡ true = grind (arith, nat_tests) in
@@ -166,11 +166,11 @@ calls_made stored marked told bases line at before command words code r =
     let front : AreStores told bases line before 0 (block_literal (block_bytes command words) ∷ rest_of command words) split.one =
     subst (λ k. AreStores told bases line before 0 k split.one) (list_begins command words) (stored told bases line at 0 before list split.one split.front) in
     let made = have_words told bases line before (block_literal (block_bytes command words)) (rest_of command words) split.one refl front in
-    let back = marked told bases line split.end n (behind_stores line before command words) split.two split.back in
+    let back = marked told bases line split.end n (after_stores line before command words) split.two split.back in
     let last = back.marks in
     let end = back.calls in
-    let listed = list_index (context_of told bases line (behind_mark line before command words) list_of_1) end.loads.index end.loads.address end.loads.operand in
-    let entered = literal_index (context_of told bases line (behind_list line before command words) entry_in_15) (codes "=V(DFHEI1)") end.takes.index end.takes.address refl end.takes.operand in
+    let listed = list_index (context_of told bases line (after_mark line before command words) list_of_1) end.loads.index end.loads.address end.loads.operand in
+    let entered = literal_index (context_of told bases line (after_list line before command words) entry_in_15) (codes "=V(DFHEI1)") end.takes.index end.takes.address refl end.takes.operand in
     let s : Statement = record {
       command = command;
       first = first_byte command words;

@@ -1,7 +1,7 @@
 -- A statement is determined by where its made statements are and what they are made of.
 use Rattle.std.proofs.Common.{◌≡◌, ℕ, ◌+◌, Some, Ok, List, [], ◌∷◌, ◌++◌, refl, sym, ◌∙◌, ap}
 use Rattle.std.specs.Prelude.{Option, Result}
-use Rattle.cx_asm_arrival.specs.Made.{Argument, ImpliedAddress, Statement, instructions_made, stores, words_of}
+use Rattle.cx_asm_arrival.specs.Expansion.{Argument, ImpliedAddress, Statement, instructions_made, stores, words_of}
 use Rattle.cx_code.specs.declared.instruction.Fields.{Fields}
 use Rattle.cx_code.specs.declared.instruction.Fields.TheVariants.{Rx, Si}
 use Rattle.cx_code.specs.declared.table.Op.{Op}
@@ -13,9 +13,9 @@ use Rattle.cx_base_commands.specs.declared.legal.ListedCondition.{ListedConditio
 use Rattle.cx_source.specs.declared.source.Item.{Item}
 use Rattle.cx_source.specs.declared.source.Stmt.{Stmt}
 use Rattle.cx_asm_expressions.specs.declared.faults.FaultKind.{FaultKind}
-use Rattle.cx_translate.specs.Made.{made_item}
-use Rattle.cx_asm_execution.specs.Arriving.{IsStatement}
-use Rattle.cx_asm_execution.specs.Standing.{AreResolved, Site, lines_after, call_of}
+use Rattle.cx_translate.specs.Expansion.{made_item}
+use Rattle.cx_asm_execution.specs.Arrival.{IsStatement}
+use Rattle.cx_asm_execution.specs.MadeLines.{AreResolved, Site, lines_after, call_of}
 
 -- ---- records with equal fields
 abbrev block_argument : Statement → Argument
@@ -52,7 +52,7 @@ codes_are site before at other (s ∷ ss) (i ∷ one) (j ∷ two) a b =
 -- ---- what they are made of
 record Same (xs ys : List Argument) (p q : List Instruction) : Type 0 where
   arguments : xs ≡ ys
-  behind : p ≡ q
+  after : p ≡ q
 
 same_fields : (o : Op) (a b : Fields) (p q : List Instruction) → instruction o a ∷ p ≡ instruction o b ∷ q → (a ≡ b) × (p ≡ q)
 same_fields o a b p q e = (let one : instruction o a ≡ instruction o b = cc in ap (λ (i : Instruction). i.fields) one, cc)
@@ -66,7 +66,7 @@ no_load a b p q e =
 stores_are : (xs ys : List Argument) (b d b' d' : ℕ) (p q : List Instruction)
     → stores xs ++ instruction op.Oi (Si 128 b d) ∷ p ≡ stores ys ++ instruction op.Oi (Si 128 b' d') ∷ q
     → Same xs ys (instruction op.Oi (Si 128 b d) ∷ p) (instruction op.Oi (Si 128 b' d') ∷ q)
-stores_are [] [] b d b' d' p q e = record { arguments = refl; behind = e }
+stores_are [] [] b d b' d' p q e = record { arguments = refl; after = e }
 stores_are [] (y ∷ ys) b d b' d' p q e = absurd (no_load (Si 128 b d) (Rx 0 y.index y.base y.displacement) _ _ e)
 stores_are (x ∷ xs) [] b d b' d' p q e = absurd (no_load (Si 128 b' d') (Rx 0 x.index x.base x.displacement) _ _ (sym e))
 stores_are (x ∷ xs) (y ∷ ys) b d b' d' p q e =
@@ -79,7 +79,7 @@ stores_are (x ∷ xs) (y ∷ ys) b d b' d' p q e =
     let word_displacement : x.word.displacement ≡ y.word.displacement = (let f = store.0 in cc) in
     let first = argument_is x y index base displacement (based_is x.word y.word word_base word_displacement) in
     let rest = stores_are xs ys b d b' d' p q store.1 in
-    record { arguments = rw (first, rest.arguments) refl; behind = rest.behind }
+    record { arguments = rw (first, rest.arguments) refl; after = rest.after }
 
 -- ---- the statement
 abbrev statement_of : Command → ℕ → ℕ → List ListedCondition → ImpliedAddress → ImpliedAddress → List Argument → ImpliedAddress → ImpliedAddress → ImpliedAddress → Statement
@@ -106,7 +106,7 @@ statements_decide site at other s t one two =
     let block : s.block ≡ t.block = based_is s.block t.block (ap (λ (a : Argument). a.base) handed) (ap (λ (a : Argument). a.displacement) handed) in
     let head : s.head ≡ t.head = ap (λ (a : Argument). a.word) handed in
     let arguments : s.arguments ≡ t.arguments = cc in
-    let marks = same_fields op.Oi (Si 128 s.last.base s.last.displacement) (Si 128 t.last.base t.last.displacement) _ _ split.behind in
+    let marks = same_fields op.Oi (Si 128 s.last.base s.last.displacement) (Si 128 t.last.base t.last.displacement) _ _ split.after in
     let takes = same_fields op.La (Rx 1 0 s.list.base s.list.displacement) (Rx 1 0 t.list.base t.list.displacement) _ _ marks.1 in
     let loads = same_fields op.L (Rx 15 0 s.entry.base s.entry.displacement) (Rx 15 0 t.entry.base t.entry.displacement) _ _ takes.1 in
     let last : s.last ≡ t.last = based_is s.last t.last (let f = marks.0 in cc) (let f = marks.0 in cc) in

@@ -44,25 +44,25 @@ no_pointer mark.HalfwordBothWaysWithoutSet a e = refl
 no_pointer mark.HalfwordOut a e = refl
 no_pointer mark.HalfwordOutWithoutRewrite a e = refl
 
-all_of : (before : List CommandOption) (option : CommandOption) (behind : List CommandOption)
-    → list_all (λ p. not (is_pointer p.mark)) (before ++ option ∷ behind) ≡ true → is_pointer option.mark ≡ false
-all_of [] option behind h = sym (not_true (is_pointer option.mark) (and_parts (not (is_pointer option.mark)) (list_all (λ p. not (is_pointer p.mark)) behind) h).0)
-all_of (o ∷ before) option behind h = all_of before option behind (and_parts (not (is_pointer o.mark)) (list_all (λ p. not (is_pointer p.mark)) (before ++ option ∷ behind)) h).1
+all_of : (before : List CommandOption) (option : CommandOption) (after : List CommandOption)
+    → list_all (λ p. not (is_pointer p.mark)) (before ++ option ∷ after) ≡ true → is_pointer option.mark ≡ false
+all_of [] option after h = sym (not_true (is_pointer option.mark) (and_parts (not (is_pointer option.mark)) (list_all (λ p. not (is_pointer p.mark)) after) h).0)
+all_of (o ∷ before) option after h = all_of before option after (and_parts (not (is_pointer o.mark)) (list_all (λ p. not (is_pointer p.mark)) (before ++ option ∷ after)) h).1
 
-none_before : (words : List Word) (before : List CommandOption) (option : CommandOption) (behind : List CommandOption) → is_one (before ++ option ∷ behind) ≡ true
+none_before : (words : List Word) (before : List CommandOption) (option : CommandOption) (after : List CommandOption) → is_one (before ++ option ∷ after) ≡ true
     → is_pointer option.mark ≡ true → pointers_of before words ≡ []
-none_before words [] option behind one is = refl
-none_before words (o ∷ before) option behind one is = by_mark (is_pointer o.mark) refl one (λ h. none_before words before option behind h is)
+none_before words [] option after one is = refl
+none_before words (o ∷ before) option after one is = by_mark (is_pointer o.mark) refl one (λ h. none_before words before option after h is)
   where
     by_mark : (b : Bool) → is_pointer o.mark ≡ b
-        → cond b (list_all (λ p. not (is_pointer p.mark)) (before ++ option ∷ behind)) (is_one (before ++ option ∷ behind)) ≡ true
-        → (is_one (before ++ option ∷ behind) ≡ true → pointers_of before words ≡ [])
+        → cond b (list_all (λ p. not (is_pointer p.mark)) (before ++ option ∷ after)) (is_one (before ++ option ∷ after)) ≡ true
+        → (is_one (before ++ option ∷ after) ≡ true → pointers_of before words ≡ [])
         → pointer_by o.mark (argument_of words (option_name o.name)) ++ pointers_of before words ≡ []
-    by_mark true e h more = let no = all_of before option behind h in absurd (cc)
+    by_mark true e h more = let no = all_of before option after h in absurd (cc)
     by_mark false e h more = rw (no_pointer o.mark (argument_of words (option_name o.name)) e) (more h)
 
 -- Before a command's pointer there is no other one.
-pub no_pointer_before : (c : Command) (words : List Word) (before : List CommandOption) (option : CommandOption) (behind : List CommandOption)
-    → (row_of c).options ≡ before ++ option ∷ behind → option.mark ≡ mark.Pointer → pointers_of before words ≡ []
-no_pointer_before c words before option behind split marked =
-    none_before words before option behind (subst (λ (k : List CommandOption). is_one k ≡ true) split (all_one c)) (ap is_pointer marked)
+pub no_pointer_before : (c : Command) (words : List Word) (before : List CommandOption) (option : CommandOption) (after : List CommandOption)
+    → (row_of c).options ≡ before ++ option ∷ after → option.mark ≡ mark.Pointer → pointers_of before words ≡ []
+no_pointer_before c words before option after split marked =
+    none_before words before option after (subst (λ (k : List CommandOption). is_one k ≡ true) split (all_one c)) (ap is_pointer marked)

@@ -3,7 +3,7 @@ use Rattle.std.specs.Prelude.{ℤ, slice_index, ◌≢◌}
 use Rattle.std.proofs.Common.{map, ◌≡◌, ◌≤◌, ℕ, suc, ◌+◌, ◌*◌, false, ◌==◌, List, [], ◌∷◌, length, refl, sym, ◌∙◌, ap, arith}
 use Rattle.std.specs.List.{AllByRecursion, enumerate_from}
 use Rattle.std.proofs.lemmas.Bool.Decides.{nat_tests}
-use Rattle.cx_asm_arrival.specs.Made.{Argument, ImpliedAddress, address_reached}
+use Rattle.cx_asm_arrival.specs.Expansion.{Argument, ImpliedAddress, address_reached}
 use Rattle.cx_asm_arrival.specs.Stands.{IsWord}
 use Rattle.cx_exec.specs.Machine.{effective}
 use Rattle.cx_source.specs.declared.source.Item.{Item}
@@ -13,11 +13,11 @@ use Rattle.cx_asm_operands.specs.Bases.{Bases}
 use Rattle.cx_asm_operands.specs.Context.{Context}
 use Rattle.cx_asm_operands.specs.declared.addresses.Address.{Address}
 use Rattle.cx_asm_pass2.specs.Whole.{Whole}
-use Rattle.cx_translate.specs.Made.{made_item}
+use Rattle.cx_translate.specs.Expansion.{made_item}
 use Rattle.cx_asm_execution.specs.Arguments.{HoldsBase, Sections}
 use Rattle.cx_asm_execution.proofs.Commands.{AreArguments}
 use Rattle.cx_asm_execution.proofs.Stores.{context_of, load_of, store_of}
-use Rattle.cx_asm_execution.proofs.Words.{HasList, LiesBehind, WordsLie}
+use Rattle.cx_asm_execution.proofs.Words.{HasList, LiesAfter, WordsLie}
 
 -- ---- a base that isn't 0
 pub reached_is : (regs : List ℕ) (b d : ℕ) → b ≢ 0 → effective regs 0 b d ≡ address_reached regs (record { base = b; displacement = d })
@@ -33,7 +33,7 @@ reached_is regs b d some =
 abbrev pub HasBase : Sections → List ℕ → Bases → ImpliedAddress → Type 0
 HasBase sections regs bases place = (place.base ≢ 0) × HoldsBase sections regs bases place.base
 
-pub lies_at : (c : Context) (section : List ℕ) (offset : ℤ) (n : ℕ) (at : Address) (sections : Sections) (regs : List ℕ) → LiesBehind c section offset n at
+pub lies_at : (c : Context) (section : List ℕ) (offset : ℤ) (n : ℕ) (at : Address) (sections : Sections) (regs : List ℕ) → LiesAfter c section offset n at
     → HasBase sections regs c.bases (record { base = at.base; displacement = at.displacement })
     → address_reached regs (record { base = at.base; displacement = at.displacement }) ≡ address_after (sections.place section offset) n
 lies_at c section offset n at sections regs lies has = sym (reached_is regs at.base at.displacement has.0) ∙ lies sections regs has.1

@@ -10,7 +10,7 @@ use Rattle.std.proofs.lemmas.Bool.Decides.{nat_tests}
 use Rattle.std.proofs.lemmas.Fmt.{decimal_is_IsNumeral}
 use Rattle.std.proofs.lemmas.Int.Digits.{digits_value_is}
 use Rattle.std.proofs.lemmas.List.{append_assoc, append-nil}
-use Rattle.cx_source.specs.Marks.{depth_behind, is_mark, lies_outside, outside_from, parts_from, scan_after, within_behind}
+use Rattle.cx_source.specs.Marks.{depth_after, is_mark, lies_outside, outside_from, parts_from, scan_after, within_after}
 use Rattle.cx_source.specs.declared.marks.Delimiter.TheVariants.{TopComma}
 use Rattle.cx_source.specs.declared.marks.Scan.{Scan}
 use Rattle.cx_asm_expressions.specs.Digits.{digit, is_digit, number_in, worth_of}
@@ -25,20 +25,20 @@ ArePlain text = AllByRecursion (λ c. 48 ≤ c) text
 pub other : (c mark : ℕ) → 48 ≤ c → mark < 48 → (c == mark) ≡ false
 other c mark h m = grind (arith, nat_tests)
 
-within_same : (scan : Scan) (c : ℕ) (behind : List ℕ) → 48 ≤ c → within_behind scan c behind ≡ scan.within
-unfolding within_behind
-within_same scan c behind h = rw (other c 39 h (omega arith)) refl
+within_same : (scan : Scan) (c : ℕ) (after : List ℕ) → 48 ≤ c → within_after scan c after ≡ scan.within
+unfolding within_after
+within_same scan c after h = rw (other c 39 h (omega arith)) refl
 
 pub neither : (b : Bool) → (b && false) ≡ false
 neither true = refl
 neither false = refl
 
-no_comma : (scan : Scan) (c : ℕ) (behind : List ℕ) → 48 ≤ c → (lies_outside scan c behind && is_mark TopComma scan.depth c) ≡ false
-no_comma scan c behind h = rw (other c 44 h (omega arith)) (neither (lies_outside scan c behind))
+no_comma : (scan : Scan) (c : ℕ) (after : List ℕ) → 48 ≤ c → (lies_outside scan c after && is_mark TopComma scan.depth c) ≡ false
+no_comma scan c after h = rw (other c 44 h (omega arith)) (neither (lies_outside scan c after))
 
-depth_same : (scan : Scan) (c : ℕ) (behind : List ℕ) → 48 ≤ c → depth_behind scan c behind ≡ scan.depth
-unfolding depth_behind
-depth_same scan c behind h = rw (other c 40 h (omega arith), other c 41 h (omega arith), neither (lies_outside scan c behind)) refl
+depth_same : (scan : Scan) (c : ℕ) (after : List ℕ) → 48 ≤ c → depth_after scan c after ≡ scan.depth
+unfolding depth_after
+depth_same scan c after h = rw (other c 40 h (omega arith), other c 41 h (omega arith), neither (lies_outside scan c after)) refl
 
 -- plain characters go into the part, and what follows them is cut
 pub record Cut (scan : Scan) (part text rest : List ℕ) : Type 0 where
@@ -53,7 +53,7 @@ plain_cut scan part [] rest h =
 plain_cut scan part (c ∷ text) rest h =
     let next : Scan = record { within = scan.within; depth = scan.depth; before = scan.last; last = c } in
     let step : scan_after scan c (text ++ rest) ≡ next =
-    ap (λ w. record { within = w; depth = depth_behind scan c (text ++ rest); before = scan.last; last = c }) (within_same scan c (text ++ rest) h.0)
+    ap (λ w. record { within = w; depth = depth_after scan c (text ++ rest); before = scan.last; last = c }) (within_same scan c (text ++ rest) h.0)
     ∙ ap (λ d. record { within = scan.within; depth = d; before = scan.last; last = c }) (depth_same scan c (text ++ rest) h.0) in
     let more = plain_cut next (part ++ (c ∷ [])) text rest h.1 in
     record {

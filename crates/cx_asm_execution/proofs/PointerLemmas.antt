@@ -13,7 +13,7 @@ use Rattle.cx_code.specs.Table.{length_of}
 use Rattle.cx_base_commands.specs.Commands.{row_of}
 use Rattle.cx_source.specs.declared.source.Item.{Item}
 use Rattle.cx_translate.specs.Call.{pointers_of}
-use Rattle.cx_translate.specs.Made.{load}
+use Rattle.cx_translate.specs.Expansion.{load}
 use Rattle.cx_translate.specs.Sections.{lines}
 use Rattle.cx_asm_operands.specs.Bases.{Bases}
 use Rattle.cx_asm_operands.specs.Context.{Context, register_in}
@@ -53,14 +53,14 @@ pub record Parted (told : Whole) (bases : Bases) (before : List Item) (at : ℕ)
   pub rest : List Instruction
   pub is : code ≡ first ++ rest
   pub here : AreResolved told bases before at items first
-  pub behind : AreResolved told bases (reverse items ++ before) (at + code_length first) more rest
+  pub after : AreResolved told bases (reverse items ++ before) (at + code_length first) more rest
 
 pub parted : (told : Whole) (bases : Bases) (before : List Item) (at : ℕ) (items more : List Item) (code : List Instruction) → AreResolved told bases before at (items ++ more) code
     → Parted told bases before at items more code
 unfolding AreResolved
 parted told bases before at [] more code r =
     let same : at + 0 ≡ at = omega arith in
-    record { first = []; rest = code; is = refl; here = tt; behind = subst (λ n. AreResolved told bases before n more code) (sym same) r }
+    record { first = []; rest = code; is = refl; here = tt; after = subst (λ n. AreResolved told bases before n more code) (sym same) r }
 parted told bases before at (item ∷ items) more [] r = absurd r
 parted told bases before at (item ∷ items) more (i ∷ code) r =
     let p = parted told bases (item ∷ before) (at + length_of i.op) items more code r.1 in
@@ -73,8 +73,8 @@ parted told bases before at (item ∷ items) more (i ∷ code) r =
       rest = p.rest;
       is = ap (λ (l : List Instruction). i ∷ l) p.is;
       here = (r.0, p.here);
-      behind = subst (λ l. AreResolved told bases l (at + code_length (i ∷ p.first)) more p.rest) lines_so
-          (subst (λ n. AreResolved told bases (reverse items ++ (item ∷ before)) n more p.rest) place p.behind);
+      after = subst (λ l. AreResolved told bases l (at + code_length (i ∷ p.first)) more p.rest) lines_so
+          (subst (λ n. AreResolved told bases (reverse items ++ (item ∷ before)) n more p.rest) place p.after);
     }
 
 -- ---- where they are
@@ -92,7 +92,7 @@ loads_pointers calls_made source assembly line first rest command words accepts 
       split = p.is;
       here = p.here;
       called = calls_made (whole_of source) (bases_in_use source first) line code.at (reverse first) command words p.first p.here;
-      loaded = p.behind;
+      loaded = p.after;
     }
 
 -- ---- as the assembler resolves them

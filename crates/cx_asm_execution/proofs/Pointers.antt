@@ -10,7 +10,7 @@ use Rattle.cx_source.specs.declared.source.Source.{Source}
 use Rattle.cx_source.specs.declared.source.Stmt.{Stmt}
 use Rattle.cx_translate.specs.declared.words.Word.{Word}
 use Rattle.cx_translate.specs.Call.{pointers_of}
-use Rattle.cx_translate.specs.Made.{load, made_item}
+use Rattle.cx_translate.specs.Expansion.{load, made_item}
 use Rattle.cx_translate.specs.Sections.{lines}
 use Rattle.cx_asm_operands.specs.Bases.{Bases}
 use Rattle.cx_asm_operands.specs.Context.{Context, register_in}

@@ -12,29 +12,29 @@ use Rattle.cx_asm_execution.proofs.StandingLemmas.{accepted}
 use Rattle.cx_asm_execution.proofs.HeldLemmas.{HasWord, HaveWords, all_held}
 
 -- ---- lines that don't overlap a constant's
-word_behind : (from : ℕ) (ls : List Line) (size r : ℕ) → AreApart from ls size → HasWord r ls → from ≤ r
+word_after : (from : ℕ) (ls : List Line) (size r : ℕ) → AreApart from ls size → HasWord r ls → from ≤ r
 unfolding HasWord
-word_behind from [] size r apart h = absurd h
-word_behind from (l ∷ ls) size r apart (inl h) = (let at = h.begins in let first = apart.0 in omega (arith, at, first))
-word_behind from (l ∷ ls) size r apart (inr h) = (let rest = word_behind (end_of l) ls size r apart.1 h in let first = apart.0 in omega (arith, rest, first))
+word_after from [] size r apart h = absurd h
+word_after from (l ∷ ls) size r apart (inl h) = (let at = h.begins in let first = apart.0 in omega (arith, at, first))
+word_after from (l ∷ ls) size r apart (inr h) = (let rest = word_after (end_of l) ls size r apart.1 h in let first = apart.0 in omega (arith, rest, first))
 
 abbrev IsBeside : ℕ → Line → Type 0
 IsBeside r l = (r + 4 ≤ l.at) ⊎ (end_of l ≤ r)
 
-all_behind : (from : ℕ) (ls : List Line) (size r : ℕ) → AreApart from ls size → r + 4 ≤ from → AllByRecursion (λ l. is_code l.what ≡ true → IsBeside r l) ls
-all_behind from [] size r apart le = tt
-all_behind from (l ∷ ls) size r apart le =
-    let first = apart.0 in ((λ code. inl (omega (arith, first, le))), all_behind (end_of l) ls size r apart.1 (omega (arith, first, le)))
+all_after : (from : ℕ) (ls : List Line) (size r : ℕ) → AreApart from ls size → r + 4 ≤ from → AllByRecursion (λ l. is_code l.what ≡ true → IsBeside r l) ls
+all_after from [] size r apart le = tt
+all_after from (l ∷ ls) size r apart le =
+    let first = apart.0 in ((λ code. inl (omega (arith, first, le))), all_after (end_of l) ls size r apart.1 (omega (arith, first, le)))
 
 one_clear : (from : ℕ) (ls : List Line) (size r : ℕ) → AreApart from ls size → HasWord r ls → AllByRecursion (λ l. is_code l.what ≡ true → IsBeside r l) ls
 unfolding HasWord
 one_clear from [] size r apart h = tt
 one_clear from (l ∷ ls) size r apart (inl h) = (
   (λ code. (let no = h.constant in absurd (cc))),
-  all_behind (end_of l) ls size r apart.1 h.ends,
+  all_after (end_of l) ls size r apart.1 h.ends,
 )
 one_clear from (l ∷ ls) size r apart (inr h) = (
-  (λ code. inr (word_behind (end_of l) ls size r apart.1 h)),
+  (λ code. inr (word_after (end_of l) ls size r apart.1 h)),
   one_clear (end_of l) ls size r apart.1 h,
 )
 

@@ -19,7 +19,7 @@ use Rattle.cx_asm_pass2.specs.Statements.{PlacedItem, PlacedStatement, placed_st
 use Rattle.cx_asm_pass2.specs.Whole.{Whole, instruction_context, whole_of}
 use Rattle.cx_asm_pass2.specs.SecondFaults.{bases_after}
 use Rattle.cx_asm.specs.Assembly.{AssemblyParts, assembly_of}
-use Rattle.cx_asm_execution.specs.Standing.{code_lines}
+use Rattle.cx_asm_execution.specs.MadeLines.{code_lines}
 
 abbrev pub placed_item : Item → Option Place → PlacedItem
 placed_item item place = record { item = item; place = place }
@@ -80,6 +80,6 @@ pub record StandInCode (source : Source) (first items : List Item) (lines : List
 
 -- In an accepted source this holds of all lines with nothing but instructions on them.
 abbrev pub InstructionsStand : Type 0
-InstructionsStand = (source : Source) (assembly : AssemblyParts) (first items behind : List Item) → assembly_of source ≡ Ok assembly
-    → source.items ≡ first ++ items ++ behind → AllByRecursion (λ item. is_instruction item.stmt ≡ true) items
+InstructionsStand = (source : Source) (assembly : AssemblyParts) (first items after : List Item) → assembly_of source ≡ Ok assembly
+    → source.items ≡ first ++ items ++ after → AllByRecursion (λ item. is_instruction item.stmt ≡ true) items
     → StandInCode source first items assembly.section.resolved

@@ -5,7 +5,7 @@ use Rattle.std.specs.Option.{option_map_or, option_to_list}
 use Rattle.std.proofs.lemmas.List.{append_assoc}
 use Rattle.std.proofs.lemmas.List.Sums.{sum_by-cons}
 use Rattle.cx_asm_arrival.specs.Laws.Pointers.{LoadsGiveWords}
-use Rattle.cx_asm_arrival.specs.Made.{Argument, Statement, argument_address, instructions_made as made_code, words_of}
+use Rattle.cx_asm_arrival.specs.Expansion.{Argument, Statement, argument_address, instructions_made as made_code, words_of}
 use Rattle.cx_asm_arrival.specs.Stands.{AreAt, IsMachine, code_length}
 use Rattle.cx_code.specs.declared.disassembly.What.TheVariants.{Code}
 use Rattle.cx_code.specs.declared.instruction.Fields.TheVariants.{Rx}
@@ -30,7 +30,7 @@ use Rattle.cx_asm_pass1.specs.declared.roles.Role.TheVariants as role
 use Rattle.cx_source.specs.declared.source.Item.{Item}
 use Rattle.cx_source.specs.declared.source.Source.{Source}
 use Rattle.cx_source.specs.Lines.{is_letter, is_name, is_name_character}
-use Rattle.cx_source.specs.Marks.{depth_behind, within_behind}
+use Rattle.cx_source.specs.Marks.{depth_after, within_after}
 use Rattle.cx_storage.specs.Address.{address_after}
 use Rattle.cx_storage.specs.Laws.Spans.{SpanIsBytes}
 use Rattle.cx_storage.specs.Storage.{Storage}
@@ -46,7 +46,7 @@ use Rattle.cx_asm_expressions.specs.declared.values.Value.{Value}
 use Rattle.cx_translate.specs.declared.words.Word.{Word}
 use Rattle.cx_translate.specs.Facts.Found.{operand_by}
 use Rattle.cx_translate.specs.Call.{argument_of, labels_of, list_of, operand_of, operands_of as arguments_handed, pointer_by, pointers_of}
-use Rattle.cx_translate.specs.Made.{load, made_item, stmt}
+use Rattle.cx_translate.specs.Expansion.{load, made_item, stmt}
 use Rattle.cx_translate.specs.Sections.{lines}
 use Rattle.cx_asm_operands.specs.Addresses.{address, address_in as addressed_in, number_within, implied_address}
 use Rattle.cx_asm_operands.specs.Bases.{Bases}
@@ -70,15 +70,15 @@ use Rattle.cx_asm_execution.proofs.CalledLemmas.{HasFirst, first_offset}
 use Rattle.cx_asm_execution.proofs.KeptLemmas.{IsPlaced, code_kept, code_within, is_placed}
 use Rattle.cx_asm_execution.proofs.MadeLemmas.{list_begins, rest_of}
 use Rattle.cx_asm_execution.proofs.StandingLemmas.{offset_is}
-use Rattle.cx_asm_execution.specs.Arriving.{AreKept, ComesBack, IsPointer}
-use Rattle.cx_asm_execution.specs.Standing.{Site, code_lines}
+use Rattle.cx_asm_execution.specs.Arrival.{AreKept, ComesBack, IsPointer}
+use Rattle.cx_asm_execution.specs.MadeLines.{Site, code_lines}
 use Rattle.cx_asm_execution.proofs.Called.{call_statements}
 use Rattle.cx_asm_execution.proofs.OptionLemmas.{no_pointer_before}
 use Rattle.cx_asm_execution.proofs.Pointers.{IsPointerLoad, LoadsAreResolved, LoadsPointers, pointer_loads}
 
 -- ---- DFHEITP as an operand
 one_term : terms_of (codes "DFHEITP") ≡ Some (term_of Plus Symbol (codes "DFHEITP") ∷ [])
-unfolding terms_of within_behind depth_behind read_term is_name is_letter is_name_character
+unfolding terms_of within_after depth_after read_term is_name is_letter is_name_character
 one_term = refl
 
 -- it is worth the same everywhere
@@ -87,7 +87,7 @@ unfolding value_of term_worth
 same_worth find here there = ap (sum_of_terms find here) one_term ∙ sym (ap (sum_of_terms find there) one_term)
 
 alone : (c : Context) → operand_in true c (codes "DFHEITP") ≡ Some (operand (expression_value c (codes "DFHEITP")) [])
-unfolding operand_in within_behind depth_behind
+unfolding operand_in within_after depth_after
 alone c = refl
 
 implied : (c : Context) → indexed_in c (codes "DFHEITP") ≡ both_or_lower_fault (Ok 0) (then_judge (implied_address c.bases) (expression_value c (codes "DFHEITP")))
@@ -118,13 +118,13 @@ record HaveOnePlace (bases : Bases) (x y : ℕ) (handed taken : Address) : Type 
       → effective regs x handed.base handed.displacement ≡ effective later y taken.base taken.displacement
 
 -- what is handed over for a pointer and what its load takes
-pointers_have_one_place : Nearest → (told : Whole) (bases : Bases) (line : ℕ) (before behind : List Item) (register : List ℕ) (x y : ℕ) (handed taken : Address)
+pointers_have_one_place : Nearest → (told : Whole) (bases : Bases) (line : ℕ) (before after : List Item) (register : List ℕ) (x y : ℕ) (handed taken : Address)
     → indexed_in (context_of told bases line before (load_of (operand_of Pointer register))) (operand_of Pointer register) ≡ Ok (x, handed)
-    → indexed_in (context_of told bases line behind (load register)) (codes "DFHEITP") ≡ Ok (y, taken) → HaveOnePlace bases x y handed taken
+    → indexed_in (context_of told bases line after (load register)) (codes "DFHEITP") ≡ Ok (y, taken) → HaveOnePlace bases x y handed taken
 unfolding operand_of
-pointers_have_one_place near told bases line before behind register x y handed taken one other =
+pointers_have_one_place near told bases line before after register x y handed taken one other =
     let c = context_of told bases line before (load_of (codes "DFHEITP")) in
-    let d = context_of told bases line behind (load register) in
+    let d = context_of told bases line after (load register) in
     let found : ◌≡◌ {A = Result (ℕ × Address) FaultKind} (Ok (x, handed)) (Ok (y, taken)) = sym one ∙ same_operand told.find bases c.here d.here c.literal d.literal ∙ other in
     let pair : ◌≡◌ {A = ℕ × Address} (x, handed) (y, taken) = cc in
     let same : handed ≡ taken = ap (λ (p : ℕ × Address). p.1) pair in
@@ -150,39 +150,39 @@ given_so : (option : CommandOption) (words : List Word) (register : List ℕ) �
 unfolding operand_of
 given_so option words register marked given = rw (marked, given) (refl, refl)
 
-handed_split : (before : List CommandOption) (option : CommandOption) (behind : List CommandOption) (words : List Word) (register : List ℕ) → option.mark ≡ Pointer
+handed_split : (before : List CommandOption) (option : CommandOption) (after : List CommandOption) (words : List Word) (register : List ℕ) → option.mark ≡ Pointer
     → argument_of words (option_name option.name) ≡ Some register
-    → arguments_handed (before ++ option ∷ behind) words ≡ arguments_handed before words ++ codes "DFHEITP" ∷ arguments_handed behind words
-handed_split [] option behind words register marked given = ap (λ k. k ++ arguments_handed behind words) (given_so option words register marked given).0
-handed_split (o ∷ before) option behind words register marked given =
+    → arguments_handed (before ++ option ∷ after) words ≡ arguments_handed before words ++ codes "DFHEITP" ∷ arguments_handed after words
+handed_split [] option after words register marked given = ap (λ k. k ++ arguments_handed after words) (given_so option words register marked given).0
+handed_split (o ∷ before) option after words register marked given =
     let own = operand_by o.mark (argument_of words (option_name o.name)) in
-    ap (λ k. own ++ k) (handed_split before option behind words register marked given)
-    ∙ sym (append_assoc own (arguments_handed before words) (codes "DFHEITP" ∷ arguments_handed behind words))
+    ap (λ k. own ++ k) (handed_split before option after words register marked given)
+    ∙ sym (append_assoc own (arguments_handed before words) (codes "DFHEITP" ∷ arguments_handed after words))
 
-pointers_split : (before : List CommandOption) (option : CommandOption) (behind : List CommandOption) (words : List Word) (register : List ℕ) → option.mark ≡ Pointer
-    → argument_of words (option_name option.name) ≡ Some register → pointers_of (before ++ option ∷ behind) words ≡ pointers_of before words ++ register ∷ pointers_of behind words
-pointers_split [] option behind words register marked given = ap (λ k. k ++ pointers_of behind words) (given_so option words register marked given).1
-pointers_split (o ∷ before) option behind words register marked given =
+pointers_split : (before : List CommandOption) (option : CommandOption) (after : List CommandOption) (words : List Word) (register : List ℕ) → option.mark ≡ Pointer
+    → argument_of words (option_name option.name) ≡ Some register → pointers_of (before ++ option ∷ after) words ≡ pointers_of before words ++ register ∷ pointers_of after words
+pointers_split [] option after words register marked given = ap (λ k. k ++ pointers_of after words) (given_so option words register marked given).1
+pointers_split (o ∷ before) option after words register marked given =
     let own = pointer_by o.mark (argument_of words (option_name o.name)) in
-    ap (λ k. own ++ k) (pointers_split before option behind words register marked given) ∙ sym (append_assoc own (pointers_of before words) (register ∷ pointers_of behind words))
+    ap (λ k. own ++ k) (pointers_split before option after words register marked given) ∙ sym (append_assoc own (pointers_of before words) (register ∷ pointers_of after words))
 
 -- the list after its first word
-record Behind (command : Command) (words : List Word) (before : List CommandOption) : Type 0 where
+record Following (command : Command) (words : List Word) (before : List CommandOption) : Type 0 where
   rest : List (List ℕ)
   is : rest_of command words ≡ arguments_handed before words ++ codes "DFHEITP" ∷ rest
 
-list_split : (command : Command) (words : List Word) (before : List CommandOption) (register : List ℕ) → IsPointer command words before register → Behind command words before
+list_split : (command : Command) (words : List Word) (before : List CommandOption) (register : List ℕ) → IsPointer command words before register → Following command words before
 unfolding list_of
 list_split command words before register p =
     let labels = labels_of words in
     let last = option_to_list (argument_of words (common_of Resp).name) in
     let front = arguments_handed before words in
-    let back = arguments_handed p.behind words in
+    let back = arguments_handed p.after words in
     record {
       rest = back ++ (labels ++ last);
       is =
           ap (λ o. arguments_handed o words ++ labels ++ last) p.is
-          ∙ ap (λ k. k ++ labels ++ last) (handed_split before p.option p.behind words register p.marked p.given)
+          ∙ ap (λ k. k ++ labels ++ last) (handed_split before p.option p.after words register p.marked p.given)
           ∙ append_assoc (front ++ codes "DFHEITP" ∷ back) labels last ∙ append_assoc front (codes "DFHEITP" ∷ back) (labels ++ last);
     }
 
@@ -203,11 +203,11 @@ has_argument told bases line before k (other ∷ front) text back (a ∷ argumen
     let rest = has_argument told bases line (made_item line (store_of k) ∷ made_item line (load_of other) ∷ before) (k + 1) front text back arguments are.2 in
     record { argument = rest.argument; at = rest.at; before = rest.before; resolves = rest.resolves }
 
-behind_block : (told : Whole) (bases : Bases) (line : ℕ) (before : List Item) (block : List ℕ) (list : List (List ℕ)) (s : Statement)
+after_block : (told : Whole) (bases : Bases) (line : ℕ) (before : List Item) (block : List ℕ) (list : List (List ℕ)) (s : Statement)
     → AreArguments told bases line before 0 (block ∷ list) (words_of s)
     → AreArguments told bases line (made_item line (store_of 0) ∷ made_item line (load_of block) ∷ before) 1 list s.arguments
 unfolding AreArguments
-behind_block told bases line before block list s are = are.2
+after_block told bases line before block list s are = are.2
 
 -- ---- the load
 load_length : (register base displacement : ℕ) → code_length (instruction op.L (Rx register 0 base displacement) ∷ []) ≡ 4
@@ -231,27 +231,27 @@ begins told bases before at item items [] r = absurd r
 begins told bases before at item items (i ∷ code) r = record { load = i; rest = code; is = refl; resolved = r.0 }
 
 -- ---- code after code
-at_behind : (s : Storage) (a : ℕ) (front code : List Instruction) → a < 2 ^ 24 → AreAt s a (front ++ code) → AreAt s (address_after a (code_length front)) code
+at_after : (s : Storage) (a : ℕ) (front code : List Instruction) → a < 2 ^ 24 → AreAt s a (front ++ code) → AreAt s (address_after a (code_length front)) code
 unfolding AreAt
-at_behind s a [] code small stands =
+at_after s a [] code small stands =
     let same : a ≡ address_after a 0 = omega (arith, small) in
     subst (λ n. AreAt s n code) same stands
-at_behind s a (i ∷ front) code small stands =
+at_after s a (i ∷ front) code small stands =
     let sum : code_length (i ∷ front) ≡ length_of i.op + code_length front = sum_by-cons (λ (x : Instruction). length_of x.op) i front in
     let place : address_after (address_after a (length_of i.op)) (code_length front) ≡ address_after a (code_length (i ∷ front)) = omega (arith, sum) in
-    subst (λ n. AreAt s n code) place (at_behind s (address_after a (length_of i.op)) front code (omega arith) stands.2)
+    subst (λ n. AreAt s n code) place (at_after s (address_after a (length_of i.op)) front code (omega arith) stands.2)
 
 first_at : (s : Storage) (a : ℕ) (i : Instruction) (code : List Instruction) → AreAt s a (i ∷ code) → AreAt s a (i ∷ [])
 unfolding AreAt
 first_at s a i code stands = (stands.0, stands.1, tt)
 
-pub lines_behind : (at : ℕ) (front code : List Instruction) → code_lines at (front ++ code) ≡ code_lines at front ++ code_lines (at + code_length front) code
+pub lines_joined : (at : ℕ) (front code : List Instruction) → code_lines at (front ++ code) ≡ code_lines at front ++ code_lines (at + code_length front) code
 unfolding code_lines
-lines_behind at [] code = (let same : at ≡ at + 0 = omega arith in ap (λ n. code_lines n code) same)
-lines_behind at (i ∷ front) code =
+lines_joined at [] code = (let same : at ≡ at + 0 = omega arith in ap (λ n. code_lines n code) same)
+lines_joined at (i ∷ front) code =
     let sum : code_length (i ∷ front) ≡ length_of i.op + code_length front = sum_by-cons (λ (x : Instruction). length_of x.op) i front in
     let place : at + length_of i.op + code_length front ≡ at + code_length (i ∷ front) = omega (arith, sum) in
-    ap (λ k. line_at at (Code i) ∷ k) (lines_behind (at + length_of i.op) front code ∙ ap (λ n. code_lines (at + length_of i.op) front ++ code_lines n code) place)
+    ap (λ k. line_at at (Code i) ∷ k) (lines_joined (at + length_of i.op) front code ∙ ap (λ n. code_lines (at + length_of i.op) front ++ code_lines n code) place)
 
 -- ---- at a machine
 -- an argument's address, with the registers of the load
@@ -262,11 +262,11 @@ later_is bases a y taken same sections regs later first second =
     ∙ ap (λ n. effective later n taken.base taken.displacement) same.index.1 ∙ ap (λ (k : Address). effective later 0 k.base k.displacement) (sym same.resolved)
 
 -- an instruction after others is in storage
-stands_behind : (s : Storage) (program at place : ℕ) (front : List Instruction) (i : Instruction) (rest : List Instruction) → at + code_length front ≡ place
+stands_after : (s : Storage) (program at place : ℕ) (front : List Instruction) (i : Instruction) (rest : List Instruction) → at + code_length front ≡ place
     → AreAt s (address_after program at) (front ++ i ∷ rest) → AreAt s (address_after program place) (i ∷ [])
-stands_behind s program at place front i rest is stands =
+stands_after s program at place front i rest is stands =
     let here : address_after (address_after program at) (code_length front) ≡ address_after program place = again program at (code_length front) ∙ ap (address_after program) is in
-    first_at s (address_after program place) i rest (subst (λ n. AreAt s n (i ∷ rest)) here (at_behind s (address_after program at) front (i ∷ rest) (omega arith) stands))
+    first_at s (address_after program place) i rest (subst (λ n. AreAt s n (i ∷ rest)) here (at_after s (address_after program at) front (i ∷ rest) (omega arith) stands))
   where
     again : (b k n : ℕ) → address_after (address_after b k) n ≡ address_after b (k + n)
     again b k n = omega arith
@@ -313,48 +313,48 @@ module _ (laws : Laws) (source : Source) (assembly : AssemblyParts) (line : ℕ)
   -- the argument
   handed : HasArgument told bases line (codes "DFHEITP") s.arguments (length (arguments_handed before words))
   handed =
-      let behind = list_split command words before register p in
+      let after = list_split command words before register p in
       let whole : AreArguments told bases line (reverse first) 0 (block_of command words ∷ rest_of command words) (words_of s) =
       subst (λ k. AreArguments told bases line (reverse first) 0 k (words_of s)) (list_begins command words) all.called.is.arguments in
       let lines_so = made_item line (store_of 0) ∷ made_item line (load_of (block_of command words)) ∷ reverse first in
-      let rest = behind_block told bases line (reverse first) (block_of command words) (rest_of command words) s whole in
-      has_argument told bases line lines_so 1 (arguments_handed before words) (codes "DFHEITP") behind.rest s.arguments
-      (subst (λ k. AreArguments told bases line lines_so 1 k s.arguments) behind.is rest)
+      let rest = after_block told bases line (reverse first) (block_of command words) (rest_of command words) s whole in
+      has_argument told bases line lines_so 1 (arguments_handed before words) (codes "DFHEITP") after.rest s.arguments
+      (subst (λ k. AreArguments told bases line lines_so 1 k s.arguments) after.is rest)
 
   -- its load, right after the call
-  abbrev behind_call : List Item
-  behind_call = reverse (lines line (call_statements command words)) ++ reverse first
+  abbrev after_call : List Item
+  after_call = reverse (lines line (call_statements command words)) ++ reverse first
 
   own : Item
   own = made_item line (load register)
 
-  loads_begin : lines line (pointer_loads command words) ≡ own ∷ lines line (map load (pointers_of p.behind words))
+  loads_begin : lines line (pointer_loads command words) ≡ own ∷ lines line (map load (pointers_of p.after words))
   unfolding own
   loads_begin =
       ap (λ o. lines line (map load (pointers_of o words))) p.is
-      ∙ ap (λ k. lines line (map load k)) (pointers_split before p.option p.behind words register p.marked p.given
-      ∙ ap (λ k. k ++ register ∷ pointers_of p.behind words) (no_pointer_before command words before p.option p.behind p.is p.marked))
+      ∙ ap (λ k. lines line (map load k)) (pointers_split before p.option p.after words register p.marked p.given
+      ∙ ap (λ k. k ++ register ∷ pointers_of p.after words) (no_pointer_before command words before p.option p.after p.is p.marked))
 
   abbrev place : ℕ
   place = all.code.at + code_length all.calls
 
-  one : Begins told bases behind_call place own all.loads
+  one : Begins told bases after_call place own all.loads
   one =
-      begins told bases behind_call place own (lines line (map load (pointers_of p.behind words))) all.loads
-      (subst (λ k. AreResolved told bases behind_call place k all.loads) loads_begin all.loaded)
+      begins told bases after_call place own (lines line (map load (pointers_of p.after words))) all.loads
+      (subst (λ k. AreResolved told bases after_call place k all.loads) loads_begin all.loaded)
 
   code_so : all.code.code ≡ all.calls ++ one.load ∷ one.rest
   code_so = all.split ∙ ap (λ k. all.calls ++ k) one.is
 
   -- what it is resolved to
-  loads : IsPointerLoad (context_of told bases line behind_call (load register)) register one.load
+  loads : IsPointerLoad (context_of told bases line after_call (load register)) register one.load
   unfolding own
-  loads = laws.resolved told bases line place behind_call register one.load cut one.resolved
+  loads = laws.resolved told bases line place after_call register one.load cut one.resolved
 
   one_place : HaveOnePlace bases handed.argument.index loads.takes.index (address handed.argument.base handed.argument.displacement) loads.takes.address
   unfolding operand_of
   one_place =
-      pointers_have_one_place laws.nearest told bases line handed.before behind_call register handed.argument.index loads.takes.index
+      pointers_have_one_place laws.nearest told bases line handed.before after_call register handed.argument.index loads.takes.index
       (address handed.argument.base handed.argument.displacement) loads.takes.address handed.resolves loads.takes.operand
 
   load_is : one.load ≡ instruction op.L (Rx loads.number 0 handed.argument.base handed.argument.displacement)
@@ -365,9 +365,9 @@ module _ (laws : Laws) (source : Source) (assembly : AssemblyParts) (line : ℕ)
   place_even : place % 2 ≡ 0
   unfolding own
   place_even =
-      let known = state_after behind_call in
-      let there : HasFirst told bases behind_call place (made_item line (load register)) = record { instruction = one.load; resolved = one.resolved } in
-      let at = first_offset told bases behind_call place line (load register) there in
+      let known = state_after after_call in
+      let there : HasFirst told bases after_call place (made_item line (load register)) = record { instruction = one.load; resolved = one.resolved } in
+      let at = first_offset told bases after_call place line (load register) there in
       let offset = offset_is (load register) op.L known (l_role (register ++ codes ",DFHEITP")) in
       ap (λ n. n % 2) (sym at ∙ offset) ∙ even (next_in known)
     where
@@ -377,7 +377,7 @@ module _ (laws : Laws) (source : Source) (assembly : AssemblyParts) (line : ℕ)
   place_small : place ≤ 65536
   place_small =
       let lines_so : assembly.section.resolved ≡ (all.code.front ++ code_lines all.code.at all.calls) ++ code_lines place (one.load ∷ one.rest) ++ all.code.back =
-      all.code.stand ∙ ap (λ k. all.code.front ++ k ++ all.code.back) (ap (code_lines all.code.at) code_so ∙ lines_behind all.code.at all.calls (one.load ∷ one.rest))
+      all.code.stand ∙ ap (λ k. all.code.front ++ k ++ all.code.back) (ap (code_lines all.code.at) code_so ∙ lines_joined all.code.at all.calls (one.load ∷ one.rest))
       ∙ ap (λ k. k ++ all.code.back) (sym (append_assoc all.code.front (code_lines all.code.at all.calls) (code_lines place (one.load ∷ one.rest)))) in
       code_within assembly.section (all.code.front ++ code_lines all.code.at all.calls) all.code.back place one.load one.rest (laws.texts source assembly accepts) lines_so
 
@@ -390,7 +390,7 @@ module _ (laws : Laws) (source : Source) (assembly : AssemblyParts) (line : ℕ)
       let a = handed.argument in
       let code = subst (AreAt loaded (address_after program.at all.code.at)) code_so (laws.code source assembly first _ storage loaded program accepts fit done all.code) in
       let there : AreAt loaded (address_after program.at place) (instruction op.L (Rx loads.number 0 a.base a.displacement) ∷ []) =
-      subst (λ k. AreAt loaded (address_after program.at place) (k ∷ [])) load_is (stands_behind loaded program.at all.code.at place all.calls one.load one.rest refl code) in
+      subst (λ k. AreAt loaded (address_after program.at place) (k ∷ [])) load_is (stands_after loaded program.at all.code.at place all.calls one.load one.rest refl code) in
       let later = later_is bases a loads.takes.index loads.takes.address one_place sections regs m.regs holds held in
       load_goes laws.spans laws.gives loaded program.at place loads.number a.base a.displacement word m (is_placed storage (length assembly.section.image.text) program.at done.place) place_even place_small
       there machine next load (ap (word_at m.storage) (sym later) ∙ e)

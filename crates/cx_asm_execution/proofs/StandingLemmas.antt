@@ -29,11 +29,11 @@ use Rattle.cx_asm_operations.specs.declared.operations.Directive.TheVariants as 
 use Rattle.cx_asm_pass1.specs.Roles.{directive_role, role_of}
 use Rattle.cx_asm_pass1.specs.AllFaults.{with_fault}
 use Rattle.cx_asm_pass1.specs.Facts.Apart.{statement_stands, statement_within, section_ends}
-use Rattle.cx_asm_pass1.specs.Facts.Laid.{capped_same, lower_none}
+use Rattle.cx_asm_pass1.specs.Facts.StatementExtents.{capped_same, lower_none}
 use Rattle.cx_asm_pass1.specs.PassState.{PassState, next_state, after_line, is_control, section_after, length_after, length_of_section, state_after, laid_in, line_fault, next_in, parts_in, place_in, role_in, section_fault, name_in}
 use Rattle.cx_asm_pass1.specs.Layout.{align, extent_of}
 use Rattle.cx_asm_pass1.specs.Laws.Apart.{Stands, section_length}
-use Rattle.cx_asm_pass1.specs.Placed.{known_of}
+use Rattle.cx_asm_pass1.specs.Locations.{known_of}
 use Rattle.cx_asm_pools.specs.Pools.{cap}
 use Rattle.cx_asm_pass1.specs.declared.place.LineFault.{LineFault}
 use Rattle.cx_asm_pass1.specs.declared.roles.Role.TheVariants as role
@@ -45,14 +45,14 @@ use Rattle.cx_asm_operands.specs.Judging.{made_of as fields_made}
 use Rattle.cx_asm_operands.specs.declared.forms.Form.{Form}
 use Rattle.cx_code.specs.declared.instruction.Fields.{Fields}
 use Rattle.cx_asm_pass2.specs.Statements.{PlacedStatement, operation_of, placed_statement, stated_in, statements_of}
-use Rattle.cx_asm_pass2.specs.SecondFaults.{bases_after, bases_behind, literals_fault, operand_fault, second_fault, second_faults_after}
+use Rattle.cx_asm_pass2.specs.SecondFaults.{bases_after, bases_after_all, literals_fault, operand_fault, second_fault, second_faults_after}
 use Rattle.cx_asm_pass2.specs.Whole.{Whole, directive_context, instruction_context, whole_of}
 use Rattle.cx_asm.specs.Resolving.{line, standing_from, statement_standing}
 use Rattle.cx_asm.specs.Assembly.{AssemblyParts, assembly_of, made_of, second_faults_of, section_of, size_of, standing_of}
 use Rattle.cx_asm.specs.Facts.Accepted as facts
-use Rattle.cx_asm_execution.specs.Standing.{code_lines}
+use Rattle.cx_asm_execution.specs.MadeLines.{code_lines}
 use Rattle.cx_asm_execution.proofs.Resolved.{AreResolved, InstructionsStand, bases_from, bases_in_use, is_instruction, is_instruction_role, placed_from, statements_from, placed_item, place_for}
-use Rattle.cx_asm_execution.proofs.BehindLemmas.{control_same, fault_kept, own_sound, reverse_step, section_sound, statements_are}
+use Rattle.cx_asm_execution.proofs.AfterLemmas.{control_same, fault_kept, own_sound, reverse_step, section_sound, statements_are}
 use Rattle.cx_asm_image.specs.Resolved.{AreApart}
 use Rattle.cx_asm_image.specs.Text.{text_of}
 use Rattle.cx_asm_execution.proofs.InStorage.{TextsAreMade}
@@ -83,18 +83,18 @@ none_with line (Some kind) (first ∷ more) e = absurd (go (line == first.line) 
     go false f = cc
 
 judged_kept : (told : Whole) (ss before : List PlacedStatement) → second_faults_after told (reverse ss ++ before) ≡ []
-    → (second_faults_after told before ≡ []) × NoFault told (bases_behind told before) (length before) ss
+    → (second_faults_after told before ≡ []) × NoFault told (bases_after_all told before) (length before) ss
 unfolding NoFault
 judged_kept told [] before e = (e, tt)
 judged_kept told (s ∷ ss) before e =
     let more = judged_kept told ss (s ∷ before) (subst (λ k. second_faults_after told k ≡ []) (reverse_step s ss before) e) in
-    let here = none_with s.line (second_fault told (bases_behind told before) (length before) s) (second_faults_after told before) more.0 in
+    let here = none_with s.line (second_fault told (bases_after_all told before) (length before) s) (second_faults_after told before) more.0 in
     (here.0, (here.1, more.1))
 
-no_fault_behind : (told : Whole) (xs ys : List PlacedStatement) (bases : Bases) (number : ℕ) → NoFault told bases number (xs ++ ys) → (n : ℕ) × NoFault told (bases_from told bases xs) n ys
+no_fault_after : (told : Whole) (xs ys : List PlacedStatement) (bases : Bases) (number : ℕ) → NoFault told bases number (xs ++ ys) → (n : ℕ) × NoFault told (bases_from told bases xs) n ys
 unfolding NoFault
-no_fault_behind told [] ys bases number e = (number, e)
-no_fault_behind told (x ∷ xs) ys bases number e = no_fault_behind told xs ys (bases_after told bases x) (suc number) e.1
+no_fault_after told [] ys bases number e = (number, e)
+no_fault_after told (x ∷ xs) ys bases number e = no_fault_after told xs ys (bases_after told bases x) (suc number) e.1
 
 no_fault_in : (told : Whole) (xs ys : List PlacedStatement) (bases : Bases) (number : ℕ) → NoFault told bases number (xs ++ ys) → NoFault told bases number xs
 unfolding NoFault
@@ -364,25 +364,25 @@ all_code told all bases number before (item ∷ items) more are sound control fa
 
 pub instructions_stand : InstructionsStand
 unfolding section_of standing_of second_faults_of
-instructions_stand source assembly first items behind e is are =
+instructions_stand source assembly first items after e is are =
     let ok = accepted source assembly e in
     let told = whole_of source in
     let all = statements_of source in
     let before = reverse first in
     let front = statements_from [] first in
     let own = statements_from before items in
-    let rest = statements_from (reverse (first ++ items) ++ []) behind in
+    let rest = statements_from (reverse (first ++ items) ++ []) after in
     let split : all ≡ (front ++ own) ++ rest =
-    statements_are source ∙ ap (statements_from []) is ∙ statements_joined (first ++ items) behind []
+    statements_are source ∙ ap (statements_from []) is ∙ statements_joined (first ++ items) after []
     ∙ ap (λ k. k ++ rest) (statements_joined first items [] ∙ ap (λ k. front ++ statements_from k items) (append-nil (reverse first))) in
-    let turned : reverse source.items ≡ reverse behind ++ (reverse items ++ before) =
-    ap (λ k. reverse k) is ∙ reverse-append (first ++ items) behind ∙ ap (λ k. reverse behind ++ k) (reverse-append first items) in
-    let sound : (state_after (reverse behind ++ (reverse items ++ before))).fault ≡ None = subst (λ k. (state_after k).fault ≡ None) turned ok.first in
-    let control : told.control ≡ (state_after (reverse behind ++ (reverse items ++ before))).control = ap (λ k. (state_after k).control) turned in
+    let turned : reverse source.items ≡ reverse after ++ (reverse items ++ before) =
+    ap (λ k. reverse k) is ∙ reverse-append (first ++ items) after ∙ ap (λ k. reverse after ++ k) (reverse-append first items) in
+    let sound : (state_after (reverse after ++ (reverse items ++ before))).fault ≡ None = subst (λ k. (state_after k).fault ≡ None) turned ok.first in
+    let control : told.control ≡ (state_after (reverse after ++ (reverse items ++ before))).control = ap (λ k. (state_after k).control) turned in
     let judged = judged_kept told all [] (subst (λ k. second_faults_after told k ≡ []) (sym (append-nil (reverse all))) ok.second) in
     let none : NoFault told none_in_use 0 ((front ++ own) ++ rest) = subst (NoFault told none_in_use 0) split judged.1 in
-    let faults = no_fault_behind told front own none_in_use 0 (no_fault_in told (front ++ own) rest none_in_use 0 none) in
-    let code = all_code told all (bases_from told none_in_use front) faults.0 before items (reverse behind) are sound control faults.1 in
+    let faults = no_fault_after told front own none_in_use 0 (no_fault_in told (front ++ own) rest none_in_use 0 none) in
+    let code = all_code told all (bases_from told none_in_use front) faults.0 before items (reverse after) are sound control faults.1 in
     let same : bases_from told none_in_use front ≡ bases_in_use source first = ap (bases_from told none_in_use) (sym (statements_are (record { items = first }))) in
     record {
       at = align 2 (next_in (state_after before));

@@ -11,7 +11,7 @@ use Rattle.cx_code.specs.Table.{is_shift, length_of, ops, row_of}
 use Rattle.cx_source.specs.declared.source.Item.{Item}
 use Rattle.cx_source.specs.declared.source.Stmt.{Stmt}
 use Rattle.cx_source.specs.Lines.{is_letter, is_name}
-use Rattle.cx_source.specs.Marks.{depth_behind, is_length_attribute, is_mark, lies_outside, parts_from, scan_after, within_behind}
+use Rattle.cx_source.specs.Marks.{depth_after, is_length_attribute, is_mark, lies_outside, parts_from, scan_after, within_after}
 use Rattle.cx_source.specs.declared.marks.Delimiter.TheVariants.{TopComma}
 use Rattle.cx_source.specs.declared.marks.Scan.{Scan}
 use Rattle.cx_asm_expressions.specs.declared.faults.FaultKind.{FaultKind}
@@ -20,7 +20,7 @@ use Rattle.cx_asm_expressions.specs.Expressions.{sum_of_values, value_of}
 use Rattle.cx_asm_expressions.specs.Terms.{read_term, terms_of}
 use Rattle.cx_asm_expressions.specs.Weights.{relocation}
 use Rattle.cx_asm_expressions.specs.Worth.{term_worth}
-use Rattle.cx_translate.specs.Made.{made_item, stmt}
+use Rattle.cx_translate.specs.Expansion.{made_item, stmt}
 use Rattle.cx_asm_operations.specs.Operations.{operation_named, operations}
 use Rattle.cx_asm_operations.specs.declared.operations.Operation.TheVariants as operation
 use Rattle.cx_asm_operands.specs.Bases.{Bases}
@@ -39,35 +39,35 @@ use Rattle.cx_asm_execution.proofs.ArgumentLemmas.{both_ok, made_ok}
 -- ---- a text that is one part
 some_part : (scan : Scan) (part text : List ℕ) → parts_from TopComma scan part text ≡ [] → ⊥
 some_part scan part [] e = cc
-some_part scan part (c ∷ behind) e = go (lies_outside scan c behind && is_mark TopComma scan.depth c) (some_part (scan_after scan c behind) (part ++ (c ∷ [])) behind) e
+some_part scan part (c ∷ after) e = go (lies_outside scan c after && is_mark TopComma scan.depth c) (some_part (scan_after scan c after) (part ++ (c ∷ [])) after) e
   where
-    go : (b : Bool) → (parts_from TopComma (scan_after scan c behind) (part ++ (c ∷ [])) behind ≡ [] → ⊥)
-        → cond b (part ∷ parts_from TopComma (scan_after scan c behind) [] behind) (parts_from TopComma (scan_after scan c behind) (part ++ (c ∷ [])) behind) ≡ [] → ⊥
+    go : (b : Bool) → (parts_from TopComma (scan_after scan c after) (part ++ (c ∷ [])) after ≡ [] → ⊥)
+        → cond b (part ∷ parts_from TopComma (scan_after scan c after) [] after) (parts_from TopComma (scan_after scan c after) (part ++ (c ∷ [])) after) ≡ [] → ⊥
     go true f e = cc
     go false f e = f e
 
 whole_part : (scan : Scan) (part text p : List ℕ) → parts_from TopComma scan part text ≡ p ∷ [] → p ≡ part ++ text
 whole_part scan part [] p e = (let same : part ≡ p = cc in sym same ∙ sym (append-nil part))
-whole_part scan part (c ∷ behind) p e =
-    go (lies_outside scan c behind && is_mark TopComma scan.depth c) (some_part (scan_after scan c behind) [] behind) (λ f. whole_part (scan_after scan c behind) (part ++ (c ∷ [])) behind p f) e
+whole_part scan part (c ∷ after) p e =
+    go (lies_outside scan c after && is_mark TopComma scan.depth c) (some_part (scan_after scan c after) [] after) (λ f. whole_part (scan_after scan c after) (part ++ (c ∷ [])) after p f) e
   where
-    go : (b : Bool) → (parts_from TopComma (scan_after scan c behind) [] behind ≡ [] → ⊥)
-        → (parts_from TopComma (scan_after scan c behind) (part ++ (c ∷ [])) behind ≡ p ∷ [] → p ≡ part ++ (c ∷ []) ++ behind)
-        → cond b (part ∷ parts_from TopComma (scan_after scan c behind) [] behind) (parts_from TopComma (scan_after scan c behind) (part ++ (c ∷ [])) behind) ≡ p ∷ [] → p ≡ part ++ (c ∷ behind)
-    go true never f e = (let rest : parts_from TopComma (scan_after scan c behind) [] behind ≡ [] = cc in absurd (never rest))
-    go false never f e = f e ∙ append_assoc part (c ∷ []) behind
+    go : (b : Bool) → (parts_from TopComma (scan_after scan c after) [] after ≡ [] → ⊥)
+        → (parts_from TopComma (scan_after scan c after) (part ++ (c ∷ [])) after ≡ p ∷ [] → p ≡ part ++ (c ∷ []) ++ after)
+        → cond b (part ∷ parts_from TopComma (scan_after scan c after) [] after) (parts_from TopComma (scan_after scan c after) (part ++ (c ∷ [])) after) ≡ p ∷ [] → p ≡ part ++ (c ∷ after)
+    go true never f e = (let rest : parts_from TopComma (scan_after scan c after) [] after ≡ [] = cc in absurd (never rest))
+    go false never f e = f e ∙ append_assoc part (c ∷ []) after
 
 -- ---- registers
 zero_is : (c : Context) → register_in c (codes "0") ≡ Ok 0
-unfolding number_in value_of terms_of within_behind read_term is_name is_letter digit term_worth sum_of_values relocation
+unfolding number_in value_of terms_of within_after read_term is_name is_letter digit term_worth sum_of_values relocation
 zero_is c = refl
 
 one_is : (c : Context) → register_in c (codes "1") ≡ Ok 1
-unfolding number_in value_of terms_of within_behind read_term is_name is_letter digit term_worth sum_of_values relocation
+unfolding number_in value_of terms_of within_after read_term is_name is_letter digit term_worth sum_of_values relocation
 one_is c = refl
 
 fifteen_is : (c : Context) → register_in c (codes "15") ≡ Ok 15
-unfolding number_in value_of terms_of within_behind read_term is_name is_letter digit term_worth sum_of_values relocation
+unfolding number_in value_of terms_of within_after read_term is_name is_letter digit term_worth sum_of_values relocation
 fifteen_is c = refl
 
 -- ---- a register and the rest
@@ -76,15 +76,15 @@ record Cut (text : List ℕ) (register : List ℕ) (rest : List ℕ) : Type 0 wh
   is : operands_of text ≡ register ∷ parts_from TopComma scan [] rest
 
 cut_0 : (text : List ℕ) → Cut (codes "0," ++ text) (codes "0") text
-unfolding within_behind depth_behind is_length_attribute
+unfolding within_after depth_after is_length_attribute
 cut_0 text = record { scan = record { within = false; depth = 0; before = 48; last = 44 }; is = refl }
 
 cut_1 : (text : List ℕ) → Cut (codes "1," ++ text) (codes "1") text
-unfolding within_behind depth_behind is_length_attribute
+unfolding within_after depth_after is_length_attribute
 cut_1 text = record { scan = record { within = false; depth = 0; before = 49; last = 44 }; is = refl }
 
 cut_15 : (text : List ℕ) → Cut (codes "15," ++ text) (codes "15") text
-unfolding within_behind depth_behind is_length_attribute
+unfolding within_after depth_after is_length_attribute
 cut_15 text = record { scan = record { within = false; depth = 0; before = 53; last = 44 }; is = refl }
 
 -- ---- an instruction with one
@@ -177,7 +177,7 @@ unfolding row_of is_shift
 l_indexed = refl
 
 balr_is : (c : Context) → instruction_or_fault (operation.Machine op.Balr) c (codes "14,15") ≡ Ok (instruction op.Balr (Rr 14 15))
-unfolding instruction_or_fault fields_in row_of is_shift number_in value_of terms_of within_behind depth_behind is_length_attribute read_term is_name is_letter digit term_worth sum_of_values relocation
+unfolding instruction_or_fault fields_in row_of is_shift number_in value_of terms_of within_after depth_after is_length_attribute read_term is_name is_letter digit term_worth sum_of_values relocation
 balr_is c = refl
 
 pub branch_resolved : BranchIsResolved
@@ -188,12 +188,12 @@ branch_resolved told bases line at before (i ∷ j ∷ []) r = absurd (r.1).1
 branch_resolved told bases line at before (i ∷ j ∷ k ∷ more ∷ code) r = absurd ((r.1).1).1
 branch_resolved told bases line at before (i ∷ j ∷ k ∷ []) r =
     let one = context_of told bases line before list_of_1 in
-    let behind = made_item line list_of_1 ∷ before in
-    let two = context_of told bases line behind entry_in_15 in
+    let after = made_item line list_of_1 ∷ before in
+    let two = context_of told bases line after entry_in_15 in
     let last = stmt [] (codes "BALR") (codes "14,15") in
-    let three = context_of told bases line (made_item line entry_in_15 ∷ behind) last in
+    let three = context_of told bases line (made_item line entry_in_15 ∷ after) last in
     let balr : instruction_or_fault (operation.Machine op.Balr) three (codes "14,15") ≡ Ok k =
-    resolved_so told bases line (at + length_of i.op + length_of j.op) (made_item line entry_in_15 ∷ behind) last op.Balr k balr_named ((r.1).1).0 in
+    resolved_so told bases line (at + length_of i.op + length_of j.op) (made_item line entry_in_15 ∷ after) last op.Balr k balr_named ((r.1).1).0 in
     let same : k ≡ instruction op.Balr (Rr 14 15) = (let found : Ok k ≡ Ok (instruction op.Balr (Rr 14 15)) = sym balr ∙ balr_is three in cc) in
     record {
       list = i;
@@ -202,5 +202,5 @@ branch_resolved told bases line at before (i ∷ j ∷ k ∷ []) r =
       loads = with_register op.La one (codes "1,DFHEIPL") (codes "1") (codes "DFHEIPL") 1 i la_indexed (cut_1 (codes "DFHEIPL")) (one_is one)
           (resolved_so told bases line at before list_of_1 op.La i la_named r.0);
       takes = with_register op.L two (codes "15,=V(DFHEI1)") (codes "15") (codes "=V(DFHEI1)") 15 j l_indexed (cut_15 (codes "=V(DFHEI1)")) (fifteen_is two)
-          (resolved_so told bases line (at + length_of i.op) behind entry_in_15 op.L j l_named (r.1).0);
+          (resolved_so told bases line (at + length_of i.op) after entry_in_15 op.L j l_named (r.1).0);
     }

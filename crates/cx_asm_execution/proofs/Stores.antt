@@ -7,7 +7,7 @@ use Rattle.cx_code.specs.declared.instruction.Fields.TheVariants.{Rr, Rx}
 use Rattle.cx_code.specs.Spelling.{Instruction, instruction}
 use Rattle.cx_source.specs.declared.source.Item.{Item}
 use Rattle.cx_source.specs.declared.source.Stmt.{Stmt}
-use Rattle.cx_translate.specs.Made.{made_item, stmt, stores}
+use Rattle.cx_translate.specs.Expansion.{made_item, stmt, stores}
 use Rattle.cx_translate.specs.Sections.{lines}
 use Rattle.cx_asm_pass1.specs.PassState.{state_after, place_in}
 use Rattle.cx_asm_operands.specs.Bases.{Bases}

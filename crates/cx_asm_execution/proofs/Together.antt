@@ -4,5 +4,5 @@ use Rattle.cx_source.specs.declared.source.Item.{Item}
 
 pub record StandTogether (part items : List Item) : Type 0 where
   pub before : List Item
-  pub behind : List Item
-  pub is : items ≡ before ++ part ++ behind
+  pub after : List Item
+  pub is : items ≡ before ++ part ++ after

@@ -15,14 +15,14 @@ use Rattle.cx_source.specs.Statements.{is_continued}
 use Rattle.cx_translate.specs.declared.faults.TransFault.{TransFault}
 use Rattle.cx_translate.specs.declared.words.Word.{Word}
 use Rattle.cx_translate.specs.Call.{list_of, pointers_of}
-use Rattle.cx_translate.specs.Made.{call, label, load, made_in, made_item, made_of, stmt, stores}
+use Rattle.cx_translate.specs.Expansion.{call, label, load, made_in, made_item, made_of, stmt, stores}
 use Rattle.cx_translate.specs.Refusals.{command_in, fault_in, fault_of}
-use Rattle.cx_translate.specs.Sections.{name_at, bases, begins_exec, begins_section, begins_storage, place_after, continuation_count, is_end, lines, insert_items, put_before, put_behind, storage_fields, with_bases, with_eib, with_storage}
+use Rattle.cx_translate.specs.Sections.{name_at, bases, begins_exec, begins_section, begins_storage, place_after, continuation_count, is_end, lines, insert_items, put_before, put_after, storage_fields, with_bases, with_eib, with_storage}
 use Rattle.cx_translate.specs.Translation.{continues_exec, expanded_items, expansion, fault_at, statement_faults, translation, translation_of}
 use Rattle.cx_translate.specs.Facts.AllFaults.{translated_so}
 use Rattle.cx_translate.specs.Words.{words_of}
-use Rattle.cx_translate.specs.Facts.Found.{bases_behind, continued, eib_before, eib_section, fault_in_stmt, fault_of_command, line_of, made_by, storage_before, storage_behind, storage_section}
-use Rattle.cx_asm_execution.specs.Standing.{IsMade}
+use Rattle.cx_translate.specs.Facts.Found.{bases_after, continued, eib_before, eib_section, fault_in_stmt, fault_of_command, line_of, made_by, storage_before, storage_after, storage_section}
+use Rattle.cx_asm_execution.specs.MadeLines.{IsMade}
 use Rattle.cx_asm_execution.proofs.Together.{StandTogether}
 
 -- ---- cutting lists
@@ -150,14 +150,14 @@ plain_made line name command words =
 
 -- ---- something put in, before or after
 nothing_together : (items : List Item) → StandTogether [] items
-nothing_together items = record { before = []; behind = items; is = refl }
+nothing_together items = record { before = []; after = items; is = refl }
 
 put_before_them : (part before rest made : List Item) (place : ℕ) → place ≤ length before → StandTogether part (insert_items place made (before ++ part ++ rest))
 put_before_them part before rest made place le =
     let all : before ++ part ++ rest ≡ before ++ (part ++ rest) = append_assoc before part rest in
     record {
       before = take place before ++ made ++ drop place before;
-      behind = rest;
+      after = rest;
       is =
           ap (insert_items place made) all ∙ ap (λ k. k ++ made ++ drop place (before ++ (part ++ rest))) (take_front before (part ++ rest) place le)
           ∙ ap (λ k. take place before ++ made ++ k) (drop_front before (part ++ rest) place le)
@@ -165,13 +165,13 @@ put_before_them part before rest made place le =
           ∙ sym (append_assoc (take place before ++ made ++ drop place before) part rest);
     }
 
-put_behind_them : (part before rest made : List Item) (place : ℕ) → length before + length part ≤ place → StandTogether part (insert_items place made (before ++ part ++ rest))
-put_behind_them part before rest made place le =
+put_after_them : (part before rest made : List Item) (place : ℕ) → length before + length part ≤ place → StandTogether part (insert_items place made (before ++ part ++ rest))
+put_after_them part before rest made place le =
     let long : length (before ++ part) ≤ place = (let e = length_joined before part in omega (arith, e, le)) in
     let n = place - length (before ++ part) in
     record {
       before = before;
-      behind = take n rest ++ made ++ drop n rest;
+      after = take n rest ++ made ++ drop n rest;
       is =
           ap (λ k. k ++ made ++ drop place (before ++ part ++ rest)) (take_past (before ++ part) rest place long)
           ∙ ap (λ k. before ++ part ++ take n rest ++ made ++ k) (drop_past (before ++ part) rest place long)
@@ -184,7 +184,7 @@ IsBeside before part place = (place < length before) ⊎ (length before + length
 
 put_beside : (part before rest made : List Item) (place : ℕ) → IsBeside before part place → StandTogether part (insert_items place made (before ++ part ++ rest))
 put_beside part before rest made place (inl le) = put_before_them part before rest made place (omega (arith, le))
-put_beside part before rest made place (inr le) = put_behind_them part before rest made place le
+put_beside part before rest made place (inr le) = put_after_them part before rest made place le
 
 -- the line that something is put beside is none of them
 unfoldable pub HaveNot : (Item → Bool) → List Item → Type 0
@@ -229,11 +229,11 @@ dropped_length zero xs le = omega arith
 dropped_length (suc n) [] le = absurd (omega arith)
 dropped_length (suc n) (x ∷ xs) le = (let e = dropped_length n xs (omega arith) in omega (arith, e))
 
-behind_beside : (y : Item) (part before rest : List Item) (place : ℕ) → is_none y.stmt ≡ false → IsBeside before (y ∷ part) place
+after_beside : (y : Item) (part before rest : List Item) (place : ℕ) → is_none y.stmt ≡ false → IsBeside before (y ∷ part) place
     → (place_after (before ++ (y ∷ part) ++ rest) place ≤ length before) ⊎ (length before + length (y ∷ part) ≤ place_after (before ++ (y ∷ part) ++ rest) place)
 unfolding place_after
-behind_beside y part before rest place e (inr past) = inr (omega (arith, past))
-behind_beside y part before rest place e (inl less) =
+after_beside y part before rest place e (inr past) = inr (omega (arith, past))
+after_beside y part before rest place e (inl less) =
     let all = before ++ (y ∷ part) ++ rest in
     let split : drop (place + 1) all ≡ drop (place + 1) before ++ (y ∷ (part ++ rest)) =
     ap (drop (place + 1)) (append_assoc before (y ∷ part) rest) ∙ drop_front before (y ∷ (part ++ rest)) (place + 1) (omega (arith, less)) in
@@ -271,32 +271,32 @@ plain_begins (item ∷ items) plain = (plain.0).begins
 kept_before : (p : Item → Bool) (part items : List Item) (made : List Stmt) (place : ℕ) (d : Item) → HaveNot p part → position p items ≡ Some place → StandTogether part items
     → StandTogether part (put_before made place items)
 kept_before p part items made place d none found there =
-    let at : IsBeside there.before part place = found_beside p there.before part there.behind place d none (ap (position p) (sym there.is) ∙ found) in
+    let at : IsBeside there.before part place = found_beside p there.before part there.after place d none (ap (position p) (sym there.is) ∙ found) in
     subst (λ k. StandTogether part (put_before made place k)) (sym there.is)
-    (put_beside part there.before there.behind (lines (line_of (slice_get (there.before ++ part ++ there.behind) place)) made) place at)
+    (put_beside part there.before there.after (lines (line_of (slice_get (there.before ++ part ++ there.after) place)) made) place at)
 
-kept_behind : (p : Item → Bool) (part items : List Item) (made : List Stmt) (place : ℕ) (d : Item) → Begins part → HaveNot p part → position p items ≡ Some place → StandTogether part items
-    → StandTogether part (put_behind made place items)
+kept_after : (p : Item → Bool) (part items : List Item) (made : List Stmt) (place : ℕ) (d : Item) → Begins part → HaveNot p part → position p items ≡ Some place → StandTogether part items
+    → StandTogether part (put_after made place items)
 unfolding Begins
-kept_behind p [] items made place d begun none found there = nothing_together (put_behind made place items)
-kept_behind p (y ∷ part) items made place d begun none found there =
-    let all = there.before ++ (y ∷ part) ++ there.behind in
-    let at : IsBeside there.before (y ∷ part) place = found_beside p there.before (y ∷ part) there.behind place d none (ap (position p) (sym there.is) ∙ found) in
+kept_after p [] items made place d begun none found there = nothing_together (put_after made place items)
+kept_after p (y ∷ part) items made place d begun none found there =
+    let all = there.before ++ (y ∷ part) ++ there.after in
+    let at : IsBeside there.before (y ∷ part) place = found_beside p there.before (y ∷ part) there.after place d none (ap (position p) (sym there.is) ∙ found) in
     let added = lines (line_of (slice_get all place)) made in
-    subst (λ k. StandTogether (y ∷ part) (put_behind made place k)) (sym there.is)
+    subst (λ k. StandTogether (y ∷ part) (put_after made place k)) (sym there.is)
     (⊎_elim
-    (λ le. put_before_them (y ∷ part) there.before there.behind added (place_after all place) le)
-    (λ le. put_behind_them (y ∷ part) there.before there.behind added (place_after all place) le)
-    (behind_beside y part there.before there.behind place begun at))
+    (λ le. put_before_them (y ∷ part) there.before there.after added (place_after all place) le)
+    (λ le. put_after_them (y ∷ part) there.before there.after added (place_after all place) le)
+    (after_beside y part there.before there.after place begun at))
 
 module _ (part : List Item) (begun : Begins part) (sections : HaveNot begins_section part) (ends : HaveNot is_end part) (d : Item) where
   pub with_bases_has : (items : List Item) → StandTogether part items → StandTogether part (with_bases items)
   unfolding with_bases
   with_bases_has items there = go (position begins_section items) refl
     where
-      go : (place : Option ℕ) → position begins_section items ≡ place → StandTogether part (bases_behind place items)
+      go : (place : Option ℕ) → position begins_section items ≡ place → StandTogether part (bases_after place items)
       go None none = there
-      go (Some place) found = kept_behind begins_section part items (bases (name_at place items)) place d begun sections found there
+      go (Some place) found = kept_after begins_section part items (bases (name_at place items)) place d begun sections found there
 
   pub with_eib_has : (items : List Item) → StandTogether part items → StandTogether part (with_eib items)
   unfolding with_eib
@@ -315,9 +315,9 @@ module _ (part : List Item) (plain : ArePlain part) (d : Item) where
       before_section None none = there
       before_section (Some place) found = kept_before begins_section part items storage_section place d (no_section part plain) found there
 
-      go : (place : Option ℕ) → position begins_storage items ≡ place → StandTogether part (storage_behind place items)
+      go : (place : Option ℕ) → position begins_storage items ≡ place → StandTogether part (storage_after place items)
       go None none = before_section (position begins_section items) refl
-      go (Some place) found = kept_behind begins_storage part items storage_fields place d (plain_begins part plain) (no_storage part plain) found there
+      go (Some place) found = kept_after begins_storage part items storage_fields place d (plain_begins part plain) (no_storage part plain) found there
 
   with_bases_keeps : (items : List Item) → StandTogether part items → StandTogether part (with_bases items)
   with_bases_keeps items there = with_bases_has part (plain_begins part plain) (no_section part plain) (no_end part plain) d items there
@@ -329,16 +329,16 @@ module _ (part : List Item) (plain : ArePlain part) (d : Item) where
 stands_expanded : (continues : Bool) (before : List Item) (item : Item) (rest part : List Item) → ((c : Bool) → expansion c item ≡ part)
     → StandTogether part (expanded_items continues (before ++ (item ∷ rest)))
 stands_expanded continues [] item rest part h =
-    record { before = []; behind = expanded_items (continues_exec continues item) rest; is = ap (λ k. k ++ expanded_items (continues_exec continues item) rest) (h continues) }
+    record { before = []; after = expanded_items (continues_exec continues item) rest; is = ap (λ k. k ++ expanded_items (continues_exec continues item) rest) (h continues) }
 stands_expanded continues (x ∷ before) item rest part h =
     let more = stands_expanded (continues_exec continues x) before item rest part h in
     record {
       before = expansion continues x ++ more.before;
-      behind = more.behind;
+      after = more.after;
       is =
           ap (λ k. expansion continues x ++ k) more.is
-          ∙ sym (append_assoc (expansion continues x) (more.before ++ part) more.behind)
-          ∙ ap (λ k. k ++ more.behind) (sym (append_assoc (expansion continues x) more.before part));
+          ∙ sym (append_assoc (expansion continues x) (more.before ++ part) more.after)
+          ∙ ap (λ k. k ++ more.after) (sym (append_assoc (expansion continues x) more.before part));
     }
 
 expands_so : (item : Item) (exec : Stmt) → item.stmt ≡ Some exec → begins_exec item ≡ true → (c : Bool) → expansion c item ≡ lines item.line (made_of exec.name (words_of exec.operand))
@@ -411,21 +411,21 @@ stand_together source made item exec e contained statement begins =
       found = named.found;
       accepted = sound;
       before = last.before;
-      behind = last.behind;
-      is = last.is ∙ ap (λ k. last.before ++ k ++ last.behind) (sym one);
+      after = last.after;
+      is = last.is ∙ ap (λ k. last.before ++ k ++ last.after) (sym one);
     }
 
 -- the words after the command's name, and what follows of them
-abbrev pub words_behind : Stmt → ℕ → List Word
-words_behind exec named = drop named (drop 1 (words_of exec.operand))
+abbrev pub words_after : Stmt → ℕ → List Word
+words_after exec named = drop named (drop 1 (words_of exec.operand))
 
 pub made_items : (item : Item) (exec : Stmt) (items : List Item) (made : IsMade item exec items)
-    → items ≡ made.before ++ lines item.line (made_in exec.name made.command (words_behind exec made.named)) ++ made.behind
+    → items ≡ made.before ++ lines item.line (made_in exec.name made.command (words_after exec made.named)) ++ made.after
 unfolding made_of
 made_items item exec items made =
-    made.is ∙ ap (λ k. made.before ++ lines item.line (made_by exec.name (words_of exec.operand) k) ++ made.behind) made.found
+    made.is ∙ ap (λ k. made.before ++ lines item.line (made_by exec.name (words_of exec.operand) k) ++ made.after) made.found
 
 pub no_fault_in : (item : Item) (exec : Stmt) (items : List Item) (made : IsMade item exec items)
-    → fault_in item.line made.command (take 1 (words_of exec.operand)) (take made.named (drop 1 (words_of exec.operand))) (words_behind exec made.named) ≡ None
+    → fault_in item.line made.command (take 1 (words_of exec.operand)) (take made.named (drop 1 (words_of exec.operand))) (words_after exec made.named) ≡ None
 unfolding fault_of
 no_fault_in item exec items made = sym (ap (fault_of_command item.line (words_of exec.operand)) made.found) ∙ made.accepted

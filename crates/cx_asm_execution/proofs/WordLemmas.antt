@@ -10,7 +10,7 @@ use Rattle.std.proofs.lemmas.Bool.Decides.{nat_tests}
 use Rattle.cx_ebcdic.specs.Facts.Names.{is_name-decides}
 use Rattle.cx_ebcdic.specs.Lookup.{each_some}
 use Rattle.cx_source.specs.Lines.{is_letter, is_name, is_name_character}
-use Rattle.cx_source.specs.Marks.{depth_behind, first_from, is_mark, lies_outside, scan_after, within_behind}
+use Rattle.cx_source.specs.Marks.{depth_after, first_from, is_mark, lies_outside, scan_after, within_after}
 use Rattle.cx_source.specs.declared.marks.Delimiter.TheVariants.{Parenthesis}
 use Rattle.cx_source.specs.declared.marks.Scan.{Scan}
 use Rattle.cx_asm_expressions.specs.Digits.{bound, digit, is_digit, number_in}
@@ -38,7 +38,7 @@ use Rattle.cx_asm_operands.specs.declared.addresses.Address.{Address}
 use Rattle.cx_asm_execution.specs.Arguments.{IsAddressedBy, IsPlaceOf}
 use Rattle.cx_asm_execution.proofs.Arguments.{OperandsAddress}
 use Rattle.cx_asm_execution.proofs.Stores.{word_of_list}
-use Rattle.cx_asm_execution.proofs.Words.{HasSomeList, LieBehind, LiesBehind, ListIsPlaced, ListLies, WordsLie}
+use Rattle.cx_asm_execution.proofs.Words.{HasSomeList, LieAfter, LiesAfter, ListIsPlaced, ListLies, WordsLie}
 use Rattle.cx_asm_execution.proofs.ArgumentLemmas.{both_ok}
 use Rattle.cx_asm_execution.proofs.PlainLemmas.{ArePlain, decimal_plain, decimal_read, neither, other, plain_part}
 
@@ -69,7 +69,7 @@ unfolding read_term is_name is_letter is_name_character
 symbol_term = refl
 
 parts_are : (text : List ℕ) → ArePlain text → parts_of (codes "DFHEIPL+" ++ text) ≡ part_of Plus (codes "DFHEIPL") ∷ part_of Plus text ∷ []
-unfolding within_behind depth_behind
+unfolding within_after depth_after
 parts_are text plain =
     ap (λ k. part_of Plus (codes "DFHEIPL") ∷ k) (plain_part Plus (record { within = false; depth = 0; before = 76; last = 43 }) [] text plain)
 
@@ -80,7 +80,7 @@ terms_are text plain all some =
     ap (λ k. each_some (map read_term k)) (parts_are text plain) ∙ rw (symbol_term, decimal_term text plain all some) refl
 
 one_term : terms_of (codes "DFHEIPL") ≡ Some (term_of Plus Symbol (codes "DFHEIPL") ∷ [])
-unfolding terms_of within_behind depth_behind read_term is_name is_letter is_name_character
+unfolding terms_of within_after depth_after read_term is_name is_letter is_name_character
 one_term = refl
 
 -- ---- the sum
@@ -204,11 +204,11 @@ IsAlone : Context → List ℕ → Type 0
 IsAlone c text = (takes : Bool) → operand_in takes c text ≡ Some (operand (expression_value c text) [])
 
 list_alone : (c : Context) → IsAlone c (codes "DFHEIPL")
-unfolding IsAlone operand_in within_behind depth_behind
+unfolding IsAlone operand_in within_after depth_after
 list_alone c takes = refl
 
 word_alone : (c : Context) (text : List ℕ) → ArePlain text → IsAlone c (codes "DFHEIPL+" ++ text)
-unfolding IsAlone operand_in within_behind depth_behind
+unfolding IsAlone operand_in within_after depth_after
 word_alone c text plain takes =
     let tail = no_parenthesis (record { within = false; depth = 0; before = 76; last = 43 }) text plain in
     let same : (1 + (1 + (1 + (1 + (1 + (1 + (1 + (1 + length text))))))) == length (codes "DFHEIPL+" ++ text)) ≡ true = grind (arith, nat_tests) in
@@ -235,7 +235,7 @@ indexed_again c text address alone e = ap (λ o. option_map_or (λ (o : Operand)
 -- of an operand without parentheses, by what it is worth
 pub lies_at : OperandsAddress → (c : Context) (text section : List ℕ) (offset : ℤ) (n : ℕ) (address : Address) (place : Result Value FaultKind)
     → operand_in true c text ≡ Some (operand place []) → ((value : Value) → place ≡ Ok value → IsAt section (offset +ℤ pos n) value)
-    → indexed_in c text ≡ Ok (0, address) → LiesBehind c section offset n address
+    → indexed_in c text ≡ Ok (0, address) → LiesAfter c section offset n address
 lies_at addresses c text section offset n address place written worths e sections regs holds =
     let a = addresses sections regs c text 0 address e in
     let own : operand place [] ≡ a.operand = (let found : Some (operand place []) ≡ Some a.operand = sym written ∙ a.is in cc) in
@@ -245,20 +245,20 @@ lies_at addresses c text section offset n address place written worths e section
     let there : IsPlaceOf sections regs c.bases (Some section) (offset +ℤ pos n) 0 address =
     subst (λ v. IsPlaceOf sections regs c.bases (Some section) v 0 address) at.number
     (subst (λ s. IsPlaceOf sections regs c.bases s a.value.number 0 address) at.section by.1) in
-    there holds ∙ ap (λ p. address_after p 0) (sections.behind section offset n) ∙ modulo (sections.place section offset) n
+    there holds ∙ ap (λ p. address_after p 0) (sections.after section offset n) ∙ modulo (sections.place section offset) n
   where
     modulo : (p n : ℕ) → address_after (address_after p n) 0 ≡ address_after p n
     modulo p n = omega arith
 
 lies : OperandsAddress → (c : Context) (text section : List ℕ) (offset : ℤ) (n : ℕ) (address : Address) → IsAlone c text
     → ((value : Value) → expression_value c text ≡ Ok value → IsAt section (offset +ℤ pos n) value) → then_judge (implied_address c.bases) (expression_value c text) ≡ Ok address
-    → LiesBehind c section offset n address
+    → LiesAfter c section offset n address
 unfolding IsAlone
 lies addresses c text section offset n address alone worths e =
     lies_at addresses c text section offset n address (expression_value c text) (alone true) worths (indexed_again c text address alone e)
 
 both_lie : OperandsAddress → (c : Context) (text section : List ℕ) (offset : ℤ) (n : ℕ) → IsAlone c text
-    → ((value : Value) → expression_value c text ≡ Ok value → IsAt section (offset +ℤ pos n) value) → LieBehind c section offset n text
+    → ((value : Value) → expression_value c text ≡ Ok value → IsAt section (offset +ℤ pos n) value) → LieAfter c section offset n text
 both_lie addresses c text section offset n alone worths =
     record {
       indexed = λ x address e. (let i = implied c text x address alone e in (i.0, lies addresses c text section offset n address alone worths i.1));

@@ -27,19 +27,19 @@ ListIsPlaced = (c : Context) (x : ℕ) (address : Address) → indexed_in c (cod
 
 -- Whatever the sections' places and the registers are, base and displacement give the address n bytes after that of
 -- an offset in a section, where the base register that was taken holds its USING's base.
-abbrev pub LiesBehind : Context → List ℕ → ℤ → ℕ → Address → Type 0
-LiesBehind c section offset n address = (sections : Sections) (regs : List ℕ) → HoldsBase sections regs c.bases address.base
+abbrev pub LiesAfter : Context → List ℕ → ℤ → ℕ → Address → Type 0
+LiesAfter c section offset n address = (sections : Sections) (regs : List ℕ) → HoldsBase sections regs c.bases address.base
     → effective regs 0 address.base address.displacement ≡ address_after (sections.place section offset) n
 
 -- So do those that a text is resolved to as an operand of the format RX, without an index, and of the format SI.
-pub record LieBehind (c : Context) (section : List ℕ) (offset : ℤ) (n : ℕ) (text : List ℕ) : Type 0 where
-  pub indexed : (x : ℕ) (address : Address) → indexed_in c text ≡ Ok (x, address) → (x ≡ 0) × LiesBehind c section offset n address
-  pub plain : (address : Address) → plain_in false c text ≡ Ok address → LiesBehind c section offset n address
+pub record LieAfter (c : Context) (section : List ℕ) (offset : ℤ) (n : ℕ) (text : List ℕ) : Type 0 where
+  pub indexed : (x : ℕ) (address : Address) → indexed_in c text ≡ Ok (x, address) → (x ≡ 0) × LiesAfter c section offset n address
+  pub plain : (address : Address) → plain_in false c text ≡ Ok address → LiesAfter c section offset n address
 
 -- The list itself lies at its symbol's place, and each of its words four bytes after the one before it.
 abbrev pub ListLies : Type 0
-ListLies = (c : Context) (section : List ℕ) (offset : ℤ) → HasList c.find section offset → LieBehind c section offset 0 (codes "DFHEIPL")
+ListLies = (c : Context) (section : List ℕ) (offset : ℤ) → HasList c.find section offset → LieAfter c section offset 0 (codes "DFHEIPL")
 
 abbrev pub WordsLie : Type 0
 WordsLie = (c : Context) (section : List ℕ) (offset : ℤ) (k : ℕ) → k < 18 → HasList c.find section offset
-    → LieBehind c section offset (4 * k) (word_of_list k)
+    → LieAfter c section offset (4 * k) (word_of_list k)

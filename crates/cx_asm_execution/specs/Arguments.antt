@@ -14,7 +14,7 @@ use Rattle.cx_asm_operands.specs.declared.bases.Base.{Base}
 -- n bytes past its address.
 pub record Sections : Type 0 where
   pub place : List ℕ → ℤ → ℕ
-  pub behind : (name : List ℕ) (offset : ℤ) (n : ℕ) → place name (offset +ℤ pos n) ≡ address_after (place name offset) n
+  pub after : (name : List ℕ) (offset : ℤ) (n : ℕ) → place name (offset +ℤ pos n) ≡ address_after (place name offset) n
 
 -- a register that is in use as a base holds the address of its USING's base
 abbrev pub HoldsBase : Sections → List ℕ → Bases → ℕ → Type 0

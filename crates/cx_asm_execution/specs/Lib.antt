@@ -1,5 +1,5 @@
 -- The definitions, in reading order.
-pub mod Laid
-pub mod Standing
+pub mod FieldLayouts
+pub mod MadeLines
 pub mod Arguments
-pub mod Arriving
+pub mod Arrival

@@ -1,9 +1,9 @@
 //! What holds of a translated source that was assembled.
 ghost use Rattle.std.specs.Prelude.{◌≡◌, ℕ};
-ghost use Rattle.cx_asm_arrival.specs.Made.{Statement};
-ghost use Rattle.cx_asm_execution.specs.Arriving.{CommandsArrive, IsStatement};
-ghost use Rattle.cx_asm_execution.specs.Laid.{EibIsLaidOut, HeadIsLaidOut};
-ghost use Rattle.cx_asm_execution.specs.Standing.{Site};
+ghost use Rattle.cx_asm_arrival.specs.Expansion.{Statement};
+ghost use Rattle.cx_asm_execution.specs.Arrival.{CommandsArrive, IsStatement};
+ghost use Rattle.cx_asm_execution.specs.FieldLayouts.{EibIsLaidOut, HeadIsLaidOut};
+ghost use Rattle.cx_asm_execution.specs.MadeLines.{Site};
 
 /// The assembler places each field of DFHEIBLK at the offset, and with the length, at which the region writes it, and
 /// the block is as long as the region's.

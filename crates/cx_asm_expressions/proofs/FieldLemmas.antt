@@ -10,7 +10,7 @@ use Rattle.cx_asm_expressions.proofs.TermLemmas.{range_more, range_none}
 -- the values between commas; `part` is what there is of the first already
 abbrev pub fields_from : List ℕ → List ℕ → List (List ℕ)
 fields_from part [] = part ∷ []
-fields_from part (c ∷ behind) = cond (c == 44) (part ∷ fields_from [] behind) (fields_from (part ++ c ∷ []) behind)
+fields_from part (c ∷ after) = cond (c == 44) (part ∷ fields_from [] after) (fields_from (part ++ c ∷ []) after)
 
 abbrev onto : List ℕ → List (List ℕ) → List (List ℕ)
 onto part [] = part ∷ []
@@ -22,7 +22,7 @@ onto_one part c (one ∷ more) = ap (λ x. x ∷ more) (append_assoc part (c ∷
 
 onto_none : (body : List ℕ) → onto [] (slice_split (λ c. c == 44) body) ≡ slice_split (λ c. c == 44) body
 onto_none [] = refl
-onto_none (c ∷ behind) = go (c == 44) (slice_split (λ c. c == 44) behind)
+onto_none (c ∷ after) = go (c == 44) (slice_split (λ c. c == 44) after)
   where
     go : (b : Bool) (parts : List (List ℕ)) → onto [] (cond b ([] ∷ parts) (onto_first c parts)) ≡ cond b ([] ∷ parts) (onto_first c parts)
     go true parts = refl
@@ -31,14 +31,14 @@ onto_none (c ∷ behind) = go (c == 44) (slice_split (λ c. c == 44) behind)
 
 from_split : (part body : List ℕ) → fields_from part body ≡ onto part (slice_split (λ c. c == 44) body)
 from_split part [] = ap (λ x. x ∷ []) (sym (append-nil part))
-from_split part (c ∷ behind) =
-    go (c == 44) (from_split [] behind ∙ onto_none behind) (from_split (part ++ c ∷ []) behind ∙ onto_one part c (slice_split (λ c. c == 44) behind))
+from_split part (c ∷ after) =
+    go (c == 44) (from_split [] after ∙ onto_none after) (from_split (part ++ c ∷ []) after ∙ onto_one part c (slice_split (λ c. c == 44) after))
   where
-    go : (b : Bool) → fields_from [] behind ≡ slice_split (λ c. c == 44) behind
-        → fields_from (part ++ c ∷ []) behind ≡ onto part (onto_first c (slice_split (λ c. c == 44) behind))
-        → cond b (part ∷ fields_from [] behind) (fields_from (part ++ c ∷ []) behind)
-        ≡ onto part (cond b ([] ∷ slice_split (λ c. c == 44) behind) (onto_first c (slice_split (λ c. c == 44) behind)))
-    go true one other = ap (λ x. part ∷ x) one ∙ ap (λ x. x ∷ slice_split (λ c. c == 44) behind) (sym (append-nil part))
+    go : (b : Bool) → fields_from [] after ≡ slice_split (λ c. c == 44) after
+        → fields_from (part ++ c ∷ []) after ≡ onto part (onto_first c (slice_split (λ c. c == 44) after))
+        → cond b (part ∷ fields_from [] after) (fields_from (part ++ c ∷ []) after)
+        ≡ onto part (cond b ([] ∷ slice_split (λ c. c == 44) after) (onto_first c (slice_split (λ c. c == 44) after)))
+    go true one other = ap (λ x. part ∷ x) one ∙ ap (λ x. x ∷ slice_split (λ c. c == 44) after) (sym (append-nil part))
     go false one other = other
 
 pub split_at_commas : (body : List ℕ) → fields_from [] body ≡ fields body

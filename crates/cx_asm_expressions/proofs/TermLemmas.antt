@@ -18,7 +18,7 @@ sign_of c = cond (c == 45) Minus Plus
 
 from-length : (scan : Scan) (text : List ℕ) → length (outside_from scan text) ≡ length text
 from-length scan [] = refl
-from-length scan (c ∷ behind) = ap suc (from-length (scan_after scan c behind) behind)
+from-length scan (c ∷ after) = ap suc (from-length (scan_after scan c after) after)
 
 -- each character has a mark of its own
 pub outside_length : (text : List ℕ) → length (outside_apostrophes text) ≡ length text

@@ -40,14 +40,14 @@ sign_again c e =
     ⊎_elim (λ m. let h : c ≡ 45 = is_equal c 45 m in rw m (ap (λ x. x ∷ []) (sym h)))
     (λ d. let h : c ≡ 43 = grind (arith, nat_tests) in rw d (ap (λ x. x ∷ []) (sym h))) (either (c == 45))
 
-parts_again : (sign : Sign) (text behind : List ℕ) (outs : List Bool) → flat_map part_text (parts_from sign text behind outs) ≡ written_sign sign ++ (text ++ behind)
+parts_again : (sign : Sign) (text after : List ℕ) (outs : List Bool) → flat_map part_text (parts_from sign text after outs) ≡ written_sign sign ++ (text ++ after)
 parts_again sign text [] outs = simp append-nil
-parts_again sign text (c ∷ behind) [] = parts_again sign (text ++ c ∷ []) behind [] ∙ simp append_assoc
-parts_again sign text (c ∷ behind) (out ∷ outs) =
+parts_again sign text (c ∷ after) [] = parts_again sign (text ++ c ∷ []) after [] ∙ simp append_assoc
+parts_again sign text (c ∷ after) (out ∷ outs) =
     ⊎_elim (λ cut. let s : is_sign c ≡ true = (both out (is_sign c) cut).1 in
-    let rest : flat_map part_text (parts_from (sign_of c) [] behind outs) ≡ c ∷ behind = parts_again (sign_of c) [] behind outs ∙ ap (λ w. w ++ behind) (sign_again c s) in
+    let rest : flat_map part_text (parts_from (sign_of c) [] after outs) ≡ c ∷ after = parts_again (sign_of c) [] after outs ∙ ap (λ w. w ++ after) (sign_again c s) in
     rw (cut, rest) (simp append_assoc))
-    (λ kept. rw kept (parts_again sign (text ++ c ∷ []) behind outs ∙ simp append_assoc)) (either (out && is_sign c))
+    (λ kept. rw kept (parts_again sign (text ++ c ∷ []) after outs ∙ simp append_assoc)) (either (out && is_sign c))
 
 -- a term that a part writes is written as that part is
 abbrev Again : Part → Option Term → Type 0
@@ -70,20 +70,20 @@ nonempty : (xs : List ℕ) → get_or xs (length xs - 1) 0 ≡ 39 → 0 < length
 nonempty [] e = absurd (omega arith)
 nonempty (x ∷ xs) e = omega arith
 
-ends_again : (behind body : List ℕ) → get_or behind (length behind - 1) 0 ≡ 39 → take (length behind - 1) behind ≡ body → body ++ 39 ∷ [] ≡ behind
-ends_again behind body last e =
-    let some : 0 < length behind = nonempty behind last in
-    let more : take ((length behind - 1) + 1) behind ≡ take (length behind - 1) behind ++ get_or behind (length behind - 1) 0 ∷ [] =
-    take_more behind (length behind - 1) 0 (omega arith) in
-    let count : (length behind - 1) + 1 ≡ length behind = omega arith in
-    ap (λ b. b ++ 39 ∷ []) (sym e) ∙ ap (λ x. take (length behind - 1) behind ++ x ∷ []) (sym last) ∙ sym more ∙ ap (λ n. take n behind) count ∙ take-length behind
+ends_again : (after body : List ℕ) → get_or after (length after - 1) 0 ≡ 39 → take (length after - 1) after ≡ body → body ++ 39 ∷ [] ≡ after
+ends_again after body last e =
+    let some : 0 < length after = nonempty after last in
+    let more : take ((length after - 1) + 1) after ≡ take (length after - 1) after ++ get_or after (length after - 1) 0 ∷ [] =
+    take_more after (length after - 1) 0 (omega arith) in
+    let count : (length after - 1) + 1 ≡ length after = omega arith in
+    ap (λ b. b ++ 39 ∷ []) (sym e) ∙ ap (λ x. take (length after - 1) after ++ x ∷ []) (sym last) ∙ sym more ∙ ap (λ n. take n after) count ∙ take-length after
 
 -- a text that ends with an apostrophe
-closed_again : (behind body : List ℕ) → before_apostrophe behind ≡ Some body → body ++ 39 ∷ [] ≡ behind
-closed_again behind body e =
-    let parts = if_some (slice_index behind (length behind - 1) == 39) (take (length behind - 1) behind) body e in
-    let last : get_or behind (length behind - 1) 0 ≡ 39 = is_equal _ _ parts.0 in
-    ends_again behind body last parts.1
+closed_again : (after body : List ℕ) → before_apostrophe after ≡ Some body → body ++ 39 ∷ [] ≡ after
+closed_again after body e =
+    let parts = if_some (slice_index after (length after - 1) == 39) (take (length after - 1) after) body e in
+    let last : get_or after (length after - 1) 0 ≡ 39 = is_equal _ _ parts.0 in
+    ends_again after body last parts.1
 
 two_front : (text : List ℕ) → get_or text 1 0 ≡ 39 → text ≡ get_or text 0 0 ∷ 39 ∷ drop 2 text
 two_front [] e = absurd (omega arith)
@@ -96,9 +96,9 @@ one_only (x ∷ []) e n = ap (λ z. z ∷ []) (sym e)
 one_only (x ∷ y ∷ text) e n = absurd (omega arith)
 
 -- what an apostrophe after a letter begins
-defined_again : (part : Part) (letter : ℕ) (behind body : List ℕ) → part.text ≡ letter ∷ 39 ∷ behind → body ++ 39 ∷ [] ≡ behind
+defined_again : (part : Part) (letter : ℕ) (after body : List ℕ) → part.text ≡ letter ∷ 39 ∷ after → body ++ 39 ∷ [] ≡ after
     → Again part (self_defining part.sign letter body)
-defined_again part letter behind body text ends =
+defined_again part letter after body text ends =
     again_if part (letter == 88 && is_short_number 16 8 body) _ _
     (λ holds. quote 88 (is_equal _ _ (both (letter == 88) _ holds).0))
     (λ fails. again_if part (letter == 66 && is_short_number 2 32 body) _ _
@@ -107,14 +107,14 @@ defined_again part letter behind body text ends =
     (λ holds. quote 67 (is_equal _ _ (both (letter == 67) _ holds).0)) (λ fails3. tt)))
   where
     quote : (c : ℕ) → letter ≡ c → written_sign part.sign ++ (c ∷ 39 ∷ (body ++ 39 ∷ [])) ≡ written_sign part.sign ++ part.text
-    quote c is = ap (λ w. written_sign part.sign ++ w) (ap (λ w. c ∷ 39 ∷ w) ends ∙ ap (λ x. x ∷ 39 ∷ behind) (sym is) ∙ sym text)
+    quote c is = ap (λ w. written_sign part.sign ++ w) (ap (λ w. c ∷ 39 ∷ w) ends ∙ ap (λ x. x ∷ 39 ∷ after) (sym is) ∙ sym text)
 
-quoted_again : (part : Part) (letter : ℕ) (behind : List ℕ) → part.text ≡ letter ∷ 39 ∷ behind → Again part (quoted_term part.sign letter behind)
-quoted_again part letter behind text =
+quoted_again : (part : Part) (letter : ℕ) (after : List ℕ) → part.text ≡ letter ∷ 39 ∷ after → Again part (quoted_term part.sign letter after)
+quoted_again part letter after text =
     again_if part (letter == 76) _ _
-    (λ l. again_if part (is_name behind) _ _
-    (λ holds. ap (λ w. written_sign part.sign ++ w) (ap (λ x. x ∷ 39 ∷ behind) (sym (is_equal _ _ l)) ∙ sym text)) (λ fails. tt))
-    (λ fails. again_and part (before_apostrophe behind) (self_defining part.sign letter) (λ body c. defined_again part letter behind body text (closed_again behind body c)))
+    (λ l. again_if part (is_name after) _ _
+    (λ holds. ap (λ w. written_sign part.sign ++ w) (ap (λ x. x ∷ 39 ∷ after) (sym (is_equal _ _ l)) ∙ sym text)) (λ fails. tt))
+    (λ fails. again_and part (before_apostrophe after) (self_defining part.sign letter) (λ body c. defined_again part letter after body text (closed_again after body c)))
 
 plain_again : (part : Part) → Again part (plain_term part.sign part.text)
 plain_again part = again_if part (is_name part.text) _ _ (λ holds. refl) (λ fails. again_if part (is_number 10 part.text) _ _ (λ holds. refl) (λ fails2. tt))

@@ -29,14 +29,14 @@ constant duplication kind modifier value = record { duplication = duplication; k
 
 -- ---- reading an item
 -- what follows the digits that a text begins with
-abbrev pub behind_digits : List ℕ → List ℕ
-behind_digits text = drop (prefix_len (is_digit 10) text) text
+abbrev pub after_digits : List ℕ → List ℕ
+after_digits text = drop (prefix_len (is_digit 10) text) text
 
 -- what is in one pair of parentheses: the one that closes the first character is the last
 abbrev pub parenthesized_body : List ℕ → Option (List ℕ)
 parenthesized_body value =
-    let behind = drop 1 value in
-    if slice_index value 0 == byte "(" && first_mark Closing behind + 1 == length behind then Some (take (first_mark Closing behind) behind) else None
+    let after = drop 1 value in
+    if slice_index value 0 == byte "(" && first_mark Closing after + 1 == length after then Some (take (first_mark Closing after) after) else None
 
 abbrev pub body_in : Style → List ℕ → Option (List ℕ)
 body_in Expression value = parenthesized_body value
@@ -77,14 +77,14 @@ with_modifier is_ds duplication kind rest =
     if slice_index rest 0 == byte "L" then
     (let digits = take_while (is_digit 10) (drop 1 rest) in
     if not ((row_of kind).greatest_in_dc == 0) && not (length digits == 0)
-    then with_value is_ds duplication kind (Some digits) (behind_digits (drop 1 rest)) else Err BadOperand)
+    then with_value is_ds duplication kind (Some digits) (after_digits (drop 1 rest)) else Err BadOperand)
     else with_value is_ds duplication kind None rest
 
 -- The constant that an item of a DS, or of a DC or a literal, is. What is no item is BadOperand, a duplication factor
 -- above 4,294,967,295 and a length modifier outside its limits ValueOutOfRange.
 unfoldable pub constant_in : Bool → List ℕ → Result Constant FaultKind
 constant_in is_ds text =
-    let rest = behind_digits text in
+    let rest = after_digits text in
     option_map_or (λ kind. with_modifier is_ds (take_while (is_digit 10) text) kind (drop 1 rest)) (kind_of (slice_index rest 0))
     (Err BadOperand)
 

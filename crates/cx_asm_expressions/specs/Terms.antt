@@ -35,10 +35,10 @@ is_sign c = c == byte "+" || c == byte "-"
 -- the first part already.
 abbrev pub parts_from : Sign → List ℕ → List ℕ → List Bool → List Part
 parts_from sign text [] outs = part_of sign text ∷ []
-parts_from sign text (c ∷ behind) [] = parts_from sign (text ++ c ∷ []) behind []
-parts_from sign text (c ∷ behind) (out ∷ outs) =
-    if out && is_sign c then part_of sign text ∷ parts_from (if c == byte "-" then Minus else Plus) [] behind outs
-    else parts_from sign (text ++ c ∷ []) behind outs
+parts_from sign text (c ∷ after) [] = parts_from sign (text ++ c ∷ []) after []
+parts_from sign text (c ∷ after) (out ∷ outs) =
+    if out && is_sign c then part_of sign text ∷ parts_from (if c == byte "-" then Minus else Plus) [] after outs
+    else parts_from sign (text ++ c ∷ []) after outs
 
 -- the parts of an expression, cut at the signs that lie outside apostrophes; before the first comes a plus
 abbrev pub parts_of : List ℕ → List Part
@@ -61,9 +61,9 @@ self_defining sign letter body =
 
 -- what a letter and an apostrophe begin
 abbrev pub quoted_term : Sign → ℕ → List ℕ → Option Term
-quoted_term sign letter behind =
-    if letter == byte "L" then (if is_name behind then Some (term_of sign LengthOf behind) else None)
-    else option_and_then (self_defining sign letter) (before_apostrophe behind)
+quoted_term sign letter after =
+    if letter == byte "L" then (if is_name after then Some (term_of sign LengthOf after) else None)
+    else option_and_then (self_defining sign letter) (before_apostrophe after)
 
 -- The term that a part writes, if it writes one: a letter and an apostrophe begin it, or it is an asterisk, a symbol
 -- or a decimal.

@@ -7,7 +7,7 @@ use Rattle.cx_ebcdic.specs.Characters.{code_of}
 
 -- what precedes the apostrophe that ends a text
 abbrev pub before_apostrophe : List ℕ → Option (List ℕ)
-before_apostrophe behind = if slice_index behind (length behind - 1) == byte "'" then Some (take (length behind - 1) behind) else None
+before_apostrophe after = if slice_index after (length after - 1) == byte "'" then Some (take (length after - 1) after) else None
 
 -- A mark comes in twos alone; `opened` says that one precedes already.
 abbrev pub is_doubled : ℕ → Bool → List ℕ → Bool

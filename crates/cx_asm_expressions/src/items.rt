@@ -5,7 +5,7 @@ ghost use Rattle.std.specs.List.{prefix_len, take_while};
 ghost use Rattle.std.specs.Option.{option_map};
 ghost use Rattle.cx_asm_expressions.specs.Digits.{at_most, bound, is_digit, number_in};
 ghost use Rattle.cx_asm_expressions.specs.Kinds.{kind_of, row_of};
-ghost use Rattle.cx_asm_expressions.specs.Items.{behind_digits, body_in, constant, constant_in, duplication_in, modifier_in, parenthesized_body, value_in, with_modifier, with_value};
+ghost use Rattle.cx_asm_expressions.specs.Items.{after_digits, body_in, constant, constant_in, duplication_in, modifier_in, parenthesized_body, value_in, with_modifier, with_value};
 
 use crate::digits::{is_digit, number};
 use crate::faults::FaultKind;
@@ -50,7 +50,7 @@ fn digit_count(text: &[u8]) -> usize
 /// The digits that a text begins with, and what follows them.
 fn split_digits(text: &[u8]) -> (&[u8], &[u8])
     ensures digits { result.0.now ≡ take_while (is_digit 10) text.now }
-    ensures behind { result.1.now ≡ behind_digits text.now }
+    ensures after { result.1.now ≡ after_digits text.now }
 {
     text.split_at(digit_count(text))
 }
@@ -63,8 +63,8 @@ pub fn parenthesized_body(value: &[u8]) -> Option<&[u8]>
     if value.is_empty() || value[0] != b'(' {
         return None;
     }
-    let (_, behind) = value.split_at(1);
-    let (body, closing) = behind.split_at(first_mark(behind, Delimiter::Closing));
+    let (_, after) = value.split_at(1);
+    let (body, closing) = after.split_at(first_mark(after, Delimiter::Closing));
     if closing.len() == 1 { Some(body) } else { None }
 }
 
@@ -77,8 +77,8 @@ fn body_in(style: Style, value: &[u8]) -> Option<&[u8]>
             if value.is_empty() || value[0] != APOSTROPHE {
                 return None;
             }
-            let (_, behind) = value.split_at(1);
-            closed(behind)
+            let (_, after) = value.split_at(1);
+            closed(after)
         }
         Style::Expression => parenthesized_body(value),
         Style::Nothing => None,
@@ -167,14 +167,14 @@ fn kind_at(rest: &[u8]) -> Option<ConstantKind>
 }
 
 /// A text without its first character.
-fn behind_first(rest: &[u8]) -> &[u8]
+fn after_first(rest: &[u8]) -> &[u8]
     ensures { result.now ≡ drop 1 rest.now }
 {
     if rest.is_empty() {
         return rest;
     }
-    let (_, behind) = rest.split_at(1);
-    behind
+    let (_, after) = rest.split_at(1);
+    after
 }
 
 impl<'a> Constant<'a> {
@@ -191,7 +191,7 @@ impl<'a> Constant<'a> {
     {
         let (duplication, rest) = split_digits(text);
         match kind_at(rest) {
-            Some(kind) => Constant::with_modifier(is_ds, duplication, kind, behind_first(rest)),
+            Some(kind) => Constant::with_modifier(is_ds, duplication, kind, after_first(rest)),
             None => Err(FaultKind::BadOperand),
         }
     }
@@ -208,8 +208,8 @@ impl<'a> Constant<'a> {
         if rest.is_empty() || rest[0] != b'L' {
             return Constant::with_value(is_ds, duplication, kind, None, rest);
         }
-        let (_, behind) = rest.split_at(1);
-        let (digits, value) = split_digits(behind);
+        let (_, after) = rest.split_at(1);
+        let (digits, value) = split_digits(after);
         if !kind.takes_modifier() || digits.is_empty() {
             return Err(FaultKind::BadOperand);
         }

@@ -176,16 +176,16 @@ impl<'a> Term<'a> {
     }
 
     /// What a letter and an apostrophe begin.
-    fn quoted(sign: Sign, letter: u8, behind: &'a [u8]) -> Option<Term<'a>>
-        ensures { result ≡ quoted_term sign letter behind.now }
+    fn quoted(sign: Sign, letter: u8, after: &'a [u8]) -> Option<Term<'a>>
+        ensures { result ≡ quoted_term sign letter after.now }
     {
         if letter == b'L' {
-            if is_name(behind) {
-                return Some(Term::new(sign, TermKind::LengthOf, behind));
+            if is_name(after) {
+                return Some(Term::new(sign, TermKind::LengthOf, after));
             }
             return None;
         }
-        let body = closed(behind)?;
+        let body = closed(after)?;
         Term::self_defining(sign, letter, body)
     }
 
@@ -196,8 +196,8 @@ impl<'a> Term<'a> {
     {
         let text = part.text;
         if text.len() > 1 && text[1] == APOSTROPHE {
-            let (_, behind) = text.split_at(2);
-            return Term::quoted(part.sign, text[0], behind);
+            let (_, after) = text.split_at(2);
+            return Term::quoted(part.sign, text[0], after);
         }
         if text.len() == 1 && text[0] == b'*' {
             let (_, nothing) = text.split_at(1);

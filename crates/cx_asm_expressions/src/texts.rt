@@ -15,10 +15,10 @@ pub(crate) const APOSTROPHE: u8 = b'\'';
 const AMPERSAND: u8 = b'&';
 
 /// What precedes the apostrophe that ends a text, if one does.
-pub(crate) fn closed(behind: &[u8]) -> Option<&[u8]>
-    ensures { option_map (λ body. body.now) result ≡ before_apostrophe behind.now }
+pub(crate) fn closed(after: &[u8]) -> Option<&[u8]>
+    ensures { option_map (λ body. body.now) result ≡ before_apostrophe after.now }
 {
-    let (last, body) = behind.split_last()?;
+    let (last, body) = after.split_last()?;
     if *last == APOSTROPHE {
         Some(body)
     } else {

@@ -12,18 +12,18 @@ use Rattle.cx_asm_image.specs.Resolved.{bytes_of, size_of, end_of, AreApart, is_
 use Rattle.cx_asm_image.specs.Spans.{span_of}
 
 -- a line at or past an offset
-starts_behind : (from : ℕ) (ls : List Line) (size j : ℕ) (d : Line) → AreApart from ls size → j < length ls → from ≤ (get_or ls j d).at
-starts_behind from [] size j d apart h = absurd (omega arith)
-starts_behind from (l ∷ ls) size zero d apart h = apart.0
-starts_behind from (l ∷ ls) size (suc j) d apart h =
+starts_after : (from : ℕ) (ls : List Line) (size j : ℕ) (d : Line) → AreApart from ls size → j < length ls → from ≤ (get_or ls j d).at
+starts_after from [] size j d apart h = absurd (omega arith)
+starts_after from (l ∷ ls) size zero d apart h = apart.0
+starts_after from (l ∷ ls) size (suc j) d apart h =
     let first = apart.0 in
-    let rest = starts_behind (end_of l) ls size j d apart.1 (omega arith) in
+    let rest = starts_after (end_of l) ls size j d apart.1 (omega arith) in
     omega arith
 
 pub ascend : (from : ℕ) (ls : List Line) (size i j : ℕ) (d : Line) → AreApart from ls size → i < j → j < length ls → end_of (get_or ls i d) ≤ (get_or ls j d).at
 ascend from [] size i j d apart before h = absurd (omega arith)
 ascend from (l ∷ ls) size i zero d apart before h = absurd (omega arith)
-ascend from (l ∷ ls) size zero (suc j) d apart before h = starts_behind (end_of l) ls size j d apart.1 (omega arith)
+ascend from (l ∷ ls) size zero (suc j) d apart before h = starts_after (end_of l) ls size j d apart.1 (omega arith)
 ascend from (l ∷ ls) size (suc i) (suc j) d apart before h = ascend (end_of l) ls size i j d apart.1 (omega arith) (omega arith)
 
 -- a byte that a line covers is known

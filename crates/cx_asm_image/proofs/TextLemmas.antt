@@ -11,7 +11,7 @@ use Rattle.cx_code.specs.declared.disassembly.What.TheVariants.{Code, Data, Spac
 use Rattle.cx_code.specs.Spelling.{Instruction, IsWellFormed, spelling, Spells}
 use Rattle.cx_code.specs.Reading.{canonical}
 use Rattle.cx_code.specs.Lines.{lines, line_of, what_in}
-use Rattle.cx_asm_image.specs.Resolved.{bytes_of, size_of, end_of, end_behind, AreApart}
+use Rattle.cx_asm_image.specs.Resolved.{bytes_of, size_of, end_of, end_after, AreApart}
 use Rattle.cx_asm_image.specs.Text.{text_from, text_of}
 use Rattle.cx_asm_image.specs.Spans.{kind_of, span_of}
 use Rattle.cx_asm_image.specs.Assembled.{AssembledParts, IsAssembled}
@@ -23,7 +23,7 @@ use Rattle.cx_asm_image.specs.Parts.Making.{IsSpelled, AreSpelled, GoesOn, IsEnd
 abbrev zeros : ℕ → List ℕ
 zeros n = replicate n 0
 
-pub pushed : (ls : List Line) (end : ℕ) (l : Line) (size : ℕ) → IsEndOf ls end → end_behind 0 ls ≤ l.at → size ≡ size_of l.what → IsEndOf (ls ++ l ∷ []) (l.at + size)
+pub pushed : (ls : List Line) (end : ℕ) (l : Line) (size : ℕ) → IsEndOf ls end → end_after 0 ls ≤ l.at → size ≡ size_of l.what → IsEndOf (ls ++ l ∷ []) (l.at + size)
 pushed ls end l size is h e = rw e record {
   at = sym (end_with 0 ls l);
   apart = apart_with 0 ls l (rw (is.at) at is.apart) h;
@@ -67,9 +67,9 @@ goes_on_at all size i t made l on h e spelled text =
     let there : drop i all ≡ l ∷ drop (i + 1) all = drop_more all i l h ∙ ap (λ (k : Line). k ∷ drop (i + 1) all) (sym e) in
     goes_on all (drop (i + 1) all) size t made l (rw there at on) spelled text
 
-pub behind_at : (all : List Line) (size i : ℕ) (t : List ℕ) (l : Line) → GoesOn all (drop i all) size t → i < length all → l ≡ get_or all i l
+pub after_at : (all : List Line) (size i : ℕ) (t : List ℕ) (l : Line) → GoesOn all (drop i all) size t → i < length all → l ≡ get_or all i l
     → length t ≤ l.at
-behind_at all size i t l on h e =
+after_at all size i t l on h e =
     let there : drop i all ≡ l ∷ drop (i + 1) all = drop_more all i l h ∙ ap (λ (k : Line). k ∷ drop (i + 1) all) (sym e) in
     (rw there at on).apart.0
 
@@ -159,7 +159,7 @@ uncovered k l e h = elim (cases_lt k (end_of l)) [
   | inl below ↦
       let yes : covers k l ≡ true = and_from _ _ (le-leb l.at k h) (lt-ltb k (end_of l) below) in
       absurd (cc)
-  | inr behind ↦ behind
+  | inr after ↦ after
 ]
 
 pub gap : (from : ℕ) (ls : List Line) (size k at : ℕ) → AreApart from ls size → from + k ≡ at → list_any (covers at) ls ≡ false
@@ -173,7 +173,7 @@ gap from (l ∷ ls) size k at apart e none =
     elim (cases_lt k (l.at - from)) [
       | inl below ↦ get_or_append_left (zeros (l.at - from)) (bytes_of l.what ++ text_from (end_of l) ls size) 0 k (omega arith) ∙ zeros_at (l.at - from) k
       | inr over ↦
-          let behind = uncovered at l parts.0 (omega arith) in
+          let after = uncovered at l parts.0 (omega arith) in
           get_or-append_right (zeros (l.at - from)) (bytes_of l.what ++ text_from (end_of l) ls size) (l.at - from) k 0 c over
           ∙ get_or-append_right (bytes_of l.what) (text_from (end_of l) ls size) (size_of l.what) (k - (l.at - from)) 0 d (omega arith)
           ∙ gap (end_of l) ls size (k - (l.at - from) - size_of l.what) at apart.1 (omega arith) parts.1

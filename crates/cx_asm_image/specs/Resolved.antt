@@ -22,9 +22,9 @@ abbrev pub end_of : Line → ℕ
 end_of line = line.at + size_of line.what
 
 -- the offset after the last of some lines, and `from` where there are none
-abbrev pub end_behind : ℕ → List Line → ℕ
-end_behind from [] = from
-end_behind from (line ∷ rest) = end_behind (end_of line) rest
+abbrev pub end_after : ℕ → List Line → ℕ
+end_after from [] = from
+end_after from (line ∷ rest) = end_after (end_of line) rest
 
 -- lines that ascend and share no byte, none of them before an offset or past a size
 abbrev pub AreApart : ℕ → List Line → ℕ → Type 0

@@ -77,8 +77,8 @@ impl Assembled {
         ensures { result.now ≡ take len (drop at self.now.image.text) }
     {
         let text = self.image.text.as_slice();
-        let (_, behind) = text.split_at(text.len().min(at as usize));
-        let (object, _) = behind.split_at(behind.len().min(len as usize));
+        let (_, after) = text.split_at(text.len().min(at as usize));
+        let (object, _) = after.split_at(after.len().min(len as usize));
         object
     }
 

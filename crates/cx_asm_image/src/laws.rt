@@ -29,7 +29,7 @@ pub fn the_text_is_told_by_its_bytes()
 {}
 
 /// Words one after the other are as many as asked for, and each is 4 bytes after the one before it.
-pub fn words_stand_one_behind_the_other()
+pub fn words_stand_one_after_the_other()
     ensures count { (at n : ℕ) → length (words_at at n) ≡ n }
     ensures places { (at n k : ℕ) → k < n → slice_index (words_at at n) k ≡ at + 4 * k }
 {}

@@ -1,7 +1,7 @@
 //! Resolved lines, appended in address order.
 
 ghost use Rattle.std.specs.Prelude.{◌≡◌, ◌↔◌, ◌≤◌, ◌++◌, ◌∷◌, [], ℕ, IsTrue, OnOk, OnErr};
-ghost use Rattle.cx_asm_image.specs.Resolved.{AreApart, end_behind, end_of, size_of};
+ghost use Rattle.cx_asm_image.specs.Resolved.{AreApart, end_after, end_of, size_of};
 
 use cx_code::{Line, What, encode};
 use std::alloc::{AllocError, Global};
@@ -53,7 +53,7 @@ impl ResolvedLines {
 
     /// The offset after the last line, 0 where there is none.
     pub fn end(&self) -> u32
-        ensures value { result ≡ end_behind 0 self.now }
+        ensures value { result ≡ end_after 0 self.now }
         ensures apart { AreApart 0 self.now result }
     {
         self.end
@@ -62,7 +62,7 @@ impl ResolvedLines {
     /// Whether a line may be appended: whether it begins at or past the end of those before it, and ends in the largest
     /// text. It takes no memory.
     pub fn has_place_for(&self, line: &Line) -> bool
-        ensures { IsTrue result ↔ ((end_behind 0 self.now ≤ line.now.at) × (end_of line.now ≤ 65536)) }
+        ensures { IsTrue result ↔ ((end_after 0 self.now ≤ line.now.at) × (end_of line.now ≤ 65536)) }
     {
         let size = size_of(&line.what);
         let largest = LARGEST_TEXT as usize;
@@ -73,7 +73,7 @@ impl ResolvedLines {
     ///
     /// An error comes only where an allocation failed; then all is as before.
     pub fn push(&mut self, line: Line) -> Result<(), AllocError>
-        requires behind { end_behind 0 self.old ≤ line.at }
+        requires after { end_after 0 self.old ≤ line.at }
         requires fits { end_of line ≤ 65536 }
         ensures pushed { OnOk result (self.new ≡ self.old ++ line ∷ []) }
         ensures err { OnErr result (self.new ≡ self.old) }
@@ -87,7 +87,7 @@ impl ResolvedLines {
     /// The lines as a `Vec`; they don't overlap, and lie in any section that has room for them. It takes no memory.
     pub fn into_vec(self) -> Vec<Line>
         ensures value { result.items ≡ self }
-        ensures apart { (size : ℕ) → end_behind 0 self ≤ size → AreApart 0 self size }
+        ensures apart { (size : ℕ) → end_after 0 self ≤ size → AreApart 0 self size }
     {
         let ResolvedLines { lines, .. } = self;
         lines

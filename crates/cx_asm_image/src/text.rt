@@ -25,7 +25,7 @@ fn push_bytes(text: &mut Vec<u8>, what: &What) -> Result<(), AllocError>
 
 /// Appends zeros up to a line, and its bytes.
 fn push_line(text: &mut Vec<u8>, line: &Line) -> Result<(), AllocError>
-    requires behind { length text.old.items ≤ line.now.at }
+    requires after { length text.old.items ≤ line.now.at }
     requires fits { end_of line.now ≤ 65536 }
     ensures bytes { OnOk result (text.new.items
         ≡ (text.old.items ++ replicate (line.now.at - length text.old.items) 0) ++ bytes_of line.now.what) }

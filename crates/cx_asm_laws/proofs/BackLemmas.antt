@@ -15,7 +15,7 @@ use Rattle.cx_asm_expressions.specs.declared.faults.FaultKind.{FaultKind}
 use Rattle.cx_asm_pools.specs.Pools.{PlacedLiterals}
 use Rattle.cx_asm_pass1.specs.Given.{location_counter}
 use Rattle.cx_asm_pass1.specs.PassState.{is_control, role_in}
-use Rattle.cx_asm_pass1.specs.Placed.{known_of}
+use Rattle.cx_asm_pass1.specs.Locations.{known_of}
 use Rattle.cx_asm_pass1.specs.declared.roles.Role.{Role}
 use Rattle.cx_asm_pass1.specs.declared.roles.Role.TheVariants.{Unknown, Instruction, Control, Dummy, Equate, Storage, Pool, Registers, Member, Nothing}
 use Rattle.cx_asm_operations.specs.Operations.{base_row}
@@ -33,7 +33,7 @@ use Rattle.cx_asm_pass2.specs.Whole.{Whole, instruction_context, item_made, pool
 use Rattle.cx_asm.specs.Assembly.{AssemblyParts, assembly_of, section_of, size_of, standing_of}
 use Rattle.cx_asm.specs.Facts.Accepted.{accepted}
 use Rattle.cx_asm.specs.Facts.Bases.{after_sixteen}
-use Rattle.cx_asm.specs.Laws.Standing.{IsWithin}
+use Rattle.cx_asm.specs.Laws.SectionLines.{IsWithin}
 use Rattle.cx_asm.specs.Resolving.{constant_standing, counter_at, data_line, data_standing, instruction_standing, item_standing, items_standing, last_pool, line, empty_section, pool_standing, role_standing, space_standing, standing_from, statement_standing}
 use Rattle.cx_asm_laws.specs.Laws.Back.{ComesBack}
 

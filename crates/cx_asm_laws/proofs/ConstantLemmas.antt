@@ -15,7 +15,7 @@ use Rattle.cx_asm_expressions.specs.Items.{Constant, constant_in, size_of as con
 use Rattle.cx_asm_expressions.specs.declared.faults.FaultKind.{FaultKind}
 use Rattle.cx_asm_expressions.specs.declared.values.Value.{Value}
 use Rattle.cx_asm_pools.specs.Pools.{PlacedLiterals}
-use Rattle.cx_asm_pass1.specs.Facts.Laid.{lower_none}
+use Rattle.cx_asm_pass1.specs.Facts.StatementExtents.{lower_none}
 use Rattle.cx_asm_pass1.specs.Given.{location_counter}
 use Rattle.cx_asm_pass1.specs.PassState.{role_in}
 use Rattle.cx_asm_pass1.specs.Laws.FirstFaults.{AreSound, IsFirstOf}
@@ -28,12 +28,12 @@ use Rattle.cx_asm_operations.specs.declared.operations.Directive.TheVariants as 
 use Rattle.cx_asm_operations.specs.declared.operations.Operation.{Operation}
 use Rattle.cx_asm_operations.specs.declared.operations.Operation.TheVariants as operation
 use Rattle.cx_asm_operands.specs.Bases.{Bases, none_in_use}
-use Rattle.cx_asm_pass2.specs.SecondFaults.{bases_after, bases_behind, item_fault, items_fault, operand_fault, second_fault, second_faults_after}
+use Rattle.cx_asm_pass2.specs.SecondFaults.{bases_after, bases_after_all, item_fault, items_fault, operand_fault, second_fault, second_faults_after}
 use Rattle.cx_asm_pass2.specs.Statements.{PlacedStatement, operation_of, placed_items, statements_of}
 use Rattle.cx_asm_pass2.specs.Whole.{Whole, item_made, pool_of, whole_of}
 use Rattle.cx_asm.specs.Assembly.{second_faults_of, standing_of}
 use Rattle.cx_asm.specs.Facts.Accepted.{accepted}
-use Rattle.cx_asm.specs.Laws.SecondFirst.{second_faults_behind}
+use Rattle.cx_asm.specs.Laws.SecondFirst.{faults_by_statement}
 use Rattle.cx_asm.specs.Resolving.{constant_standing, counter_at, data_line, data_standing, item_standing, items_standing, last_pool, line, empty_section, pool_standing, role_standing, space_standing, standing_from, statement_standing}
 use Rattle.cx_asm_laws.specs.Laws.Constants.{AcceptedStand, AreAmong, ConstantsStand, IsData, IsSpace, ItemStands, PoolStands, RoleStands, StatementStands}
 use Rattle.cx_asm_laws.proofs.BackLemmas.{resolved_is}
@@ -209,9 +209,9 @@ module _ (told : Whole) (resolved : List Line) where
       (has_right resolved (statement_standing told statements bases s).lines (standing_from told statements (bases_after told bases s) rest).lines h)
 
   -- ---- none of them has a fault
-  each_sound : (behind : List PlacedStatement) → AreSound (second_faults_behind told behind) → AllByRecursion (HasNoFault told) behind
+  each_sound : (after : List PlacedStatement) → AreSound (faults_by_statement told after) → AllByRecursion (HasNoFault told) after
   each_sound [] h = tt
-  each_sound (s ∷ before) h = (record { bases = bases_behind told before; number = length before; none = h.0 }, each_sound before h.1)
+  each_sound (s ∷ before) h = (record { bases = bases_after_all told before; number = length before; none = h.0 }, each_sound before h.1)
 
   onto : (some : List PlacedStatement) (more : List PlacedStatement) → AllByRecursion (HasNoFault told) some → AllByRecursion (HasNoFault told) more → AllByRecursion (HasNoFault told) (some ++ more)
   onto [] more h k = k
@@ -221,13 +221,13 @@ module _ (told : Whole) (resolved : List Line) where
   turned [] h = tt
   turned (s ∷ some) h = subst (AllByRecursion (HasNoFault told)) (sym (reverse_onto some s [])) (onto (reverse some) (s ∷ []) (turned some h.1) (h.0, tt))
 
-no_faults : ((told : Whole) (statements : List PlacedStatement) → IsFirstOf (second_faults_behind told statements) (slice_get (second_faults_after told statements) 0))
-    → (source : Source) → second_faults_of source ≡ [] → AreSound (second_faults_behind (whole_of source) (reverse (statements_of source)))
+no_faults : ((told : Whole) (statements : List PlacedStatement) → IsFirstOf (faults_by_statement told statements) (slice_get (second_faults_after told statements) 0))
+    → (source : Source) → second_faults_of source ≡ [] → AreSound (faults_by_statement (whole_of source) (reverse (statements_of source)))
 unfolding second_faults_of
 no_faults first source e =
-    subst (λ f. IsFirstOf (second_faults_behind (whole_of source) (reverse (statements_of source))) f) (ap (λ (l : List LineFault). slice_get l 0) e) (first (whole_of source) (reverse (statements_of source)))
+    subst (λ f. IsFirstOf (faults_by_statement (whole_of source) (reverse (statements_of source))) f) (ap (λ (l : List LineFault). slice_get l 0) e) (first (whole_of source) (reverse (statements_of source)))
 
-standing_stands : (source : Source) → AreSound (second_faults_behind (whole_of source) (reverse (statements_of source))) → ConstantsStand source (standing_of source).lines
+standing_stands : (source : Source) → AreSound (faults_by_statement (whole_of source) (reverse (statements_of source))) → ConstantsStand source (standing_of source).lines
 unfolding standing_of Has
 standing_stands source sound =
     let told = whole_of source in
@@ -240,6 +240,6 @@ standing_stands source sound =
       last = last_stands told resolved (statements_of source) none_in_use (statements_of source) (λ l k. k);
     }
 
-pub constants_stand : ((told : Whole) (statements : List PlacedStatement) → IsFirstOf (second_faults_behind told statements) (slice_get (second_faults_after told statements) 0)) → AcceptedStand
+pub constants_stand : ((told : Whole) (statements : List PlacedStatement) → IsFirstOf (faults_by_statement told statements) (slice_get (second_faults_after told statements) 0)) → AcceptedStand
 constants_stand first source made e =
     subst (ConstantsStand source) (resolved_is source made e) (standing_stands source (no_faults first source (accepted source made e).second))

@@ -6,7 +6,7 @@ use Rattle.cx_code.specs.declared.image.Image.{Image}
 use Rattle.cx_load.specs.Fault.{IsLowestFault, are_inside, has_length}
 use Rattle.cx_load.specs.Laws.Words.{are_in_order}
 use Rattle.cx_load.specs.declared.fault.ImageFault.TheVariants.{BadLength}
-use Rattle.cx_asm.specs.Laws.Standing.{WordsApart}
+use Rattle.cx_asm.specs.Laws.SectionLines.{WordsApart}
 
 both_true : (a b : Bool) → IsTrue a → IsTrue b → IsTrue (a && b)
 both_true true b h k = k

@@ -218,7 +218,7 @@ found_or_among [] found r section number a e = inl e
 found_or_among (b ∷ bs) found r section number a e =
     elim (found_or_among bs (nearer found (address_by_base section number r b)) (r + 1) section number a e) [
       | inl before ↦ elim (one_of_two found (address_by_base section number r b) a before) [ inl old ↦ inl old | inr new ↦ inr (among_head b bs r section number a new) ]
-      | inr behind ↦ inr (among_rest b bs r section number a behind)
+      | inr after ↦ inr (among_rest b bs r section number a after)
     ]
 
 -- ---- the law

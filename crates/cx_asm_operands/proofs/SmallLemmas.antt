@@ -21,8 +21,8 @@ within_small t n e = grind (arith, nat_tests)
 sum_step : (w : Option ℤ) (vs : List Signed) (n : ℤ) → ((t : ℤ) → w ≡ Some t → unsigned_abs t ≤ bound)
     → ((t m : ℤ) → unsigned_abs t ≤ bound → sum_from t vs ≡ Some m → unsigned_abs m ≤ bound)
     → option_and_then (λ sum. sum_from sum vs) w ≡ Some n → unsigned_abs n ≤ bound
-sum_step None vs n small behind e = cc
-sum_step (Some t) vs n small behind e = behind t n (small t refl) e
+sum_step None vs n small after e = cc
+sum_step (Some t) vs n small after e = after t n (small t refl) e
 
 sum_small : (vs : List Signed) (t n : ℤ) → unsigned_abs t ≤ bound → sum_from t vs ≡ Some n → unsigned_abs n ≤ bound
 sum_small [] t n small e = grind arith

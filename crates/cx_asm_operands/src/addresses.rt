@@ -20,10 +20,10 @@ pub struct Address {
 }
 
 /// How far a number is past a second one, where that is 0 to 4,095.
-fn displacement(number: i128, behind: i128) -> Option<u16>
-    ensures { result ≡ number_within 4095 (number -ℤ behind) }
+fn displacement(number: i128, after: i128) -> Option<u16>
+    ensures { result ≡ number_within 4095 (number -ℤ after) }
 {
-    let distance = number.checked_sub(behind)?;
+    let distance = number.checked_sub(after)?;
     if distance >= 0 && distance <= GREATEST {
         Some(distance as u16)
     } else {

@@ -251,8 +251,8 @@ impl Bases {
         operand: &[u8],
     ) -> Result<Option<FaultKind>, AllocError>
         ensures bases { let c = context (find_in symbols.now) here self.old None in
-            let behind = bases_in (operation.Directive directive.Using) c operand.now in
-            OnOk result (self.new ≡ unwrap_or (result_ok behind) self.old) }
+            let after = bases_in (operation.Directive directive.Using) c operand.now in
+            OnOk result (self.new ≡ unwrap_or (result_ok after) self.old) }
         ensures fault { let c = context (find_in symbols.now) here self.old None in
             IfOk result (λ fault. fault ≡ result_err (bases_in (operation.Directive directive.Using) c operand.now)) }
         ensures err { OnErr result (self.new ≡ self.old) }
@@ -281,8 +281,8 @@ impl Bases {
         operand: &[u8],
     ) -> Result<Option<FaultKind>, AllocError>
         ensures bases { let c = context (find_in symbols.now) here self.old None in
-            let behind = bases_in (operation.Directive directive.Drop) c operand.now in
-            OnOk result (self.new ≡ unwrap_or (result_ok behind) self.old) }
+            let after = bases_in (operation.Directive directive.Drop) c operand.now in
+            OnOk result (self.new ≡ unwrap_or (result_ok after) self.old) }
         ensures fault { let c = context (find_in symbols.now) here self.old None in
             IfOk result (λ fault. fault ≡ result_err (bases_in (operation.Directive directive.Drop) c operand.now)) }
         ensures err { OnErr result (self.new ≡ self.old) }

@@ -78,7 +78,7 @@ fn indexed(alloc: Global, c: &Context<'_>, operands: &[&[u8]]) -> Judged<Fields>
 }
 
 /// `R3,S2` or `R3,D2(B2)`, after the first operand.
-fn behind_first(alloc: Global, c: &Context<'_>, r3: &[u8], s2: &[u8]) -> Judged<(u8, Address)>
+fn after_first(alloc: Global, c: &Context<'_>, r3: &[u8], s2: &[u8]) -> Judged<(u8, Address)>
     ensures { let c = lookup_context c.now in
         IfOk result (λ found. found ≡ both_or_lower_fault (register_in c r3.now) (plain_in false c s2.now)) }
 {
@@ -94,7 +94,7 @@ fn three_operands(alloc: Global, c: &Context<'_>, operands: &[&[u8]]) -> Judged<
     let [r1, r3, s2] = operands else {
         return Ok(Err(FaultKind::BadOperand));
     };
-    match both(c.register(alloc, r1)?, behind_first(alloc, c, r3, s2)?) {
+    match both(c.register(alloc, r1)?, after_first(alloc, c, r3, s2)?) {
         Ok((r1, (r3, address))) => Ok(Ok(Fields::Rs {
             r1,
             r3,

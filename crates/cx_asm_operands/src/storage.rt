@@ -48,8 +48,8 @@ fn expression_and_list(text: &[u8]) -> Option<(&[u8], Option<&[u8]>)>
     if at == text.len() {
         return Some((text, None));
     }
-    let (expression, behind) = text.split_at(at);
-    let body = parenthesized_body(behind)?;
+    let (expression, after) = text.split_at(at);
+    let body = parenthesized_body(after)?;
     Some((expression, Some(body)))
 }
 

@@ -7,7 +7,7 @@ use Rattle.std.specs.Str.{bytes_eq}
 use Rattle.std.proofs.lemmas.Option.{same_Some, none-some}
 use Rattle.std.proofs.lemmas.List.Folds.{find-append}
 use Rattle.std.proofs.lemmas.Slice.Eq.{bytes_eq-Decides}
-use Rattle.cx_code.specs.Table.{op_named, ops, row_of, name_of as machine_name}
+use Rattle.cx_code.specs.Table.{op_named, ops, row_of, mnemonic_of as machine_name}
 use Rattle.cx_code.specs.declared.table.Op.{Op}
 use Rattle.cx_asm_operations.specs.declared.operations.Branch.{Branch}
 use Rattle.cx_asm_operations.specs.declared.operations.Branch.TheVariants as on
@@ -17,11 +17,11 @@ use Rattle.cx_asm_operations.specs.declared.operations.Directive.{Directive}
 use Rattle.cx_asm_operations.specs.declared.operations.Directive.TheVariants as is
 use Rattle.cx_asm_operations.specs.declared.operations.Operation.{Operation}
 use Rattle.cx_asm_operations.specs.declared.operations.Operation.TheVariants as kinds
-use Rattle.cx_asm_operations.specs.Operations.{branch_of, register_branch_of, directive_name, branches, register_branches, directives, operations, name_of, operation_named}
+use Rattle.cx_asm_operations.specs.Operations.{branch_of, register_branch_of, directive_name, branches, register_branches, directives, operations, operation_name, operation_named}
 
 find_step : {X : Type 0} (p : X → Bool) (y : X) (r : Option X) (x : X) (b : Bool) → p y ≡ b → (r ≡ Some x → p x ≡ true) → cond b (Some y) r ≡ Some x → p x ≡ true
-find_step p y r x true h behind e = ap p (sym (same_Some _ _ e)) ∙ h
-find_step p y r x false h behind e = behind e
+find_step p y r x true h after e = ap p (sym (same_Some _ _ e)) ∙ h
+find_step p y r x false h after e = after e
 
 find_passes : {X : Type 0} (p : X → Bool) (xs : List X) (x : X) → find p xs ≡ Some x → p x ≡ true
 find_passes p [] x e = absurd (none-some x e)
@@ -41,7 +41,7 @@ pub by_kinds : (name : List ℕ) → operation_named name
     (option_map kinds.Directive (find (λ d. bytes_eq (directive_name d) name) directives))))
 unfolding operation_named operations op_named branches ops directives
 by_kinds name =
-    let p = λ (o : Operation). bytes_eq (name_of o) name in
+    let p = λ (o : Operation). bytes_eq (operation_name o) name in
     let second = map kinds.Branch branches in
     let third = map kinds.RegisterBranch register_branches in
     let fourth = map kinds.Directive directives in
@@ -105,15 +105,15 @@ first_found m op rest e = ap (λ x. option_or (option_map kinds.Machine x) rest)
 machine_finds : (op : Op) → op_named (machine_name op) ≡ Some op → operation_named (machine_name op) ≡ Some (kinds.Machine op)
 machine_finds op e = by_kinds (machine_name op) ∙ first_found (op_named (machine_name op)) op _ e
 
-finds : ((name : List ℕ) (op : Op) → (op_named name ≡ Some op) ↔ (machine_name op ≡ name)) → (o : Operation) → operation_named (name_of o) ≡ Some o
+finds : ((name : List ℕ) (op : Op) → (op_named name ≡ Some op) ↔ (machine_name op ≡ name)) → (o : Operation) → operation_named (operation_name o) ≡ Some o
 finds machine (kinds.Machine op) = machine_finds op ((machine (machine_name op) op).1 refl)
 finds machine (kinds.Branch b) = branch_finds b
 finds machine (kinds.RegisterBranch b) = register_branch_finds b
 finds machine (kinds.Directive d) = directive_finds d
 
-found : (name : List ℕ) (o : Operation) → operation_named name ≡ Some o → name_of o ≡ name
+found : (name : List ℕ) (o : Operation) → operation_named name ≡ Some o → operation_name o ≡ name
 unfolding operation_named
-found name o e = (bytes_eq-Decides (name_of o) name).0 (find_passes (λ x. bytes_eq (name_of x) name) operations o e)
+found name o e = (bytes_eq-Decides (operation_name o) name).0 (find_passes (λ x. bytes_eq (operation_name x) name) operations o e)
 
-pub one_name : ((name : List ℕ) (op : Op) → (op_named name ≡ Some op) ↔ (machine_name op ≡ name)) → (name : List ℕ) (o : Operation) → (operation_named name ≡ Some o) ↔ (name_of o ≡ name)
+pub one_name : ((name : List ℕ) (op : Op) → (op_named name ≡ Some op) ↔ (machine_name op ≡ name)) → (name : List ℕ) (o : Operation) → (operation_named name ≡ Some o) ↔ (operation_name o ≡ name)
 one_name machine name o = (found name o, λ e. ap operation_named (sym e) ∙ finds machine o)

@@ -3,7 +3,7 @@
 use Rattle.std.specs.Prelude.{ℕ, List, [], ◌∷◌, ◌++◌, codes, map, Option, Some, None}
 use Rattle.std.specs.List.{find}
 use Rattle.std.specs.Str.{bytes_eq}
-use Rattle.cx_code.specs.Table.{ops, name_of as machine_name}
+use Rattle.cx_code.specs.Table.{ops, mnemonic_of as machine_name}
 use Rattle.cx_code.specs.declared.table.Op.{Op}
 use Rattle.cx_code.specs.declared.table.Op.TheVariants.{Bc, Bcr}
 use Rattle.cx_asm_operations.specs.declared.operations.Branch.{Branch}
@@ -69,11 +69,11 @@ unfoldable pub directives : List Directive
 directives = is.Csect ∷ is.Dsect ∷ is.Start ∷ is.Using ∷ is.Drop ∷ is.Equ ∷ is.Ds ∷ is.Dc ∷ is.Ltorg ∷ is.End ∷ is.Title ∷ is.Print ∷ is.Eject ∷ is.Space ∷ is.Dfhregs ∷ is.Copy ∷ []
 
 -- an operation's name
-abbrev pub name_of : Operation → List ℕ
-name_of (kinds.Machine op) = machine_name op
-name_of (kinds.Branch b) = (branch_of b).0
-name_of (kinds.RegisterBranch b) = (register_branch_of b).0
-name_of (kinds.Directive d) = directive_name d
+abbrev pub operation_name : Operation → List ℕ
+operation_name (kinds.Machine op) = machine_name op
+operation_name (kinds.Branch b) = (branch_of b).0
+operation_name (kinds.RegisterBranch b) = (register_branch_of b).0
+operation_name (kinds.Directive d) = directive_name d
 
 -- every operation
 unfoldable pub operations : List Operation
@@ -81,7 +81,7 @@ operations = map kinds.Machine ops ++ map kinds.Branch branches ++ map kinds.Reg
 
 -- the operation that has a name
 unfoldable pub operation_named : List ℕ → Option Operation
-operation_named name = find (λ o. bytes_eq (name_of o) name) operations
+operation_named name = find (λ o. bytes_eq (operation_name o) name) operations
 
 -- the machine instruction that an operation makes, if it makes one: the branches make BC and BCR
 abbrev pub base_row : Operation → Option Op

@@ -3,7 +3,7 @@
 ghost use Rattle.std.specs.Prelude.{◌≡◌};
 ghost use Rattle.std.specs.List.{find};
 ghost use Rattle.std.specs.Str.{bytes_eq};
-ghost use Rattle.cx_asm_operations.specs.Operations.{base_row, branch_of, branches, directive_name, directives, mask_of, name_of, operation_named, register_branch_of, register_branches};
+ghost use Rattle.cx_asm_operations.specs.Operations.{base_row, branch_of, branches, directive_name, directives, mask_of, operation_name, operation_named, register_branch_of, register_branches};
 
 use cx_code::Op;
 
@@ -276,7 +276,7 @@ impl Directive {
 impl Operation {
     /// Its name, in capital letters.
     pub fn name(self) -> &'static str
-        ensures { result.now ≡ name_of self }
+        ensures { result.now ≡ operation_name self }
     {
         match self {
             Operation::Machine(op) => op.name(),

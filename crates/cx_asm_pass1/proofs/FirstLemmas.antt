@@ -9,7 +9,7 @@ use Rattle.cx_asm_expressions.specs.Laws.FaultLaws.{IsNotBelow}
 use Rattle.cx_asm_expressions.specs.declared.faults.FaultKind.{FaultKind}
 use Rattle.cx_asm_expressions.specs.declared.faults.FaultKind.TheVariants.{UnknownOperation, UndefinedSymbol, DuplicateSymbol, NoAddressability, BadOperand, ValueOutOfRange, NotRelocatable, TooLarge}
 use Rattle.cx_asm_pass1.specs.PassState.{PassState, next_state, after_line, fault_in, state_after, line_fault}
-use Rattle.cx_asm_pass1.specs.Laws.FirstFaults.{Ascend, Fault, NoneBelow, fault_at, faults_behind, AreSound, Has, HasNoLower, BeginOn, IsFirstOf}
+use Rattle.cx_asm_pass1.specs.Laws.FirstFaults.{Ascend, Fault, NoneBelow, fault_at, faults_after, AreSound, Has, HasNoLower, BeginOn, IsFirstOf}
 use Rattle.cx_asm_pass1.specs.Facts.First.{one_more}
 use Rattle.cx_asm_pass1.specs.declared.place.LineFault.{LineFault}
 
@@ -19,9 +19,9 @@ unfolding next_state
 line_more line None known before h = h
 line_more line (Some stmt) known before h = one_more line (fault_in stmt known) before known.fault h
 
-pub first_is_first : (items : List Item) → IsFirstOf (faults_behind items) (state_after items).fault
+pub first_is_first : (items : List Item) → IsFirstOf (faults_after items) (state_after items).fault
 first_is_first [] = tt
-first_is_first (item ∷ before) = line_more item.line item.stmt (state_after before) (faults_behind before) (first_is_first before)
+first_is_first (item ∷ before) = line_more item.line item.stmt (state_after before) (faults_after before) (first_is_first before)
 
 -- ---- there is one
 sound_has_none : (line : ℕ) (kind : FaultKind) (faults : List Fault) → AreSound faults → Has line kind faults → ⊥
@@ -99,10 +99,10 @@ unfolding AreAtMost
 at_most most line None known faults le all = all
 at_most most line (Some stmt) known faults le all = (le, all)
 
-faults_at_most : (most : ℕ) (items : List Item) → AllByRecursion (λ earlier. earlier.line ≤ most) items → AreAtMost most (faults_behind items)
+faults_at_most : (most : ℕ) (items : List Item) → AllByRecursion (λ earlier. earlier.line ≤ most) items → AreAtMost most (faults_after items)
 unfolding AreAtMost
 faults_at_most most [] all = tt
-faults_at_most most (item ∷ before) all = at_most most item.line item.stmt (state_after before) (faults_behind before) all.0 (faults_at_most most before all.1)
+faults_at_most most (item ∷ before) all = at_most most item.line item.stmt (state_after before) (faults_after before) all.0 (faults_at_most most before all.1)
 
 below_line : (first line : ℕ) (stmt : Option Stmt) (known : PassState) (faults : List Fault) → AreAtMost line faults → (BeginOn first faults → NoneBelow first faults)
     → BeginOn first (fault_at line stmt known faults) → NoneBelow first (fault_at line stmt known faults)
@@ -110,12 +110,12 @@ below_line first line None known faults most h begins = h begins
 below_line first line (Some stmt) known faults most h (inl it) = ((λ lower. let le : first ≤ line = begun_by first line faults most it in absurd (omega (arith, le, lower))), h it)
 below_line first line (Some stmt) known faults most h (inr it) = ((λ lower. let e : line ≡ first = it.1 in absurd (omega (arith, e, lower))), sound_below first faults it.0)
 
-begun_below : (first : ℕ) (items : List Item) → Ascend items → BeginOn first (faults_behind items) → NoneBelow first (faults_behind items)
+begun_below : (first : ℕ) (items : List Item) → Ascend items → BeginOn first (faults_after items) → NoneBelow first (faults_after items)
 begun_below first [] ascend begins = tt
 begun_below first (item ∷ before) ascend begins =
-    below_line first item.line item.stmt (state_after before) (faults_behind before) (faults_at_most item.line before ascend.0) (begun_below first before ascend.1) begins
+    below_line first item.line item.stmt (state_after before) (faults_after before) (faults_at_most item.line before ascend.0) (begun_below first before ascend.1) begins
 
-pub none_below : (items : List Item) (first : LineFault) → Ascend items → (state_after items).fault ≡ Some first → NoneBelow first.line (faults_behind items)
+pub none_below : (items : List Item) (first : LineFault) → Ascend items → (state_after items).fault ≡ Some first → NoneBelow first.line (faults_after items)
 none_below items first ascend e =
-    let is : IsFirstOf (faults_behind items) (Some first) = subst (IsFirstOf (faults_behind items)) e (first_is_first items) in
+    let is : IsFirstOf (faults_after items) (Some first) = subst (IsFirstOf (faults_after items)) e (first_is_first items) in
     begun_below first.line items ascend is.begins

@@ -11,7 +11,7 @@ use Rattle.cx_asm_expressions.specs.declared.faults.FaultKind.{FaultKind}
 use Rattle.cx_asm_expressions.specs.declared.values.Value.{Value}
 use Rattle.cx_asm_pools.specs.Pools.{OpenLiterals, PlacedLiterals}
 use Rattle.cx_asm_pass1.specs.Given.{definitions}
-use Rattle.cx_asm_pass1.specs.PassState.{PassState, next_state, control_after, fault_in, given_in, laid_in, length_after, literal_fault, first_fault_behind, own_fault, parts_in, pool_after, pools_after, role_in, name_in, section_after}
+use Rattle.cx_asm_pass1.specs.PassState.{PassState, next_state, control_after, fault_in, given_in, laid_in, length_after, literal_fault, first_fault_after, own_fault, parts_in, pool_after, pools_after, role_in, name_in, section_after}
 use Rattle.cx_asm_pass1.specs.Parts.Judging.{heading_in}
 use Rattle.cx_asm_pass1.specs.declared.faults.Heading.{Heading}
 use Rattle.cx_asm_pass1.specs.declared.layout.Extent.{Extent}
@@ -41,7 +41,7 @@ pub taken : (line : ℕ) (stmt : Stmt) (known : PassState) (h : Heading) (l : Ex
     → told.places ≡ known.places ++ place_at known.section l number ∷ []
     → literals ≡ literal_fault h.role user ps known.pool
     → all ≡ lower f literals
-    → told.fault ≡ first_fault_behind line all known.fault
+    → told.fault ≡ first_fault_after line all known.fault
     → told ≡ next_state line stmt known
 unfolding next_state
 taken line stmt known h l v f ps user number literals all told eh el ev ef eps eu en e1 e2 e3 e4 e5 e6 e7 elit eall e8 =
@@ -55,8 +55,8 @@ taken line stmt known h l v f ps user number literals all told eh el ev ef eps e
     ∙ ap (λ (x : ℕ). pool_after (role_in stmt) x (parts_in stmt) known.pool) eu)
     (e6 ∙ ap (λ (x : Heading). pools_after x.role l.offset known.pool known.pools) eh ∙ ap (λ (x : Extent). pools_after (role_in stmt) x.offset known.pool known.pools) el)
     (e7 ∙ ap (λ (x : Extent). known.places ++ place_at known.section x number ∷ []) el ∙ ap (λ (x : ℕ). known.places ++ place_at known.section (laid_in stmt known) x ∷ []) en)
-    (e8 ∙ ap (λ (x : Option FaultKind). first_fault_behind line x known.fault) eall ∙ ap (λ (x : Option FaultKind). first_fault_behind line (lower x literals) known.fault) ef
-    ∙ ap (λ (x : Option FaultKind). first_fault_behind line (lower (own_fault stmt known) x) known.fault)
+    (e8 ∙ ap (λ (x : Option FaultKind). first_fault_after line x known.fault) eall ∙ ap (λ (x : Option FaultKind). first_fault_after line (lower x literals) known.fault) ef
+    ∙ ap (λ (x : Option FaultKind). first_fault_after line (lower (own_fault stmt known) x) known.fault)
     (elit ∙ ap (λ (x : Heading). literal_fault x.role user ps known.pool) eh ∙ ap (λ (x : List (List ℕ)). literal_fault (role_in stmt) user x known.pool) eps
     ∙ ap (λ (x : ℕ). literal_fault (role_in stmt) x (parts_in stmt) known.pool) eu))
 

@@ -1,5 +1,5 @@
 -- Lemmas for the crates above.
-pub mod Laid
+pub mod StatementExtents
 pub mod Faults
 pub mod Apart
 pub mod Kept

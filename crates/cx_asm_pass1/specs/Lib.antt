@@ -2,7 +2,7 @@ pub mod Roles
 pub mod Layout
 pub mod Given
 pub mod PassState
-pub mod Placed
+pub mod Locations
 pub mod AllFaults
 -- Statements of laws.
 pub mod Laws

@@ -137,9 +137,9 @@ abbrev pub line_fault : ℕ → FaultKind → LineFault
 line_fault line kind = record { line = line; kind = kind }
 
 -- The first fault stays; of several on its line it is the lowest.
-abbrev pub first_fault_behind : ℕ → Option FaultKind → Option LineFault → Option LineFault
-first_fault_behind line fault None = option_map (line_fault line) fault
-first_fault_behind line fault (Some first) =
+abbrev pub first_fault_after : ℕ → Option FaultKind → Option LineFault → Option LineFault
+first_fault_after line fault None = option_map (line_fault line) fault
+first_fault_after line fault (Some first) =
     if line == first.line then option_map (line_fault first.line) (lower (Some first.kind) fault) else Some first
 
 -- ---- what else is known of the statement after it
@@ -184,7 +184,7 @@ next_state line stmt known =
       pool = pool_after (role_in stmt) (length known.places) (parts_in stmt) known.pool;
       pools = pools_after (role_in stmt) (laid_in stmt known).offset known.pool known.pools;
       places = known.places ++ place_in stmt known ∷ [];
-      fault = first_fault_behind line (fault_in stmt known) known.fault;
+      fault = first_fault_after line (fault_in stmt known) known.fault;
     }
 
 -- a comment, and a line that continues a statement, add nothing

@@ -3,7 +3,7 @@
 ghost use Rattle.std.specs.Prelude.{◌≡◌, ◌||◌, is_none, option_and_then};
 ghost use Rattle.cx_asm_pass1.specs.Layout.{fault_beyond};
 ghost use Rattle.cx_asm_expressions.specs.Faults.{lower};
-ghost use Rattle.cx_asm_pass1.specs.PassState.{bad_label, bad_name, first_fault_behind, is_control, name_fault, operation_fault, section_fault};
+ghost use Rattle.cx_asm_pass1.specs.PassState.{bad_label, bad_name, first_fault_after, is_control, name_fault, operation_fault, section_fault};
 
 use crate::given::stands_in;
 use crate::layout::beyond;
@@ -130,12 +130,12 @@ pub(crate) fn extent_fault(extent: Option<u128>) -> Option<FaultKind>
 
 /// The first fault so far, after a statement of a line: the first stays, and of several on its line it is the lowest.
 /// It takes no memory.
-pub fn first_fault_behind(
+pub fn first_fault_after(
     line: usize,
     fault: Option<FaultKind>,
     first: Option<LineFault>,
 ) -> Option<LineFault>
-    ensures { result ≡ first_fault_behind line fault first }
+    ensures { result ≡ first_fault_after line fault first }
 {
     let Some(first) = first else {
         let kind = fault?;

@@ -12,10 +12,10 @@ ghost use Rattle.cx_asm_expressions.specs.declared.values.Value.{Value};
 ghost use Rattle.cx_asm_pools.specs.Laws.Literals.{IsPool};
 ghost use Rattle.cx_asm_pools.specs.Pools.{PlacedLiterals, cap, closed_pool};
 ghost use Rattle.cx_asm_pass1.specs.PassState.{PassState, next_state, is_control, state_after, laid_in, parts_in, place_in, role_in};
-ghost use Rattle.cx_asm_pass1.specs.Laws.Apart.{AreApart, ClosesApart, EndWithin, Stands, control_length, section_length, stretches_behind};
-ghost use Rattle.cx_asm_pass1.specs.Laws.Definitions.{definitions_behind};
-ghost use Rattle.cx_asm_pass1.specs.Laws.FirstFaults.{Ascend, Fault, IsFirstOf, NoneBelow, faults_behind};
-ghost use Rattle.cx_asm_pass1.specs.Placed.{all_pools, last_pool_extent};
+ghost use Rattle.cx_asm_pass1.specs.Laws.Apart.{AreApart, ClosesApart, EndWithin, Stands, control_length, section_length, stretches_after};
+ghost use Rattle.cx_asm_pass1.specs.Laws.Definitions.{definitions_after};
+ghost use Rattle.cx_asm_pass1.specs.Laws.FirstFaults.{Ascend, Fault, IsFirstOf, NoneBelow, faults_after};
+ghost use Rattle.cx_asm_pass1.specs.Locations.{all_pools, last_pool_extent};
 ghost use Rattle.cx_asm_pass1.specs.declared.place.LineFault.{LineFault};
 ghost use Rattle.cx_asm_pass1.specs.declared.place.Place.{Place};
 ghost use Rattle.cx_asm_pass1.specs.declared.roles.Role.TheVariants.{Pool};
@@ -24,7 +24,7 @@ ghost use Rattle.cx_asm_pass1.specs.declared.roles.Role.TheVariants.{Pool};
 /// line; and no statement of that line has a fault with a lower number. Where there is none no statement has a fault.
 #[tactic(auto, using(crate::proofs::FirstLemmas::first_is_first))]
 pub fn first_fault_is_first()
-    ensures { (items : List Item) → IsFirstOf (faults_behind items) (state_after items).fault }
+    ensures { (items : List Item) → IsFirstOf (faults_after items) (state_after items).fault }
 {}
 
 /// There is one first fault of statements, or none.
@@ -38,12 +38,12 @@ pub fn the_first_fault_is_one()
 #[tactic(auto, using(crate::proofs::FirstLemmas::none_below))]
 pub fn ascending_lines_have_it_first()
     ensures { (items : List Item) (first : LineFault) → Ascend items → (state_after items).fault ≡ Some first
-        → NoneBelow first.line (faults_behind items) }
+        → NoneBelow first.line (faults_after items) }
 {}
 
 /// In an accepted source a statement's instruction, items or literals are placed one after the other, aligned, from its
 /// section's length so far to the statement's end, which is within the bound of all numbers.
-pub fn a_statement_stands_behind_its_section()
+pub fn a_statement_stands_after_its_section()
     ensures stands { (before : List Item) (line : ℕ) (stmt : Stmt) → let known = state_after before in
         (next_state line stmt known).fault ≡ None
         → Stands (role_in stmt) (parts_in stmt) known.pool (section_length known) (laid_in stmt known) }
@@ -65,14 +65,14 @@ pub fn the_control_section_grows()
 /// In an accepted source statements of one section share no byte: a later one begins at or past the end of each earlier
 /// one.
 pub fn statements_stand_apart()
-    ensures { (items : List Item) → (state_after items).fault ≡ None → AreApart (stretches_behind items) }
+    ensures { (items : List Item) → (state_after items).fault ≡ None → AreApart (stretches_after items) }
 {}
 
 /// In an accepted source the statements of the control section end inside it, and the last pool is after them, at its
 /// end.
 pub fn the_last_pool_ends_the_control_section()
     ensures inside { (items : List Item) → let known = state_after items in
-        known.fault ≡ None → EndWithin known (stretches_behind items) }
+        known.fault ≡ None → EndWithin known (stretches_after items) }
     ensures last { (items : List Item) → let known = state_after items in
         known.fault ≡ None → (last_pool_extent known).end ≤ bound → ClosesApart known }
 {}
@@ -111,10 +111,10 @@ pub fn pools_stay()
 /// no name is defined twice.
 pub fn every_name_has_one_value()
     ensures first { (items : List Item) (name : List ℕ)
-        → (state_after items).symbols name ≡ find_in (definitions_behind items) name }
+        → (state_after items).symbols name ≡ find_in (definitions_after items) name }
     ensures stays { (more before : List Item) (name : List ℕ) (value : Value)
         → (state_after before).symbols name ≡ Some value
         → (state_after (more ++ before)).symbols name ≡ Some value }
     ensures once { (items : List Item) → (state_after items).fault ≡ None
-        → IsDistinct is_same (keys_of (definitions_behind items)) }
+        → IsDistinct is_same (keys_of (definitions_after items)) }
 {}

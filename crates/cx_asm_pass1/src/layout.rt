@@ -56,7 +56,7 @@ pub(crate) fn beyond(at: u128) -> Option<FaultKind>
 }
 
 /// Where an item is, from an offset on.
-#[tactic(auto, using(crate::specs::Facts::Laid::alignment_small))]
+#[tactic(auto, using(crate::specs::Facts::StatementExtents::alignment_small))]
 fn item_start(item: &Constant<'_>, at: u128) -> u128
     ensures start { result ≡ item_start at (Ok item.now) }
     ensures bound { result ≤ bound + 9 }

@@ -13,7 +13,7 @@ mod places;
 mod roles;
 
 pub use all_faults::LineFaults;
-pub use faults::first_fault_behind;
+pub use faults::first_fault_after;
 pub use given::location_counter;
 pub use place::{ControlSection, LineFault, Place};
 pub use places::{Places, place_all, place_with_faults};

@@ -6,7 +6,7 @@ ghost use Rattle.cx_asm_pass1.specs.PassState.{next_state, after_line, at_start,
 ghost use Rattle.cx_asm_pass1.specs.Parts.Judging.{heading_in, judged_in};
 ghost use Rattle.cx_asm_pass1.specs.Parts.Passing.{known_to, length_in};
 
-use crate::faults::{Heading, extent_fault, first_fault_behind, lowest_fault};
+use crate::faults::{Heading, extent_fault, first_fault_after, lowest_fault};
 use crate::judged::{Judged, define_all, duplicate, value_in, value_or_fault};
 use crate::layout::Extent;
 use crate::place::{LineFault, Place};
@@ -202,7 +202,7 @@ impl<'a> Pass<'a> {
         let user = self.places.len();
         let literals = use_pool(heading.role, user, parts.as_slice(), &mut self.pool)?;
         let lowest = lower(fault, literals);
-        self.fault = first_fault_behind(line, lowest, self.fault);
+        self.fault = first_fault_after(line, lowest, self.fault);
         self.places.push(Place {
             section: self.section,
             offset: laid.offset,

@@ -4,7 +4,7 @@ ghost use Rattle.std.specs.Prelude.{◌≡◌, [], IfOk, List as Elements, OnOk,
 ghost use Rattle.cx_asm_pass1.specs.AllFaults.{faults_after, place_faults};
 ghost use Rattle.cx_asm_pass1.specs.PassState.{at_start, state_after};
 ghost use Rattle.cx_asm_pass1.specs.Parts.Passing.{known_to};
-ghost use Rattle.cx_asm_pass1.specs.Placed.{IsPlaced, PlacesAs, last_pool_extent, known_of, storage_length};
+ghost use Rattle.cx_asm_pass1.specs.Locations.{IsPlaced, PlacesAs, last_pool_extent, known_of, storage_length};
 
 use crate::all_faults::LineFaults;
 use crate::layout::Extent;

@@ -9,7 +9,7 @@ use Rattle.cx_source.specs.declared.source.Item.{Item}
 use Rattle.cx_source.specs.declared.source.Stmt.{Stmt}
 use Rattle.cx_asm_pass1.specs.PassState.{PassState, next_state, after_line, state_after, place_in}
 use Rattle.cx_asm_pass1.specs.declared.place.Place.{Place}
-use Rattle.cx_asm_pass2.specs.Statements.{PlacedItem, placed_behind}
+use Rattle.cx_asm_pass2.specs.Statements.{PlacedItem, placed_latest_first}
 
 abbrev placed_item : Item → Option Place → PlacedItem
 placed_item item place = record { item = item; place = place }
@@ -68,16 +68,16 @@ take_one xs d i within = rw (add-one, take-suc xs i d within) (reverse-append (t
 
 -- one line more, with its place
 pub placed_more : (xs : List Item) (d : Item) (i : ℕ) (stmt : Stmt) (ps : List PlacedItem) → i < length xs → (get_or xs i d).stmt ≡ Some stmt
-    → ps ≡ reverse (placed_behind (reverse (take i xs)))
+    → ps ≡ reverse (placed_latest_first (reverse (take i xs)))
     → ps ++ placed_item (get_or xs i d) (slice_get (state_after (reverse xs)).places (length (state_after (reverse (take i xs))).places)) ∷ []
-    ≡ reverse (placed_behind (reverse (take (i + 1) xs)))
+    ≡ reverse (placed_latest_first (reverse (take (i + 1) xs)))
 placed_more xs d i stmt ps within e so_far =
     let place = place_known xs d i stmt within e in
-    rw (take_one xs d i within, place, so_far, e) (sym (reverse_onto (placed_behind (reverse (take i xs))) _ []))
+    rw (take_one xs d i within, place, so_far, e) (sym (reverse_onto (placed_latest_first (reverse (take i xs))) _ []))
 
 with_stmt : (xs : List Item) (d : Item) (i : ℕ) (stmt : Option Stmt) (ps : List PlacedItem) (n : ℕ) → i < length xs → (get_or xs i d).stmt ≡ stmt → is_some stmt ≡ true
-    → ps ≡ reverse (placed_behind (reverse (take i xs))) → n ≡ length (state_after (reverse (take i xs))).places
-    → (ps ++ placed_item (get_or xs i d) (slice_get (state_after (reverse xs)).places n) ∷ [] ≡ reverse (placed_behind (reverse (take (i + 1) xs))))
+    → ps ≡ reverse (placed_latest_first (reverse (take i xs))) → n ≡ length (state_after (reverse (take i xs))).places
+    → (ps ++ placed_item (get_or xs i d) (slice_get (state_after (reverse xs)).places n) ∷ [] ≡ reverse (placed_latest_first (reverse (take (i + 1) xs))))
     × (n + 1 ≡ length (state_after (reverse (take (i + 1) xs))).places)
 with_stmt xs d i None ps n within e some so_far count = cc
 with_stmt xs d i (Some stmt) ps n within e some so_far count = (
@@ -87,16 +87,16 @@ with_stmt xs d i (Some stmt) ps n within e some so_far count = (
 
 -- one line more that has a statement
 pub placed_with_stmt : (xs : List Item) (d : Item) (i : ℕ) (ps : List PlacedItem) (n : ℕ) → i < length xs → is_some (get_or xs i d).stmt ≡ true
-    → ps ≡ reverse (placed_behind (reverse (take i xs))) → n ≡ length (state_after (reverse (take i xs))).places
-    → (ps ++ placed_item (get_or xs i d) (slice_get (state_after (reverse xs)).places n) ∷ [] ≡ reverse (placed_behind (reverse (take (i + 1) xs))))
+    → ps ≡ reverse (placed_latest_first (reverse (take i xs))) → n ≡ length (state_after (reverse (take i xs))).places
+    → (ps ++ placed_item (get_or xs i d) (slice_get (state_after (reverse xs)).places n) ∷ [] ≡ reverse (placed_latest_first (reverse (take (i + 1) xs))))
     × (n + 1 ≡ length (state_after (reverse (take (i + 1) xs))).places)
 placed_with_stmt xs d i ps n within some so_far count = with_stmt xs d i (get_or xs i d).stmt ps n within refl some so_far count
 
 -- The lines so far and one more, with the place that the next number has.
 pub placed_item_more : (xs : List Item) (item : Item) (i : ℕ) (ps more : List PlacedItem) (place : Option Place) (n : ℕ) → i < length xs → item ≡ get_or xs i item
-    → is_some item.stmt ≡ true → ps ≡ reverse (placed_behind (reverse (take i xs))) → n ≡ length (state_after (reverse (take i xs))).places
+    → is_some item.stmt ≡ true → ps ≡ reverse (placed_latest_first (reverse (take i xs))) → n ≡ length (state_after (reverse (take i xs))).places
     → place ≡ slice_get (state_after (reverse xs)).places n → more ≡ ps ++ placed_item item place ∷ []
-    → (more ≡ reverse (placed_behind (reverse (take (i + 1) xs)))) × (n + 1 ≡ length (state_after (reverse (take (i + 1) xs))).places)
+    → (more ≡ reverse (placed_latest_first (reverse (take (i + 1) xs)))) × (n + 1 ≡ length (state_after (reverse (take (i + 1) xs))).places)
 placed_item_more xs item i ps more place n within is some so_far count at new =
     let one = placed_with_stmt xs item i ps n within (ap (λ (x : Item). is_some x.stmt) (sym is) ∙ some) so_far count in (
       new ∙ ap (λ (p : Option Place). ps ++ placed_item item p ∷ []) at

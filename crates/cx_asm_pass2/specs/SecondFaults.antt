@@ -68,12 +68,12 @@ bases_after told bases s =
     option_map_or (λ o. unwrap_or (result_ok (bases_in o c s.stmt.operand)) bases) (operation_of s) bases
 
 -- the bases in use after statements, the latest first
-abbrev pub bases_behind : Whole → List PlacedStatement → Bases
-bases_behind told [] = none_in_use
-bases_behind told (s ∷ before) = bases_after told (bases_behind told before) s
+abbrev pub bases_after_all : Whole → List PlacedStatement → Bases
+bases_after_all told [] = none_in_use
+bases_after_all told (s ∷ before) = bases_after told (bases_after_all told before) s
 
 -- the faults of all lines, by statements, the latest first
 abbrev pub second_faults_after : Whole → List PlacedStatement → List LineFault
 second_faults_after told [] = []
 second_faults_after told (s ∷ before) =
-    with_fault s.line (second_fault told (bases_behind told before) (length before) s) (second_faults_after told before)
+    with_fault s.line (second_fault told (bases_after_all told before) (length before) s) (second_faults_after told before)

@@ -17,14 +17,14 @@ pub record PlacedItem : Type 0 where
   pub place : Option Place
 
 -- the lines, the latest first
-abbrev pub placed_behind : List Item → List PlacedItem
-placed_behind [] = []
-placed_behind (item ∷ before) =
-    record { item = item; place = option_map (λ s. place_in s (state_after before)) item.stmt } ∷ placed_behind before
+abbrev pub placed_latest_first : List Item → List PlacedItem
+placed_latest_first [] = []
+placed_latest_first (item ∷ before) =
+    record { item = item; place = option_map (λ s. place_in s (state_after before)) item.stmt } ∷ placed_latest_first before
 
 -- the lines of a source in its order
 unfoldable pub placed_of : Source → List PlacedItem
-placed_of source = reverse (placed_behind (reverse source.items))
+placed_of source = reverse (placed_latest_first (reverse source.items))
 
 -- A statement with its line's number and its place.
 pub record PlacedStatement : Type 0 where

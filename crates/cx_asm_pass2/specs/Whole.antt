@@ -12,7 +12,7 @@ use Rattle.cx_asm_pools.specs.Pools.{PlacedLiterals, literal_text}
 use Rattle.cx_asm_pass1.specs.Given.{location_counter}
 use Rattle.cx_asm_pass1.specs.Layout.{item_length}
 use Rattle.cx_asm_pass1.specs.PassState.{PassState, role_in}
-use Rattle.cx_asm_pass1.specs.Placed.{all_pools, known_of}
+use Rattle.cx_asm_pass1.specs.Locations.{all_pools, known_of}
 use Rattle.cx_asm_pass1.specs.declared.roles.Role.{Role}
 use Rattle.cx_asm_pass1.specs.declared.roles.Role.TheVariants.{Instruction}
 use Rattle.cx_asm_pass1.specs.declared.places.Places.{Places}

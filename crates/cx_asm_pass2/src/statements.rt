@@ -3,7 +3,7 @@
 ghost use Rattle.std.specs.Prelude.{◌≡◌, IfOk, IsOk, codes, length, map, option_map, slice_get};
 ghost use Rattle.std.specs.List.{filter_map, find, zip};
 ghost use Rattle.cx_asm_pass1.specs.PassState.{parts_in, role_in};
-ghost use Rattle.cx_asm_pass1.specs.Placed.{known_of};
+ghost use Rattle.cx_asm_pass1.specs.Locations.{known_of};
 ghost use Rattle.cx_asm_pass2.specs.Statements.{end_of, operation_of, placed_items, placed_of, stated_in};
 ghost use Rattle.std.specs.Str.{bytes_eq};
 

@@ -6,7 +6,7 @@ use Rattle.std.specs.Prelude.{is_some}
 use Rattle.std.specs.List.{IsDistinct}
 use Rattle.std.specs.Map.{lookup}
 use Rattle.std.specs.Str.{bytes_eq}
-use Rattle.cx_asm_pools.specs.Facts.Literals.{once_behind}
+use Rattle.cx_asm_pools.specs.Facts.Literals.{once_after}
 use Rattle.cx_asm_pools.specs.Parts.Texts.{IsOpen}
 use Rattle.cx_asm_pools.specs.Pools.{cap, OpenLiterals, pool_size}
 use Rattle.cx_asm_pools.specs.declared.open.Used.{Used}
@@ -30,5 +30,5 @@ pub one_open : (size : ℕ) (es new : OpenLiterals) (text : List ℕ) (used : Us
 one_open size es new text used h none e =
     record {
       size_is = rw (e, h.size_is) (size_more es text used);
-      once = rw e (once_behind es text used (ap is_some none) h.once);
+      once = rw e (once_after es text used (ap is_some none) h.once);
     }

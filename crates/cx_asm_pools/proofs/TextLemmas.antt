@@ -27,8 +27,8 @@ in_middle P [] ys y all = all.0
 in_middle P (x ∷ xs) ys y all = in_middle P xs ys y all.1
 
 -- texts that occur once: the one after a table's isn't in the table
-pub not_behind : {V : Type 0} (es : List (List ℕ × V)) (text : List ℕ) (texts : List (List ℕ)) → IsDistinct bytes_eq (keys_of es ++ text ∷ texts) → lookup (bytes_eq text) es ≡ None
-not_behind [] text texts once = refl
-not_behind (e ∷ es) text texts once =
+pub not_after : {V : Type 0} (es : List (List ℕ × V)) (text : List ℕ) (texts : List (List ℕ)) → IsDistinct bytes_eq (keys_of es ++ text ∷ texts) → lookup (bytes_eq text) es ≡ None
+not_after [] text texts once = refl
+not_after (e ∷ es) text texts once =
     let other = in_middle (λ y. bytes_eq e.0 y ≡ false) (keys_of es) texts text (IsDistinct-head bytes_eq e.0 (keys_of es ++ text ∷ texts) once) in
-    cond-false _ _ _ (nat_list_eq_equiv.symm text e.0 ∙ other) ∙ not_behind es text texts (IsDistinct-tail bytes_eq e.0 (keys_of es ++ text ∷ texts) once)
+    cond-false _ _ _ (nat_list_eq_equiv.symm text e.0 ∙ other) ∙ not_after es text texts (IsDistinct-tail bytes_eq e.0 (keys_of es ++ text ∷ texts) once)

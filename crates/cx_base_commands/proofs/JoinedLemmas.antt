@@ -22,9 +22,9 @@ front_same (x ∷ xs) one other = ap (λ b. b && bytes_eq (xs ++ one) (xs ++ oth
 pub begun : (text first second rest : List ℕ) → text ≡ first ++ rest → bytes_eq rest (32 ∷ second) ≡ bytes_eq text (with_blank_between first second)
 begun text first second rest e = sym (ap (λ t. bytes_eq t (with_blank_between first second)) e ∙ front_same first rest (32 ∷ second))
 
-pub blank_behind : (rest last second : List ℕ) (blank : ℕ) → rest ≡ blank ∷ last → blank ≡ 32 → bytes_eq last second ≡ bytes_eq rest (32 ∷ second)
-blank_behind rest last second blank e is = sym (ap (λ r. bytes_eq r (32 ∷ second)) (e ∙ ap (λ x. x ∷ last) is))
+pub blank_after : (rest last second : List ℕ) (blank : ℕ) → rest ≡ blank ∷ last → blank ≡ 32 → bytes_eq last second ≡ bytes_eq rest (32 ∷ second)
+blank_after rest last second blank e is = sym (ap (λ r. bytes_eq r (32 ∷ second)) (e ∙ ap (λ x. x ∷ last) is))
 
-pub no_blank_behind : (rest last second : List ℕ) (blank : ℕ) → rest ≡ blank ∷ last → (blank ≡ 32 → ⊥) → nat_eq blank 32 ≡ bytes_eq rest (32 ∷ second)
-no_blank_behind rest last second blank e apart =
+pub no_blank_after : (rest last second : List ℕ) (blank : ℕ) → rest ≡ blank ∷ last → (blank ≡ 32 → ⊥) → nat_eq blank 32 ≡ bytes_eq rest (32 ∷ second)
+no_blank_after rest last second blank e apart =
     ne_eqb blank 32 apart ∙ sym (ap (λ r. bytes_eq r (32 ∷ second)) e ∙ ap (λ b. b && bytes_eq last second) (ne_eqb blank 32 apart))

@@ -2,7 +2,7 @@
 -- The numbers and abend codes are this project's own.
 use Rattle.std.specs.Prelude.{ℕ, ◌==◌, Option, Some, None, List, [], ◌∷◌, codes, option_and_then, unwrap_or}
 use Rattle.std.specs.List.{position}
-use Rattle.cx_ebcdic.specs.Names.{name_of}
+use Rattle.cx_ebcdic.specs.Names.{padded_name}
 use Rattle.cx_base_commands.specs.declared.conditions.Condition.{Condition}
 use Rattle.cx_base_commands.specs.declared.conditions.Condition.TheVariants.{Normal, Error, Invreq, Nospace, Lengerr, Itemerr, Pgmiderr, Nostg, Qiderr, Enqbusy}
 
@@ -37,4 +37,4 @@ place_of condition = unwrap_or (position (λ other. (entry_of other).number == (
 
 -- the abend code as it is in storage
 unfoldable pub abend_code_of : Condition → Option (List ℕ)
-abend_code_of condition = option_and_then (name_of 4) (entry_of condition).abend
+abend_code_of condition = option_and_then (padded_name 4) (entry_of condition).abend

@@ -46,13 +46,15 @@ pub fn options_are_asked_by_name()
     ensures row { (command : Command) (k : ℕ) (option : CommandOption)
         → slice_get (row_of command).options k ≡ Some option → option_of command option.name ≡ Some option }
     ensures bit { (command : Command) (k first : ℕ) (option : CommandOption)
-        → slice_get (row_of command).options k ≡ Some option → has_option command first option.name ≡ has_bit first option.bit }
+        → slice_get (row_of command).options k ≡ Some option → has_option command first option.name
+        ≡ has_bit first option.bit }
 {}
 
 /// Each argument of an argument list is found by the name of its option.
 pub fn arguments_are_found_by_name()
     ensures { (command : Command) (first k : ℕ) (option : CommandOption)
-        → slice_get (arguments_in (row_of command).options first) k ≡ Some option → argument_index command first option.name ≡ Some k }
+        → slice_get (arguments_in (row_of command).options first) k ≡ Some option
+        → argument_index command first option.name ≡ Some k }
 {}
 
 /// A command is found exactly by its function value, and exactly by its name.

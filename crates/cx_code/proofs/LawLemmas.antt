@@ -6,19 +6,19 @@ use Rattle.std.proofs.lemmas.List.{take-append-drop}
 use Rattle.cx_code.specs.declared.table.Op.{Op}
 use Rattle.cx_code.specs.declared.instruction.Fields.{Fields}
 use Rattle.cx_code.specs.declared.instruction.Fields.TheVariants.{Rr, Rx, Rs, Si, Ss, Ss2}
-use Rattle.cx_code.specs.Table.{row_of, ops, code_of, name_of, length_of, length_of_code, is_shift, op_at, op_named}
+use Rattle.cx_code.specs.Table.{row_of, ops, code_of, mnemonic_of, length_of, length_of_code, is_shift, op_at, op_named}
 use Rattle.cx_code.specs.Spelling.{Instruction, instruction, IsWellFormed, spelling, Spells, Reads, with_r3_zero, AreBytes}
 use Rattle.cx_code.specs.Parts.Bytes.{bytes_with}
 use Rattle.cx_code.specs.Reading.{reading, canonical, canonical_as}
-use Rattle.cx_code.proofs.TableLemmas.{op_at-code_of, op_named-name_of, code_of-op_at, name_of-op_named, each_row}
+use Rattle.cx_code.proofs.TableLemmas.{op_at-code_of, op_named-mnemonic_of, code_of-op_at, mnemonic_of-op_named, each_row}
 use Rattle.cx_code.proofs.SpellingLemmas.{spelling_bytes}
 use Rattle.cx_code.proofs.ReadingLemmas.{reading-Reads, reading-sound, length-Reads, AreBytes-spelling, shift_format}
 
 pub one_row : (code : ℕ) (op : Op) → (op_at code ≡ Some op) ↔ (code_of op ≡ code)
 one_row code op = (code_of-op_at code op, λ e. sym (ap op_at e) ∙ op_at-code_of op)
 
-pub one_mnemonic : (name : List ℕ) (op : Op) → (op_named name ≡ Some op) ↔ (name_of op ≡ name)
-one_mnemonic name op = (name_of-op_named name op, λ e. sym (ap op_named e) ∙ op_named-name_of op)
+pub one_mnemonic : (name : List ℕ) (op : Op) → (op_named name ≡ Some op) ↔ (mnemonic_of op ≡ name)
+one_mnemonic name op = (mnemonic_of-op_named name op, λ e. sym (ap op_named e) ∙ op_named-mnemonic_of op)
 
 lengths_agree : list_all (λ o. eqb (length_of_code (code_of o)) (length_of o)) ops ≡ true
 unfolding ops row_of

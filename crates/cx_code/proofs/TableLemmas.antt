@@ -63,7 +63,7 @@ use Rattle.cx_code.specs.declared.table.Op.TheVariants.{
   Pack,
   Unpk,
 }
-use Rattle.cx_code.specs.Table.{row_of, code_of, name_of, ops, op_at, op_named}
+use Rattle.cx_code.specs.Table.{row_of, code_of, mnemonic_of, ops, op_at, op_named}
 
 pub op_at-code_of : (op : Op) → op_at (code_of op) ≡ Some op
 unfolding op_at ops row_of
@@ -124,69 +124,69 @@ op_at-code_of Trt = refl
 op_at-code_of Pack = refl
 op_at-code_of Unpk = refl
 
-pub op_named-name_of : (op : Op) → op_named (name_of op) ≡ Some op
+pub op_named-mnemonic_of : (op : Op) → op_named (mnemonic_of op) ≡ Some op
 unfolding op_named ops row_of
-op_named-name_of Balr = refl
-op_named-name_of Bctr = refl
-op_named-name_of Bcr = refl
-op_named-name_of Ltr = refl
-op_named-name_of Lcr = refl
-op_named-name_of Clr = refl
-op_named-name_of Xr = refl
-op_named-name_of Lr = refl
-op_named-name_of Cr = refl
-op_named-name_of Ar = refl
-op_named-name_of Sr = refl
-op_named-name_of Mr = refl
-op_named-name_of Dr = refl
-op_named-name_of Sth = refl
-op_named-name_of La = refl
-op_named-name_of Stc = refl
-op_named-name_of Ic = refl
-op_named-name_of Ex = refl
-op_named-name_of Bal = refl
-op_named-name_of Bct = refl
-op_named-name_of Bc = refl
-op_named-name_of Lh = refl
-op_named-name_of Ch = refl
-op_named-name_of Ah = refl
-op_named-name_of Sh = refl
-op_named-name_of Cvd = refl
-op_named-name_of Cvb = refl
-op_named-name_of St = refl
-op_named-name_of Cl = refl
-op_named-name_of L = refl
-op_named-name_of C = refl
-op_named-name_of A = refl
-op_named-name_of S = refl
-op_named-name_of M = refl
-op_named-name_of D = refl
-op_named-name_of Srl = refl
-op_named-name_of Sll = refl
-op_named-name_of Sra = refl
-op_named-name_of Sla = refl
-op_named-name_of Srda = refl
-op_named-name_of Stm = refl
-op_named-name_of Tm = refl
-op_named-name_of Mvi = refl
-op_named-name_of Ni = refl
-op_named-name_of Cli = refl
-op_named-name_of Oi = refl
-op_named-name_of Lm = refl
-op_named-name_of Stcm = refl
-op_named-name_of Icm = refl
-op_named-name_of Mvc = refl
-op_named-name_of Clc = refl
-op_named-name_of Xc = refl
-op_named-name_of Tr = refl
-op_named-name_of Trt = refl
-op_named-name_of Pack = refl
-op_named-name_of Unpk = refl
+op_named-mnemonic_of Balr = refl
+op_named-mnemonic_of Bctr = refl
+op_named-mnemonic_of Bcr = refl
+op_named-mnemonic_of Ltr = refl
+op_named-mnemonic_of Lcr = refl
+op_named-mnemonic_of Clr = refl
+op_named-mnemonic_of Xr = refl
+op_named-mnemonic_of Lr = refl
+op_named-mnemonic_of Cr = refl
+op_named-mnemonic_of Ar = refl
+op_named-mnemonic_of Sr = refl
+op_named-mnemonic_of Mr = refl
+op_named-mnemonic_of Dr = refl
+op_named-mnemonic_of Sth = refl
+op_named-mnemonic_of La = refl
+op_named-mnemonic_of Stc = refl
+op_named-mnemonic_of Ic = refl
+op_named-mnemonic_of Ex = refl
+op_named-mnemonic_of Bal = refl
+op_named-mnemonic_of Bct = refl
+op_named-mnemonic_of Bc = refl
+op_named-mnemonic_of Lh = refl
+op_named-mnemonic_of Ch = refl
+op_named-mnemonic_of Ah = refl
+op_named-mnemonic_of Sh = refl
+op_named-mnemonic_of Cvd = refl
+op_named-mnemonic_of Cvb = refl
+op_named-mnemonic_of St = refl
+op_named-mnemonic_of Cl = refl
+op_named-mnemonic_of L = refl
+op_named-mnemonic_of C = refl
+op_named-mnemonic_of A = refl
+op_named-mnemonic_of S = refl
+op_named-mnemonic_of M = refl
+op_named-mnemonic_of D = refl
+op_named-mnemonic_of Srl = refl
+op_named-mnemonic_of Sll = refl
+op_named-mnemonic_of Sra = refl
+op_named-mnemonic_of Sla = refl
+op_named-mnemonic_of Srda = refl
+op_named-mnemonic_of Stm = refl
+op_named-mnemonic_of Tm = refl
+op_named-mnemonic_of Mvi = refl
+op_named-mnemonic_of Ni = refl
+op_named-mnemonic_of Cli = refl
+op_named-mnemonic_of Oi = refl
+op_named-mnemonic_of Lm = refl
+op_named-mnemonic_of Stcm = refl
+op_named-mnemonic_of Icm = refl
+op_named-mnemonic_of Mvc = refl
+op_named-mnemonic_of Clc = refl
+op_named-mnemonic_of Xc = refl
+op_named-mnemonic_of Tr = refl
+op_named-mnemonic_of Trt = refl
+op_named-mnemonic_of Pack = refl
+op_named-mnemonic_of Unpk = refl
 
 -- what holds of all that is searched holds of what is found
 found_all-step : {X : Type 0} (p q : X → Bool) (y : X) (r : Option X) (x : X) (b : Bool) → p y ≡ b → (p y ≡ true → q y ≡ true) → (r ≡ Some x → q x ≡ true) → cond b (Some y) r ≡ Some x → q x ≡ true
-found_all-step p q y r x true h here behind e = let g = here h in cc
-found_all-step p q y r x false h here behind e = behind e
+found_all-step p q y r x true h here after e = let g = here h in cc
+found_all-step p q y r x false h here after e = after e
 
 pub find_passes : {X : Type 0} (p : X → Bool) (xs : List X) (x : X) → find p xs ≡ Some x → p x ≡ true
 find_passes p [] x e = cc
@@ -208,7 +208,7 @@ pub code_of-op_at : (code : ℕ) (op : Op) → op_at code ≡ Some op → code_o
 unfolding op_at
 code_of-op_at code op e = eqb-true _ _ (find_passes (λ o. eqb (code_of o) code) ops op e)
 
-pub name_of-op_named : (name : List ℕ) (op : Op) → op_named name ≡ Some op → name_of op ≡ name
+pub mnemonic_of-op_named : (name : List ℕ) (op : Op) → op_named name ≡ Some op → mnemonic_of op ≡ name
 unfolding op_named
-name_of-op_named name op e =
-    (bytes_eq-Decides (name_of op) name).0 (find_passes (λ o. bytes_eq (name_of o) name) ops op e)
+mnemonic_of-op_named name op e =
+    (bytes_eq-Decides (mnemonic_of op) name).0 (find_passes (λ o. bytes_eq (mnemonic_of o) name) ops op e)

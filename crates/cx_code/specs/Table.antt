@@ -131,8 +131,8 @@ row_of Trt = table_row (codes "TRT") 0xDD form.Ss
 row_of Pack = table_row (codes "PACK") 0xF2 form.Ss2
 row_of Unpk = table_row (codes "UNPK") 0xF3 form.Ss2
 
-abbrev pub name_of : Op → List ℕ
-name_of op = (row_of op).name
+abbrev pub mnemonic_of : Op → List ℕ
+mnemonic_of op = (row_of op).name
 
 abbrev pub code_of : Op → ℕ
 code_of op = (row_of op).code
@@ -154,7 +154,7 @@ op_at code = find (λ op. code_of op == code) ops
 
 -- the instruction that has this mnemonic
 unfoldable pub op_named : List ℕ → Option Op
-op_named name = find (λ op. bytes_eq (name_of op) name) ops
+op_named name = find (λ op. bytes_eq (mnemonic_of op) name) ops
 
 -- the shifts, which ignore the R3 field (GA22-7000, "Shift Left Single" and the other
 -- shifts)

@@ -6,7 +6,7 @@ use Rattle.cx_code.specs.declared.instruction.Fields.TheVariants.{Rr, Rx, Rs, Si
 use Rattle.cx_code.specs.declared.disassembly.Line.{Line}
 use Rattle.cx_code.specs.declared.disassembly.What.{What}
 use Rattle.cx_code.specs.declared.disassembly.What.TheVariants.{Code, Data, Space}
-use Rattle.cx_code.specs.Table.{name_of, is_shift}
+use Rattle.cx_code.specs.Table.{mnemonic_of, is_shift}
 use Rattle.cx_code.specs.Spelling.{Instruction}
 
 -- a storage operand with a base, `D(B)`, and with an index or a length before it, `D(X,B)`
@@ -34,7 +34,7 @@ operands shift (Ss2 l1 l2 b1 d1 b2 d2) =
 
 -- an instruction is its mnemonic, a blank and its operands
 unfoldable pub instruction_text : Instruction → List ℕ
-instruction_text i = name_of i.op ++ codes " " ++ operands (is_shift i.op) i.fields
+instruction_text i = mnemonic_of i.op ++ codes " " ++ operands (is_shift i.op) i.fields
 
 -- a byte as two hexadecimal digits in capitals, and bytes one after the other
 abbrev pub hex_pair : ℕ → List ℕ

@@ -42,8 +42,8 @@ fn canonical(bytes: &[u8]) -> Option<Inst>
 fn bytes_in<'a>(text: &'a [u8], span: Span) -> &'a [u8]
     ensures { result.now ≡ bytes_in text.now span }
 {
-    let (_, behind) = text.split_at(text.len().min(span.start as usize));
-    let (bytes, _) = behind.split_at(behind.len().min(span.len as usize));
+    let (_, after) = text.split_at(text.len().min(span.start as usize));
+    let (bytes, _) = after.split_at(after.len().min(span.len as usize));
     bytes
 }
 

@@ -2,7 +2,7 @@
 
 ghost use Rattle.std.specs.Prelude.{◌≡◌, ◌↔◌, ◌≤◌, ◌++◌, List, ℕ, [], length, slice_index, take, Some};
 ghost use Rattle.cx_code.specs.declared.table.Op.{Op};
-ghost use Rattle.cx_code.specs.Table.{code_of, name_of, length_of, length_of_code, op_at, op_named};
+ghost use Rattle.cx_code.specs.Table.{code_of, mnemonic_of, length_of, length_of_code, op_at, op_named};
 ghost use Rattle.cx_code.specs.Spelling.{Instruction, instruction, IsWellFormed, spelling, Spells, Reads, AreBytes};
 ghost use Rattle.cx_code.specs.Reading.{fields_at, reading, canonical};
 
@@ -13,7 +13,7 @@ pub fn one_row()
 
 /// No two rows have one mnemonic.
 pub fn one_mnemonic()
-    ensures { (name : List ℕ) (op : Op) → (op_named name ≡ Some op) ↔ (name_of op ≡ name) }
+    ensures { (name : List ℕ) (op : Op) → (op_named name ≡ Some op) ↔ (mnemonic_of op ≡ name) }
 {}
 
 /// The first two bits of an operation code give the length that the format has.

@@ -1,7 +1,7 @@
 //! The table of instructions.
 
 ghost use Rattle.std.specs.Prelude.{◌≡◌};
-ghost use Rattle.cx_code.specs.Table.{table_row, row_of, code_of, name_of, format_of, length_of, op_at, op_named, is_shift, length_of_code, length_of_format};
+ghost use Rattle.cx_code.specs.Table.{table_row, row_of, code_of, mnemonic_of, format_of, length_of, op_at, op_named, is_shift, length_of_code, length_of_format};
 
 use Op::{
     A, Ah, Ar, Bal, Balr, Bc, Bcr, Bct, Bctr, C, Ch, Cl, Clc, Cli, Clr, Cr, Cvb, Cvd, D, Dr, Ex,
@@ -564,7 +564,7 @@ impl Op {
 
     /// The mnemonic, in capital letters.
     pub fn name(self) -> &'static str
-        ensures { result.now ≡ name_of self }
+        ensures { result.now ≡ mnemonic_of self }
     {
         self.row().0
     }

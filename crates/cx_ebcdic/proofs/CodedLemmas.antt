@@ -52,8 +52,8 @@ none_at true k n h = absurd (grind (arith, nat_tests))
 none_at false k n h = (refl, none_later k n h)
 
 -- no place is found after the first character either
-none_behind : (p : ℕ → Bool) (x : ℕ) (xs : List ℕ) → position p (x ∷ xs) ≡ None → (p x ≡ false) × (position p xs ≡ None)
-none_behind p x xs h = none_at (p x) (position_or_len p xs) (length xs) h
+none_after : (p : ℕ → Bool) (x : ℕ) (xs : List ℕ) → position p (x ∷ xs) ≡ None → (p x ≡ false) × (position p xs ≡ None)
+none_after p x xs h = none_at (p x) (position_or_len p xs) (length xs) h
 
 present : (f : ℕ → Option ℕ) (x : ℕ) (o : Option ℕ) (xs : List ℕ) → f x ≡ o → is_none o ≡ false → map f xs ≡ map Some (filter_map f xs) → map f (x ∷ xs) ≡ map Some (cons_option o (filter_map f xs))
 present f x None xs e h rest = absurd (cc)
@@ -63,14 +63,14 @@ present f x (Some y) xs e h rest = ap (λ o. o ∷ map f xs) e ∙ ap (λ os. So
 pub all_coded : (f : ℕ → Option ℕ) (xs : List ℕ) → position (λ x. is_none (f x)) xs ≡ None → map f xs ≡ map Some (filter_map f xs)
 all_coded f [] h = refl
 all_coded f (x ∷ xs) h =
-    let parts = none_behind (λ x. is_none (f x)) x xs h in
+    let parts = none_after (λ x. is_none (f x)) x xs h in
     present f x (f x) xs refl parts.0 (all_coded f xs parts.1)
 
 -- the blanks after one more code
 pub blanks_more : (bytes : List ℕ) (i code width : ℕ) → i < length bytes → drop i bytes ≡ replicate (width - i) 64 → drop (i + 1) (set bytes i code) ≡ replicate (width - (i + 1)) 64
 blanks_more bytes i code width in_bytes so_far =
-    let behind : drop (i + 1) (set bytes i code) ≡ drop (i + 1) bytes = drop-set-lt (i + 1) bytes i code (omega arith) in
+    let after : drop (i + 1) (set bytes i code) ≡ drop (i + 1) bytes = drop-set-lt (i + 1) bytes i code (omega arith) in
     let rest : drop (i + 1) bytes ≡ drop 1 (drop i bytes) = rw add-one (sym (ap (drop 1) (drop-cons bytes i 0 in_bytes))) in
     let more : drop 1 (replicate (width - i) 64) ≡ replicate (width - (i + 1)) 64 =
     drop-replicate 1 (width - i) 64 ∙ ap (λ n. replicate n 64) (omega arith) in
-    behind ∙ rest ∙ ap (drop 1) so_far ∙ more
+    after ∙ rest ∙ ap (drop 1) so_far ∙ more

@@ -19,8 +19,8 @@ abbrev pub pad : ℕ → List ℕ → List ℕ
 pad width bytes = bytes ++ replicate (width - length bytes) 0x40
 
 -- the name of n bytes that a text spells: 1 to n name characters
-unfoldable pub name_of : ℕ → List ℕ → Option (List ℕ)
-name_of width text =
+unfoldable pub padded_name : ℕ → List ℕ → Option (List ℕ)
+padded_name width text =
     if nat_le 1 (length text) && nat_le (length text) width then option_map (pad width) (each_some (map name_code text)) else None
 
 -- whether two names, as their bytes, are the same: tables are searched by it

@@ -1,6 +1,6 @@
 //! Names of programs, transactions, terminals and queues.
 ghost use Rattle.std.specs.Prelude.{◌≡◌, ◌≤◌, length, None};
-ghost use Rattle.cx_ebcdic.specs.Names.{name_code, name_of};
+ghost use Rattle.cx_ebcdic.specs.Names.{name_code, padded_name};
 
 use crate::characters::to_ebcdic;
 use std::marker::Model;
@@ -34,7 +34,7 @@ impl<const WIDTH: usize> Name<WIDTH> {
     /// The name that a text spells: one to WIDTH of A to Z, 0 to 9, `@`, `#` and `$`.
     /// None for any other text.
     pub fn from_text(text: &str) -> Option<Self>
-        ensures { result ≡ name_of WIDTH text.now }
+        ensures { result ≡ padded_name WIDTH text.now }
     {
         let bytes = padded_codes(text.as_bytes())?;
         Some(Name { bytes })
@@ -68,9 +68,9 @@ fn code_in_name(character: u8) -> Option<u8>
 }
 
 /// The codes of a text that fits, filled with blanks on the right.
-#[tactic(auto, unfolding(crate::specs::Names::name_of))]
+#[tactic(auto, unfolding(crate::specs::Names::padded_name))]
 fn padded_codes<const WIDTH: usize>(text: &[u8]) -> Option<[u8; WIDTH]>
-    ensures { result ≡ name_of WIDTH text.now }
+    ensures { result ≡ padded_name WIDTH text.now }
 {
     if text.is_empty() || text.len() > WIDTH {
         return None;

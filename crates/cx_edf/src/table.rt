@@ -47,7 +47,8 @@ pub(crate) fn end(sessions: &mut IndexMap<Name4, Session>, name: Name4)
 fn press(sessions: &mut IndexMap<Name4, Session>, name: Name4, aid: Aid, bytes: &[u8])
     requires { (it : SessionState) → session_in sessions.old.entries name ≡ Some it → IsTrue (is_stopped it.mode) }
     ensures { aid ≢ Aid.Pf3 → (session : SessionState) → session_in sessions.old.entries name ≡ Some session
-        → sessions.new.entries ≡ with_session_changed sessions.old.entries name (λ session. after_key session aid bytes.now) }
+        → sessions.new.entries
+        ≡ with_session_changed sessions.old.entries name (λ session. after_key session aid bytes.now) }
 {
     let Some(session) = sessions.get_mut(&name) else {
         return;
@@ -120,7 +121,8 @@ fn altered<S: Store + Drop>(
     change: Change,
 )
     ensures { let display = display_of region.now name in
-        sessions.new.entries ≡ with_session_changed sessions.old.entries name (λ it. Some (after_change it change display)) }
+        sessions.new.entries
+        ≡ with_session_changed sessions.old.entries name (λ it. Some (after_change it change display)) }
 {
     let Some(session) = sessions.get_mut(&name) else {
         return;

@@ -9,8 +9,8 @@ use Rattle.cx_edf_display.specs.Texts.{with_line, with_lines}
 use Rattle.cx_edf_display.specs.Displays.{keys, main_page, outcome, status_of, task_heading, task_lines}
 
 -- lines after others
-pub lines_behind : (page : List (List ℕ)) (first rest : List (ℕ × List (List ℕ))) → with_lines page (first ++ rest) ≡ with_lines (with_lines page first) rest
-lines_behind page first rest = fold-append (λ page line. with_line page line.0 line.1) page first rest
+pub lines_joined : (page : List (List ℕ)) (first rest : List (ℕ × List (List ℕ))) → with_lines page (first ++ rest) ≡ with_lines (with_lines page first) rest
+lines_joined page first rest = fold-append (λ page line. with_line page line.0 line.1) page first rest
 
 -- the main page, line by line
 pub page_made : (storage : Storage) (name : List ℕ) (stop : StopPoint) (task : Option Seen) (status : List ℕ) (blank first second third fourth last : List (List ℕ))
@@ -20,4 +20,4 @@ pub page_made : (storage : Storage) (name : List ℕ) (stop : StopPoint) (task :
 unfolding main_page
 page_made storage name stop task status blank first second third fourth last s b h1 h2 h3 h4 h5 =
     let begun : List (List ℕ) = with_line (with_line blank_page 1 (task_heading name task)) 2 (codes "STATUS " ∷ status_of stop ∷ []) in
-    rw (h5, h4, h3, h2, h1, s, b) (sym (lines_behind begun (task_lines storage stop task) ((21, outcome stop) ∷ (24, keys ∷ []) ∷ [])))
+    rw (h5, h4, h3, h2, h1, s, b) (sym (lines_joined begun (task_lines storage stop task) ((21, outcome stop) ∷ (24, keys ∷ []) ∷ [])))

@@ -72,7 +72,7 @@ fn put_names(page: &mut Page, tran: [u8; 4], program: [u8; 8], number: [u8; 7], 
 }
 
 /// Lines 3 to 20, where there is a task.
-#[tactic(auto, using(crate::proofs::LineLemmas::lines_behind))]
+#[tactic(auto, using(crate::proofs::LineLemmas::lines_joined))]
 fn put_task<S: Store + Drop>(
     page: &mut Page,
     region: &Region<S>,
@@ -110,8 +110,11 @@ fn command<S: Store + Drop>(region: &Region<S>, kind: &StopPoint, task: &Seen) -
     ensures { result.now ≡ command_text region.now.storage task.now kind.now }
 {
     match kind {
-        StopPoint::Before => name_of(function_due(region, task)),
-        StopPoint::After(_) => name_of(halfword(region, along(task.eib, EibField::Fn.offset()))),
+        StopPoint::Before => function_name(function_due(region, task)),
+        StopPoint::After(_) => function_name(halfword(
+            region,
+            along(task.eib, EibField::Fn.offset()),
+        )),
         StopPoint::Exit(_) => b"",
         StopPoint::Over(_) => b"",
     }
@@ -128,7 +131,7 @@ fn function_due<S: Store + Drop>(region: &Region<S>, task: &Seen) -> Option<u16>
 
 /// The name of a function's command; a question mark where there is none.
 #[tactic(auto, unfolding(crate::specs::Displays::name_of_function))]
-fn name_of(function: Option<u16>) -> &'static [u8]
+fn function_name(function: Option<u16>) -> &'static [u8]
     ensures { result.now ≡ name_of_function function }
 {
     let Some(function) = function else {

@@ -61,7 +61,7 @@ pub taken_registers : (regs new : List ℕ) (first last : ℕ) (part words : Lis
     → new ≡ loaded_registers regs first last words
 taken_registers regs new first last part words size taken others each = all_loaded regs new first last words size (λ r low.
     elim (cases_lt (place_after first last) (place_after first r)) [
-      | inl lt ↦ let behind = lt-leb (place_after first r) (place_after first last) lt in rw behind (others r low (omega (arith, lt)))
+      | inl lt ↦ let later = lt-leb (place_after first r) (place_after first last) lt in rw later (others r low (omega (arith, lt)))
       | inr ge ↦
           let among = le-leb (place_after first r) (place_after first last) ge in
           let within : place_after first r < register_count first last = omega (arith, ge) in

@@ -24,12 +24,12 @@ pub doubled : (old new : List ℕ) (period filled : ℕ) → period ≤ filled �
     → ((k : ℕ) → k < filled → slice_index new k ≡ slice_index old k)
     → ((k : ℕ) → k < filled → filled + k < length old → slice_index new (filled + k) ≡ slice_index old k)
     → Repeats new period (filled + filled)
-doubled old new period filled some room so_far size prefix behind = record {
+doubled old new period filled some room so_far size prefix after = record {
   each = λ k less within. at k less within (cases_lt (k + period) filled) (cases_lt k filled);
   last = λ fits k less.
       let place : filled + filled - period + k ≡ filled + (filled - period + k) = omega (arith, some) in
       ap (slice_index new) place
-      ∙ behind (filled - period + k) (omega (arith, less, some)) (omega (arith, less, some, fits, size))
+      ∙ after (filled - period + k) (omega (arith, less, some)) (omega (arith, less, some, fits, size))
       ∙ so_far.last room k less
       ∙ sym (prefix k (omega (arith, less, some)));
 }
@@ -43,7 +43,7 @@ doubled old new period filled some room so_far size prefix behind = record {
         let there : k + period ≡ filled + j = omega (arith, high) in
         let here : filled - period + j ≡ k = omega (arith, high, some) in
         ap (slice_index new) there
-        ∙ behind j (omega (arith, high, less)) (omega (arith, there, within, size))
+        ∙ after j (omega (arith, high, less)) (omega (arith, there, within, size))
         ∙ sym (so_far.last room j (omega (arith, high, low)))
         ∙ ap (slice_index old) here
         ∙ sym (prefix k low)
@@ -52,9 +52,9 @@ doubled old new period filled some room so_far size prefix behind = record {
         let from : k ≡ filled + j = omega (arith, past) in
         let to : k + period ≡ filled + (j + period) = omega (arith, past) in
         ap (slice_index new) to
-        ∙ behind (j + period) (omega (arith, past, less)) (omega (arith, to, within, size))
+        ∙ after (j + period) (omega (arith, past, less)) (omega (arith, to, within, size))
         ∙ so_far.each j (omega (arith, past, less)) (omega (arith, past, less, room))
-        ∙ sym (behind j (omega (arith, past, less)) (omega (arith, from, within, size)))
+        ∙ sym (after j (omega (arith, past, less)) (omega (arith, from, within, size)))
         ∙ ap (slice_index new) (sym from)
 
 -- one more byte of a buffer that repeats its front is the one that MVC stores
@@ -91,12 +91,12 @@ repeated_is_moved s a1 a2 period n new low begins some few room past each first 
         (more_moved s a1 a2 period (period + more) new low begins some (omega arith) (omega (arith, e, few)) (omega (arith, e, room)) each before)
 
 -- a buffer whose front was made, and repeated up to n
-pub refilled_is_moved : (s : Storage) (a1 a2 period n : ℕ) (made lent new behind : List ℕ) → a2 < 2 ^ 24 → a1 ≡ address_after a2 period → 0 < period → period < n → n ≤ 2 ^ 24
+pub refilled_is_moved : (s : Storage) (a1 a2 period n : ℕ) (made lent new after : List ℕ) → a2 < 2 ^ 24 → a1 ≡ address_after a2 period → 0 < period → period < n → n ≤ 2 ^ 24
     → lent ≡ take n made → length made ≡ 256 → n ≤ 256 → take period made ≡ stored_by (moved_byte s a1 a2) period → length new ≡ length lent
     → ((k : ℕ) → k < period → slice_index new k ≡ slice_index lent k)
     → ((k : ℕ) → k + period < length lent → slice_index new (k + period) ≡ slice_index new k)
-    → take n (new ++ behind) ≡ stored_by (moved_byte s a1 a2) n
-refilled_is_moved s a1 a2 period n made lent new behind low begins some past few part whole most first size prefix each =
+    → take n (new ++ after) ≡ stored_by (moved_byte s a1 a2) n
+refilled_is_moved s a1 a2 period n made lent new after low begins some past few part whole most first size prefix each =
     let long : length new ≡ n = size ∙ ap length part ∙ length-take-le n made (omega (arith, whole, most)) in
     let same : take period new ≡ take period made =
     same_number_lists (take period new) (take period made)
@@ -104,7 +104,7 @@ refilled_is_moved s a1 a2 period n made lent new behind low begins some past few
     (λ k less.
     let within : k < period = omega (arith, less, length-take-le period new (omega (arith, long, past))) in
     get_or-take period new k 0 within ∙ prefix k within ∙ ap (λ (x : List ℕ). slice_index x k) part ∙ get_or-take n made k 0 (omega (arith, within, past)) ∙ sym (get_or-take period made k 0 within)) in
-    take-append-le n new behind (omega (arith, long))
+    take-append-le n new after (omega (arith, long))
     ∙ repeated_is_moved s a1 a2 period n new low begins some few (omega (arith, long)) (omega (arith, past)) (λ k less. each k (omega (arith, less, size))) (same ∙ first)
 
 -- the place in the second operand at which the first begins

@@ -117,7 +117,8 @@ pub(crate) fn store_multiple<S: Store>(
     requires operand { a < 2 ^ 24 }
     requires address { updated.address < 2 ^ 24 }
     ensures { let before = machine cpu.old (S.storage store.old) in let after = machine cpu.new (S.storage store.new) in
-        Stores a (register_bytes cpu.old.regs first (register_count first last)) cpu.old.cc updated before result after }
+        Stores a (register_bytes cpu.old.regs first (register_count first last))
+        cpu.old.cc updated before result after }
 {
     let count = place_after(first, last) as usize + 1;
     let mut bytes = [0; 64];

@@ -7,7 +7,7 @@ fn double(new: &mut [u8], filled: usize)
     requires { filled ≤ length new.old }
     ensures size { length new.new ≡ length new.old }
     ensures prefix { (k : ℕ) → k < filled → slice_index new.new k ≡ slice_index new.old k }
-    ensures behind { (k : ℕ) → k < filled → filled + k < length new.old
+    ensures after { (k : ℕ) → k < filled → filled + k < length new.old
         → slice_index new.new (filled + k) ≡ slice_index new.old k }
 {
     let (prefix, rest) = new.split_at_mut(filled);

@@ -69,8 +69,8 @@ fn begins_outside(n: u32, a1: u32, a2: u32) -> bool
     requires count { n ≤ 256 }
     ensures { result ≡ true → (j : ℕ) → 0 < j → j < n → a1 ≢ address_after a2 j }
 {
-    let behind = distance(a2, a1);
-    behind == 0 || n <= behind
+    let apart = distance(a2, a1);
+    apart == 0 || n <= apart
 }
 
 /// MVC through a buffer of the operands' length, of operands of which the first doesn't begin inside the second after

@@ -59,7 +59,8 @@ fn look_up(argument: &[u8], table: &[u8], new: &mut [u8; 256])
     requires few { length argument.now ≤ 256 }
     requires whole { length table.now ≡ 256 }
     ensures { (k : ℕ) → k < length argument.now
-        → (slice_index argument.now k < 256) × (slice_index new.new k ≡ slice_index table.now (slice_index argument.now k)) }
+        → (slice_index argument.now k < 256)
+        × (slice_index new.new k ≡ slice_index table.now (slice_index argument.now k)) }
 {
     for k in 0..argument.len() {
         new[k] = table[argument[k] as usize];

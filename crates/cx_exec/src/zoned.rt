@@ -14,7 +14,7 @@ use crate::sequence::{distance, seen};
 use cx_storage::{Store, along};
 
 /// The address `k` bytes (at most 256) before `a` (below 2^24); before 0 comes X'FFFFFF'.
-fn behind(a: u32, k: u32) -> u32
+fn leftward(a: u32, k: u32) -> u32
     requires address { a < 2 ^ 24 }
     requires count { k ≤ 256 }
     ensures value { result ≡ address_before a k }
@@ -33,7 +33,7 @@ fn source<S: Store>(store: &S, e1: u32, n2: u32, e2: u32, stored: &[u8], i: u32)
     ensures { result ≡ source (S.storage store.now) e1 n2 e2 stored.now i }
 {
     if i < n2 {
-        let from = behind(e2, i);
+        let from = leftward(e2, i);
         seen(store, stored, distance(from, e1), from)
     } else {
         0

@@ -35,8 +35,8 @@ use Rattle.cx_region.specs.Events.{Applies, Run}
 use Rattle.cx_region_laws.specs.Laws.Alterations.{AlterationsKeepLevels}
 use Rattle.cx_region_laws.specs.Laws.Regions.{OthersAsBefore}
 use Rattle.cx_script.specs.Laws.Events.{ScriptsRunTheirEvents}
-use Rattle.cx_headline.specs.Laws.Runs.{OfEachRun, OfEachScript, state_behind}
-use Rattle.cx_headline.specs.Laws.Watching.{left_behind, told_behind}
+use Rattle.cx_headline.specs.Laws.Runs.{OfEachRun, OfEachScript, state_after_first}
+use Rattle.cx_headline.specs.Laws.Watching.{left_of_first, replies_of_first}
 use Rattle.cx_headline.specs.Laws.Due.{AlwaysKeepsWhatIsDue, EventsKeepWhatIsDue, KeepsWhatIsDue, RunsKeepWhatIsDue, StillKeepsWhatIsDue}
 use Rattle.cx_headline.proofs.ScriptLemmas.{of_scripts}
 
@@ -256,8 +256,8 @@ runs_keep turns changes old _ _ new kept run = absurd run
 -- up to each event the region is that of a plain run
 pub watched_keep : DueIsKept → AlterationsKeepLevels → OfEachRun StillKeepsWhatIsDue
 watched_keep turns changes old events answers new run kept n =
-    let left = left_behind old events answers run.states n in
-    runs_keep turns changes old.region left (told_behind old events answers run.states n) (state_behind old run.states n).region kept (run.left_so_far n)
+    let left = left_of_first old events answers run.states n in
+    runs_keep turns changes old.region left (replies_of_first old events answers run.states n) (state_after_first old run.states n).region kept (run.left_so_far n)
 
 pub scripts_keep : DueIsKept → AlterationsKeepLevels → ScriptsRunTheirEvents → OfEachScript AlwaysKeepsWhatIsDue
 scripts_keep turns changes law left left_after failed answer before after ran =

@@ -22,7 +22,7 @@ use Rattle.cx_translate.specs.declared.words.Argument.TheVariants.{Absent, Given
 use Rattle.cx_translate.specs.declared.words.Word.{Word}
 use Rattle.cx_translate.specs.Facts.Found.{is_wrong, operand_by, with_option}
 use Rattle.cx_translate.specs.Call.{argument_of, operands_of, text_in}
-use Rattle.cx_translate.specs.Due.{common_due, condition_due, due_of, option_called, suits}
+use Rattle.cx_translate.specs.PendingStatements.{common_due, condition_due, due_of, option_called, suits}
 use Rattle.cx_translate.specs.Refusals.{conditions_in, fault_in, first_byte, has_argument, has_unknown, has_wrong, is_given}
 
 -- ---- the bits of an option byte
@@ -131,17 +131,17 @@ are_read c words first (o ∷ rest) right fit own =
     (ap (λ b. b && takes_argument o.mark) own.0 ∙ sym (argued c words (option_name o.name) o.mark p.0 right), are_read c words first rest right p.1 own.1)
 
 -- at the place of the argument that was handed over
-at_its_place : (words : List Word) (first : ℕ) (before : List CommandOption) (option : CommandOption) (behind : List CommandOption) (text : List ℕ)
-    → AllByRecursion (IsRead words first) (before ++ option ∷ behind) → argument_of words (option_name option.name) ≡ Some text
-    → slice_get (filter (is_argument first) (before ++ option ∷ behind)) (length (operands_of before words)) ≡ Some option
-at_its_place words first [] option behind text read given =
+at_its_place : (words : List Word) (first : ℕ) (before : List CommandOption) (option : CommandOption) (after : List CommandOption) (text : List ℕ)
+    → AllByRecursion (IsRead words first) (before ++ option ∷ after) → argument_of words (option_name option.name) ≡ Some text
+    → slice_get (filter (is_argument first) (before ++ option ∷ after)) (length (operands_of before words)) ≡ Some option
+at_its_place words first [] option after text read given =
     let there : is_argument first option ≡ true = read.0 ∙ ap is_some given in
     rw there refl
-at_its_place words first (o ∷ before) option behind text read given =
-    by_argument (argument_of words (option_name o.name)) (is_argument first o) read.0 (at_its_place words first before option behind text read.1 given)
+at_its_place words first (o ∷ before) option after text read given =
+    by_argument (argument_of words (option_name o.name)) (is_argument first o) read.0 (at_its_place words first before option after text read.1 given)
   where
     rest : List CommandOption
-    rest = filter (is_argument first) (before ++ option ∷ behind)
+    rest = filter (is_argument first) (before ++ option ∷ after)
 
     by_argument : (a : Option (List ℕ)) (b : Bool) → b ≡ is_some a → slice_get rest (length (operands_of before words)) ≡ Some option
         → slice_get (cond b (o ∷ rest) rest) (length (operand_by o.mark a ++ operands_of before words)) ≡ Some option
@@ -169,16 +169,16 @@ right line c cics named words none =
     third false false false false f g o p = refl
 
 -- Of an accepted statement an option's argument is, among those that the command reads, where it is among those handed over.
-pub option_is_read : (line : ℕ) (c : Command) (cics named words : List Word) (before : List CommandOption) (option : CommandOption) (behind : List CommandOption) (text : List ℕ)
-    → fault_in line c cics named words ≡ None → (row_of c).options ≡ before ++ option ∷ behind → argument_of words (option_name option.name) ≡ Some text
+pub option_is_read : (line : ℕ) (c : Command) (cics named words : List Word) (before : List CommandOption) (option : CommandOption) (after : List CommandOption) (text : List ℕ)
+    → fault_in line c cics named words ≡ None → (row_of c).options ≡ before ++ option ∷ after → argument_of words (option_name option.name) ≡ Some text
     → slice_get (arguments_in (row_of c).options (first_byte c words)) (length (operands_of before words)) ≡ Some option
 unfolding first_byte arguments_in
-option_is_read line c cics named words before option behind text none split given = by_list (lists_conditions c) refl (all_without c)
+option_is_read line c cics named words before option after text none split given = by_list (lists_conditions c) refl (all_without c)
   where
     byte : ℕ
     byte = fold (with_option words) 0 (row_of c).options
 
-    empty : {P : Type 0} (k b : List CommandOption) → k ≡ b ++ option ∷ behind → has_none k ≡ true → P
+    empty : {P : Type 0} (k b : List CommandOption) → k ≡ b ++ option ∷ after → has_none k ≡ true → P
     empty [] [] e z = cc
     empty [] (x ∷ b) e z = cc
     empty (x ∷ k) b e z = absurd (cc)
@@ -188,5 +188,5 @@ option_is_read line c cics named words before option behind text none split give
     by_list true e z = empty (row_of c).options before split z
     by_list false e z =
         let its = are_read c words byte (row_of c).options (right line c cics named words none) (all_fit c) (told words (row_of c).options 0 [] (all_tell c)).own in
-        let there = at_its_place words byte before option behind text (subst (AllByRecursion (IsRead words byte)) split its) given in
+        let there = at_its_place words byte before option after text (subst (AllByRecursion (IsRead words byte)) split its) given in
         rw e (subst (λ (k : List CommandOption). slice_get (filter (is_argument byte) k) (length (operands_of before words)) ≡ Some option) (sym split) there)

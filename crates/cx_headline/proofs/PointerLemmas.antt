@@ -23,7 +23,7 @@ use Rattle.cx_region_call.specs.declared.outputs.OutputValue.TheVariants.{Word}
 use Rattle.cx_region_call.specs.Call.{Call, place_of}
 use Rattle.cx_asm_arrival.specs.Arrives.{Arrives}
 use Rattle.cx_asm_arrival.specs.Stands.{code_length}
-use Rattle.cx_asm_arrival.specs.Made.{Argument, Statement, argument_address, call_made, instructions_made}
+use Rattle.cx_asm_arrival.specs.Expansion.{Argument, Statement, argument_address, call_made, instructions_made}
 use Rattle.cx_source.specs.declared.source.Item.{Item}
 use Rattle.cx_source.specs.declared.source.Source.{Source}
 use Rattle.cx_source.specs.declared.source.Stmt.{Stmt}
@@ -36,8 +36,8 @@ use Rattle.cx_asm_operands.specs.Bases.{Bases}
 use Rattle.cx_asm_operands.specs.Forms.{operands_of}
 use Rattle.cx_asm.specs.Assembly.{AssemblyParts}
 use Rattle.cx_asm_execution.specs.Arguments.{HoldsBase, Sections}
-use Rattle.cx_asm_execution.specs.Arriving.{AreKept, CommandArrives, ComesBack, IsPointer}
-use Rattle.cx_asm_execution.specs.Standing.{IsMade, Site, bases_of, site_of}
+use Rattle.cx_asm_execution.specs.Arrival.{AreKept, CommandArrives, ComesBack, IsPointer}
+use Rattle.cx_asm_execution.specs.MadeLines.{IsMade, Site, bases_of, site_of}
 use Rattle.cx_region_commands.specs.Common.{output as output_of}
 use Rattle.cx_region_state.specs.State.{TaskContext}
 use Rattle.cx_region_state.specs.Verdicts.{handed_over}
@@ -68,7 +68,7 @@ option_read item exec items made options register pointer =
     let words = drop made.named (drop 1 (words_of exec.operand)) in
     let accepted : fault_in item.line made.command cics named words ≡ None = sym (ap (λ f. option_map_or (λ (k : Command × ℕ). fault_in item.line k.0 (take 1 (words_of exec.operand)) (take k.1 (drop 1 (words_of exec.operand))) (drop k.1 (drop 1 (words_of exec.operand)))) f
     (Some (UnknownCommand item.line))) made.found) ∙ made.accepted in
-    option_is_read item.line made.command cics named words options pointer.option pointer.behind register accepted pointer.is pointer.given
+    option_is_read item.line made.command cics named words options pointer.option pointer.after register accepted pointer.is pointer.given
 
 -- ---- the place of an option is that of its argument
 place_is : ArgumentsAreFound → (regs : List ℕ) (s : Statement) (c : Command) (first k : ℕ) (option : CommandOption) (a : Argument) → s.command ≡ c → s.first ≡ first
@@ -78,8 +78,8 @@ unfolding place_of call_made
 place_is found regs s c first k option a is byte at given = rw (is, byte, found c first k option at) (slice_get-map (argument_address regs) s.arguments k ∙ ap (option_map (argument_address regs)) given)
 
 -- ---- the address in register 14
-behind_call : (at c n : ℕ) → address_after (address_after at c) n ≡ address_after at (c + n)
-behind_call at c n = omega arith
+after_call : (at c n : ℕ) → address_after (address_after at c) n ≡ address_after at (c + n)
+after_call at c n = omega arith
 
 -- ---- the base register
 holds_still : (sections : Sections) (bases : Bases) (base : ℕ) (s : Statement) (m now : Machine) (regs : List ℕ) → Arrives m s now → regs ≡ now.regs → base ≢ 1 → base ≢ 14 → base ≢ 15
@@ -114,7 +114,7 @@ module _ (laws : Laws) (translated : Source) (assembly : AssemblyParts) (item : 
     next_is : after.task.next ≡ address_after program.at at
     next_is =
         (laws.go_on before after condition performed.half_turn).next ∙ performed.arrives.link ∙ ap (λ n. address_after n (code_length (instructions_made s))) performed.next
-        ∙ behind_call program.at arrives.call.at (code_length (instructions_made s))
+        ∙ after_call program.at arrives.call.at (code_length (instructions_made s))
 
     call_is : put.call ≡ call_made m.regs s
     call_is = (let same : ◌≡◌ {A = Result Call CallFault} (Ok put.call) (Ok (call_made m.regs s)) = sym put.reads ∙ performed.arrives.call in cc)
@@ -127,17 +127,17 @@ module _ (laws : Laws) (translated : Source) (assembly : AssemblyParts) (item : 
         holds_still sections (bases_of site) back.argument.base s m (machine_of before) after.task.regs performed.arrives (laws.go_on before after condition performed.half_turn).regs
         performed.stays.0 performed.stays.1 performed.stays.2 performed.holds
 
-    loads_it : (front behind : List Output) (given : ℕ) → put.outputs ≡ front ++ output_of pointer.option.name (Word given) ∷ behind
-        → ((k : ℕ) → k < 4 → is_written_again (address_after (argument_address m.regs back.argument) k) before.task.eib put.call (handed_over put.change before) behind ≡ false)
+    loads_it : (front later : List Output) (given : ℕ) → put.outputs ≡ front ++ output_of pointer.option.name (Word given) ∷ later
+        → ((k : ℕ) → k < 4 → is_written_again (address_after (argument_address m.regs back.argument) k) before.task.eib put.call (handed_over put.change before) later ≡ false)
         → Steps (machine_of after) Done (record (machine_of after) { regs = slice_set after.task.regs back.number given; next = address_after (address_after program.at at) 4 })
-    loads_it front behind given split apart =
+    loads_it front later given split apart =
         let place = argument_address m.regs back.argument in
         let read = option_read item exec translated.items arrives.made options register pointer in
         let there : place_of put.call pointer.option.name ≡ Some place =
         ap (λ (c : Call). place_of c pointer.option.name) call_is
         ∙ place_is laws.found m.regs s site.command (first_byte site.command site.words) (length (arguments_handed options site.words)) pointer.option back.argument
         arrives.call.is.command arrives.call.is.first read back.handed in
-        let word : word_at after.shared.storage place ≡ Some given = put.pointers front behind pointer.option.name place given split there apart in
+        let word : word_at after.shared.storage place ≡ Some given = put.pointers front later pointer.option.name place given split there apart in
         subst (λ n. Steps (machine_of after) Done (record (machine_of after) { regs = slice_set after.task.regs back.number given; next = address_after n 4 })) next_is
         (back.gets storage loaded program sections m.regs (machine_of after) given fit stored performed.holds performed.machine next_is load_kept held word)
 

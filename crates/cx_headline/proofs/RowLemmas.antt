@@ -31,7 +31,7 @@ use Rattle.cx_edf.specs.Steps.{DoorAnswers, Door, EdfApplies, PassesOn, door_of}
 use Rattle.cx_edf.specs.Erasure.{is_own, left_of}
 use Rattle.cx_edf.specs.Runs.{Trace, last_state}
 use Rattle.cx_edf.specs.Laws.Edf.{ErasedEvents, ErasedEventsLeaveTheRegion, OtherEventsArePassed, OwnEventsHaveOwnAnswers, ends_task, is_edfs}
-use Rattle.cx_headline.specs.Laws.Runs.{OfEachRun, state_behind}
+use Rattle.cx_headline.specs.Laws.Runs.{OfEachRun, state_after_first}
 use Rattle.cx_headline.specs.Laws.Rows.{EachIsItsRow, IsHalfTurn, IsItsRow, IsRow, IsTurn}
 
 -- ---- EDF's own
@@ -128,4 +128,4 @@ pub each_is_its_row : HalfTurnsDecide → OwnEventsHaveOwnAnswers → ErasedEven
 each_is_its_row decide answers_own erased leave law old events answers new run n e is =
     let found = met old events answers run.states n e run.trace is in
     let more : n + 1 ≡ suc n = omega arith in
-    rw (found.1, more) (is_row decide answers_own erased leave law (state_behind old run.states n) e found.0 (state_behind old run.states (suc n)) found.2)
+    rw (found.1, more) (is_row decide answers_own erased leave law (state_after_first old run.states n) e found.0 (state_after_first old run.states (suc n)) found.2)

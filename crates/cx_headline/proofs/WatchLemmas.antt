@@ -28,8 +28,8 @@ use Rattle.cx_edf.specs.Laws.Edf.{ErasedEvents, OffIsTheRegion, OtherEventsArePa
 use Rattle.cx_script_actions.specs.Effects.{ByFault, Performs}
 use Rattle.cx_script_actions.specs.declared.actions.Action.TheVariants as action
 use Rattle.cx_script.specs.Laws.Events.{program_event}
-use Rattle.cx_headline.specs.Laws.Runs.{OfEachRun, state_behind}
-use Rattle.cx_headline.specs.Laws.Watching.{AltersNothing, IsAsUnwatched, ShowingChangesNothing, answered_in, answered_of, left_behind, told_behind}
+use Rattle.cx_headline.specs.Laws.Runs.{OfEachRun, state_after_first}
+use Rattle.cx_headline.specs.Laws.Watching.{AltersNothing, IsAsUnwatched, ShowingChangesNothing, answered_in, answered_of, left_of_first, replies_of_first}
 use Rattle.cx_headline.proofs.RowLemmas.{left_none}
 
 abbrev events_in : List (Event × Reply) → List Event
@@ -82,8 +82,8 @@ left_answered answers erases law old (edf_event.Plain e) (answer.Edf r) new h en
 -- ---- of a trace's front
 left_of_front : OwnEventsHaveOwnAnswers → ErasedEvents → OtherEventsArePassed → (old : EdfState) (events : List EdfEvent) (answers : List Answer) (states : List EdfState) (n : ℕ) → Trace old events answers states
     → AltersNothing old events answers states
-    → (left_behind old events answers states n ≡ events_in (answered_in (take n events) (take n answers)))
-    × (told_behind old events answers states n ≡ replies_in (answered_in (take n events) (take n answers)))
+    → (left_of_first old events answers states n ≡ events_in (answered_in (take n events) (take n answers)))
+    × (replies_of_first old events answers states n ≡ replies_in (answered_in (take n events) (take n answers)))
 unfolding Trace erasure region_replies answered_in last_state
 left_of_front answers_own erases law old es gs ss zero trace still = (refl, refl)
 left_of_front answers_own erases law old [] [] [] (suc n) trace still = (refl, refl)
@@ -125,14 +125,14 @@ pub same_states : RunsDecide → OwnEventsHaveOwnAnswers → ErasedEvents → Ot
 same_states decide own erased_law law off old events answers new run =
     record {
       plain = run.left_so_far;
-      only = λ n replies after h. decide old.region (left_behind old events answers run.states n) replies (told_behind old events answers run.states n) after (state_behind old run.states n).region h (run.left_so_far n);
+      only = λ n replies after h. decide old.region (left_of_first old events answers run.states n) replies (replies_of_first old events answers run.states n) after (state_after_first old run.states n).region h (run.left_so_far n);
       unaltered = λ still n.
           let left = left_of_front own erased_law law old events answers run.states n run.trace still in
           let all = subst (λ (es : List Event). AllByRecursion (λ e. is_alteration e ≡ false) es) (sym left.0) (no_alterations (take n events) (take n answers)) in
           record {
             events_left = left.0;
             replies_left = left.1;
-            off = off_same decide off old (left_behind old events answers run.states n) (told_behind old events answers run.states n) (state_behind old run.states n).region all (run.left_so_far n);
+            off = off_same decide off old (left_of_first old events answers run.states n) (replies_of_first old events answers run.states n) (state_after_first old run.states n).region all (run.left_so_far n);
           };
     }
 

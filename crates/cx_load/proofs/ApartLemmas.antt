@@ -18,9 +18,9 @@ pub and_false : (a : Bool) → (a && false) ≡ false
 and_false true = refl
 and_false false = refl
 
-pub true_behind : (a : Bool) → (a || true) ≡ true
-true_behind true = refl
-true_behind false = refl
+pub true_after : (a : Bool) → (a || true) ≡ true
+true_after true = refl
+true_after false = refl
 
 pub either : (a b : Bool) → (a || b) ≡ true → (a ≡ true) ⊎ (b ≡ true)
 either true b e = inl refl
@@ -53,8 +53,8 @@ not_of_other r q k apart low high = elim (either (nat_le (r + 4) q) (nat_le (q +
   | inl before ↦
       let le = leb-true (r + 4) q before in
       ap (λ b. b && nat_lt k (q + 4)) (lt-leb q k (omega (arith, le)))
-  | inr behind ↦
-      let le = leb-true (q + 4) r behind in
+  | inr after ↦
+      let le = leb-true (q + 4) r after in
       ap (λ b. nat_le q k && b) (le-ltb k (q + 4) (omega (arith, le))) ∙ and_false (nat_le q k)
 ]
 
@@ -67,8 +67,8 @@ apart_at r (q ∷ relocs) (suc i) apart h = apart_at r relocs i (both (are_apart
 pub apart_swap : (r q : ℕ) → are_apart r q ≡ true → are_apart q r ≡ true
 unfolding are_apart
 apart_swap r q apart = elim (either (nat_le (r + 4) q) (nat_le (q + 4) r) apart) [
-  | inl before ↦ ap (λ b. nat_le (q + 4) r || b) before ∙ true_behind (nat_le (q + 4) r)
-  | inr behind ↦ ap (λ b. b || nat_le (r + 4) q) behind
+  | inl before ↦ ap (λ b. nat_le (q + 4) r || b) before ∙ true_after (nat_le (q + 4) r)
+  | inr after ↦ ap (λ b. b || nat_le (r + 4) q) after
 ]
 
 -- no two of them share a byte
@@ -101,7 +101,7 @@ unfolding are_apart
 apart_of_none r q none = elim (cases_Bool (nat_le (r + 4) q)) [
   | inl before ↦ ap (λ b. b || nat_le (q + 4) r) before
   | inr over ↦ elim (cases_Bool (nat_le (q + 4) r)) [
-    | inl behind ↦ ap (λ b. nat_le (r + 4) q || b) behind ∙ true_behind (nat_le (r + 4) q)
+    | inl after ↦ ap (λ b. nat_le (r + 4) q || b) after ∙ true_after (nat_le (r + 4) q)
     | inr under ↦
         let low = leb-false (r + 4) q over in
         let high = leb-false (q + 4) r under in
@@ -112,16 +112,16 @@ apart_of_none r q none = elim (cases_Bool (nat_le (r + 4) q)) [
 ]
 
 -- words in order share no byte
-behind_apart : (r from : ℕ) (relocs : List ℕ) → r + 4 ≤ from → are_in_order from relocs ≡ true → is_apart r relocs ≡ true
+after_apart : (r from : ℕ) (relocs : List ℕ) → r + 4 ≤ from → are_in_order from relocs ≡ true → is_apart r relocs ≡ true
 unfolding is_apart are_apart
-behind_apart r from [] h ordered = refl
-behind_apart r from (q ∷ relocs) h ordered =
+after_apart r from [] h ordered = refl
+after_apart r from (q ∷ relocs) h ordered =
     let parts = both (nat_le from q) (are_in_order (q + 4) relocs) ordered in
     let low = leb-true from q parts.0 in
-    and_from _ _ (ap (λ b. b || nat_le (q + 4) r) (le-leb (r + 4) q (omega arith))) (behind_apart r (q + 4) relocs (omega arith) parts.1)
+    and_from _ _ (ap (λ b. b || nat_le (q + 4) r) (le-leb (r + 4) q (omega arith))) (after_apart r (q + 4) relocs (omega arith) parts.1)
 
 pub apart_of_order : (from : ℕ) (relocs : List ℕ) → are_in_order from relocs ≡ true → all_apart relocs ≡ true
 apart_of_order from [] ordered = refl
 apart_of_order from (r ∷ relocs) ordered =
     let parts = both (nat_le from r) (are_in_order (r + 4) relocs) ordered in
-    and_from _ _ (behind_apart r (r + 4) relocs (omega arith) parts.1) (apart_of_order (r + 4) relocs parts.1)
+    and_from _ _ (after_apart r (r + 4) relocs (omega arith) parts.1) (apart_of_order (r + 4) relocs parts.1)

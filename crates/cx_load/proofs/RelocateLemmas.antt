@@ -51,9 +51,9 @@ length-relocated at (r ∷ relocs) text all =
     length-relocated at relocs (relocate_word at r text) (still_inside at r relocs text parts.0 parts.1) ∙ length-raised at r text parts.0
 
 -- the word after some bytes
-word_behind : (front rest : List ℕ) → big_from (length front) 4 (front ++ rest) ≡ big_from 0 4 rest
-word_behind [] rest = refl
-word_behind (b ∷ front) rest = big_from-cons (length front) 4 b (front ++ rest) ∙ word_behind front rest
+word_after : (front rest : List ℕ) → big_from (length front) 4 (front ++ rest) ≡ big_from 0 4 rest
+word_after [] rest = refl
+word_after (b ∷ front) rest = big_from-cons (length front) 4 b (front ++ rest) ∙ word_after front rest
 
 word_raised : (at r : ℕ) (bytes : List ℕ) → r + 4 ≤ length bytes → word_in (relocate_word at r bytes) r ≡ (word_in bytes r + at) % 2 ^ 32
 unfolding relocate_word
@@ -61,7 +61,7 @@ word_raised at r bytes fits =
     let value = (word_in bytes r + at) % 2 ^ 32 in
     let front : length (take r bytes) ≡ r = simp length-take (omega arith) in
     let whole : (take r bytes ++ big_bytes 4 value) ++ drop (r + 4) bytes ≡ take r bytes ++ (big_bytes 4 value ++ drop (r + 4) bytes) = append_assoc (take r bytes) (big_bytes 4 value) (drop (r + 4) bytes) in
-    let there = word_behind (take r bytes) (big_bytes 4 value ++ drop (r + 4) bytes) in
+    let there = word_after (take r bytes) (big_bytes 4 value ++ drop (r + 4) bytes) in
     let here = rw front at there in
     ap (λ l. big_from r 4 l) whole ∙ here ∙ big_number-reads_back 4 value (drop (r + 4) bytes) (omega arith)
 
@@ -78,9 +78,9 @@ byte_aside at r k bytes fits out =
           get_or_append_left (take r bytes ++ word) (drop (r + 4) bytes) 0 k (omega (arith, whole))
           ∙ get_or_append_left (take r bytes) word 0 k (omega (arith, front)) ∙ get_or-take r bytes k 0 before
       | inr past ↦
-          let behind : r + 4 ≤ k = ltb-false k (r + 4) past in
+          let beyond : r + 4 ≤ k = ltb-false k (r + 4) past in
           let back : r + 4 + (k - (r + 4)) ≡ k = omega arith in
-          get_or-append_right (take r bytes ++ word) (drop (r + 4) bytes) (r + 4) k 0 whole behind
+          get_or-append_right (take r bytes ++ word) (drop (r + 4) bytes) (r + 4) k 0 whole beyond
           ∙ get_or-drop (r + 4) bytes (k - (r + 4)) 0 ∙ ap (slice_index bytes) back
     ]
 

@@ -44,7 +44,8 @@ pub fn relocation()
     ensures words { (at i : ℕ) (relocs text : List ℕ) → IsTrue (all_apart relocs)
         → IsTrue (are_inside (length text) relocs)
         → i < length relocs
-        → word_in (relocated_text at relocs text) (slice_index relocs i) ≡ (word_in text (slice_index relocs i) + at) % 2 ^ 32 }
+        → word_in (relocated_text at relocs text) (slice_index relocs i)
+        ≡ (word_in text (slice_index relocs i) + at) % 2 ^ 32 }
     ensures others { (at k : ℕ) (relocs text : List ℕ) → IsTrue (are_inside (length text) relocs)
         → list_any (is_of_word k) relocs ≡ false → slice_index (relocated_text at relocs text) k ≡ slice_index text k }
     ensures size { (at : ℕ) (relocs text : List ℕ) → IsTrue (are_inside (length text) relocs)

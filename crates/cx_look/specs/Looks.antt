@@ -3,7 +3,7 @@ use Rattle.std.specs.Prelude.{ℕ, ◌==◌, ◌&&◌, nat_le, if◌then◌else�
 use Rattle.std.specs.List.{find}
 use Rattle.std.specs.Option.{option_and_then, option_map}
 use Rattle.std.specs.Str.{bytes_eq}
-use Rattle.cx_ebcdic.specs.Names.{name_of}
+use Rattle.cx_ebcdic.specs.Names.{padded_name}
 use Rattle.cx_script_actions.specs.Alterations.{hex_number}
 use Rattle.cx_script_actions.specs.Words.{after_first_blank, hex_bytes, number_of, two_words, word}
 use Rattle.cx_look.specs.declared.look.Look.{Look}
@@ -44,7 +44,7 @@ count_of most text = option_and_then (at_most most) (number_of 1 5 text)
 
 -- the name of a queue: sixteen hexadecimal digits are its eight bytes
 unfoldable pub queue_name_of : List ℕ → Option (List ℕ)
-queue_name_of text = if length text == 16 then hex_bytes text else name_of 8 text
+queue_name_of text = if length text == 16 then hex_bytes text else padded_name 8 text
 
 -- a queue, or its item of a number
 abbrev pub queue_look : List ℕ → Option (List ℕ) → Option Look
@@ -55,18 +55,18 @@ queue_look name (Some text) = option_map (λ n. look.Item name n) (count_of 3276
 unfoldable pub look_by_word : Subject → Option (List ℕ) → Option Look
 look_by_word subject.Storage (Some text) = two_words look.Storage (hex_number 3) (count_of 4096) text
 look_by_word subject.Areas None = Some look.Areas
-look_by_word subject.Areas (Some text) = option_map (λ name. look.AreasOf name) (name_of 4 text)
-look_by_word subject.Task (Some text) = option_map (λ name. look.Task name) (name_of 4 text)
+look_by_word subject.Areas (Some text) = option_map (λ name. look.AreasOf name) (padded_name 4 text)
+look_by_word subject.Task (Some text) = option_map (λ name. look.Task name) (padded_name 4 text)
 look_by_word subject.Tasks None = Some look.Tasks
-look_by_word subject.Abend (Some text) = option_map (λ name. look.Abend name) (name_of 4 text)
+look_by_word subject.Abend (Some text) = option_map (λ name. look.Abend name) (padded_name 4 text)
 look_by_word subject.Queues None = Some look.Queues
 look_by_word subject.Queue (Some text) = option_and_then (λ name. queue_look name (after_first_blank text)) (queue_name_of (word text))
 look_by_word subject.Resources None = Some look.Resources
 look_by_word subject.Programs None = Some look.Programs
-look_by_word subject.Command (Some text) = option_map (λ name. look.Command name) (name_of 4 text)
-look_by_word subject.Symbol (Some text) = two_words look.Symbol (name_of 8) (name_of 8) text
-look_by_word subject.Symbols (Some text) = option_map (λ name. look.Symbols name) (name_of 8 text)
-look_by_word subject.Xref (Some text) = option_map (λ name. look.Xref name) (name_of 8 text)
+look_by_word subject.Command (Some text) = option_map (λ name. look.Command name) (padded_name 4 text)
+look_by_word subject.Symbol (Some text) = two_words look.Symbol (padded_name 8) (padded_name 8) text
+look_by_word subject.Symbols (Some text) = option_map (λ name. look.Symbols name) (padded_name 8 text)
+look_by_word subject.Xref (Some text) = option_map (λ name. look.Xref name) (padded_name 8 text)
 look_by_word _ _ = None
 
 -- What a line looks at; None where it is no look.

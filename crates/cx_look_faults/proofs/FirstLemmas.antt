@@ -9,7 +9,6 @@ use Rattle.cx_asm.specs.Facts.AllFaults as assembly
 use Rattle.cx_asm.specs.declared.faults.AsmFault.{AsmFault}
 use Rattle.cx_asm_pass1.specs.declared.place.LineFault.{LineFault}
 use Rattle.cx_source.specs.Faults.{line_faults, source_from, source_in, source_or_faults, unless_faulty}
-use Rattle.cx_source.specs.Facts.AllFaults as lines
 use Rattle.cx_source.specs.Lines.{text_of}
 use Rattle.cx_source.specs.Statements.{up_to_end}
 use Rattle.cx_source.specs.declared.source.Source.{Source}

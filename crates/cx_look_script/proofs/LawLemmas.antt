@@ -53,8 +53,8 @@ turn_first : (old : LookState) (name : List ℕ) (n : ℕ) (given : Answer) (bet
     → AppliesAtLooks old (turn_of name) given between → MatchBool on (RunsOn between name n rest new) ((rest ≡ []) × (new ≡ between))
     → (RunsOn between name n rest new → RanTurns between name n rest new) → text ≡ answer_text (turn_of name) given ++ rest → RanTurns old name (suc n) text new
 unfolding Runs
-turn_first old name n given between rest text new true happens behind later e =
-    let r = later behind in
+turn_first old name n given between rest text new true happens after later e =
+    let r = later after in
     let a = answer_text (turn_of name) given in
     record {
       turns = suc r.turns;
@@ -64,15 +64,15 @@ turn_first old name n given between rest text new true happens behind later e =
       ended = one_more name r.turns n r.looked r.ended;
       whole = e ∙ ap (λ l. a ++ l) r.whole ∙ sym (append_assoc a r.written r.looked);
     }
-turn_first old name n given between rest text new false happens behind later e =
+turn_first old name n given between rest text new false happens after later e =
     let a = answer_text (turn_of name) given in
     record {
       turns = 1;
       written = a;
       looked = [];
-      runs = (between, a, [], turned old name given between happens, (refl, behind.1), sym (append-nil a));
+      runs = (between, a, [], turned old name given between happens, (refl, after.1), sym (append-nil a));
       ended = inl (omega arith, refl);
-      whole = e ∙ ap (λ l. a ++ l) behind.0;
+      whole = e ∙ ap (λ l. a ++ l) after.0;
     }
 
 ran_turns : (old : LookState) (name : List ℕ) (n : ℕ) (text : List ℕ) (new : LookState) → RunsOn old name n text new → RanTurns old name n text new

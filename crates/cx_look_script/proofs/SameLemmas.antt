@@ -122,18 +122,18 @@ before_here (Some a) (Some h) script here e same =
       fault = same.fault;
     }
 
-good_behind : (a : Option Action) (script : Script Action) → HasNoBadLine (with_action_first a script) → HasNoBadLine script
-good_behind None script good = good
-good_behind (Some a) script good = good
+good_after : (a : Option Action) (script : Script Action) → HasNoBadLine (with_action_first a script) → HasNoBadLine script
+good_after None script good = good
+good_after (Some a) script good = good
 
 led : (due : Result (LineStep Action) RunFault) (here : Result (LineStep LookAction) RunFault) (next : Option Block → Script Action) (others : Option Block → Script LookAction)
     → IsLedSame due here → LeavesPlain due → HasNoBadLine (led_to due next)
     → ((block : Option Block) → IsPlain block → HasNoBadLine (next block) → IsSame (next block) (others block)) → IsSame (led_to due next) (led_to here others)
-led (Err fault) here next others same plain good behind =
+led (Err fault) here next others same plain good after =
     subst (λ (h : Result (LineStep LookAction) RunFault). IsSame (led_to (Err fault) next) (led_to h others)) (sym same) (record { actions = refl; fault = refl })
-led (Ok step) (Err fault) next others same plain good behind = absurd same
-led (Ok step) (Ok here) next others same plain good behind =
-    let there : IsSame (next step.block) (others step.block) = behind step.block plain (good_behind step.action (next step.block) good) in
+led (Ok step) (Err fault) next others same plain good after = absurd same
+led (Ok step) (Ok here) next others same plain good after =
+    let there : IsSame (next step.block) (others step.block) = after step.block plain (good_after step.action (next step.block) good) in
     before_here step.action here.action (next step.block) (others here.block) same.1
     (subst (λ (b : Option Block). IsSame (next step.block) (others b)) (sym same.0) there)
 

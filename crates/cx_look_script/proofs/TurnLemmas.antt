@@ -16,23 +16,23 @@ once : (old between new : LookState) (name : List ℕ) (n : ℕ) (given : Answer
     → MatchBool (goes_on between.edf name given) (RunsOn between name n rest new) ((rest ≡ []) × (new ≡ between))
     → RunsOn old name (suc n) (answer_text (turn_of name) given ++ rest) new
 unfolding RunsOn
-once old between new name n given rest happens behind = (given, between, rest, happens, behind, refl)
+once old between new name n given rest happens later = (given, between, rest, happens, later, refl)
 
 one_less : (n done : ℕ) → done < n → suc (n - (done + 1)) ≡ n - done
 one_less n done h = omega (arith, h)
 
-behind_text : (before after added rest : List ℕ) → after ≡ before ++ added → before ++ (added ++ rest) ≡ after ++ rest
-behind_text before after added rest e = sym (append_assoc before added rest) ∙ ap (λ t. t ++ rest) (sym e)
+after_text : (before after added rest : List ℕ) → after ≡ before ++ added → before ++ (added ++ rest) ≡ after ++ rest
+after_text before after added rest e = sym (append_assoc before added rest) ∙ ap (λ t. t ++ rest) (sym e)
 
 joined : (start old between new : LookState) (name : List ℕ) (n done : ℕ) (before after : List ℕ) (given : Answer) (rest : List ℕ) → done < n
     → Left start name n old (n - done) before → AppliesAtLooks old (turn_of name) given between → after ≡ before ++ answer_text (turn_of name) given
     → MatchBool (goes_on between.edf name given) (RunsOn between name (n - (done + 1)) rest new) ((rest ≡ []) × (new ≡ between))
     → RunsOn start name n (after ++ rest) new
-joined start old between new name n done before after given rest less left happens written behind =
+joined start old between new name n done before after given rest less left happens written later =
     let a = answer_text (turn_of name) given in
-    let one = once old between new name (n - (done + 1)) given rest happens behind in
+    let one = once old between new name (n - (done + 1)) given rest happens later in
     let due = subst (λ (k : ℕ). RunsOn old name k (a ++ rest) new) (one_less n done less) one in
-    subst (λ t. RunsOn start name n t new) (behind_text before after a rest written) (left (a ++ rest) new due)
+    subst (λ t. RunsOn start name n t new) (after_text before after a rest written) (left (a ++ rest) new due)
 
 pub left_next : (start old between : LookState) (name : List ℕ) (n done : ℕ) (before after : List ℕ) (on : Bool) → done < n
     → Left start name n old (n - done) before → TurnsOnce old name before on after between → on ≡ true → Left start name n between (n - (done + 1)) after

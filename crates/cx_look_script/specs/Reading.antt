@@ -2,7 +2,7 @@
 use Rattle.std.specs.Prelude.{ℕ, if◌then◌else◌, Option, Some, None, List, codes}
 use Rattle.std.specs.Option.{option_and_then, option_map}
 use Rattle.std.specs.Str.{bytes_eq}
-use Rattle.cx_ebcdic.specs.Names.{name_of}
+use Rattle.cx_ebcdic.specs.Names.{padded_name}
 use Rattle.cx_script_actions.specs.Words.{after_first_blank, word}
 use Rattle.cx_script_actions.specs.Actions.{line_of}
 use Rattle.cx_script_actions.specs.Language.{Language}
@@ -20,13 +20,13 @@ turns_of name None = Some (action.Run name 1000)
 turns_of name (Some text) = option_map (λ n. action.Run name n) (count_of 4096 text)
 
 abbrev pub run_of : List ℕ → Option LookAction
-run_of text = option_and_then (λ name. turns_of name (after_first_blank text)) (name_of 4 (word text))
+run_of text = option_and_then (λ name. turns_of name (after_first_blank text)) (padded_name 4 (word text))
 
 -- RUN, the beginning of a source's block for FAULTS, or a look
 unfoldable pub own_line : List ℕ → Option (Line LookAction)
 own_line text =
     if bytes_eq (word text) (codes "RUN") then option_map (λ a. line.Action a) (option_and_then run_of (after_first_blank text))
-    else if bytes_eq (word text) (codes "FAULTS") then option_map (λ name. line.Lines name) (option_and_then (name_of 8) (after_first_blank text))
+    else if bytes_eq (word text) (codes "FAULTS") then option_map (λ name. line.Lines name) (option_and_then (padded_name 8) (after_first_blank text))
     else option_map (λ l. line.Action (action.Look l)) (look_of text)
 
 -- a line of `cicsedf`'s scripts as one of these

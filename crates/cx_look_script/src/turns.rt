@@ -38,7 +38,7 @@ fn goes_on<S: Store + Drop>(region: &Debugged<S>, name: Name4, answer: &Answer) 
 }
 
 /// Does one turn of a terminal, and puts its text after those before; says whether RUN goes on.
-fn turn<S: Store + Drop>(
+fn run_turn<S: Store + Drop>(
     looking: &mut Looking<S>,
     alloc: Global,
     name: Name4,
@@ -72,7 +72,7 @@ pub(crate) fn run<S: Store + Drop>(
 {
     let mut text = Vec::new(alloc);
     'turns: for _done in 0..n {
-        let on = turn(looking, alloc, name, &mut text)?;
+        let on = run_turn(looking, alloc, name, &mut text)?;
         if !on {
             return Ok(text);
         }

@@ -22,7 +22,7 @@ here a la = omega arith
 -- from an address that an area doesn't have, its start comes before its other bytes
 first : (a start end x : ℕ) → a < 2 ^ 24 → end ≤ 2 ^ 24 → start ≤ x → x < end → (a < start) ⊎ (end ≤ a) → distance a start ≤ distance a x
 first a start end x la le low high (inl before) = omega arith
-first a start end x la le low high (inr behind) = omega arith
+first a start end x la le low high (inr after) = omega arith
 
 to_byte : (address n : ℕ) (area : Area) → address < 2 ^ 24 → 0 < n → 0 < area.len → end_of area ≤ 2 ^ 24 → is_met address n area ≡ true → HasByte address n area
 to_byte address n area la some nonempty below met = elim (or_cases _ _ met) [

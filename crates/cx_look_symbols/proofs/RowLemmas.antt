@@ -20,20 +20,20 @@ use Rattle.cx_asm_expressions.specs.Weights.{stands_in}
 use Rattle.cx_asm_expressions.specs.declared.faults.FaultKind.{FaultKind}
 use Rattle.cx_asm_expressions.specs.declared.faults.FaultKind.TheVariants.{DuplicateSymbol, ValueOutOfRange}
 use Rattle.cx_asm_expressions.specs.declared.values.Value.{Value}
-use Rattle.cx_asm_pass1.specs.Facts.Definitions.{defined_once_behind, first_value}
+use Rattle.cx_asm_pass1.specs.Facts.Definitions.{defined_once_after, first_value}
 use Rattle.cx_asm_pass1.specs.Facts.Faults.{none_before, sound_statement}
-use Rattle.cx_asm_pass1.specs.Facts.Laid.{lower_none}
+use Rattle.cx_asm_pass1.specs.Facts.StatementExtents.{lower_none}
 use Rattle.cx_asm_pass1.specs.Given.{aid_rows, definitions, is_any_known, is_in_range, value_in_range, location_counter, symbol_entry, register_rows, resumes, row_symbols, value_given}
-use Rattle.cx_asm_pass1.specs.PassState.{PassState, next_state, after_line, control_after, definitions_in, duplicate_in, fault_in, first_fault_behind, given_in, state_after, laid_in, line_fault, literal_fault, name_fault, name_in, operation_fault, own_fault, parts_in, role_in, section_fault}
-use Rattle.cx_asm_pass1.specs.Laws.Definitions.{definitions_at, definitions_behind}
-use Rattle.cx_asm_pass1.specs.Placed.{IsPlaced, last_pool_extent, known_of}
+use Rattle.cx_asm_pass1.specs.PassState.{PassState, next_state, after_line, control_after, definitions_in, duplicate_in, fault_in, first_fault_after, given_in, state_after, laid_in, line_fault, literal_fault, name_fault, name_in, operation_fault, own_fault, parts_in, role_in, section_fault}
+use Rattle.cx_asm_pass1.specs.Laws.Definitions.{definitions_at, definitions_after}
+use Rattle.cx_asm_pass1.specs.Locations.{IsPlaced, last_pool_extent, known_of}
 use Rattle.cx_asm_pass1.specs.declared.place.ControlSection.{ControlSection}
 use Rattle.cx_asm_pass1.specs.declared.place.LineFault.{LineFault}
 use Rattle.cx_asm_pass1.specs.declared.places.Places.{Places}
 use Rattle.cx_asm_pass1.specs.declared.roles.Role.{Role}
 use Rattle.cx_asm_pass1.specs.declared.roles.Role.TheVariants.{Unknown, Instruction, Control, Dummy, Equate, Storage, Pool, Registers, Member, Nothing}
-use Rattle.cx_look_symbols.specs.Parts.Rows.{names_among, names_given, table_behind, with_name, with_names, with_stmt}
-use Rattle.cx_look_symbols.specs.Symbols.{Rows, named_of, rows_behind, rows_on, symbol_of}
+use Rattle.cx_look_symbols.specs.Parts.Rows.{names_among, names_given, table_after, with_name, with_names, with_stmt}
+use Rattle.cx_look_symbols.specs.Symbols.{Rows, named_of, rows_after, rows_on, symbol_of}
 use Rattle.cx_look_symbols.specs.declared.rows.Symbol.{Symbol}
 
 -- ---- which names are there
@@ -70,17 +70,17 @@ rows_are_lined : (line : ℕ) (stmt : Option Stmt) (known : PassState) → rows_
 rows_are_lined line None known = refl
 rows_are_lined line (Some stmt) known = refl
 
-has_rows : (name : List ℕ) (items : List Item) → has name (rows_behind items) ≡ has name (definitions_behind items)
+has_rows : (name : List ℕ) (items : List Item) → has name (rows_after items) ≡ has name (definitions_after items)
 has_rows name [] = refl
 has_rows name (item ∷ before) =
     let defined : Symbols = definitions_at item.stmt (state_after before) in
-    ap (λ rows. has name (rows_behind before ++ rows)) (rows_are_lined item.line item.stmt (state_after before))
-    ∙ has_both name (rows_behind before) (lined item.line defined)
+    ap (λ rows. has name (rows_after before ++ rows)) (rows_are_lined item.line item.stmt (state_after before))
+    ∙ has_both name (rows_after before) (lined item.line defined)
     ∙ ap (λ b. b || has name (lined item.line defined)) (has_rows name before)
-    ∙ ap (λ b. has name (definitions_behind before) || b) (has_lined name item.line defined)
-    ∙ sym (has_both name (definitions_behind before) defined)
+    ∙ ap (λ b. has name (definitions_after before) || b) (has_lined name item.line defined)
+    ∙ sym (has_both name (definitions_after before) defined)
 
-pub has_known : (name : List ℕ) (items : List Item) → has name (rows_behind items) ≡ is_some ((state_after items).symbols name)
+pub has_known : (name : List ℕ) (items : List Item) → has name (rows_after items) ≡ is_some ((state_after items).symbols name)
 has_known name items = has_rows name items ∙ ap is_some (sym (first_value items name))
 
 -- ---- symbols that are put after others
@@ -203,7 +203,7 @@ gives_value Equate name find section operand stmt known e = limited_gives (value
 gives_value (Storage is_ds) name find section operand stmt known e = refl
 gives_value Pool name find section operand stmt known e = refl
 
-fault_none : (line : ℕ) (fault : Option FaultKind) (first : Option LineFault) → first_fault_behind line fault first ≡ None → fault ≡ None
+fault_none : (line : ℕ) (fault : Option FaultKind) (first : Option LineFault) → first_fault_after line fault first ≡ None → fault ≡ None
 fault_none line None first e = refl
 fault_none line (Some kind) None e = cc
 fault_none line (Some kind) (Some first) e = absurd (go (line == first.line) e)
@@ -364,11 +364,11 @@ no_duplicate false e = refl
 -- ---- all statements
 line_put : (find : List ℕ → Option Value) (line : ℕ) (stmt : Option Stmt) (before : List Item) → (after_line line stmt (state_after before)).fault ≡ None
     → IsDistinct is_same (keys_of (definitions_at stmt (state_after before))) → AllByRecursion (λ s. find s.0 ≡ Some s.1) (definitions_at stmt (state_after before))
-    → with_stmt find line stmt (rows_behind before) ≡ rows_behind before ++ lined line (definitions_at stmt (state_after before))
-line_put find line None before e apart found = append_none (rows_behind before)
+    → with_stmt find line stmt (rows_after before) ≡ rows_after before ++ lined line (definitions_at stmt (state_after before))
+line_put find line None before e apart found = append_none (rows_after before)
 line_put find line (Some stmt) before e apart found =
     let known = state_after before in
-    role_put find line (rows_behind before) known.symbols (λ name. has_known name before) (role_in stmt) (name_in stmt) known.control stmt.operand _
+    role_put find line (rows_after before) known.symbols (λ name. has_known name before) (role_in stmt) (name_in stmt) known.control stmt.operand _
     (knows_control before (none_before line stmt known e)) (value_gives line stmt known e)
     (no_duplicate (is_any_known known.symbols (definitions_in stmt known None)) (sound_statement line stmt known e).definitions) apart found
 
@@ -376,31 +376,31 @@ before_line : (line : ℕ) (stmt : Option Stmt) (known : PassState) → (after_l
 before_line line None known e = e
 before_line line (Some stmt) known e = none_before line stmt known e
 
-table_is : (find : List ℕ → Option Value) (items : List Item) → (state_after items).fault ≡ None → AllByRecursion (λ s. find s.0 ≡ Some s.1) (definitions_behind items)
-    → table_behind find items ≡ rows_behind items
+table_is : (find : List ℕ → Option Value) (items : List Item) → (state_after items).fault ≡ None → AllByRecursion (λ s. find s.0 ≡ Some s.1) (definitions_after items)
+    → table_after find items ≡ rows_after items
 table_is find [] e found = refl
 table_is find (item ∷ before) e found =
     let known = state_after before in
     let defined : Symbols = definitions_at item.stmt known in
     ap (λ rows. with_stmt find item.line item.stmt rows)
-    (table_is find before (before_line item.line item.stmt known e) (left_of (λ s. find s.0 ≡ Some s.1) (definitions_behind before) defined found))
+    (table_is find before (before_line item.line item.stmt known e) (left_of (λ s. find s.0 ≡ Some s.1) (definitions_after before) defined found))
     ∙ line_put find item.line item.stmt before e
-    (distinct_right (definitions_behind before) defined (defined_once_behind (item ∷ before) e))
-    (right_of (λ s. find s.0 ≡ Some s.1) (definitions_behind before) defined found)
-    ∙ sym (ap (λ rows. rows_behind before ++ rows) (rows_are_lined item.line item.stmt known))
+    (distinct_right (definitions_after before) defined (defined_once_after (item ∷ before) e))
+    (right_of (λ s. find s.0 ≡ Some s.1) (definitions_after before) defined found)
+    ∙ sym (ap (λ rows. rows_after before ++ rows) (rows_are_lined item.line item.stmt known))
 
 -- each symbol of a list without repeats is found in it
-behind_other : (s : List ℕ × Value) (all some : Symbols) → AllByRecursion (λ k. is_same s.0 k ≡ false) (keys_of some)
+after_other : (s : List ℕ × Value) (all some : Symbols) → AllByRecursion (λ k. is_same s.0 k ≡ false) (keys_of some)
     → AllByRecursion (λ o. find_in all o.0 ≡ Some o.1) some → AllByRecursion (λ o. find_in (s ∷ all) o.0 ≡ Some o.1) some
-behind_other s all [] apart found = tt
-behind_other s all (o ∷ some) apart found =
-    (rw (is_name-laws.symm o.0 s.0 ∙ apart.0) found.0, behind_other s all some apart.1 found.1)
+after_other s all [] apart found = tt
+after_other s all (o ∷ some) apart found =
+    (rw (is_name-laws.symm o.0 s.0 ∙ apart.0) found.0, after_other s all some apart.1 found.1)
 
 all_found : (symbols : Symbols) → IsDistinct is_same (keys_of symbols) → AllByRecursion (λ s. find_in symbols s.0 ≡ Some s.1) symbols
 all_found [] h = tt
 all_found (s ∷ symbols) h = (
   rw (is_name-laws.refl s.0) refl,
-  behind_other s symbols symbols (IsDistinct-head is_same s.0 (keys_of symbols) h) (all_found symbols (IsDistinct-tail is_same s.0 (keys_of symbols) h)),
+  after_other s symbols symbols (IsDistinct-head is_same s.0 (keys_of symbols) h) (all_found symbols (IsDistinct-tail is_same s.0 (keys_of symbols) h)),
 )
 
 found_by : (find other : List ℕ → Option Value) → ((name : List ℕ) → find name ≡ other name) → (symbols : Symbols)
@@ -409,11 +409,11 @@ found_by find other same [] h = tt
 found_by find other same (s ∷ symbols) h = (same s.0 ∙ h.0, found_by find other same symbols h.1)
 
 rows_are : (find : List ℕ → Option Value) (items : List Item) → (state_after items).fault ≡ None
-    → ((name : List ℕ) → find name ≡ (state_after items).symbols name) → table_behind find items ≡ rows_behind items
+    → ((name : List ℕ) → find name ≡ (state_after items).symbols name) → table_after find items ≡ rows_after items
 rows_are find items e same =
     table_is find items e
-    (found_by find (find_in (definitions_behind items)) (λ name. same name ∙ first_value items name) (definitions_behind items)
-    (all_found (definitions_behind items) (defined_once_behind items e)))
+    (found_by find (find_in (definitions_after items)) (λ name. same name ∙ first_value items name) (definitions_after items)
+    (all_found (definitions_after items) (defined_once_after items e)))
 
 pub control_told : (control : Option (List ℕ)) (length : ℕ) → option_map (λ (c : ControlSection). c.name) (option_map (λ name. record { name = name; length = length }) control) ≡ control
 control_told None length = refl
@@ -421,11 +421,11 @@ control_told (Some name) length = refl
 
 -- the names of a source without a fault
 pub named_is : (source : Source) (places : Places) (control : Option (List ℕ)) (rows : Rows) → (known_of source).fault ≡ None → IsPlaced (known_of source) places
-    → control ≡ option_map (λ (c : ControlSection). c.name) places.control → rows ≡ table_behind (find_in places.symbols) (reverse source.items)
+    → control ≡ option_map (λ (c : ControlSection). c.name) places.control → rows ≡ table_after (find_in places.symbols) (reverse source.items)
     → Some (record { control = control; rows = rows }) ≡ named_of source
 named_is source places control rows e placed c r =
     let known = known_of source in
     let same_control : control ≡ known.control =
     c ∙ ap (λ (o : Option ControlSection). option_map (λ (c : ControlSection). c.name) o) placed.control ∙ control_told known.control (last_pool_extent known).end in
-    let same_rows : rows ≡ rows_behind (reverse source.items) = r ∙ rows_are (find_in places.symbols) (reverse source.items) e placed.symbols in
+    let same_rows : rows ≡ rows_after (reverse source.items) = r ∙ rows_are (find_in places.symbols) (reverse source.items) e placed.symbols in
     rw (e, same_control, same_rows) refl

@@ -8,7 +8,7 @@ use Rattle.cx_source.specs.declared.source.Source.{Source}
 use Rattle.cx_asm_expressions.specs.Digits.{bound}
 use Rattle.cx_asm_pools.specs.Pools.{cap}
 use Rattle.cx_asm_pass1.specs.PassState.{is_control, role_in}
-use Rattle.cx_asm_pass1.specs.Placed.{IsPlaced, last_pool_extent, known_of}
+use Rattle.cx_asm_pass1.specs.Locations.{IsPlaced, last_pool_extent, known_of}
 use Rattle.cx_asm_pass1.specs.declared.place.ControlSection.{ControlSection}
 use Rattle.cx_asm_pass1.specs.declared.places.Places.{Places}
 use Rattle.cx_asm_pass2.specs.Whole.{told_by}

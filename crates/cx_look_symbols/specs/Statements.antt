@@ -5,7 +5,7 @@ use Rattle.std.specs.Option.{option_map_or}
 use Rattle.cx_source.specs.declared.source.Source.{Source}
 use Rattle.cx_asm_pools.specs.Pools.{cap}
 use Rattle.cx_asm_pass1.specs.PassState.{is_control, role_in}
-use Rattle.cx_asm_pass1.specs.Placed.{known_of}
+use Rattle.cx_asm_pass1.specs.Locations.{known_of}
 use Rattle.cx_asm_pass2.specs.Statements.{PlacedStatement, statements_of}
 use Rattle.cx_asm.specs.Listing.{object_length}
 use Rattle.cx_look_symbols.specs.Symbols.{translated_in}

@@ -8,7 +8,7 @@ use Rattle.cx_source.specs.declared.source.Stmt.{Stmt}
 use Rattle.cx_translate.specs.Translation.{translation_of}
 use Rattle.cx_asm_expressions.specs.declared.values.Value.{Value}
 use Rattle.cx_asm_pass1.specs.PassState.{PassState, definitions_in, state_after}
-use Rattle.cx_asm_pass1.specs.Placed.{known_of}
+use Rattle.cx_asm_pass1.specs.Locations.{known_of}
 use Rattle.cx_look_symbols.specs.declared.rows.Symbol.{Symbol}
 
 abbrev pub Rows : Type 0
@@ -23,9 +23,9 @@ rows_on line None known = []
 rows_on line (Some stmt) known = map (λ symbol. (symbol.0, symbol_of line symbol.1)) (definitions_in stmt known None)
 
 -- those of lines in the source's order; the lines the latest first
-abbrev pub rows_behind : List Item → Rows
-rows_behind [] = []
-rows_behind (item ∷ before) = rows_behind before ++ rows_on item.line item.stmt (state_after before)
+abbrev pub rows_after : List Item → Rows
+rows_after [] = []
+rows_after (item ∷ before) = rows_after before ++ rows_on item.line item.stmt (state_after before)
 
 -- the control section of a source, and its symbols
 pub record SourceSymbols : Type 0 where
@@ -35,7 +35,7 @@ pub record SourceSymbols : Type 0 where
 -- where the first pass finds no fault
 abbrev pub named_of : Source → Option SourceSymbols
 named_of source =
-    if is_none (known_of source).fault then Some (record { control = (known_of source).control; rows = rows_behind (reverse source.items) })
+    if is_none (known_of source).fault then Some (record { control = (known_of source).control; rows = rows_after (reverse source.items) })
     else None
 
 -- the source that lines make, translated; None where it has a fault

@@ -2,7 +2,7 @@
 ghost use Rattle.std.specs.Prelude.{◌≡◌, ◌∷◌, [], IfOk, OnOk, map, reverse};
 ghost use Rattle.cx_asm_expressions.specs.Symbols.{find_in};
 ghost use Rattle.cx_asm_pass1.specs.PassState.{name_in, role_in};
-ghost use Rattle.cx_look_symbols.specs.Parts.Rows.{names_among, names_given, table_behind, with_name, with_names, with_stmt};
+ghost use Rattle.cx_look_symbols.specs.Parts.Rows.{names_among, names_given, table_after, with_name, with_names, with_stmt};
 
 use cx_asm_expressions::{SymbolTable, Value, symbol_name};
 use cx_asm_pass1::Role;
@@ -138,7 +138,7 @@ pub(crate) fn symbols_of(
     items: &[Item],
     symbols: &SymbolTable,
 ) -> Result<IndexMap<Name8, Symbol>, AllocError>
-    ensures { IfOk result (λ rows. rows.entries ≡ table_behind (find_in symbols.now) (reverse items.now)) }
+    ensures { IfOk result (λ rows. rows.entries ≡ table_after (find_in symbols.now) (reverse items.now)) }
 {
     let mut rows = IndexMap::new(alloc);
     for item in items {

@@ -3,7 +3,7 @@ ghost use Rattle.std.specs.Prelude.{◌≡◌, ◌++◌, [], IfOk, OnOk, None};
 ghost use Rattle.std.specs.List.{cons_option, filter_map};
 ghost use Rattle.cx_asm_pass2.specs.Statements.{statements_of};
 ghost use Rattle.cx_asm_pass2.specs.Whole.{told_by};
-ghost use Rattle.cx_asm_pass1.specs.Placed.{IsPlaced, known_of};
+ghost use Rattle.cx_asm_pass1.specs.Locations.{IsPlaced, known_of};
 ghost use Rattle.cx_look_symbols.specs.Statements.{place_of, places_in, statement_places};
 
 use crate::reading::translated_in;

@@ -2,7 +2,7 @@
 ghost use Rattle.std.specs.Prelude.{◌≡◌, IfOk, None, Some};
 ghost use Rattle.std.specs.Option.{option_map};
 ghost use Rattle.cx_asm_pass1.specs.declared.place.ControlSection.{ControlSection};
-ghost use Rattle.cx_asm_pass1.specs.Placed.{IsPlaced, known_of};
+ghost use Rattle.cx_asm_pass1.specs.Locations.{IsPlaced, known_of};
 ghost use Rattle.cx_look_symbols.specs.Symbols.{named_in, named_of};
 ghost use Rattle.cx_look_symbols.specs.Names.{symbols_named};
 

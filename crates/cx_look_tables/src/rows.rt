@@ -14,7 +14,7 @@ const ROW: u32 = 16;
 const GROUP: usize = 4;
 
 /// The bytes from a place on; none where there are none.
-fn behind(bytes: &[u8], place: usize) -> &[u8]
+fn after(bytes: &[u8], place: usize) -> &[u8]
     ensures { result.now ≡ drop place bytes.now }
 {
     bytes.split_at(place.min(bytes.len())).1
@@ -31,7 +31,7 @@ pub(crate) fn front(bytes: &[u8], count: usize) -> &[u8]
 fn group(alloc: Global, row: &[u8], place: usize) -> Result<Vec<u8>, AllocError>
     ensures { IfOk result (λ text. text.items ≡ hex_digits (take 4 (drop place row.now))) }
 {
-    spelled(alloc, front(behind(row, place), GROUP))
+    spelled(alloc, front(after(row, place), GROUP))
 }
 
 /// A row's bytes in hexadecimal digits, in groups of four.
@@ -66,7 +66,7 @@ fn row_of(alloc: Global, k: u32, bytes: &[u8]) -> Result<Vec<u8>, AllocError>
     row_line(
         alloc,
         offset,
-        front(behind(bytes, offset as usize), ROW as usize),
+        front(after(bytes, offset as usize), ROW as usize),
     )
 }
 

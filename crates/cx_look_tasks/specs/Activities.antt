@@ -11,7 +11,7 @@ use Rattle.cx_region_state.specs.State.{TaskContext}
 use Rattle.cx_region_state.specs.declared.verdict.Verdict.{Verdict}
 use Rattle.cx_region_state.specs.declared.verdict.Verdict.TheVariants as verdict
 use Rattle.cx_region_commands.specs.Enq.{is_wrong_length, resource_named}
-use Rattle.cx_region_commands.specs.Judged.{HasVerdict}
+use Rattle.cx_region_commands.specs.CommandVerdicts.{HasVerdict}
 use Rattle.cx_region_task.specs.Answers.{has_room, continuation_at}
 use Rattle.cx_region_task.specs.Performing.{list_of}
 use Rattle.cx_region_task.specs.Continuations.{is_wait}

@@ -6,7 +6,7 @@ ghost use Rattle.cx_region_call.specs.Inputs.{are_inputs_there};
 ghost use Rattle.cx_region_state.specs.State.{context};
 ghost use Rattle.cx_region_state.specs.Parts.Fits.{Fits};
 ghost use Rattle.cx_region_commands.specs.Common.{AreSoundPrograms};
-ghost use Rattle.cx_region_commands.specs.Judged.{HasVerdict};
+ghost use Rattle.cx_region_commands.specs.CommandVerdicts.{HasVerdict};
 ghost use Rattle.cx_region.specs.Sound.{IsSound};
 ghost use Rattle.cx_look_tasks.specs.Activities.{Acts, ActsByCall, ActsByCommand, IsActivity, activity_by, resource_waited, wait_for};
 

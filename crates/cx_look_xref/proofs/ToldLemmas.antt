@@ -4,7 +4,7 @@ use Rattle.std.proofs.Math.Path.{fun_ext}
 use Rattle.cx_source.specs.declared.source.Source.{Source}
 use Rattle.cx_asm_expressions.specs.declared.values.Value.{Value}
 use Rattle.cx_asm_pools.specs.Pools.{PlacedLiterals}
-use Rattle.cx_asm_pass1.specs.Placed.{IsPlaced, known_of}
+use Rattle.cx_asm_pass1.specs.Locations.{IsPlaced, known_of}
 use Rattle.cx_asm_pass1.specs.declared.place.ControlSection.{ControlSection}
 use Rattle.cx_asm_pass1.specs.declared.places.Places.{Places}
 use Rattle.cx_asm_pass2.specs.Whole.{whole, whole_of, told_by}

@@ -1,6 +1,6 @@
 //! The cross-reference of a source.
 ghost use Rattle.std.specs.Prelude.{◌≡◌, IfOk, None};
-ghost use Rattle.cx_asm_pass1.specs.Placed.{IsPlaced, known_of};
+ghost use Rattle.cx_asm_pass1.specs.Locations.{IsPlaced, known_of};
 ghost use Rattle.cx_look_symbols.specs.Symbols.{named_of, translated_in};
 ghost use Rattle.std.specs.Result.{result_ok};
 ghost use Rattle.cx_asm.specs.Assembly.{assembly_of, last_line};

@@ -3,7 +3,7 @@ use Rattle.std.specs.Prelude.{◌≡◌, ◌≢◌, not, is_some}
 use Rattle.std.proofs.Common.{ℕ, ◌<◌, List, ◌∷◌, length, get_or, sym, ◌∙◌, ap, subst, arith}
 use Rattle.std.proofs.lemmas.List.{ext_get_or, get_or-set_other, get_or-set_same}
 use Rattle.cx_ebcdic.specs.Characters.{code_of, table}
-use Rattle.cx_ebcdic.specs.Names.{is_name_character, name_code, name_of}
+use Rattle.cx_ebcdic.specs.Names.{is_name_character, name_code, padded_name}
 use Rattle.cx_base_commands.specs.Conditions.{abend_code_of, handled_conditions, place_of}
 use Rattle.cx_base_commands.specs.declared.conditions.Condition.{Condition}
 use Rattle.cx_base_commands.specs.declared.conditions.Condition.TheVariants.{Normal, Error}
@@ -15,7 +15,7 @@ use Rattle.cx_program.specs.Handles.{waits}
 
 -- a condition for which a choice is made leads to an abend exactly where it doesn't wait
 pub has_code_or_waits : (condition : Condition) → condition ≢ Normal → condition ≢ Error → is_some (abend_code_of condition) ≡ not (waits condition)
-unfolding abend_code_of name_of name_code is_name_character code_of table
+unfolding abend_code_of padded_name name_code is_name_character code_of table
 has_code_or_waits condition exceptional not_error = grind (arith, exceptional, not_error)
 
 -- each condition is at its place

@@ -374,7 +374,8 @@ fn fill_from<S: Store + Drop>(
         let before = shared.old.storage in let places = ready.now.places in let level = ready.now.level in
         let terminal = lookup (is_name name) terminals.now.entries in
         let after = shared.new.storage in
-        MatchOption terminal ⊤ (λ it. after ≡ with_areas_filled before places fields (commarea_kept it.following) level) }
+        MatchOption terminal ⊤
+        (λ it. after ≡ with_areas_filled before places fields (commarea_kept it.following) level) }
     ensures rest { shared.new ≡ record shared.old { storage = shared.new.storage } }
     ensures sound { IsSoundStorage shared.new.storage }
 {

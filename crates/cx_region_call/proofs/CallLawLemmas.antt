@@ -177,9 +177,9 @@ same_end k n = elim (eqb_tells k n) [
   | inr f ↦ is_other _ _ (λ e. f.1 (omega arith)) ∙ sym f.0
 ]
 
-behind_first : (words : List ℕ) (n : ℕ) → length words ≡ 1 + n → (length (map address_in (drop 1 words)) ≡ n) × ((k : ℕ) → option_map address_in (slice_get words (k + 1)) ≡ slice_get (map address_in (drop 1 words)) k)
-behind_first [] n e = absurd (omega arith)
-behind_first (word ∷ rest) n e = (length-map rest address_in ∙ omega arith, λ k. rw add-one (sym (slice_get-map address_in rest k)))
+after_first : (words : List ℕ) (n : ℕ) → length words ≡ 1 + n → (length (map address_in (drop 1 words)) ≡ n) × ((k : ℕ) → option_map address_in (slice_get words (k + 1)) ≡ slice_get (map address_in (drop 1 words)) k)
+after_first [] n e = absurd (omega arith)
+after_first (word ∷ rest) n e = (length-map rest address_in ∙ omega arith, λ k. rw add-one (sym (slice_get-map address_in rest k)))
 
 places_read : (s : Storage) (list n : ℕ) (places : List ℕ) → list < 2 ^ 24 → places_of s list n ≡ Ok places
     → (length places ≡ n) × ((k : ℕ) → k ≤ n → IsSomeAnd (list_word s list k) (λ word. has_high_bit word ≡ (k == n)))
@@ -196,11 +196,11 @@ places_read s list n places h e =
         → (length places ≡ n) × ((k : ℕ) → k ≤ n → IsSomeAnd (list_word s list k) (λ word. has_high_bit word ≡ (k == n)))
         × ((k : ℕ) → k < n → option_map address_in (list_word s list (k + 1)) ≡ slice_get places k)
     at words long each marks shape =
-        let behind = behind_first words n long in
+        let after = after_first words n long in
         rw (← shape) (
-          behind.0,
+          after.0,
           λ k l. rw (each k (omega arith), slice_get-get_or words k 0 (omega arith)) (marks_each words marks k (omega arith) ∙ rw long (same_end k n)),
-          λ k l. ap (option_map address_in) (each (k + 1) (omega arith)) ∙ behind.1 k,
+          λ k l. ap (option_map address_in) (each (k + 1) (omega arith)) ∙ after.1 k,
         )
 
 -- ---- from the call to its list
@@ -232,13 +232,13 @@ unfolding argument_count call_with
 has_all are_found s list block command conditions places ok h b c l p =
     let read = block_read s list block ok b in
     let known = command_read are_found block command c in
-    let behind = conditions_read s list read.0 command block conditions read.1 read.2 l in
+    let after = conditions_read s list read.0 command block conditions read.1 read.2 l in
     let each = places_read s list (argument_count command block conditions) places h p in
     let long : length places ≡ argument_count command block conditions = each.0 in
     record {
       block = rw (read.1, place_itself read.0, known.0) read.3;
       options = known.1;
-      conditions = behind;
+      conditions = after;
       count = long;
       words = λ k le. rw long (each.1 k (omega arith));
       places = λ k lt. each.2 k (omega arith);
@@ -320,9 +320,9 @@ places_there s list n places h long each found =
 
     addresses : (words : List ℕ) → length words ≡ 1 + n → ((k : ℕ) → k < 1 + n → list_word s list k ≡ slice_get words k) → map address_in (drop 1 words) ≡ places
     addresses words l at =
-        let behind = behind_first words n l in
-        ext_get_or 0 (map address_in (drop 1 words)) places (behind.0 ∙ sym long) (λ i lt.
-        let same : slice_get (map address_in (drop 1 words)) i ≡ slice_get places i = sym (behind.1 i) ∙ ap (option_map address_in) (sym (at (i + 1) (omega arith))) ∙ found i (omega arith) in
+        let after = after_first words n l in
+        ext_get_or 0 (map address_in (drop 1 words)) places (after.0 ∙ sym long) (λ i lt.
+        let same : slice_get (map address_in (drop 1 words)) i ≡ slice_get places i = sym (after.1 i) ∙ ap (option_map address_in) (sym (at (i + 1) (omega arith))) ∙ found i (omega arith) in
         sym (unwrap_or-slice_get (map address_in (drop 1 words)) i 0) ∙ ap (λ o. unwrap_or o 0) same ∙ unwrap_or-slice_get places i 0)
 
 backward : AreFound → (s : Storage) (list : ℕ) (call : Call) → list < 2 ^ 24 → IsCallAt s list call → call_of s list ≡ Ok call

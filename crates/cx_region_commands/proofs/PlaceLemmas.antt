@@ -92,24 +92,24 @@ unfolding IsLeastPlace CanPlace
 later s slot copying len q b least meets can =
     let both = from_copy s slot copying first_of_tasks last_of_tasks len b can in
     let first = least.1 b both.0 in
-    let behind = go first both.1 in
-    (both.0.0, behind, both.0.2, both.0.3)
+    let after = go first both.1 in
+    (both.0.0, after, both.0.2, both.0.3)
   where
     go : q ≤ b → MissesCopy len b copying → copying.to + copying.from.len ≤ b
-    go first (inl behind) = behind
+    go first (inl after) = after
     go first (inr before) = absurd (omega (arith, first, before, meets))
 
 earlier : (s : Storage) (slot : ℕ) (copying : Copying) (len b : ℕ) → first_of_tasks ≤ copying.to
     → CanPlace s (copying.to + copying.from.len) last_of_tasks len b → CanPlace (with_copy_area s slot (Some copying)) first_of_tasks last_of_tasks len b
 unfolding CanPlace
 earlier s slot copying len b low can =
-    let behind = can.1 in
-    to_copy s slot copying first_of_tasks last_of_tasks len b (can.0, omega (arith, low, behind), can.2, can.3) (inl behind)
+    let after = can.1 in
+    to_copy s slot copying first_of_tasks last_of_tasks len b (can.0, omega (arith, low, after), can.2, can.3) (inl after)
 
 -- the least place without the copy meets it: then it is the least one after the copy, if there is one
-pub behind_copy : (s : Storage) (slot : ℕ) (copying : Copying) (len q : ℕ) (r : Option ℕ) → IsTaskPlace s len (Some q) → first_of_tasks ≤ copying.to
+pub after_copy : (s : Storage) (slot : ℕ) (copying : Copying) (len q : ℕ) (r : Option ℕ) → IsTaskPlace s len (Some q) → first_of_tasks ≤ copying.to
     → copying.to < q + len → IsLeastPlace s (copying.to + copying.from.len) last_of_tasks len r → IsTaskPlace (with_copy_area s slot (Some copying)) len r
 unfolding IsLeastPlace
-behind_copy s slot copying len q None least low meets none = λ b can. none b (later s slot copying len q b least meets can)
-behind_copy s slot copying len q (Some r) least low meets found =
+after_copy s slot copying len q None least low meets none = λ b can. none b (later s slot copying len q b least meets can)
+after_copy s slot copying len q (Some r) least low meets found =
     (earlier s slot copying len r low found.0, λ b can. found.1 b (later s slot copying len q b least meets can))

@@ -18,7 +18,7 @@ pub mod SendText
 pub mod Suspend
 pub mod WriteqTs
 pub mod Xctl
-pub mod Judged
+pub mod CommandVerdicts
 pub mod Laws
 pub mod Facts
 pub use Rattle.cx_region_call.specs.Call

@@ -1,7 +1,7 @@
 //! How a call is judged, by the row of its command.
 ghost use Rattle.cx_region_state.specs.State.{context};
 ghost use Rattle.cx_region_commands.specs.Common.{AreSoundPrograms};
-ghost use Rattle.cx_region_commands.specs.Judged.{HasVerdict};
+ghost use Rattle.cx_region_commands.specs.CommandVerdicts.{HasVerdict};
 
 use crate::abending::judge_abend;
 use crate::address::judge_address;
@@ -26,7 +26,7 @@ use cx_region_state::{Shared, Task, TerminalEntry, Verdict};
 use cx_storage::Store;
 
 /// How a call is judged, before anything changes: by the row of its command. It takes no memory.
-#[tactic(auto, unfolding(crate::specs::Judged::HasVerdict))]
+#[tactic(auto, unfolding(crate::specs::CommandVerdicts::HasVerdict))]
 pub fn judge<S: Store + Drop>(
     call: &Call,
     shared: &Shared<S>,

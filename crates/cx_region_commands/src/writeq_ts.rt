@@ -34,7 +34,8 @@ fn writes(queues: &Queues, name: Name8, piece: StorageSpan) -> Verdict
 /// An item replaced.
 fn rewrites(queues: &Queues, name: Name8, n: u16, piece: StorageSpan) -> Verdict
     ensures { result
-        ≡ fault_or_verdict (rewrite_fault queues.now name n piece.len) (does (TaskChange.Makes (Made.ItemAt name n piece))) }
+        ≡ fault_or_verdict (rewrite_fault queues.now name n piece.len)
+        (does (TaskChange.Makes (Made.ItemAt name n piece))) }
 {
     let tested = queues.can_rewrite(name, usize::from(n), usize::from(piece.len));
     unless(

@@ -37,7 +37,7 @@ fn replaces(called: Called, copying: Option<Copying>, stg: Option<u32>) -> Verdi
 
 /// The least place in task storage for `len` bytes, once the copy is made. Where the least one without it would meet
 /// the copy, every place below does too.
-#[tactic(auto, using(crate::proofs::PlaceLemmas::none_beside, crate::proofs::PlaceLemmas::below_copy, crate::proofs::PlaceLemmas::above_copy, crate::proofs::PlaceLemmas::behind_copy))]
+#[tactic(auto, using(crate::proofs::PlaceLemmas::none_beside, crate::proofs::PlaceLemmas::below_copy, crate::proofs::PlaceLemmas::above_copy, crate::proofs::PlaceLemmas::after_copy))]
 fn place_beside<S: Store>(store: &S, copying: Copying, len: u32) -> Option<u32>
     requires some { 0 < len }
     requires low { first_of_tasks ≤ copying.to }

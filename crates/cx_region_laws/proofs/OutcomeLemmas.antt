@@ -75,9 +75,9 @@ by_some A F o x e a = subst (λ q. MatchOption q A F) (sym e) a
 abbrev Least : (ℕ → Type 0) → ℕ → Type 0
 Least P n = ((a : ℕ) × P a × ((b : ℕ) → P b → a ≤ b)) ⊎ ((b : ℕ) → b < n → P b → ⊥)
 
-least_behind : (P : ℕ → Type 0) (n : ℕ) → P n ⊎ (P n → ⊥) → Least P n → Least P (suc n)
-least_behind P n here (inl found) = inl found
-least_behind P n (inl p) (inr none) =
+least_after : (P : ℕ → Type 0) (n : ℕ) → P n ⊎ (P n → ⊥) → Least P n → Least P (suc n)
+least_after P n here (inl found) = inl found
+least_after P n (inl p) (inr none) =
     inl (
       n,
       p,
@@ -86,7 +86,7 @@ least_behind P n (inl p) (inr none) =
         | inr f ↦ absurd (none b (omega (arith, f.1)) q)
       ],
     )
-least_behind P n (inr never) (inr none) =
+least_after P n (inr never) (inr none) =
     inr (λ b below q. elim (leb_tells n b) [
       | inl t ↦ (let same : b ≡ n = omega (arith, t.1, below) in never (subst P same q))
       | inr f ↦ none b (omega (arith, f.1)) q
@@ -94,7 +94,7 @@ least_behind P n (inr never) (inr none) =
 
 least : (P : ℕ → Type 0) → ((b : ℕ) → P b ⊎ (P b → ⊥)) → (n : ℕ) → Least P n
 least P decide zero = inr (λ b below q. omega (arith, below))
-least P decide (suc n) = least_behind P n (decide n) (least P decide n)
+least P decide (suc n) = least_after P n (decide n) (least P decide n)
 
 misses_or_not : (len b : ℕ) (h : Held) → Misses len b h ⊎ (Misses len b h → ⊥)
 misses_or_not len b h = elim (leb_tells (end_of h.area) b) [
@@ -162,15 +162,15 @@ kept_false p n j here below less = elim (leb_tells n j) [
   | inr f ↦ less (omega (arith, f.1))
 ]
 
-greatest_behind : (p : ℕ → Bool) (n : ℕ) → p n ≡ false → (i : Option ℕ) × Greatest p n i → (i : Option ℕ) × Greatest p (suc n) i
-greatest_behind p n here (None, none) = (None, λ j below. kept_false p n j here below (λ less. none j less))
-greatest_behind p n here (Some i, found) = (Some i, (found.0, λ j above below. kept_false p n j here below (λ less. found.1 j above less)))
+greatest_after : (p : ℕ → Bool) (n : ℕ) → p n ≡ false → (i : Option ℕ) × Greatest p n i → (i : Option ℕ) × Greatest p (suc n) i
+greatest_after p n here (None, none) = (None, λ j below. kept_false p n j here below (λ less. none j less))
+greatest_after p n here (Some i, found) = (Some i, (found.0, λ j above below. kept_false p n j here below (λ less. found.1 j above less)))
 
 greatest : (p : ℕ → Bool) (n : ℕ) → (i : Option ℕ) × Greatest p n i
 greatest p zero = (None, λ i below. absurd (omega (arith, below)))
 greatest p (suc n) = elim (cases_Bool (p n)) [
   | inl t ↦ (Some n, (t, λ j above below. absurd (omega (arith, above, below))))
-  | inr f ↦ greatest_behind p n f (greatest p n)
+  | inr f ↦ greatest_after p n f (greatest p n)
 ]
 
 no_level : (levels : List Level) (j : ℕ) → length levels ≤ j → has_exit_at levels j ≡ false

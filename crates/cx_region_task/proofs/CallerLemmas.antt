@@ -5,13 +5,13 @@ use Rattle.std.proofs.lemmas.Grind.{reverse_onto}
 use Rattle.cx_program.specs.declared.level.Level.{Level}
 use Rattle.cx_program.specs.Levels.{Levels, all_levels}
 
-behind : {A : Type 0} → (xs ys : List A) (x : A) → slice_get (xs ++ x ∷ ys) (length xs) ≡ Some x
-behind [] ys x = refl
-behind (y ∷ xs) ys x = behind xs ys x
+after : {A : Type 0} → (xs ys : List A) (x : A) → slice_get (xs ++ x ∷ ys) (length xs) ≡ Some x
+after [] ys x = refl
+after (y ∷ xs) ys x = after xs ys x
 
 shown : (callers : List Level) (caller current : Level) → slice_get (reverse (caller ∷ callers) ++ current ∷ []) (length callers) ≡ Some caller
 shown callers caller current =
-    rw (reverse_onto callers caller [], append_assoc (reverse callers) (caller ∷ []) (current ∷ []), ← length-reverse callers) (behind (reverse callers) (current ∷ []) caller)
+    rw (reverse_onto callers caller [], append_assoc (reverse callers) (caller ∷ []) (current ∷ []), ← length-reverse callers) (after (reverse callers) (current ∷ []) caller)
 
 pub calen_none : (callers : List Level) (n : ℕ) → n ≡ length callers + 1 → n < 2 → None ≡ option_map (λ caller. caller.calen) (slice_get callers 0)
 calen_none [] n is few = refl

@@ -17,7 +17,7 @@ use Rattle.cx_region_call.specs.Inputs.{are_inputs_there}
 use Rattle.cx_region_state.specs.declared.verdict.Verdict.{Verdict}
 use Rattle.cx_region_state.specs.declared.verdict.Verdict.TheVariants.{Refuses, Waits, Meets}
 use Rattle.cx_region_state.specs.State.{TaskContext}
-use Rattle.cx_region_commands.specs.Judged.{HasVerdict}
+use Rattle.cx_region_commands.specs.CommandVerdicts.{HasVerdict}
 use Rattle.cx_region_task.specs.declared.cause.Cause.{Cause}
 use Rattle.cx_region_task.specs.declared.cause.Cause.TheVariants as cause
 use Rattle.cx_region_task.specs.declared.cause.Trouble.{Trouble}

@@ -17,7 +17,7 @@ pub use Rattle.cx_region_call.specs.Answer
 pub use Rattle.cx_region_state.specs.State
 pub use Rattle.cx_region_state.specs.Areas
 pub use Rattle.cx_region_state.specs.Verdicts
-pub use Rattle.cx_region_commands.specs.Judged
+pub use Rattle.cx_region_commands.specs.CommandVerdicts
 pub use Rattle.cx_base_commands.specs.Commands
 pub use Rattle.cx_base_commands.specs.Conditions
 pub use Rattle.cx_storage.specs.Address

@@ -14,7 +14,7 @@ use Rattle.cx_region_state.specs.declared.replies.TurnReply.{TurnReply}
 use Rattle.cx_region_state.specs.declared.replies.TurnReply.TheVariants as turn
 use Rattle.cx_region_state.specs.declared.verdict.Verdict.{Verdict}
 use Rattle.cx_region_state.specs.State.{TaskContext, TaskState}
-use Rattle.cx_region_commands.specs.Judged.{HasVerdict}
+use Rattle.cx_region_commands.specs.CommandVerdicts.{HasVerdict}
 use Rattle.cx_region_task.specs.Abends.{Abends}
 use Rattle.cx_region_task.specs.Answers.{may_take_memory}
 use Rattle.cx_region_task.specs.Performing.{PerformsCommand, list_of}

@@ -124,13 +124,13 @@ all_length callers current =
     let same = length-reverse callers in
     omega (arith, long, same)
 
-behind : (xs : List Level) (y : Level) → slice_get (xs ++ y ∷ []) (length xs) ≡ Some y
-behind [] y = refl
-behind (x ∷ xs) y = behind xs y
+last_there : (xs : List Level) (y : Level) → slice_get (xs ++ y ∷ []) (length xs) ≡ Some y
+last_there [] y = refl
+last_there (x ∷ xs) y = last_there xs y
 
 last_exit : (callers : List Level) (current : Level) → has_exit_at (reverse callers ++ current ∷ []) (length callers) ≡ has_exit current
 last_exit callers current =
-    let at : slice_get (reverse callers ++ current ∷ []) (length callers) ≡ Some current = subst (λ (n : ℕ). slice_get (reverse callers ++ current ∷ []) n ≡ Some current) (length-reverse callers) (behind (reverse callers) current) in
+    let at : slice_get (reverse callers ++ current ∷ []) (length callers) ≡ Some current = subst (λ (n : ℕ). slice_get (reverse callers ++ current ∷ []) n ≡ Some current) (length-reverse callers) (last_there (reverse callers) current) in
     ap (λ (o : Option Level). option_map_or has_exit o false) at
 
 exit_off : (exit : Exit) → is_some (label_on (turned_off exit)) ≡ false

@@ -29,7 +29,7 @@ use Rattle.cx_region_commands.specs.Abend.{abend_row}
 use Rattle.cx_region_commands.specs.Address.{address_row}
 use Rattle.cx_region_commands.specs.HandleAbend.{handle_abend_row}
 use Rattle.cx_region_commands.specs.Handling.{handle_row, ignore_row, pop_row, push_row}
-use Rattle.cx_region_commands.specs.Judged.{HasVerdict, JudgedBy}
+use Rattle.cx_region_commands.specs.CommandVerdicts.{HasVerdict, JudgedBy}
 use Rattle.cx_region_commands.specs.Return.{return_row}
 use Rattle.cx_region_commands.specs.Suspend.{suspend_row}
 use Rattle.cx_region_task.specs.Changes.{AppliesBefore, Commits, apply_after, write_outputs, read_for, write_report}

@@ -44,7 +44,7 @@ use Rattle.cx_region_commands.specs.Freemain.{freemain_row, frees, is_got_by}
 use Rattle.cx_region_commands.specs.Getmain.{GetmainRow, asked_len, fill_byte, gets, is_area_length}
 use Rattle.cx_region_commands.specs.HandleAbend.{handle_abend_row}
 use Rattle.cx_region_commands.specs.Handling.{handle_row, ignore_row, pop_row, push_row}
-use Rattle.cx_region_commands.specs.Judged.{HasVerdict, JudgedBy}
+use Rattle.cx_region_commands.specs.CommandVerdicts.{HasVerdict, JudgedBy}
 use Rattle.cx_region_commands.specs.Link.{LinkRow, Links, enters}
 use Rattle.cx_region_commands.specs.ReadqTs.{ReadqRow, Reads, ReadsItem, ReadsQueue, item_asked, reading_of, reads_into, reads_to}
 use Rattle.cx_region_commands.specs.Receive.{receive_row}

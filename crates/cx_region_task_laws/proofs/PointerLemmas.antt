@@ -19,7 +19,7 @@ use Rattle.cx_region_call.specs.Inputs.{are_inputs_there}
 use Rattle.cx_region_call.specs.Laws.Calls.{CallIsRead}
 use Rattle.cx_region_call.specs.Outputs.{bytes_from, can_put, put_out}
 use Rattle.cx_region_commands.specs.Common.{output as output_of}
-use Rattle.cx_region_commands.specs.Judged.{HasVerdict}
+use Rattle.cx_region_commands.specs.CommandVerdicts.{HasVerdict}
 use Rattle.cx_region_state.specs.declared.replies.TurnReply.TheVariants as turn
 use Rattle.cx_region_state.specs.declared.verdict.TaskChange.{TaskChange}
 use Rattle.cx_region_state.specs.declared.verdict.TaskChange.TheVariants.{Nothing, Makes, Ends, Gets, Enters, Replaces, LevelEnds, TaskEnds, AbendsWith}
@@ -278,9 +278,9 @@ programs_go_on before after condition half =
     }
 
 -- ---- the outputs
-no_split : {P : Type 0} (outputs front behind : List Output) (output : Output) → outputs ≡ [] → outputs ≡ front ++ output ∷ behind → P
-no_split outputs [] behind output none split = let never : [] ≡ output ∷ behind = sym none ∙ split in cc
-no_split outputs (first ∷ rest) behind output none split = let never : [] ≡ first ∷ (rest ++ output ∷ behind) = sym none ∙ split in cc
+no_split : {P : Type 0} (outputs front later : List Output) (output : Output) → outputs ≡ [] → outputs ≡ front ++ output ∷ later → P
+no_split outputs [] later output none split = let never : [] ≡ output ∷ later = sym none ∙ split in cc
+no_split outputs (first ∷ rest) later output none split = let never : [] ≡ first ∷ (rest ++ output ∷ later) = sym none ∙ split in cc
 
 -- an address that is not written again is none of what is written after the output
 apart_parts : (a b c : Bool) → (a || b || c) ≡ false → (a ≡ false) × (b ≡ false) × (c ≡ false)
@@ -313,10 +313,10 @@ settled_byte call condition outputs change start after x keeps places low off_ei
 outputs_stand : (condition : Condition) (before after : TaskContext) (done : IsDone condition before after) → AreLow done.call.places → before.task.eib < 2 ^ 24
     → OutputsStand after.shared.storage before.task.eib done.call (handed_over done.change before) done.outputs
 unfolding has_room
-outputs_stand condition before after done places low front behind output place k byte split at_place at apart =
+outputs_stand condition before after done places low front later output place k byte split at_place at apart =
     elim (judged_plain done.call before (Meets condition done.outputs done.change) done.judged) [
-      | inl none ↦ no_split done.outputs front behind output none split
-      | inr plain ↦ stands plain.0 (short_in front behind output (subst AreShort split plain.1))
+      | inl none ↦ no_split done.outputs front later output none split
+      | inr plain ↦ stands plain.0 (short_in front later output (subst AreShort split plain.1))
     ]
   where
     text : List ℕ
@@ -327,26 +327,26 @@ outputs_stand condition before after done places low front behind output place k
 
     stands : keeps_areas done.change ≡ true → IsShort output.source → byte_at after.shared.storage x ≡ Some byte
     stands keeps short =
-        let off = apart_parts (list_any (is_in_output x done.call text) behind) (is_among x (Some before.task.eib) eib_len) (is_among x (resp_place done.call) 4) apart in
+        let off = apart_parts (list_any (is_in_output x done.call text) later) (is_among x (Some before.task.eib) eib_len) (is_among x (resp_place done.call) 4) apart in
         let made = done.settles.made in
-        let room : can_put before.shared.storage done.call text (front ++ output ∷ behind) ≡ true = subst (λ (l : List Output). can_put before.shared.storage done.call text l ≡ true) split done.room in
-        let there = room_in before.shared.storage done.call text front behind output place room at_place in
+        let room : can_put before.shared.storage done.call text (front ++ output ∷ later) ≡ true = subst (λ (l : List Output). can_put before.shared.storage done.call text l ≡ true) split done.room in
+        let there = room_in before.shared.storage done.call text front later output place room at_place in
         let kept = spans_kept before.shared.storage made.shared.storage (grown_present done.change before made keeps done.settles.grown) place (length (bytes_from text output.source)) there in
         ap (λ (r : TaskContext). byte_at r.shared.storage x) done.goes
         ∙ settled_byte done.call condition done.outputs done.change before done.settled x keeps places low off.1 off.2 done.settles
         ∙ ap (λ (l : List Output). byte_at (put_out made.shared.storage done.call text l) x) split
-        ∙ puts_stand made.shared.storage done.call text front behind output place k byte places (short_bytes text output.source short) kept at_place at off.0
+        ∙ puts_stand made.shared.storage done.call text front later output place k byte places (short_bytes text output.source short) kept at_place at off.0
 
 -- a pointer is an output of four bytes
 pointers_stand : (condition : Condition) (before after : TaskContext) (done : IsDone condition before after) → AreLow done.call.places → before.task.eib < 2 ^ 24
     → PointersStand after.shared.storage before.task.eib done.call (handed_over done.change before) done.outputs
-pointers_stand condition before after done places low front behind option place pointer split at_place apart =
+pointers_stand condition before after done places low front later option place pointer split at_place apart =
     elim (judged_plain done.call before (Meets condition done.outputs done.change) done.judged) [
-      | inl none ↦ no_split done.outputs front behind (output_of option (Word pointer)) none split
+      | inl none ↦ no_split done.outputs front later (output_of option (Word pointer)) none split
       | inr plain ↦
           word_stands after.shared.storage place pointer (place_below done.call option place places at_place)
-          (short_in front behind (output_of option (Word pointer)) (subst AreShort split plain.1))
-          (λ k byte less at. outputs_stand condition before after done places low front behind (output_of option (Word pointer)) place k byte split at_place at (apart k less))
+          (short_in front later (output_of option (Word pointer)) (subst AreShort split plain.1))
+          (λ k byte less at. outputs_stand condition before after done places low front later (output_of option (Word pointer)) place k byte split at_place at (apart k less))
     ]
 
 pub outputs_stay : CallIsRead → OutputsStay

@@ -31,7 +31,7 @@ use Rattle.cx_region_commands.specs.Enq.{enqueues}
 use Rattle.cx_region_commands.specs.Getmain.{gets}
 use Rattle.cx_region_commands.specs.HandleAbend.{handle_abend_row}
 use Rattle.cx_region_commands.specs.Handling.{handle_row, ignore_row}
-use Rattle.cx_region_commands.specs.Judged.{HasVerdict, JudgedBy}
+use Rattle.cx_region_commands.specs.CommandVerdicts.{HasVerdict, JudgedBy}
 use Rattle.cx_region_commands.specs.Link.{enters}
 use Rattle.cx_region_commands.specs.Return.{highest_return, return_row}
 use Rattle.cx_region_commands.specs.Suspend.{suspend_row}

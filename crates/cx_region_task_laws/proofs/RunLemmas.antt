@@ -46,14 +46,14 @@ last_whole : (n : ℕ) (levels : List Level) → length levels ≡ n → last_of
 last_whole n levels e = let none : length levels - n ≡ 0 = omega (arith, e) in ap (λ (k : ℕ). drop k levels) none
 
 -- what comes after a level that comes after `count` others
-behind_drop : (count : ℕ) (xs ys : List Level) (level : Level) → drop count xs ≡ level ∷ ys → ys ≡ drop (suc count) xs
-behind_drop zero [] ys level e = cc
-behind_drop zero (x ∷ xs) ys level e = cc
-behind_drop (suc count) [] ys level e = cc
-behind_drop (suc count) (x ∷ xs) ys level e = behind_drop count xs ys level e
+after_drop : (count : ℕ) (xs ys : List Level) (level : Level) → drop count xs ≡ level ∷ ys → ys ≡ drop (suc count) xs
+after_drop zero [] ys level e = cc
+after_drop zero (x ∷ xs) ys level e = cc
+after_drop (suc count) [] ys level e = cc
+after_drop (suc count) (x ∷ xs) ys level e = after_drop count xs ys level e
 
-behind_dropped : (count : ℕ) (current level : Level) (callers left : List Level) → drop count (current ∷ callers) ≡ level ∷ left → left ≡ drop count callers
-behind_dropped count current level callers left e = behind_drop count (current ∷ callers) left level e
+after_dropped : (count : ℕ) (current level : Level) (callers left : List Level) → drop count (current ∷ callers) ≡ level ∷ left → left ≡ drop count callers
+after_dropped count current level callers left e = after_drop count (current ∷ callers) left level e
 
 -- ---- half-turns below a depth
 returned_keeps : (depth : ℕ) (befores afters : List Level) (after : TaskState) → after.levels.callers ≡ afters
@@ -80,7 +80,7 @@ step_keeps turn.Returned depth before after law deep still = returned_keeps dept
 step_keeps turn.Waiting depth before after law deep still = ap (last_of (suc depth)) law
 step_keeps (turn.TookLabel condition) depth before after law deep still = ap (last_of (suc depth)) law
 step_keeps (turn.TookExit code) depth before after law deep still =
-    let left = behind_dropped law.count before.levels.current law.level before.levels.callers after.levels.callers law.left in
+    let left = after_dropped law.count before.levels.current law.level before.levels.callers after.levels.callers law.left in
     let few : suc depth ≤ length (drop law.count before.levels.callers) = subst (λ (l : List Level). suc depth ≤ length l) left still in
     ap (last_of (suc depth)) left ∙ last_of_drop depth law.count before.levels.callers few
 step_keeps (turn.Abended code) depth before after law deep still = ap (last_of (suc depth)) law

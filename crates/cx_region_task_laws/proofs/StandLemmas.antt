@@ -77,47 +77,47 @@ puts_present s call text (output ∷ rest) b n =
     let bytes = bytes_from text output.source in
     puts_present (with_output s (place_of call output.option) bytes) call text rest b n ∙ place_present s (place_of call output.option) bytes b n
 
-puts_split : (s : Storage) (call : Call) (text : List ℕ) (front behind : List Output) → put_out s call text (front ++ behind) ≡ put_out (put_out s call text front) call text behind
+puts_split : (s : Storage) (call : Call) (text : List ℕ) (front after : List Output) → put_out s call text (front ++ after) ≡ put_out (put_out s call text front) call text after
 unfolding put_out
-puts_split s call text [] behind = refl
-puts_split s call text (output ∷ rest) behind = puts_split (with_output s (place_of call output.option) (bytes_from text output.source)) call text rest behind
+puts_split s call text [] after = refl
+puts_split s call text (output ∷ rest) after = puts_split (with_output s (place_of call output.option) (bytes_from text output.source)) call text rest after
 
-pub puts_stand : (s : Storage) (call : Call) (text : List ℕ) (front behind : List Output) (output : Output) (place k byte : ℕ) → AreLow call.places
+pub puts_stand : (s : Storage) (call : Call) (text : List ℕ) (front after : List Output) (output : Output) (place k byte : ℕ) → AreLow call.places
     → length (bytes_from text output.source) ≤ 2 ^ 24 → is_some (span s place (length (bytes_from text output.source))) ≡ true → place_of call output.option ≡ Some place
-    → slice_get (bytes_from text output.source) k ≡ Some byte → list_any (is_in_output (address_after place k) call text) behind ≡ false
-    → byte_at (put_out s call text (front ++ output ∷ behind)) (address_after place k) ≡ Some byte
+    → slice_get (bytes_from text output.source) k ≡ Some byte → list_any (is_in_output (address_after place k) call text) after ≡ false
+    → byte_at (put_out s call text (front ++ output ∷ after)) (address_after place k) ≡ Some byte
 unfolding put_out
-puts_stand s call text front behind output place k byte low short there at_place at apart =
+puts_stand s call text front after output place k byte low short there at_place at apart =
     let x = address_after place k in
     let bytes = bytes_from text output.source in
     let mid = put_out s call text front in
-    ap (λ (t : Storage). byte_at t x) (puts_split s call text front (output ∷ behind))
-    ∙ puts_elsewhere (with_output mid (place_of call output.option) bytes) call text behind x low apart
+    ap (λ (t : Storage). byte_at t x) (puts_split s call text front (output ∷ after))
+    ∙ puts_elsewhere (with_output mid (place_of call output.option) bytes) call text after x low apart
     ∙ ap (λ (o : Option ℕ). byte_at (with_output mid o bytes) x) at_place
     ∙ write_stands mid place bytes k byte (place_below call output.option place low at_place) short (puts_present s call text front place (length bytes) ∙ there) at
 
 -- an output in a list: it has room, and is short
-all_in : (test : Output → Bool) (front behind : List Output) (output : Output) → list_all test (front ++ output ∷ behind) ≡ true → test output ≡ true
-all_in test [] behind output all = elim (cases_Bool (test output)) [
+all_in : (test : Output → Bool) (front after : List Output) (output : Output) → list_all test (front ++ output ∷ after) ≡ true → test output ≡ true
+all_in test [] after output all = elim (cases_Bool (test output)) [
   | inl t ↦ t
   | inr f ↦ let never = rw f at all in cc
 ]
-all_in test (first ∷ rest) behind output all = elim (cases_Bool (test first)) [
-  | inl t ↦ all_in test rest behind output (rw t at all)
+all_in test (first ∷ rest) after output all = elim (cases_Bool (test first)) [
+  | inl t ↦ all_in test rest after output (rw t at all)
   | inr f ↦ let never = rw f at all in cc
 ]
 
-pub room_in : (s : Storage) (call : Call) (text : List ℕ) (front behind : List Output) (output : Output) (place : ℕ) → can_put s call text (front ++ output ∷ behind) ≡ true
+pub room_in : (s : Storage) (call : Call) (text : List ℕ) (front after : List Output) (output : Output) (place : ℕ) → can_put s call text (front ++ output ∷ after) ≡ true
     → place_of call output.option ≡ Some place → is_some (span s place (length (bytes_from text output.source))) ≡ true
 unfolding can_put
-room_in s call text front behind output place room at_place =
+room_in s call text front after output place room at_place =
     let bytes = bytes_from text output.source in
     sym (ap (λ (o : Option ℕ). is_room s o bytes) at_place)
-    ∙ all_in (λ output. is_room s (place_of call output.option) (bytes_from text output.source)) front behind output room
+    ∙ all_in (λ output. is_room s (place_of call output.option) (bytes_from text output.source)) front after output room
 
-pub short_in : (front behind : List Output) (output : Output) → AreShort (front ++ output ∷ behind) → IsShort output.source
-short_in [] behind output all = all.0
-short_in (first ∷ rest) behind output all = short_in rest behind output all.1
+pub short_in : (front after : List Output) (output : Output) → AreShort (front ++ output ∷ after) → IsShort output.source
+short_in [] after output all = all.0
+short_in (first ∷ rest) after output all = short_in rest after output all.1
 
 taken_few : (n : ℕ) (text : List ℕ) → length (take n text) ≤ n
 taken_few zero text = omega arith
@@ -190,7 +190,7 @@ put_present h (g ∷ gs) full x e = elim (cases_Bool (nat_lt h.area.start g.area
     | inl c ↦ rw c (full x c)
     | inr c ↦ rw c e
   ])
-  | inr behind ↦ rw behind (elim (cases_Bool (covers g.area x)) [
+  | inr after ↦ rw after (elim (cases_Bool (covers g.area x)) [
     | inl c ↦ rw c (rw c at e)
     | inr c ↦ rw c (put_present h gs full x (rw c at e))
   ])

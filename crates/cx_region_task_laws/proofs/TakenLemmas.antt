@@ -19,7 +19,7 @@ use Rattle.cx_region_state.specs.declared.verdict.TaskChange.TheVariants.{Nothin
 use Rattle.cx_region_state.specs.declared.verdict.Verdict.{Verdict}
 use Rattle.cx_region_state.specs.declared.verdict.Verdict.TheVariants.{Meets, Refuses, Waits}
 use Rattle.cx_region_state.specs.State.{TaskContext}
-use Rattle.cx_region_commands.specs.Judged.{HasVerdict}
+use Rattle.cx_region_commands.specs.CommandVerdicts.{HasVerdict}
 use Rattle.cx_region_task.specs.declared.continuation.Continuation.{Continuation}
 use Rattle.cx_region_task.specs.declared.continuation.Continuation.TheVariants as continuation
 use Rattle.cx_region_task.specs.Abends.{Abends, AbendsAt}

@@ -16,7 +16,7 @@ use Rattle.cx_script_blocks.specs.Blocks.{body_with, block_step, action_step, bl
 use Rattle.cx_script_io.specs.Lines.{is_too_long, lines_met}
 use Rattle.cx_script.specs.Script.{Script, script_in, script_from, fault_at, with_action_first, led_to}
 use Rattle.cx_script_actions.specs.declared.actions.Action.TheVariants as action
-use Rattle.cx_script.specs.Laws.BadLines.{block_after, block_behind, IsBadIn, IsBadLine, BadLinesAreBad}
+use Rattle.cx_script.specs.Laws.BadLines.{block_after, block_after_lines, IsBadIn, IsBadLine, BadLinesAreBad}
 use Rattle.cx_script_actions.specs.Language.{Language}
 use Rattle.cx_script_actions.specs.declared.actions.Line.{Line}
 use Rattle.cx_script_actions.specs.declared.actions.Line.TheVariants as line
@@ -150,18 +150,18 @@ record Met {A : Type 0} (language : Language A) (ending : Ending) (number : ℕ)
   text : List ℕ
   is : slice_get lines k ≡ Some text
   within : k < length lines
-  bad : IsBadIn language (block_behind language number block (take k lines)) text
+  bad : IsBadIn language (block_after_lines language number block (take k lines)) text
   done : script_from language Failed number block (take k lines) ≡ unended (script_from language ending number block lines)
 
 record Open {A : Type 0} (language : Language A) (ending : Ending) (number : ℕ) (block : Option Block) (lines : List (List ℕ)) (n : ℕ) : Type 0 where
   ended : ending ≡ AtEnd
   left : Block
-  is : block_behind language number block lines ≡ Some left
+  is : block_after_lines language number block lines ≡ Some left
   at : left.line ≡ n
   done : script_from language Failed number block lines ≡ unended (script_from language ending number block lines)
 
 at_end : {A : Type 0} (language : Language A) (ending : Ending) (number : ℕ) (block : Option Block) (n : ℕ) → fault_at ending block ≡ Some (BadLine n) → Met language ending number block [] n ⊎ Open language ending number block [] n
-unfolding fault_at script_from block_behind
+unfolding fault_at script_from block_after_lines
 at_end language AtEnd number None n e = cc
 at_end language AtEnd number (Some block) n e = inr (record { ended = refl; left = block; is = refl; at = cc; done = refl })
 at_end language Failed number block n e = cc
@@ -169,7 +169,7 @@ at_end language PastBound number block n e = cc
 
 met_here : {A : Type 0} (language : Language A) (ending : Ending) (number : ℕ) (block : Option Block) (text : List ℕ) (lines : List (List ℕ)) (n : ℕ) → (due : RunFault) → step_at language number block text ≡ Err due
     → (script_from language ending number block (text ∷ lines)).fault ≡ Some (BadLine n) → Met language ending number block (text ∷ lines) n
-unfolding script_from block_behind fault_at
+unfolding script_from block_after_lines fault_at
 met_here {A} language ending number block text lines n due e f =
     let bad = ap (λ d. led_to d (λ next. script_from language ending (number + 1) next lines)) e in
     let fault : (script_from language ending number block (text ∷ lines)).fault ≡ Some due = ap (λ (s : Script A). s.fault) bad in
@@ -188,7 +188,7 @@ met_here {A} language ending number block text lines n due e f =
 
 met_later : {A : Type 0} (language : Language A) (ending : Ending) (number : ℕ) (block : Option Block) (text : List ℕ) (lines : List (List ℕ)) (n : ℕ) (step : LineStep A) → step_at language number block text ≡ Ok step
     → Met language ending (number + 1) step.block lines n → Met language ending number block (text ∷ lines) n
-unfolding block_behind
+unfolding block_after_lines
 met_later language ending number block text lines n step e m =
     record {
       k = suc m.k;
@@ -196,20 +196,20 @@ met_later language ending number block text lines n step e m =
       text = m.text;
       is = m.is;
       within = omega (arith, m.within);
-      bad = subst (λ d. IsBadIn language (block_behind language (number + 1) (block_after d) (take m.k lines)) m.text) (sym e) m.bad;
+      bad = subst (λ d. IsBadIn language (block_after_lines language (number + 1) (block_after d) (take m.k lines)) m.text) (sym e) m.bad;
       done = led language Failed number block text (take m.k lines) step e ∙ ap (with_action_first step.action) m.done
           ∙ before_unended step.action (script_from language ending (number + 1) step.block lines) ∙ ap unended (sym (led language ending number block text lines step e));
     }
 
 open_later : {A : Type 0} (language : Language A) (ending : Ending) (number : ℕ) (block : Option Block) (text : List ℕ) (lines : List (List ℕ)) (n : ℕ) (step : LineStep A) → step_at language number block text ≡ Ok step
     → Open language ending (number + 1) step.block lines n → Open language ending number block (text ∷ lines) n
-unfolding block_behind
+unfolding block_after_lines
 open_later language ending number block text lines n step e o =
     record {
       ended = o.ended;
       left = o.left;
       at = o.at;
-      is = ap (λ d. block_behind language (number + 1) (block_after d) lines) e ∙ o.is;
+      is = ap (λ d. block_after_lines language (number + 1) (block_after d) lines) e ∙ o.is;
       done = led language Failed number block text lines step e ∙ ap (with_action_first step.action) o.done
           ∙ before_unended step.action (script_from language ending (number + 1) step.block lines) ∙ ap unended (sym (led language ending number block text lines step e));
     }
@@ -288,8 +288,8 @@ began_later language number block text lines left step e b =
     }
 
 opened_line : {A : Type 0} (language : Language A) (number : ℕ) (block : Option Block) (text : List ℕ) (lines : List (List ℕ)) (left : Block) (due : Result (LineStep A) RunFault) → step_at language number block text ≡ due
-    → (script_from language Failed number block (text ∷ lines)).fault ≡ Some Read → block_behind language (number + 1) (block_after due) lines ≡ Some left
-    → ((next : Option Block) → (script_from language Failed (number + 1) next lines).fault ≡ Some Read → block_behind language (number + 1) next lines ≡ Some left
+    → (script_from language Failed number block (text ∷ lines)).fault ≡ Some Read → block_after_lines language (number + 1) (block_after due) lines ≡ Some left
+    → ((next : Option Block) → (script_from language Failed (number + 1) next lines).fault ≡ Some Read → block_after_lines language (number + 1) next lines ≡ Some left
     → BeganAt language (number + 1) next lines left ⊎ Stays language (number + 1) next lines left)
     → BeganAt language number block (text ∷ lines) left ⊎ Stays language number block (text ∷ lines) left
 unfolding script_from
@@ -307,8 +307,8 @@ opened_line {A} language number block text lines left (Ok step) e f b ih =
     ]
 
 opened : {A : Type 0} (language : Language A) (number : ℕ) (block : Option Block) (lines : List (List ℕ)) (left : Block) → (script_from language Failed number block lines).fault ≡ Some Read
-    → block_behind language number block lines ≡ Some left → BeganAt language number block lines left ⊎ Stays language number block lines left
-unfolding block_behind
+    → block_after_lines language number block lines ≡ Some left → BeganAt language number block lines left ⊎ Stays language number block lines left
+unfolding block_after_lines
 opened language number block [] left f b = inr (stayed language number block left b)
 opened language number block (text ∷ lines) left f b =
     opened_line language number block text lines left (step_at language number block text) refl f b (λ next g c. opened language (number + 1) next lines left g c)

@@ -29,7 +29,7 @@ use Rattle.cx_script_io.specs.declared.input.Ending.{Ending}
 use Rattle.cx_script_io.specs.declared.input.Ending.TheVariants.{AtEnd, Failed, PastBound}
 use Rattle.cx_script_io.specs.Facts.Lines.{line_met, none_met, begins_long, long_bytes, unbroken_append, BeginsLong}
 use Rattle.cx_script.proofs.OutcomeLemmas.{has_read}
-use Rattle.cx_script.proofs.RunLemmas.{closes_behind, ended, front, halts_behind, own_fault, stops_line, took_line, took_none, took_trans}
+use Rattle.cx_script.proofs.RunLemmas.{closes_after, ended, front, halts_after, own_fault, stops_line, took_line, took_none, took_trans}
 
 -- a line that is too long is a bad one
 pub no_step : {A : Type 0} (language : Language A) (n : ℕ) (block : Option Block) (line : List ℕ) → is_too_long line ≡ true → step_at language n block line ≡ Err (BadLine n)
@@ -66,16 +66,16 @@ module _ {A S : Type 0} (language : Language A) (performs : S → A → List ℕ
       }
 
   -- a line that an LF ends
-  line_ahead : (ending : Ending) (line behind rest : List ℕ) → IsUnbroken line → lines_met ending ((line ++ 10 ∷ behind) ++ rest) ≡ strip_carriage_return line ∷ lines_met ending (behind ++ rest)
-  line_ahead ending line behind rest u = ap (lines_met ending) (append_assoc line (10 ∷ behind) rest) ∙ line_met ending line (behind ++ rest) u
+  line_ahead : (ending : Ending) (line following rest : List ℕ) → IsUnbroken line → lines_met ending ((line ++ 10 ∷ following) ++ rest) ≡ strip_carriage_return line ∷ lines_met ending (following ++ rest)
+  line_ahead ending line following rest u = ap (lines_met ending) (append_assoc line (10 ∷ following) rest) ∙ line_met ending line (following ++ rest) u
 
-  pub came_line : (old new : S) (n : ℕ) (block next : Option Block) (line behind : List ℕ) (before after : DeviceOutput)
+  pub came_line : (old new : S) (n : ℕ) (block next : Option Block) (line following : List ℕ) (before after : DeviceOutput)
       → IsUnbroken line → TakesLine performs (n + 1) (step_at language (n + 1) block (strip_carriage_return line)) old before (Ok tt) new after next
-      → Came language performs old n block (line ++ 10 ∷ behind) before new (n + 1) next behind after
-  came_line old new n block next line behind before after u t =
+      → Came language performs old n block (line ++ 10 ∷ following) before new (n + 1) next following after
+  came_line old new n block next line following before after u t =
       record {
         lines = strip_carriage_return line ∷ [];
-        met = λ ending rest. line_ahead ending line behind rest u;
+        met = λ ending rest. line_ahead ending line following rest u;
         took = took_line language performs old new n block next (strip_carriage_return line) before after t;
       }
 
@@ -86,17 +86,17 @@ module _ {A S : Type 0} (language : Language A) (performs : S → A → List ℕ
   came_stopped old mid n m block next ahead left fault first after last c s =
       record {
         stops = λ ending rest. subst (λ (l : List (List ℕ)). Halts language performs old ending n block l fault first last) (sym (c.met ending rest))
-            (halts_behind language performs old mid n m block next c.lines (lines_met ending (left ++ rest)) ending fault first after last c.took (s.stops ending rest));
+            (halts_after language performs old mid n m block next c.lines (lines_met ending (left ++ rest)) ending fault first after last c.took (s.stops ending rest));
       }
 
   -- a line that could not be taken
-  pub line_stopped : (old new : S) (n : ℕ) (block next : Option Block) (line behind : List ℕ) (fault : RunFault) (before after : DeviceOutput)
+  pub line_stopped : (old new : S) (n : ℕ) (block next : Option Block) (line following : List ℕ) (fault : RunFault) (before after : DeviceOutput)
       → IsUnbroken line → TakesLine performs (n + 1) (step_at language (n + 1) block (strip_carriage_return line)) old before (Err fault) new after next
-      → Stopped language performs old n block (line ++ 10 ∷ behind) fault before after
-  line_stopped old new n block next line behind fault before after u t =
+      → Stopped language performs old n block (line ++ 10 ∷ following) fault before after
+  line_stopped old new n block next line following fault before after u t =
       record {
-        stops = λ ending rest. subst (λ (l : List (List ℕ)). Halts language performs old ending n block l fault before after) (sym (line_ahead ending line behind rest u))
-            (stops_line language performs old new ending n block next (strip_carriage_return line) (lines_met ending (behind ++ rest)) fault before after t);
+        stops = λ ending rest. subst (λ (l : List (List ℕ)). Halts language performs old ending n block l fault before after) (sym (line_ahead ending line following rest u))
+            (stops_line language performs old new ending n block next (strip_carriage_return line) (lines_met ending (following ++ rest)) fault before after t);
       }
 
   -- bytes that are too long already
@@ -126,7 +126,7 @@ module _ {A S : Type 0} (language : Language A) (performs : S → A → List ℕ
       let last : Closes language performs new ending (n + 1) next [] r after after =
       subst (λ (i : ℕ). Closes language performs new ending i next [] r after after) k (ended language performs new ending m next r after h) in
       subst (λ (l : List (List ℕ)). Closes language performs old ending n block l r before after) (sym (none_met ending part u ∙ e))
-      (closes_behind language performs old new n (n + 1) block next (line ∷ []) [] ending r before after after (took_line language performs old new n block next line before after t) last)
+      (closes_after language performs old new n (n + 1) block next (line ∷ []) [] ending r before after after (took_line language performs old new n block next line before after t) last)
 
   pub finished_badly : (old new : S) (n : ℕ) (block next : Option Block) (part line : List ℕ) (ending : Ending) (before after : DeviceOutput) (fault : RunFault)
       → IsUnbroken part → last_met ending part ≡ line ∷ [] → TakesLine performs (n + 1) (step_at language (n + 1) block line) old before (Err fault) new after next
@@ -325,7 +325,7 @@ module _ {A S : Type 0} (language : Language A) (performs : S → A → List ℕ
       ap (lines_met ending) (sym (append-nil bytes)) ∙ c.met ending [] ∙ ap (λ (l : List ℕ). c.lines ++ lines_met ending l) (append-nil part) in
       ends_written start ending bytes answer first last
       (subst (λ (l : List (List ℕ)). Closes language performs start ending 0 None l answer (device_output first []) (device_output last [])) (sym met)
-      (closes_behind language performs start mid 0 m None next c.lines (lines_met ending part) ending answer (device_output first []) (device_output after []) (device_output last []) c.took h))
+      (closes_after language performs start mid 0 m None next c.lines (lines_met ending part) ending answer (device_output first []) (device_output after []) (device_output last []) c.took h))
 
   pub ran_finished : (start mid : S) (left now : Option (List ℕ)) (failed : Bool) (bytes part : List ℕ) (ending : Ending) (m : ℕ) (next : Option Block) (answer : Result Summary RunFault) (first after last : Option (List ℕ))
       → Reads most_bytes ending left now bytes → length bytes ≤ most_bytes → failed ≡ is_failure ending
@@ -445,28 +445,28 @@ module _ {A S : Type 0} (language : Language A) (performs : S → A → List ℕ
       ran_finished start mid left then failed (s.seen ++ piece) last PastBound m next answer first after end (past_reads 16777216 left then (s.seen ++ piece) extra all (len ∙ bound) some) (rw len (omega (arith, bound))) f came h
 
   -- ---- lines of a piece: bytes that were kept, and those in front of an LF
-  ahead_of : (part rest bytes behind : List ℕ) → rest ≡ bytes ++ 10 ∷ behind → part ++ rest ≡ (part ++ bytes) ++ 10 ∷ behind
-  ahead_of part rest bytes behind e = ap (λ l. part ++ l) e ∙ sym (append_assoc part bytes (10 ∷ behind))
+  ahead_of : (part rest bytes following : List ℕ) → rest ≡ bytes ++ 10 ∷ following → part ++ rest ≡ (part ++ bytes) ++ 10 ∷ following
+  ahead_of part rest bytes following e = ap (λ l. part ++ l) e ∙ sym (append_assoc part bytes (10 ∷ following))
 
-  pub piece_line_stopped : (old mid new : S) (n m : ℕ) (block next last : Option Block) (ahead part rest bytes behind : List ℕ) (fault : RunFault) (first after end : DeviceOutput)
-      → Came language performs old n block ahead first mid m next (part ++ rest) after → rest ≡ bytes ++ 10 ∷ behind → IsUnbroken part → IsUnbroken bytes
+  pub piece_line_stopped : (old mid new : S) (n m : ℕ) (block next last : Option Block) (ahead part rest bytes following : List ℕ) (fault : RunFault) (first after end : DeviceOutput)
+      → Came language performs old n block ahead first mid m next (part ++ rest) after → rest ≡ bytes ++ 10 ∷ following → IsUnbroken part → IsUnbroken bytes
       → TakesLine performs (m + 1) (step_at language (m + 1) next (strip_carriage_return (part ++ bytes))) mid after (Err fault) new end last
       → Stopped language performs old n block ahead fault first end
-  piece_line_stopped old mid new n m block next last ahead part rest bytes behind fault first after end c e u v t =
-      came_stopped old mid n m block next ahead ((part ++ bytes) ++ 10 ∷ behind) fault first after end
-      (subst (λ (l : List ℕ). Came language performs old n block ahead first mid m next l after) (ahead_of part rest bytes behind e) c)
-      (line_stopped mid new m next last (part ++ bytes) behind fault after end (unbroken_append part bytes u v) t)
+  piece_line_stopped old mid new n m block next last ahead part rest bytes following fault first after end c e u v t =
+      came_stopped old mid n m block next ahead ((part ++ bytes) ++ 10 ∷ following) fault first after end
+      (subst (λ (l : List ℕ). Came language performs old n block ahead first mid m next l after) (ahead_of part rest bytes following e) c)
+      (line_stopped mid new m next last (part ++ bytes) following fault after end (unbroken_append part bytes u v) t)
 
-  pub piece_line : (old mid new : S) (n m k : ℕ) (block next last : Option Block) (ahead part rest bytes behind empty : List ℕ) (first after end : DeviceOutput)
-      → Came language performs old n block ahead first mid m next (part ++ rest) after → rest ≡ bytes ++ 10 ∷ behind → IsUnbroken part → IsUnbroken bytes
+  pub piece_line : (old mid new : S) (n m k : ℕ) (block next last : Option Block) (ahead part rest bytes following empty : List ℕ) (first after end : DeviceOutput)
+      → Came language performs old n block ahead first mid m next (part ++ rest) after → rest ≡ bytes ++ 10 ∷ following → IsUnbroken part → IsUnbroken bytes
       → TakesLine performs (m + 1) (step_at language (m + 1) next (strip_carriage_return (part ++ bytes))) mid after (Ok tt) new end last → k ≡ m + 1 → empty ≡ []
-      → Came language performs old n block ahead first new k last (empty ++ behind) end
-  piece_line old mid new n m k block next last ahead part rest bytes behind empty first after end c e u v t lines none =
-      subst (λ (i : ℕ). Came language performs old n block ahead first new i last (empty ++ behind) end) (sym lines)
-      (subst (λ (l : List ℕ). Came language performs old n block ahead first new (m + 1) last (l ++ behind) end) (sym none)
-      (came_trans old mid new n m (m + 1) block next last ahead ((part ++ bytes) ++ 10 ∷ behind) behind first after end
-      (subst (λ (l : List ℕ). Came language performs old n block ahead first mid m next l after) (ahead_of part rest bytes behind e) c)
-      (came_line mid new m next last (part ++ bytes) behind after end (unbroken_append part bytes u v) t)))
+      → Came language performs old n block ahead first new k last (empty ++ following) end
+  piece_line old mid new n m k block next last ahead part rest bytes following empty first after end c e u v t lines none =
+      subst (λ (i : ℕ). Came language performs old n block ahead first new i last (empty ++ following) end) (sym lines)
+      (subst (λ (l : List ℕ). Came language performs old n block ahead first new (m + 1) last (l ++ following) end) (sym none)
+      (came_trans old mid new n m (m + 1) block next last ahead ((part ++ bytes) ++ 10 ∷ following) following first after end
+      (subst (λ (l : List ℕ). Came language performs old n block ahead first mid m next l after) (ahead_of part rest bytes following e) c)
+      (came_line mid new m next last (part ++ bytes) following after end (unbroken_append part bytes u v) t)))
 
   pub kept_stopped : (old mid : S) (n m : ℕ) (block next : Option Block) (ahead part rest : List ℕ) (r : Result (Unit {0}) RunFault) (first after : DeviceOutput)
       → Came language performs old n block ahead first mid m next (part ++ rest) after → IsUnbroken part → IsUnbroken rest

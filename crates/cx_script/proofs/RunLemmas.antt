@@ -9,7 +9,7 @@ use Rattle.cx_script_blocks.specs.Blocks.{step_at}
 use Rattle.cx_script.specs.Script.{Script, script_from, fault_at, led_to}
 use Rattle.cx_script_blocks.specs.declared.faults.Summary.{Summary}
 use Rattle.cx_script.specs.Transcript.{Runs}
-use Rattle.cx_script.specs.Parts.Progress.{Acts, Acted, Closes, HaltedAt, Halts, SentAll, SentSome, TakesLine, Took, behind_done}
+use Rattle.cx_script.specs.Parts.Progress.{Acts, Acted, Closes, HaltedAt, Halts, SentAll, SentSome, TakesLine, Took, after_done}
 use Rattle.cx_script_actions.specs.Language.{Language}
 use Rattle.cx_script_blocks.specs.declared.blocks.LineStep.{LineStep}
 use Rattle.cx_script_blocks.specs.declared.faults.RunFault.{RunFault}
@@ -18,11 +18,11 @@ use Rattle.cx_script_io.specs.declared.input.Ending.{Ending}
 use Rattle.cx_script_io.specs.declared.input.Ending.TheVariants.{AtEnd, Failed, PastBound}
 use Rattle.cx_script.proofs.FaultLemmas.{fault_before}
 
-behind_append : {A : Type 0} (a b : List A) (s : Script A) → behind_done a (behind_done b s) ≡ behind_done (a ++ b) s
-behind_append {A} a b s = ap (λ (l : List A). let r : Script A = record { actions = l; fault = s.fault } in r) (sym (append_assoc a b s.actions))
+after_append : {A : Type 0} (a b : List A) (s : Script A) → after_done a (after_done b s) ≡ after_done (a ++ b) s
+after_append {A} a b s = ap (λ (l : List A). let r : Script A = record { actions = l; fault = s.fault } in r) (sym (append_assoc a b s.actions))
 
 -- where a line leads to a step, or to a fault
-led : {A : Type 0} (due : Result (LineStep A) RunFault) (step : LineStep A) (next : Option Block → Script A) → due ≡ Ok step → led_to due next ≡ behind_done (option_to_list step.action) (next step.block)
+led : {A : Type 0} (due : Result (LineStep A) RunFault) (step : LineStep A) (next : Option Block → Script A) → due ≡ Ok step → led_to due next ≡ after_done (option_to_list step.action) (next step.block)
 led due step next e = ap (λ d. led_to d next) e
 
 not_led : {A : Type 0} (due : Result (LineStep A) RunFault) (fault : RunFault) (next : Option Block → Script A) → due ≡ Err fault → led_to due next ≡ record { actions = []; fault = Some fault }
@@ -36,10 +36,10 @@ only_bad number (Ok step) next h e =
     let read : Some Read ≡ Some (BadLine number) = sym (h step.block) ∙ sym (fault_before step.action (next step.block)) ∙ e in cc
 
 -- what is done is a front of the script's actions
-pub front : {A : Type 0} (script : Script A) (done : List A) (left : Script A) → script ≡ behind_done done left → take (length done) script.actions ≡ done
+pub front : {A : Type 0} (script : Script A) (done : List A) (left : Script A) → script ≡ after_done done left → take (length done) script.actions ≡ done
 front {A} script done left e = ap (λ (s : Script A). take (length done) s.actions) e ∙ take-append_seam done left.actions
 
-more_of : {A : Type 0} (script left : Script A) (done : List A) (k : ℕ) → script ≡ behind_done done left → done ++ take k left.actions ≡ take (length done + k) script.actions
+more_of : {A : Type 0} (script left : Script A) (done : List A) (k : ℕ) → script ≡ after_done done left → done ++ take k left.actions ≡ take (length done + k) script.actions
 more_of {A} script left done k e = sym (take-append-add done left.actions k) ∙ ap (λ (s : Script A). take (length done + k) s.actions) (sym e)
 
 module _ {A S : Type 0} (language : Language A) (performs : S → A → List ℕ → S → Type 0) where
@@ -82,7 +82,7 @@ module _ {A S : Type 0} (language : Language A) (performs : S → A → List ℕ
         runs = runs_line old step.action t.3.0 new t.3.1;
         written = t.3.2;
         asks = λ ending more. led (step_at language (n + 1) block line) step (λ b. script_from language ending (n + 1 + 1) b more) t.1
-            ∙ ap (λ b. behind_done (option_to_list step.action) (script_from language ending (n + 1 + 1) b more)) (sym t.2);
+            ∙ ap (λ b. after_done (option_to_list step.action) (script_from language ending (n + 1 + 1) b more)) (sym t.2);
         count = omega arith;
       }
 
@@ -95,31 +95,31 @@ module _ {A S : Type 0} (language : Language A) (performs : S → A → List ℕ
         runs = runs_append old c.done c.text mid d.done d.text new c.runs d.runs;
         written = sends_trans first after end c.text d.text c.written d.written;
         asks = λ ending others. ap (λ (l : List (List ℕ)). script_from language ending (n + 1) block l) (append_assoc lines more others) ∙ c.asks ending (more ++ others)
-            ∙ ap (behind_done c.done) (d.asks ending others) ∙ behind_append c.done d.done (script_from language ending (k + 1) last others);
+            ∙ ap (after_done c.done) (d.asks ending others) ∙ after_append c.done d.done (script_from language ending (k + 1) last others);
         count = omega (arith, length-append lines more, c.count, d.count);
       }
 
   -- ---- what was done before, and how the rest ended
-  all_behind : (old mid : S) (script left : Script A) (done : List A) (text : List ℕ) (first after last : DeviceOutput) → script ≡ behind_done done left
+  all_after : (old mid : S) (script left : Script A) (done : List A) (text : List ℕ) (first after last : DeviceOutput) → script ≡ after_done done left
       → Runs performs old done text mid → Sends first after text → SentAll performs mid left.actions after last → SentAll performs old script.actions first last
-  all_behind old mid script left done text first after last e r a w =
+  all_after old mid script left done text first after last e r a w =
       subst (λ (l : List A). SentAll performs old l first last) (sym (ap (λ (s : Script A). s.actions) e))
       (record { text = text ++ w.text; new = w.new; runs = runs_append old done text mid left.actions w.text w.new r w.runs; written = sends_trans first after last text w.text a w.written })
 
-  some_behind : (old mid : S) (done actions : List A) (text : List ℕ) (first after last : DeviceOutput) → Runs performs old done text mid → Sends first after text
+  some_after : (old mid : S) (done actions : List A) (text : List ℕ) (first after last : DeviceOutput) → Runs performs old done text mid → Sends first after text
       → SentSome performs mid actions after last → SentSome performs old (done ++ actions) first last
-  some_behind old mid done actions text first after last r a w =
+  some_after old mid done actions text first after last r a w =
       record { text = text ++ w.text; new = w.new; runs = runs_append old done text mid actions w.text w.new r w.runs; written = sends_front first after last text w.text a w.written }
 
-  own_behind : (old mid : S) (script left : Script A) (done : List A) (text : List ℕ) (fault : RunFault) (first after last : DeviceOutput) → script ≡ behind_done done left
+  own_after : (old mid : S) (script left : Script A) (done : List A) (text : List ℕ) (fault : RunFault) (first after last : DeviceOutput) → script ≡ after_done done left
       → Runs performs old done text mid → Sends first after text → (left.fault ≡ Some fault) × SentAll performs mid left.actions after last
       → (script.fault ≡ Some fault) × SentAll performs old script.actions first last
-  own_behind old mid script left done text fault first after last e r a s =
-      (ap (λ (x : Script A). x.fault) e ∙ s.0, all_behind old mid script left done text first after last e r a s.1)
+  own_after old mid script left done text fault first after last e r a s =
+      (ap (λ (x : Script A). x.fault) e ∙ s.0, all_after old mid script left done text first after last e r a s.1)
 
-  halted_behind : (old mid : S) (n m : ℕ) (block next : Option Block) (lines more : List (List ℕ)) (first after last : DeviceOutput)
+  halted_after : (old mid : S) (n m : ℕ) (block next : Option Block) (lines more : List (List ℕ)) (first after last : DeviceOutput)
       → Took language performs old n block lines first mid m next after → HaltedAt language performs mid m next more after last → HaltedAt language performs old n block (lines ++ more) first last
-  halted_behind old mid n m block next lines more first after last c h =
+  halted_after old mid n m block next lines more first after last c h =
       let here = take-append-add lines more h.line in
       let there : take (length lines + h.line + 1) (lines ++ more) ≡ lines ++ take (h.line + 1) more =
       ap (λ k. take k (lines ++ more)) (let same : length lines + h.line + 1 ≡ length lines + (h.line + 1) = omega arith in same) ∙ take-append-add lines more (h.line + 1) in
@@ -131,38 +131,38 @@ module _ {A S : Type 0} (language : Language A) (performs : S → A → List ℕ
         within = omega (arith, h.within, length-append lines more);
         led = ap (λ (s : Script A). s.fault) asked ∙ h.led;
         good = λ bad. h.good (sym (ap (λ (s : Script A). s.fault) with_it) ∙ bad ∙ ap (λ (k : ℕ). let due : Option RunFault = Some (BadLine k) in due) number);
-        done = all_behind old mid (script_from language Failed (n + 1) block (take (length lines + h.line) (lines ++ more))) (script_from language Failed (m + 1) next (take h.line more))
+        done = all_after old mid (script_from language Failed (n + 1) block (take (length lines + h.line) (lines ++ more))) (script_from language Failed (m + 1) next (take h.line more))
             c.done c.text first after last asked c.runs c.written h.done;
       }
 
-  pub halts_behind : (old mid : S) (n m : ℕ) (block next : Option Block) (lines more : List (List ℕ)) (ending : Ending) (fault : RunFault) (first after last : DeviceOutput)
+  pub halts_after : (old mid : S) (n m : ℕ) (block next : Option Block) (lines more : List (List ℕ)) (ending : Ending) (fault : RunFault) (first after last : DeviceOutput)
       → Took language performs old n block lines first mid m next after → Halts language performs mid ending m next more fault after last → Halts language performs old ending n block (lines ++ more) fault first last
   unfolding Halts
-  halts_behind old mid n m block next lines more ending Memory first after last c s = halted_behind old mid n m block next lines more first after last c s
-  halts_behind old mid n m block next lines more ending Write first after last c s =
+  halts_after old mid n m block next lines more ending Memory first after last c s = halted_after old mid n m block next lines more first after last c s
+  halts_after old mid n m block next lines more ending Write first after last c s =
       let left = script_from language ending (m + 1) next more in (
         length c.done + s.0,
         subst (λ (l : List A). SentSome performs old l first last) (more_of (script_from language ending (n + 1) block (lines ++ more)) left c.done s.0 (c.asks ending more))
-            (some_behind old mid c.done (take s.0 left.actions) c.text first after last c.runs c.written s.1),
+            (some_after old mid c.done (take s.0 left.actions) c.text first after last c.runs c.written s.1),
       )
-  halts_behind old mid n m block next lines more ending (BadLine i) first after last c s =
-      own_behind old mid (script_from language ending (n + 1) block (lines ++ more)) (script_from language ending (m + 1) next more) c.done c.text (BadLine i) first after last (c.asks ending more) c.runs c.written s
-  halts_behind old mid n m block next lines more ending (Source i which) first after last c s =
-      own_behind old mid (script_from language ending (n + 1) block (lines ++ more)) (script_from language ending (m + 1) next more) c.done c.text (Source i which) first after last (c.asks ending more) c.runs c.written s
-  halts_behind old mid n m block next lines more ending Read first after last c s =
-      own_behind old mid (script_from language ending (n + 1) block (lines ++ more)) (script_from language ending (m + 1) next more) c.done c.text Read first after last (c.asks ending more) c.runs c.written s
-  halts_behind old mid n m block next lines more ending ReadBound first after last c s =
-      own_behind old mid (script_from language ending (n + 1) block (lines ++ more)) (script_from language ending (m + 1) next more) c.done c.text ReadBound first after last (c.asks ending more) c.runs c.written s
+  halts_after old mid n m block next lines more ending (BadLine i) first after last c s =
+      own_after old mid (script_from language ending (n + 1) block (lines ++ more)) (script_from language ending (m + 1) next more) c.done c.text (BadLine i) first after last (c.asks ending more) c.runs c.written s
+  halts_after old mid n m block next lines more ending (Source i which) first after last c s =
+      own_after old mid (script_from language ending (n + 1) block (lines ++ more)) (script_from language ending (m + 1) next more) c.done c.text (Source i which) first after last (c.asks ending more) c.runs c.written s
+  halts_after old mid n m block next lines more ending Read first after last c s =
+      own_after old mid (script_from language ending (n + 1) block (lines ++ more)) (script_from language ending (m + 1) next more) c.done c.text Read first after last (c.asks ending more) c.runs c.written s
+  halts_after old mid n m block next lines more ending ReadBound first after last c s =
+      own_after old mid (script_from language ending (n + 1) block (lines ++ more)) (script_from language ending (m + 1) next more) c.done c.text ReadBound first after last (c.asks ending more) c.runs c.written s
 
-  pub closes_behind : (old mid : S) (n m : ℕ) (block next : Option Block) (lines more : List (List ℕ)) (ending : Ending) (answer : Result Summary RunFault) (first after last : DeviceOutput)
+  pub closes_after : (old mid : S) (n m : ℕ) (block next : Option Block) (lines more : List (List ℕ)) (ending : Ending) (answer : Result Summary RunFault) (first after last : DeviceOutput)
       → Took language performs old n block lines first mid m next after → Closes language performs mid ending m next more answer after last → Closes language performs old ending n block (lines ++ more) answer first last
-  closes_behind old mid n m block next lines more ending (Ok summary) first after last c h =
+  closes_after old mid n m block next lines more ending (Ok summary) first after last c h =
       let e = c.asks ending more in (
         ap (λ (x : Script A). x.fault) e ∙ h.0,
         omega (arith, h.1, length-append lines more, c.count),
-        all_behind old mid (script_from language ending (n + 1) block (lines ++ more)) (script_from language ending (m + 1) next more) c.done c.text first after last e c.runs c.written h.2,
+        all_after old mid (script_from language ending (n + 1) block (lines ++ more)) (script_from language ending (m + 1) next more) c.done c.text first after last e c.runs c.written h.2,
       )
-  closes_behind old mid n m block next lines more ending (Err fault) first after last c h = halts_behind old mid n m block next lines more ending fault first after last c h
+  closes_after old mid n m block next lines more ending (Err fault) first after last c h = halts_after old mid n m block next lines more ending fault first after last c h
 
   -- ---- a line that wasn't taken
   pub own_fault : (old : S) (ending : Ending) (n : ℕ) (block : Option Block) (line : List ℕ) (lines : List (List ℕ)) (fault : RunFault) (before after : DeviceOutput)

@@ -4,7 +4,7 @@ ghost use Rattle.std.specs.Prelude.{◌≡◌, ℕ, List, Option, Ok, IfSome};
 ghost use Rattle.std.specs.Str.Lines.{lines};
 ghost use Rattle.cx_script_io.specs.Lines.{lines_met};
 ghost use Rattle.cx_asm_arrival.specs.Laws.Entry.{ReachesEntry};
-ghost use Rattle.cx_asm_execution.specs.Arriving.{CommandsArrive};
+ghost use Rattle.cx_asm_execution.specs.Arrival.{CommandsArrive};
 ghost use Rattle.cx_script.specs.Outcome.{RanScript};
 ghost use Rattle.cx_edf.specs.State.{EdfState};
 ghost use Rattle.cx_script_actions.specs.Effects.{Performs};

@@ -116,7 +116,8 @@ impl<P: Performer + Drop> Progress<P> {
         requires failure { W.has_failed writer.old ≡ false }
         ensures taken { let number = self.old.lines + 1 in
             let due = step_at P.Action.language number self.old.block line.now in
-            let before = device_output (W.written writer.old) [] in let after = device_output (W.written writer.new) [] in
+            let before = device_output (W.written writer.old) [] in
+            let after = device_output (W.written writer.new) [] in
             TakesLine P.performs number due self.old.performer before result self.new.performer after self.new.block }
         ensures lines { self.new.lines ≡ self.old.lines + 1 }
         ensures failure { W.has_failed writer.new ≡ is_write result }
@@ -253,16 +254,17 @@ impl<P: Performer + Drop> ScriptRun<P> {
             let before = device_output (W.written writer.old) old.waiting in
             let after = device_output (W.written writer.new) self.new.progress.waiting in
             let language = P.Action.language in
-            IfErr result (λ fault. Stopped language P.performs old.performer old.lines old.block ahead fault before after) }
+            IfErr result (λ fault. Stopped language P.performs old.performer old.lines old.block
+            ahead fault before after) }
         ensures failure { W.has_failed writer.new ≡ is_write result }
         ensures unread { is_read result ≡ false }
     {
         let mut rest = piece;
-        'lines: while let Some((bytes, behind)) = split_line(rest) {
+        'lines: while let Some((bytes, following)) = split_line(rest) {
             if let Err(fault) = self.end_line(alloc, writer, bytes) {
                 return Err(fault);
             }
-            rest = behind;
+            rest = following;
         }
         self.keep(rest)
     }
@@ -280,7 +282,8 @@ impl<P: Performer + Drop> ScriptRun<P> {
         requires failure { W.has_failed writer.old ≡ false }
         ensures came { let old = self.old.progress in let new = self.new.progress in
             let ahead = self.old.part.items ++ piece.now in
-            let before = device_output (W.written writer.old) [] in let after = device_output (W.written writer.new) [] in
+            let before = device_output (W.written writer.old) [] in
+            let after = device_output (W.written writer.new) [] in
             OnOk result (Came P.Action.language P.performs old.performer old.lines old.block ahead before
             new.performer new.lines new.block self.new.part.items after) }
         ensures unbroken { OnOk result (IsUnbroken self.new.part.items) }
@@ -288,9 +291,11 @@ impl<P: Performer + Drop> ScriptRun<P> {
         ensures lines { OnOk result (self.new.progress.lines ≤ self.old.progress.lines + length piece.now) }
         ensures waits { OnOk result (self.new.progress.waiting ≡ []) }
         ensures err { let old = self.old.progress in let ahead = self.old.part.items ++ piece.now in
-            let before = device_output (W.written writer.old) [] in let after = device_output (W.written writer.new) [] in
+            let before = device_output (W.written writer.old) [] in
+            let after = device_output (W.written writer.new) [] in
             let language = P.Action.language in
-            IfErr result (λ fault. Stopped language P.performs old.performer old.lines old.block ahead fault before after) }
+            IfErr result (λ fault. Stopped language P.performs old.performer old.lines old.block
+            ahead fault before after) }
         ensures failure { W.has_failed writer.new ≡ is_write result }
         ensures unread { is_read result ≡ false }
     {
@@ -317,7 +322,8 @@ impl<P: Performer + Drop> ScriptRun<P> {
         requires waits { self.progress.waiting ≡ [] }
         requires failure { W.has_failed writer.old ≡ false }
         ensures ends { let old = self.progress in let lines = lines_met ending self.part.items in
-            let before = device_output (W.written writer.old) [] in let after = device_output (W.written writer.new) [] in
+            let before = device_output (W.written writer.old) [] in
+            let after = device_output (W.written writer.new) [] in
             Closes P.Action.language P.performs old.performer ending old.lines old.block lines result before after }
         ensures failure { W.has_failed writer.new ≡ is_write result }
         ensures read { is_read result ≡ is_failure ending }

@@ -11,7 +11,7 @@ use Rattle.std.proofs.lemmas.Bool.Decides.{nat_tests}
 use Rattle.std.proofs.lemmas.List.Sums.{AllPass-from_list_all}
 use Rattle.std.proofs.lemmas.Str.{IsUtf8-from_ascii}
 use Rattle.std.proofs.lemmas.Str.Ascii.{IsAscii-nil, IsAscii-cons}
-use Rattle.cx_ebcdic.specs.Names.{name_of, name_code, is_name_character, pad}
+use Rattle.cx_ebcdic.specs.Names.{padded_name, name_code, is_name_character, pad}
 use Rattle.cx_ebcdic.specs.Lookup.{each_some}
 
 name_below : (c : ℕ) → is_name_character c ≡ true → c < 128
@@ -41,8 +41,8 @@ not_some false o f h = refl
 not_some true None f h = refl
 not_some true (Some x) f h = absurd (h x refl)
 
-pub no_name : (width : ℕ) (text : List ℕ) → ¬ (IsUtf8 text) → name_of width text ≡ None
-unfolding name_of
+pub no_name : (width : ℕ) (text : List ℕ) → ¬ (IsUtf8 text) → padded_name width text ≡ None
+unfolding padded_name
 no_name width text h =
     not_some (nat_le 1 (length text) && nat_le (length text) width) (each_some (map name_code text)) (pad width)
     (λ bytes e. h (IsUtf8-from_ascii text (name_ascii text bytes e)))

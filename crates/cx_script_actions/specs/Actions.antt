@@ -3,7 +3,7 @@ use Rattle.std.specs.Prelude.{ℕ, Bool, true, false, None, ◌==◌, if◌then�
 use Rattle.std.specs.Option.{option_and_then, option_map}
 use Rattle.std.specs.List.{find}
 use Rattle.std.specs.Str.{bytes_eq}
-use Rattle.cx_ebcdic.specs.Names.{name_of}
+use Rattle.cx_ebcdic.specs.Names.{padded_name}
 use Rattle.cx_ebcdic.specs.Aids.{key_of}
 use Rattle.cx_ebcdic.specs.declared.aids.Aid.{Aid}
 use Rattle.cx_ebcdic.specs.declared.aids.Aid.TheVariants.{Enter, Clear, Pa1, Pa2, Pf1, Pf2, Pf3, Pf4, Pf5, Pf6, Pf7, Pf8, Pf9, Pf10, Pf11, Pf12}
@@ -64,17 +64,17 @@ source_line name rest = option_map (λ wanted. line.Source name wanted) (wanted_
 unfoldable pub line_asked_for : List ℕ → List ℕ → Option (Line Action)
 line_asked_for verb text =
     let is = bytes_eq verb in
-    if is (codes "IMAGE") then two_words line.Image (name_of 8) (number_of 1 9) text
-    else if is (codes "SOURCE") then option_and_then (λ name. source_line name (after_first_blank text)) (name_of 8 (word text))
-    else if is (codes "TRANSACTION") then two_words (λ t p. does (event.Transaction t p)) (name_of 4) (name_of 8) text
-    else if is (codes "TERMINAL") then option_map (λ name. does (event.Terminal name)) (name_of 4 text)
+    if is (codes "IMAGE") then two_words line.Image (padded_name 8) (number_of 1 9) text
+    else if is (codes "SOURCE") then option_and_then (λ name. source_line name (after_first_blank text)) (padded_name 8 (word text))
+    else if is (codes "TRANSACTION") then two_words (λ t p. does (event.Transaction t p)) (padded_name 4) (padded_name 8) text
+    else if is (codes "TERMINAL") then option_map (λ name. does (event.Terminal name)) (padded_name 4 text)
     else if is (codes "CLOCK") then two_words (λ t d. does (event.Clock t d)) (number_of 6 6) (number_of 5 5) text
-    else if is (codes "KEY") then two_words (λ n key. does (event.Key n key.0 key.1)) (name_of 4) key_with_text text
-    else if is (codes "TURN") then option_map (λ name. does (event.Turn name)) (name_of 4 text)
-    else if is (codes "EDF") then two_words edf_switch (name_of 4) switch_of text
-    else if is (codes "DISPLAY") then option_and_then (λ name. display_line name (after_first_blank text)) (name_of 4 (word text))
-    else if is (codes "SCREEN") then option_map (λ name. line.Action (action.Screen name)) (name_of 4 text)
-    else if is (codes "ALTER") then two_words (λ name change. does (event.Alter name change)) (name_of 4) change_of text
+    else if is (codes "KEY") then two_words (λ n key. does (event.Key n key.0 key.1)) (padded_name 4) key_with_text text
+    else if is (codes "TURN") then option_map (λ name. does (event.Turn name)) (padded_name 4 text)
+    else if is (codes "EDF") then two_words edf_switch (padded_name 4) switch_of text
+    else if is (codes "DISPLAY") then option_and_then (λ name. display_line name (after_first_blank text)) (padded_name 4 (word text))
+    else if is (codes "SCREEN") then option_map (λ name. line.Action (action.Screen name)) (padded_name 4 text)
+    else if is (codes "ALTER") then two_words (λ name change. does (event.Alter name change)) (padded_name 4) change_of text
     else None
 
 -- an empty line, or one that begins with an asterisk

@@ -5,7 +5,7 @@ ghost use Rattle.std.specs.Option.{option_map};
 ghost use Rattle.std.specs.List.{filter_map, list_all};
 ghost use Rattle.std.specs.Char.{is_ascii_digit};
 ghost use Rattle.cx_ebcdic.specs.Characters.{code_of};
-ghost use Rattle.cx_ebcdic.specs.Names.{name_of};
+ghost use Rattle.cx_ebcdic.specs.Names.{padded_name};
 ghost use Rattle.cx_script_actions.specs.Words.{after_first_blank, codes_of_key, decimal, is_blank, number_of, word};
 
 use cx_code::Bytes;
@@ -25,7 +25,7 @@ fn first_blank(text: &[u8]) -> Option<usize>
 /// The first word, and what follows the blank that ends it.
 pub fn split_word(text: &[u8]) -> (&[u8], Option<&[u8]>)
     ensures word { result.0.now ≡ word text.now }
-    ensures behind { option_map (λ rest. rest.now) result.1 ≡ after_first_blank text.now }
+    ensures after { option_map (λ rest. rest.now) result.1 ≡ after_first_blank text.now }
 {
     match first_blank(text) {
         Some(place) => (text.split_at(place).0, Some(text.split_at(place + 1).1)),
@@ -36,7 +36,7 @@ pub fn split_word(text: &[u8]) -> (&[u8], Option<&[u8]>)
 /// The name of four characters that a word spells.
 #[tactic(auto, using(crate::proofs::WordLemmas::no_name))]
 pub fn name4(word: &[u8]) -> Option<Name4>
-    ensures { result ≡ name_of 4 word.now }
+    ensures { result ≡ padded_name 4 word.now }
 {
     match str::from_utf8(word) {
         Ok(text) => Name4::from_text(text),
@@ -47,7 +47,7 @@ pub fn name4(word: &[u8]) -> Option<Name4>
 /// The name of eight characters that a word spells.
 #[tactic(auto, using(crate::proofs::WordLemmas::no_name))]
 pub fn name8(word: &[u8]) -> Option<Name8>
-    ensures { result ≡ name_of 8 word.now }
+    ensures { result ≡ padded_name 8 word.now }
 {
     match str::from_utf8(word) {
         Ok(text) => Name8::from_text(text),

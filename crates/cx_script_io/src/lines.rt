@@ -43,7 +43,7 @@ pub fn split_line(bytes: &[u8]) -> Option<(&[u8], &[u8])>
     ensures none { IfNone result (IsUnbroken bytes.now) }
 {
     match end_of_line(bytes) {
-        Some(end) => Some((in_front(bytes, end), behind(bytes, end))),
+        Some(end) => Some((in_front(bytes, end), after(bytes, end))),
         None => None,
     }
 }
@@ -57,7 +57,7 @@ pub fn in_front(bytes: &[u8], end: usize) -> &[u8]
 }
 
 /// The bytes after a place.
-fn behind(bytes: &[u8], end: usize) -> &[u8]
+fn after(bytes: &[u8], end: usize) -> &[u8]
     requires { end < length bytes.now }
     ensures { result.now ≡ drop (end + 1) bytes.now }
 {

@@ -29,9 +29,9 @@ impl<'a> ScriptIn for MemoryIn<'a> {
 
     fn read(&mut self, buffer: &mut [u8]) -> Result<usize, DeviceFault> {
         let n = buffer.len().min(self.rest.len());
-        let (front, behind) = self.rest.split_at(n);
+        let (front, rest) = self.rest.split_at(n);
         buffer[..n].copy_from_slice(front);
-        self.rest = behind;
+        self.rest = rest;
         Ok(n)
     }
 
@@ -88,7 +88,8 @@ impl<'a> ScriptOut for MemoryOut<'a> {
     fn write(&mut self, bytes: &[u8]) -> Result<usize, DeviceFault>
         ensures bound { IfOk result (λ n. n ≤ length bytes.now) }
         ensures bytes { let before = take self.old.len self.old.buffer.now in
-            let after = take self.new.len self.new.buffer.now in WriteAppends (Some before) (Some after) result bytes.now }
+            let after = take self.new.len self.new.buffer.now in
+            WriteAppends (Some before) (Some after) result bytes.now }
         ensures failure { self.new.failed ≡ (self.old.failed || is_refused result bytes.now) }
         ensures all { result ≡ Ok (min (length bytes.now) (length self.old.buffer.now - self.old.len)) }
         ensures room { let room = length self.old.buffer.now - self.old.len in

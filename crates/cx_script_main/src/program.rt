@@ -32,7 +32,8 @@ pub fn run_reader<P: Performer + Drop, F: Read, W: ScriptOut>(
     requires input { ⟦<Std<F> as ScriptIn>⟧.has_failed input.old ≡ false }
     requires output { W.has_failed output.old ≡ false }
     ensures ran { (start : P) → IfOk performer (λ made. made ≡ start)
-        → RanIn P.Action.language P.performs start (⟦<Std<F> as ScriptIn>⟧.left input.old) (⟦<Std<F> as ScriptIn>⟧.left input.new)
+        → RanIn P.Action.language P.performs start (⟦<Std<F> as ScriptIn>⟧.left input.old)
+        (⟦<Std<F> as ScriptIn>⟧.left input.new)
         (⟦<Std<F> as ScriptIn>⟧.has_failed input.new) result (W.written output.old) (W.written output.new) }
     ensures read { ⟦<Std<F> as ScriptIn>⟧.has_failed input.new ≡ is_read result }
     ensures write { W.has_failed output.new ≡ is_write result }
@@ -50,7 +51,8 @@ pub fn run_opened<P: Performer + Drop, F: Read + Drop, E: Drop, W: ScriptOut>(
 ) -> Result<Summary, RunFault>
     requires { W.has_failed output.old ≡ false }
     ensures ran { (start : P) → IfOk performer (λ made. made ≡ start) → IfOk opened (λ file.
-        RanFrom P.Action.language P.performs start (F.remaining file) result (W.written output.old) (W.written output.new)) }
+        RanFrom P.Action.language P.performs start (F.remaining file) result
+        (W.written output.old) (W.written output.new)) }
     ensures unopened { OnErr opened (result ≡ Err ReadFault) }
     ensures unwritten { OnErr opened (W.written output.new ≡ W.written output.old) }
 {

@@ -5,7 +5,7 @@ use Rattle.std.specs.List.{slice_split, onto_first, position_or_len, AllByRecurs
 use Rattle.std.proofs.lemmas.Bool.{cases_Bool, cases_lt, cases_eq, le-leb, lt-leb, leb-true, ltb-true, ltb-false, cond-true, cond-false, MatchBool-at_true, MatchBool-at_false}
 use Rattle.std.proofs.lemmas.Option.{cond_some, slice_get-get_or, slice_get_past, none-some, same_Some}
 use Rattle.std.proofs.lemmas.List.Splits.{slice_split_first, slice_split-cons_yes, slice_split-cons_no}
-use Rattle.cx_service.specs.Lines.{blank, columns, new_line, parts_of, IsBreak, IsLastBreak, line_before, left_behind, Breaks, ArePartLines, AreLines, AreLinesOf}
+use Rattle.cx_service.specs.Lines.{blank, columns, new_line, parts_of, IsBreak, IsLastBreak, line_before, left_after, Breaks, ArePartLines, AreLines, AreLinesOf}
 use Rattle.cx_service.specs.Parts.LineSteps.{IsFirstPart, AreLinesLeft, IsLastBreakBelow}
 
 -- ---- the last break, searched upward
@@ -67,7 +67,7 @@ split_some : (p : ℕ → Bool) (xs : List ℕ) → (part : List ℕ) × (rest :
 split_some p [] = ([], [], refl)
 split_some p (x ∷ xs) = ⊎_elim
     (λ yes. ([], slice_split p xs, slice_split-cons_yes p x xs yes))
-    (λ no. let behind = split_some p xs in (x ∷ behind.0, behind.1, slice_split-cons_no p x xs no ∙ ap (onto_first x) behind.2))
+    (λ no. let after = split_some p xs in (x ∷ after.0, after.1, slice_split-cons_no p x xs no ∙ ap (onto_first x) after.2))
     (cases_Bool (p x))
 
 same_cons : {A : Type 0} (x y : A) (xs ys : List A) → x ∷ xs ≡ y ∷ ys → (x ≡ y) × (xs ≡ ys)
@@ -82,11 +82,11 @@ split_drop p (suc m) (x ∷ xs) [] rest h within = absurd (omega arith)
 split_drop p (suc m) (x ∷ xs) (y ∷ part) rest h within = ⊎_elim
     (λ yes. absurd (let e : [] ≡ y ∷ part = (same_cons _ _ _ _ (sym (slice_split-cons_yes p x xs yes) ∙ h)).0 in cc))
     (λ no.
-    let behind = split_some p xs in
-    let e : (x ∷ behind.0) ∷ behind.1 ≡ (y ∷ part) ∷ rest = ap (onto_first x) (sym behind.2) ∙ sym (slice_split-cons_no p x xs no) ∙ h in
+    let after = split_some p xs in
+    let e : (x ∷ after.0) ∷ after.1 ≡ (y ∷ part) ∷ rest = ap (onto_first x) (sym after.2) ∙ sym (slice_split-cons_no p x xs no) ∙ h in
     let first = same_cons _ _ _ _ e in
-    let tail : behind.0 ≡ part = (same_cons _ _ _ _ first.0).1 in
-    split_drop p m xs part rest (behind.2 ∙ ap (λ q. q ∷ behind.1) tail ∙ ap (λ r. part ∷ r) first.1) (omega arith))
+    let tail : after.0 ≡ part = (same_cons _ _ _ _ first.0).1 in
+    split_drop p m xs part rest (after.2 ∙ ap (λ q. q ∷ after.1) tail ∙ ap (λ r. part ∷ r) first.1) (omega arith))
     (cases_Bool (p x))
 
 -- where no byte passes, the text is its one part
@@ -118,23 +118,23 @@ pub short_part : (part : List ℕ) → length part ≤ 80 → ArePartLines part 
 unfolding ArePartLines
 short_part part short = rw (le-leb _ _ short) (refl, refl)
 
-pub long_part : (part : List ℕ) (place : Option ℕ) (lines : List (List ℕ)) → 80 < length part → IsLastBreak part place → ArePartLines (left_behind part place) lines → ArePartLines part (line_before part place ∷ lines)
+pub long_part : (part : List ℕ) (place : Option ℕ) (lines : List (List ℕ)) → 80 < length part → IsLastBreak part place → ArePartLines (left_after part place) lines → ArePartLines part (line_before part place ∷ lines)
 unfolding ArePartLines
 long_part part place lines long last more =
-    rw (lt-leb _ _ long) (left_behind part place, record { place = place; last = last; before = refl; behind = refl }, more)
+    rw (lt-leb _ _ long) (left_after part place, record { place = place; last = last; before = refl; after = refl }, more)
 
 -- a first part that fits is a line before the lines after it
-pub short_first : (text part : List ℕ) (behind : Option (List ℕ)) (lines : List (List ℕ)) → IsFirstPart text part behind → length part ≤ 80 → AreLinesLeft behind lines → AreLinesOf text (part ∷ lines)
+pub short_first : (text part : List ℕ) (after : Option (List ℕ)) (lines : List (List ℕ)) → IsFirstPart text part after → length part ≤ 80 → AreLinesLeft after lines → AreLinesOf text (part ∷ lines)
 unfolding AreLines
 short_first text part None lines first short more = rw first (part ∷ [], [], ap (λ ls. part ∷ ls) more, short_part part short, refl)
-short_first text part (Some behind) lines first short more = rw first (part ∷ [], lines, refl, short_part part short, more)
+short_first text part (Some after) lines first short more = rw first (part ∷ [], lines, refl, short_part part short, more)
 
 -- how many bytes go with a line that is broken off
 abbrev taken : Option ℕ → ℕ
 taken None = 80
 taken (Some k) = k + 1
 
-left_is_drop : (text : List ℕ) (place : Option ℕ) → left_behind text place ≡ drop (taken place) text
+left_is_drop : (text : List ℕ) (place : Option ℕ) → left_after text place ≡ drop (taken place) text
 left_is_drop text None = refl
 left_is_drop text (Some k) = refl
 
@@ -142,25 +142,25 @@ taken_within : (part : List ℕ) (place : Option ℕ) → IsLastBreak part place
 taken_within part None last long = omega arith
 taken_within part (Some k) last long = let to : k ≤ 80 = last.0.to in omega arith
 
-broken_parts : (text part : List ℕ) (place : Option ℕ) (rest : List (List ℕ)) → parts_of text ≡ part ∷ rest → 80 < length part → IsLastBreak part place → parts_of (left_behind text place) ≡ left_behind part place ∷ rest
+broken_parts : (text part : List ℕ) (place : Option ℕ) (rest : List (List ℕ)) → parts_of text ≡ part ∷ rest → 80 < length part → IsLastBreak part place → parts_of (left_after text place) ≡ left_after part place ∷ rest
 broken_parts text part place rest first long last =
     ap parts_of (left_is_drop text place)
     ∙ split_drop (λ byte. byte == new_line) (taken place) text part rest first (taken_within part place last long)
     ∙ ap (λ left. left ∷ rest) (sym (left_is_drop part place))
 
 -- a line broken off a first part is a line before the lines of what is left
-pub break_then : (text part : List ℕ) (place : Option ℕ) (rest lines : List (List ℕ)) → parts_of text ≡ part ∷ rest → 80 < length part → IsLastBreak part place → AreLinesOf (left_behind text place) lines → AreLinesOf text (line_before part place ∷ lines)
+pub break_then : (text part : List ℕ) (place : Option ℕ) (rest lines : List (List ℕ)) → parts_of text ≡ part ∷ rest → 80 < length part → IsLastBreak part place → AreLinesOf (left_after text place) lines → AreLinesOf text (line_before part place ∷ lines)
 unfolding AreLines
 break_then text part place rest lines first long last more =
-    let left : AreLines (left_behind part place ∷ rest) lines = subst (λ ps. AreLines ps lines) (broken_parts text part place rest first long last) more in
+    let left : AreLines (left_after part place ∷ rest) lines = subst (λ ps. AreLines ps lines) (broken_parts text part place rest first long last) more in
     rw first (line_before part place ∷ left.0, left.1, ap (λ ls. line_before part place ∷ ls) left.2, long_part part place left.0 long last left.3, left.4)
 
-pub broken_first : (text part : List ℕ) (behind : Option (List ℕ)) (place : Option ℕ) → IsFirstPart text part behind → 80 < length part → IsLastBreak part place → (lines : List (List ℕ)) → AreLinesOf (left_behind text place) lines → AreLinesOf text (line_before part place ∷ lines)
+pub broken_first : (text part : List ℕ) (after : Option (List ℕ)) (place : Option ℕ) → IsFirstPart text part after → 80 < length part → IsLastBreak part place → (lines : List (List ℕ)) → AreLinesOf (left_after text place) lines → AreLinesOf text (line_before part place ∷ lines)
 broken_first text part None place first long last lines more = break_then text part place [] lines first long last more
-broken_first text part (Some behind) place first long last lines more = break_then text part place (parts_of behind) lines first long last more
+broken_first text part (Some after) place first long last lines more = break_then text part place (parts_of after) lines first long last more
 
 -- ---- every text has lines
-left_is_shorter : (part : List ℕ) (place : Option ℕ) (n : ℕ) → 80 < length part → length part ≤ suc n → length (left_behind part place) ≤ n
+left_is_shorter : (part : List ℕ) (place : Option ℕ) (n : ℕ) → 80 < length part → length part ≤ suc n → length (left_after part place) ≤ n
 left_is_shorter part place n long within = rw (left_is_drop part place) (by_length place)
   where
     by_length : (q : Option ℕ) → length (drop (taken q) part) ≤ n
@@ -172,7 +172,7 @@ part_lines zero part within = (part ∷ [], short_part part (omega arith))
 part_lines (suc n) part within = ⊎_elim
     (λ long.
     let last = some_last part in
-    let more = part_lines n (left_behind part last.0) (left_is_shorter part last.0 n long within) in
+    let more = part_lines n (left_after part last.0) (left_is_shorter part last.0 n long within) in
     (line_before part last.0 ∷ more.0, long_part part last.0 more.0 long last.1 more.1))
     (λ short. (part ∷ [], short_part part short))
     (cases_lt 80 (length part))
@@ -193,7 +193,7 @@ left_lines_exist (Some text) = lines_exist (parts_of text)
 one_break : (part line left line' left' : List ℕ) → Breaks part line left → Breaks part line' left' → (line ≡ line') × (left ≡ left')
 one_break part line left line' left' p q =
     let same : p.place ≡ q.place = one_last part p.place q.place p.last q.last in
-    (p.before ∙ ap (line_before part) same ∙ sym q.before, p.behind ∙ ap (left_behind part) same ∙ sym q.behind)
+    (p.before ∙ ap (line_before part) same ∙ sym q.before, p.after ∙ ap (left_after part) same ∙ sym q.after)
 
 one_part_lines : (part : List ℕ) (a b : List (List ℕ)) → ArePartLines part a → ArePartLines part b → a ≡ b
 unfolding ArePartLines

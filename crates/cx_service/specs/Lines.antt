@@ -36,16 +36,16 @@ line_before part None = take columns part
 line_before part (Some k) = take k part
 
 -- what is left of the part after the break, whose blank is dropped
-abbrev pub left_behind : List ℕ → Option ℕ → List ℕ
-left_behind part None = drop columns part
-left_behind part (Some k) = drop (k + 1) part
+abbrev pub left_after : List ℕ → Option ℕ → List ℕ
+left_after part None = drop columns part
+left_after part (Some k) = drop (k + 1) part
 
 -- a part that is too long: its next line, and what is left of it
 pub record Breaks (part line left : List ℕ) : Type 0 where
   pub place : Option ℕ
   pub last : IsLastBreak part place
   pub before : line ≡ line_before part place
-  pub behind : left ≡ left_behind part place
+  pub after : left ≡ left_after part place
 
 -- The lines of a part: while it is longer than 80 bytes it is broken, and the rest is a line, be it empty.
 unfoldable pub ArePartLines : List ℕ → List (List ℕ) → Type 0

@@ -170,7 +170,8 @@ fn take_off(resources: &mut IndexMap<ResourceName, Hold>, slot: u8, name: &Resou
 #[tactic(auto, using(cx_base_lists::specs::Facts::Tables::set_value_absent))]
 fn set_count(resources: &mut IndexMap<ResourceName, Hold>, name: &ResourceName, count: u16)
     ensures { (hold : Hold) → hold_of resources.old.entries name.now ≡ Some hold
-        → resources.new.entries ≡ set_value (is_resource name.now) resources.old.entries (record hold { count = count }) }
+        → resources.new.entries ≡ set_value (is_resource name.now) resources.old.entries
+        (record hold { count = count }) }
 {
     match resources.get_mut(name) {
         Some(hold) => hold.count = count,

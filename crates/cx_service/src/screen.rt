@@ -83,9 +83,9 @@ fn show_lines(rows: &mut [[u8; COLUMNS]; ROWS], text: &[u8])
             Some(current) => current,
             None => return,
         };
-        let (line, behind) = first_line(current);
+        let (line, after) = first_line(current);
         rows[i] = filled_line(line);
-        left = behind;
+        left = after;
     }
 }
 
@@ -107,9 +107,9 @@ fn first_line(text: &[u8]) -> (&[u8], Option<&[u8]>)
     ensures goes_on { (lines : List (List ℕ)) → AreLinesLeft (option_map (λ left. left.now) result.1) lines
         → AreLinesOf text.now (result.0.now ∷ lines) }
 {
-    let (part, behind) = first_part(text);
+    let (part, after) = first_part(text);
     if part.len() <= COLUMNS {
-        return (part, behind);
+        return (part, after);
     }
     match last_break(part) {
         Some(k) => (part.split_at(k).0, Some(text.split_at(k + 1).1)),

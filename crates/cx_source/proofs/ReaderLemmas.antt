@@ -95,13 +95,13 @@ outcome texts continues left =
     judged (first_fault continues (length texts + 1) left) (source_from (texts ++ up_to_end continues (map text_of left)))
 
 -- the same where the first line left is judged
-behind : Option SourceFault → Bool → Bool → List (List ℕ) → List ℕ → List (List ℕ) → Result Source SourceFault
-behind fault last continues texts text left =
+after : Option SourceFault → Bool → Bool → List (List ℕ) → List ℕ → List (List ℕ) → Result Source SourceFault
+after fault last continues texts text left =
     judged (option_or fault (cond last None (first_fault continues (length texts + 1 + 1) left)))
     (source_from (texts ++ text ∷ cond last [] (up_to_end continues (map text_of left))))
 
-line_on : (continues : Bool) (texts : List (List ℕ)) (text : List ℕ) (left : List (List ℕ)) → outcome (texts ++ text ∷ []) continues left ≡ behind None false continues texts text left
-unfolding outcome behind
+line_on : (continues : Bool) (texts : List (List ℕ)) (text : List ℕ) (left : List (List ℕ)) → outcome (texts ++ text ∷ []) continues left ≡ after None false continues texts text left
+unfolding outcome after
 line_on continues texts text left =
     ap (λ n. judged (first_fault continues (n + 1) left) (source_from ((texts ++ text ∷ []) ++ up_to_end continues (map text_of left)))) (length_push texts text)
     ∙ ap (λ all. judged (first_fault continues (length texts + 1 + 1) left) (source_from all)) (append_assoc texts (text ∷ []) (up_to_end continues (map text_of left)))
@@ -109,8 +109,8 @@ line_on continues texts text left =
 -- a whole line, and what comes after it
 line_step : (fault : Option SourceFault) (last continues : Bool) (texts : List (List ℕ)) (text bs : List ℕ)
     → finish (fold take_byte (reading (texts ++ text ∷ []) [] (Expects continues)) bs) ≡ outcome (texts ++ text ∷ []) continues (lines bs)
-    → finish (fold take_byte (judged_line fault last continues texts text) bs) ≡ behind fault last continues texts text (lines bs)
-unfolding behind
+    → finish (fold take_byte (judged_line fault last continues texts text) bs) ≡ after fault last continues texts text (lines bs)
+unfolding after
 line_step (Some fault) last continues texts text bs h = finish_faulty texts fault bs
 line_step None true continues texts text bs h = finish_ended (texts ++ text ∷ []) bs
 line_step None false continues texts text bs h = h ∙ line_on continues texts text (lines bs)
@@ -121,7 +121,7 @@ unfolding finish outcome
 last_none continues texts = refl
 
 last_step : (fault : Option SourceFault) (last continues : Bool) (texts : List (List ℕ)) (text : List ℕ)
-    → finish (judged_line fault last continues texts text) ≡ behind fault last continues texts text []
+    → finish (judged_line fault last continues texts text) ≡ after fault last continues texts text []
 last_step fault last continues texts text = line_step fault last continues texts text [] (last_none continues (texts ++ text ∷ []))
 
 closed_is_finish : (fault : Option SourceFault) (last continues : Bool) (texts : List (List ℕ)) (text : List ℕ)
@@ -135,7 +135,7 @@ closed_is_finish None false continues texts text = refl
 finish_open : (empty continues : Bool) (texts : List (List ℕ)) (u : List ℕ)
     → source_or_fault (cond empty (reading texts u (Expects continues)) (with_line continues u (reading texts u (Expects continues)))).progress (cond empty (reading texts u (Expects continues)) (with_line continues u (reading texts u (Expects continues))))
     ≡ outcome texts continues (cond empty [] (u ∷ []))
-unfolding outcome behind
+unfolding outcome after
 finish_open true continues texts u = refl
 finish_open false continues texts u =
     let text = text_of u in
@@ -146,7 +146,7 @@ finish_open false continues texts u =
 -- What the rest of a source leads to is what its lines make.
 whole : (bs : List ℕ) (texts : List (List ℕ)) (u : List ℕ) (continues : Bool) → list_any ends_line u ≡ false
     → finish (fold take_byte (reading texts u (Expects continues)) bs) ≡ outcome texts continues (lines (u ++ bs))
-unfolding finish take_byte outcome behind
+unfolding finish take_byte outcome after
 whole [] texts u continues h =
     finish_open (eqb (length u) 0) continues texts u
     ∙ ap (outcome texts continues) (sym (ap lines (append-nil u) ∙ lines_none u h))
@@ -186,14 +186,14 @@ lines_ended texts all = ap finish (fold_stays take_line (reading texts [] Ended)
 
 whole_line_step : (fault : Option SourceFault) (last continues : Bool) (texts : List (List ℕ)) (text : List ℕ) (all : List (List ℕ))
     → finish (fold take_line (reading (texts ++ text ∷ []) [] (Expects continues)) all) ≡ outcome (texts ++ text ∷ []) continues all
-    → finish (fold take_line (judged_line fault last continues texts text) all) ≡ behind fault last continues texts text all
-unfolding behind
+    → finish (fold take_line (judged_line fault last continues texts text) all) ≡ after fault last continues texts text all
+unfolding after
 whole_line_step (Some fault) last continues texts text all h = lines_faulty texts fault all
 whole_line_step None true continues texts text all h = lines_ended (texts ++ text ∷ []) all
 whole_line_step None false continues texts text all h = h ∙ line_on continues texts text all
 
 lines_outcome : (all : List (List ℕ)) (texts : List (List ℕ)) (continues : Bool) → finish (fold take_line (reading texts [] (Expects continues)) all) ≡ outcome texts continues all
-unfolding take_line outcome behind
+unfolding take_line outcome after
 lines_outcome [] texts continues = last_none continues texts
 lines_outcome (line ∷ all) texts continues =
     let text = text_of line in
@@ -239,16 +239,16 @@ in_pieces pieces = ap finish (many_pieces pieces at_start) ∙ whole_source (con
 
 -- A reader keeps no failed allocation as its fault.
 
-behind_not : (g : SourceFault) (fault : Option SourceFault) (last continues : Bool) (texts : List (List ℕ)) (text : List ℕ) → fault ≢ Some g
+after_not : (g : SourceFault) (fault : Option SourceFault) (last continues : Bool) (texts : List (List ℕ)) (text : List ℕ) → fault ≢ Some g
     → (judged_line fault last continues texts text).progress ≢ Faulty g
-behind_not g (Some fault) last continues texts text h = λ e. h (ap Some (let inner : fault ≡ g = cc in inner))
-behind_not g None true continues texts text h = λ e. cc
-behind_not g None false continues texts text h = λ e. cc
+after_not g (Some fault) last continues texts text h = λ e. h (ap Some (let inner : fault ≡ g = cc in inner))
+after_not g None true continues texts text h = λ e. cc
+after_not g None false continues texts text h = λ e. cc
 
 -- a fault that no line has, no piece brings
 module _ (g : SourceFault) (never : (continues : Bool) (n : ℕ) (line : List ℕ) → fault_of continues n line ≢ Some g) where
   either_not : (e continues : Bool) (texts : List (List ℕ)) (u line more : List ℕ) → (cond e (with_line continues line (reading texts u (Expects continues))) (reading texts more (Expects continues))).progress ≢ Faulty g
-  either_not true continues texts u line more = behind_not g _ _ _ texts (text_of line) (never continues (length texts + 1) line)
+  either_not true continues texts u line more = after_not g _ _ _ texts (text_of line) (never continues (length texts + 1) line)
   either_not false continues texts u line more = λ e. cc
 
   byte_not : (progress : Progress) (texts : List (List ℕ)) (u : List ℕ) (b : ℕ) → progress ≢ Faulty g → (take_byte (reading texts u progress) b).progress ≢ Faulty g
@@ -305,7 +305,7 @@ whole_line_not : (progress : Progress) (texts : List (List ℕ)) (u line : List 
 unfolding take_line
 whole_line_not Ended texts u line h = h
 whole_line_not (Faulty fault) texts u line h = h
-whole_line_not (Expects continues) texts u line h = behind_not Memory _ _ _ texts (text_of (u ++ line)) (fault_not_memory continues (length texts + 1) (u ++ line))
+whole_line_not (Expects continues) texts u line h = after_not Memory _ _ _ texts (text_of (u ++ line)) (fault_not_memory continues (length texts + 1) (u ++ line))
 
 pub refuses_line : (fault : SourceFault) (old new : Reading) (continues : Bool) (line : List ℕ) → old.progress ≡ Expects continues → new ≡ take_line old line → new.progress ≡ Faulty fault → Refuses fault old (take_line old line) new
 refuses_line fault old new continues line h taken faulty =

@@ -52,10 +52,10 @@ is_name text = is_letter (slice_index text 0) && list_all is_name_character text
 pub record Entries : Type 0 where
   pub name : List ℕ
   pub operation : List ℕ
-  pub behind : List ℕ
+  pub after : List ℕ
 
 unfoldable pub entries_of : List ℕ → Entries
 entries_of text =
     let body = columns 1 71 text in
     let second = skip_blanks (after_first is_blank body) in
-    record { name = before_first is_blank body; operation = before_first is_blank second; behind = after_first is_blank second }
+    record { name = before_first is_blank body; operation = before_first is_blank second; after = after_first is_blank second }

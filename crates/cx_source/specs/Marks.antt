@@ -10,8 +10,8 @@ use Rattle.cx_source.specs.declared.marks.Delimiter.TheVariants.{TopComma, Blank
 -- L' before a letter, where L begins a term: no name's character precedes it. `before` and `last` are the two
 -- characters before the apostrophe.
 unfoldable pub is_length_attribute : ℕ → ℕ → List ℕ → Bool
-is_length_attribute before last behind =
-    last == byte "L" && not (is_name_character before) && is_letter (slice_index behind 0)
+is_length_attribute before last after =
+    last == byte "L" && not (is_name_character before) && is_letter (slice_index after 0)
 
 -- Before an operand's first character: outside apostrophes and parentheses, as after a blank.
 abbrev pub at_start : Scan
@@ -19,29 +19,29 @@ at_start = record { within = false; depth = 0; before = byte " "; last = byte " 
 
 -- An apostrophe ends the text that it is in, and outside of one it opens one, unless it is that of a length attribute.
 -- (So of two in a text the second opens it again.)
-unfoldable pub within_behind : Scan → ℕ → List ℕ → Bool
-within_behind scan c behind =
-    if c == byte "'" then not scan.within && not (is_length_attribute scan.before scan.last behind) else scan.within
+unfoldable pub within_after : Scan → ℕ → List ℕ → Bool
+within_after scan c after =
+    if c == byte "'" then not scan.within && not (is_length_attribute scan.before scan.last after) else scan.within
 
 -- The character c, with what follows it, lies outside apostrophes: neither in a text nor one of its apostrophes.
 abbrev pub lies_outside : Scan → ℕ → List ℕ → Bool
-lies_outside scan c behind = not scan.within && not (within_behind scan c behind)
+lies_outside scan c after = not scan.within && not (within_after scan c after)
 
 -- how many parentheses outside apostrophes are open after the character
-unfoldable pub depth_behind : Scan → ℕ → List ℕ → ℕ
-depth_behind scan c behind =
-    if lies_outside scan c behind && c == byte "(" then scan.depth + 1
-    else (if lies_outside scan c behind && c == byte ")" then scan.depth - 1 else scan.depth)
+unfoldable pub depth_after : Scan → ℕ → List ℕ → ℕ
+depth_after scan c after =
+    if lies_outside scan c after && c == byte "(" then scan.depth + 1
+    else (if lies_outside scan c after && c == byte ")" then scan.depth - 1 else scan.depth)
 
 -- after the character
 abbrev pub scan_after : Scan → ℕ → List ℕ → Scan
-scan_after scan c behind =
-    record { within = within_behind scan c behind; depth = depth_behind scan c behind; before = scan.last; last = c }
+scan_after scan c after =
+    record { within = within_after scan c after; depth = depth_after scan c after; before = scan.last; last = c }
 
 -- for each character whether it lies outside apostrophes
 abbrev pub outside_from : Scan → List ℕ → List Bool
 outside_from scan [] = []
-outside_from scan (c ∷ behind) = lies_outside scan c behind ∷ outside_from (scan_after scan c behind) behind
+outside_from scan (c ∷ after) = lies_outside scan c after ∷ outside_from (scan_after scan c after) after
 
 abbrev pub outside_apostrophes : List ℕ → List Bool
 outside_apostrophes text = outside_from at_start text
@@ -57,8 +57,8 @@ is_mark Closing depth c = c == byte ")" && depth == 0
 -- the place of the first mark outside apostrophes, or the length
 abbrev pub first_from : Delimiter → Scan → List ℕ → ℕ
 first_from mark scan [] = 0
-first_from mark scan (c ∷ behind) =
-    if lies_outside scan c behind && is_mark mark scan.depth c then 0 else 1 + first_from mark (scan_after scan c behind) behind
+first_from mark scan (c ∷ after) =
+    if lies_outside scan c after && is_mark mark scan.depth c then 0 else 1 + first_from mark (scan_after scan c after) after
 
 abbrev pub first_mark : Delimiter → List ℕ → ℕ
 first_mark mark text = first_from mark at_start text
@@ -66,9 +66,9 @@ first_mark mark text = first_from mark at_start text
 -- the parts between the marks outside apostrophes; `part` is what there is of the first already
 abbrev pub parts_from : Delimiter → Scan → List ℕ → List ℕ → List (List ℕ)
 parts_from mark scan part [] = part ∷ []
-parts_from mark scan part (c ∷ behind) =
-    if lies_outside scan c behind && is_mark mark scan.depth c then part ∷ parts_from mark (scan_after scan c behind) [] behind
-    else parts_from mark (scan_after scan c behind) (part ++ c ∷ []) behind
+parts_from mark scan part (c ∷ after) =
+    if lies_outside scan c after && is_mark mark scan.depth c then part ∷ parts_from mark (scan_after scan c after) [] after
+    else parts_from mark (scan_after scan c after) (part ++ c ∷ []) after
 
 abbrev pub parts : Delimiter → List ℕ → List (List ℕ)
 parts mark text = parts_from mark at_start [] text

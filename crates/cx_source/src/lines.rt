@@ -158,18 +158,18 @@ pub(crate) struct Entries<'a> {
     /// The operation, or nothing where there is none.
     pub(crate) operation: &'a [u8],
     /// What follows the blank after the operation, to column 71.
-    pub(crate) behind: &'a [u8],
+    pub(crate) after: &'a [u8],
 }
 
 /// What precedes a text's first blank, and what follows it.
 fn split_word(text: &[u8]) -> (&[u8], &[u8])
     ensures word { result.0.now ≡ before_first is_blank text.now }
-    ensures behind { result.1.now ≡ after_first is_blank text.now }
+    ensures after { result.1.now ≡ after_first is_blank text.now }
 {
     let len = word_len(text);
     let (word, _) = text.split_at(len);
-    let (_, behind) = text.split_at(text.len().min(len.saturating_add(1)));
-    (word, behind)
+    let (_, after) = text.split_at(text.len().min(len.saturating_add(1)));
+    (word, after)
 }
 
 /// The entries of a statement's first line.
@@ -177,14 +177,14 @@ fn split_word(text: &[u8]) -> (&[u8], &[u8])
 pub(crate) fn entries_of(text: &[u8]) -> Entries<'_>
     ensures name { result.name.now ≡ (entries_of text.now).name }
     ensures operation { result.operation.now ≡ (entries_of text.now).operation }
-    ensures behind { result.behind.now ≡ (entries_of text.now).behind }
+    ensures after { result.after.now ≡ (entries_of text.now).after }
 {
     let (name, rest) = split_word(columns(text, 1, MARK - 1));
-    let (operation, behind) = split_word(skip_blanks(rest));
+    let (operation, after) = split_word(skip_blanks(rest));
     Entries {
         name,
         operation,
-        behind,
+        after,
     }
 }
 

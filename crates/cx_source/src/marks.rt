@@ -1,7 +1,7 @@
 //! Which characters of an operand lie outside apostrophes, and cutting an operand there.
 
 ghost use Rattle.std.specs.Prelude.{◌≡◌, ◌≤◌, ◌<◌, ◌+◌, ◌^◌, IfOk, length, map};
-ghost use Rattle.cx_source.specs.Marks.{at_start, first_mark, is_length_attribute, is_mark, lies_outside, outside_apostrophes, parts, scan_after, within_behind};
+ghost use Rattle.cx_source.specs.Marks.{at_start, first_mark, is_length_attribute, is_mark, lies_outside, outside_apostrophes, parts, scan_after, within_after};
 
 use crate::lines::{BLANK, begins_with_letter, is_name_character};
 use std::alloc::{AllocError, Global};
@@ -52,10 +52,10 @@ impl Delimiter {
 /// Whether an apostrophe is that of a length attribute, so that it opens no text: it is between
 /// an L that begins a term and a letter.
 #[tactic(auto, unfolding(crate::specs::Marks::is_length_attribute))]
-fn is_length_attribute(before: u8, last: u8, behind: &[u8]) -> bool
-    ensures { result ≡ is_length_attribute before last behind.now }
+fn is_length_attribute(before: u8, last: u8, after: &[u8]) -> bool
+    ensures { result ≡ is_length_attribute before last after.now }
 {
-    last == b'L' && !is_name_character(before) && begins_with_letter(behind)
+    last == b'L' && !is_name_character(before) && begins_with_letter(after)
 }
 
 impl Scan {
@@ -72,26 +72,26 @@ impl Scan {
     }
 
     /// Whether what follows the next character is in a text.
-    #[tactic(auto, unfolding(crate::specs::Marks::within_behind))]
-    fn within_behind(&self, c: u8, behind: &[u8]) -> bool
-        ensures { result ≡ within_behind self.now c behind.now }
+    #[tactic(auto, unfolding(crate::specs::Marks::within_after))]
+    fn within_after(&self, c: u8, after: &[u8]) -> bool
+        ensures { result ≡ within_after self.now c after.now }
     {
         if c == APOSTROPHE {
-            !self.within && !is_length_attribute(self.before, self.last, behind)
+            !self.within && !is_length_attribute(self.before, self.last, after)
         } else {
             self.within
         }
     }
 
     /// Passes over the next character, with what follows it: whether it lies outside apostrophes.
-    #[tactic(auto, unfolding(crate::specs::Marks::depth_behind))]
-    fn pass(&mut self, c: u8, behind: &[u8]) -> bool
+    #[tactic(auto, unfolding(crate::specs::Marks::depth_after))]
+    fn pass(&mut self, c: u8, after: &[u8]) -> bool
         requires { self.old.depth + 1 < 2 ^ 64 }
-        ensures outside { result ≡ lies_outside self.old c behind.now }
-        ensures passed { self.new ≡ scan_after self.old c behind.now }
+        ensures outside { result ≡ lies_outside self.old c after.now }
+        ensures passed { self.new ≡ scan_after self.old c after.now }
         ensures depth { self.new.depth ≤ self.old.depth + 1 }
     {
-        let within = self.within_behind(c, behind);
+        let within = self.within_after(c, after);
         let outside = !self.within && !within;
         let depth = match c {
             b'(' if outside => self.depth + 1,
@@ -119,8 +119,8 @@ pub fn outside(alloc: Global, text: &[u8]) -> Result<Vec<bool>, AllocError>
     let mut found = Vec::new(alloc);
     let mut scan = Scan::at_start();
     for (i, c) in text.iter().enumerate() {
-        let (_, behind) = text.split_at(i + 1);
-        found.push(scan.pass(*c, behind))?;
+        let (_, after) = text.split_at(i + 1);
+        found.push(scan.pass(*c, after))?;
     }
     Ok(found)
 }
@@ -134,8 +134,8 @@ pub fn first_mark(text: &[u8], mark: Delimiter) -> usize
     let mut scan = Scan::at_start();
     for (i, c) in text.iter().enumerate() {
         let at_mark = mark.is_at(scan.depth, *c);
-        let (_, behind) = text.split_at(i + 1);
-        if scan.pass(*c, behind) && at_mark {
+        let (_, after) = text.split_at(i + 1);
+        if scan.pass(*c, after) && at_mark {
             return i;
         }
     }
@@ -153,8 +153,8 @@ pub fn cut(alloc: Global, text: &[u8], mark: Delimiter) -> Result<Vec<&[u8]>, Al
     let mut start = 0;
     for (i, c) in text.iter().enumerate() {
         let at_mark = mark.is_at(scan.depth, *c);
-        let (_, behind) = text.split_at(i + 1);
-        if scan.pass(*c, behind) && at_mark {
+        let (_, after) = text.split_at(i + 1);
+        if scan.pass(*c, after) && at_mark {
             found.push(&text[start..i])?;
             start = i + 1;
         }

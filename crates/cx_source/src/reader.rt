@@ -43,7 +43,7 @@ fn strip_carriage_return(line: &[u8]) -> &[u8]
 }
 
 /// What a line of this text leads to.
-fn behind_line(continues: bool, text: &[u8]) -> Progress
+fn after_line(continues: bool, text: &[u8]) -> Progress
     ensures { result ≡ (if is_last continues text.now then Progress.Ended
         else Progress.Expects (is_continued continues text.now)) }
 {
@@ -71,7 +71,7 @@ fn take_line(
     }
     let text = text_of(line);
     texts.push_back(Text::from_slice(alloc, text)?)?;
-    Ok(behind_line(continues, text))
+    Ok(after_line(continues, text))
 }
 
 /// The source whose lines have these texts.

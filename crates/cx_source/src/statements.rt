@@ -34,13 +34,13 @@ pub(crate) fn is_last(continues: bool, text: &[u8]) -> bool
 /// What is written after a statement's operation: on its first line, and on those that continue it.
 fn written(
     alloc: Global,
-    behind: &[u8],
+    after: &[u8],
     first: &[u8],
     more: &VecDeque<Text>,
 ) -> Result<Vec<u8>, AllocError>
-    ensures { IfOk result (λ written. written.items ≡ behind.now ++ written_on (is_marked first.now) more.now.items) }
+    ensures { IfOk result (λ written. written.items ≡ after.now ++ written_on (is_marked first.now) more.now.items) }
 {
-    let mut written = Vec::from_slice(alloc, behind)?;
+    let mut written = Vec::from_slice(alloc, after)?;
     let mut marked = is_marked(first);
     let mut next = 0;
     while marked {
@@ -73,7 +73,7 @@ fn statement_of(alloc: Global, first: &[u8], more: &VecDeque<Text>) -> Result<St
     ensures { IfOk result (λ stmt. stmt ≡ statement_of first.now more.now.items) }
 {
     let entries = entries_of(first);
-    let written = written(alloc, entries.behind, first, more)?;
+    let written = written(alloc, entries.after, first, more)?;
     Ok(Stmt {
         name: List::from_slice(alloc, entries.name)?,
         operation: List::from_slice(alloc, entries.operation)?,

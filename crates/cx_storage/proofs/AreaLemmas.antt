@@ -114,15 +114,15 @@ area_whole (h ∷ hs) zero d ok within = IsSound-head h hs ok
 area_whole (h ∷ hs) (suc i) d ok within = area_whole hs i d (IsSound-tail h hs ok) (omega arith)
 
 -- the next area: an area that starts below an address isn't one of those that start there or above
-area_behind : (s : Storage) (e x : ℕ) → AllByRecursion (λ later. e ≤ later.area.start) s → x < e → area_at s x ≡ None
+area_after : (s : Storage) (e x : ℕ) → AllByRecursion (λ later. e ≤ later.area.start) s → x < e → area_at s x ≡ None
 unfolding area_at
-area_behind [] e x apart below = refl
-area_behind (h ∷ hs) e x apart below = rw (ne_eqb h.area.start x (λ d. absurd (omega (arith, apart.0)))) (area_behind hs e x apart.1 below)
+area_after [] e x apart below = refl
+area_after (h ∷ hs) e x apart below = rw (ne_eqb h.area.start x (λ d. absurd (omega (arith, apart.0)))) (area_after hs e x apart.1 below)
 
-next_behind : (h : Held) (hs : Storage) (from : ℕ) (r : Option Area) → h.area.start < from → IsNextArea hs from r → IsNextArea (h ∷ hs) from r
+next_after : (h : Held) (hs : Storage) (from : ℕ) (r : Option Area) → h.area.start < from → IsNextArea hs from r → IsNextArea (h ∷ hs) from r
 unfolding area_at
-next_behind h hs from None below next = λ start low. rw (ne_eqb h.area.start start (λ d. absurd (omega arith))) (next start low)
-next_behind h hs from (Some area) below next =
+next_after h hs from None below next = λ start low. rw (ne_eqb h.area.start start (λ d. absurd (omega arith))) (next start low)
+next_after h hs from (Some area) below next =
     let above = next.1 in (
       rw (ne_eqb h.area.start area.start (λ d. absurd (omega arith))) next.0,
       above,
@@ -138,7 +138,7 @@ next_area_is_least (h ∷ hs) from ok = elim (cases_Bool (nat_le from h.area.sta
       rw e (
         rw (eq-eqb h.area.start h.area.start refl) refl,
         here,
-        λ start low high. rw (ne_eqb h.area.start start (λ d. absurd (omega arith))) (area_behind hs (end_of h.area) start (IsSound-apart h hs ok) (omega arith)),
+        λ start low high. rw (ne_eqb h.area.start start (λ d. absurd (omega arith))) (area_after hs (end_of h.area) start (IsSound-apart h hs ok) (omega arith)),
       )
-  | inr e ↦ rw e (next_behind h hs from (next_area hs from) (leb-false from h.area.start e) (next_area_is_least hs from (IsSound-tail h hs ok)))
+  | inr e ↦ rw e (next_after h hs from (next_area hs from) (leb-false from h.area.start e) (next_area_is_least hs from (IsSound-tail h hs ok)))
 ]

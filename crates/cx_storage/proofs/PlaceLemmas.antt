@@ -55,7 +55,7 @@ absent_misses (h ∷ hs) len b some ok absent = (here, absent_misses hs len b so
     here = elim (cases_lt b (end_of h.area)) [
       | inr past ↦ inl past
       | inl before ↦ elim (cases_lt h.area.start (b + len)) [
-        | inr behind ↦ inr behind
+        | inr after ↦ inr after
         | inl meets ↦
             let low : h.area.start ≤ max b h.area.start = omega arith in
             let high : max b h.area.start < end_of h.area = omega (arith, head.nonempty) in

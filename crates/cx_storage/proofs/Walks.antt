@@ -67,12 +67,12 @@ unfolding next_area
 next_end s i from l = rw (drop_all i s l) refl
 
 -- the addresses of an area aren't covered by one before it or after it
-covers-behind : (h : Held) (hs : Storage) (a v : ℕ) → a < end_of h.area → AllByRecursion (λ later. end_of h.area ≤ later.area.start) hs → with_byte hs a v ≡ hs
+covers-after : (h : Held) (hs : Storage) (a v : ℕ) → a < end_of h.area → AllByRecursion (λ later. end_of h.area ≤ later.area.start) hs → with_byte hs a v ≡ hs
 unfolding with_byte
-covers-behind h [] a v below apart = refl
-covers-behind h (g ∷ gs) a v below apart = elim (covers_cases g.area a) [
+covers-after h [] a v below apart = refl
+covers-after h (g ∷ gs) a v below apart = elim (covers_cases g.area a) [
   | inl c ↦ absurd (omega (arith, apart.0, c.1))
-  | inr c ↦ rw (c.0, covers-behind h gs a v below apart.1) refl
+  | inr c ↦ rw (c.0, covers-after h gs a v below apart.1) refl
 ]
 
 at_index : (P : Held → Type 0) (s : Storage) (i : ℕ) (h : Held) → i < length s → h ≡ get_or s i h → AllByRecursion P s → P h
@@ -87,7 +87,7 @@ set_found [] i a v h ok l e c = absurd (omega arith)
 set_found (g ∷ gs) zero a v h ok l e c =
     let c' = rw e at c in
     let low : a < end_of g.area = elim (covers_cases g.area a) [ inl k ↦ k.2 | inr k ↦ absurd (false≢true (sym k.0 ∙ c')) ] in
-    rw (← e, covers-behind g gs a v low (IsSound-apart g gs ok)) refl
+    rw (← e, covers-after g gs a v low (IsSound-apart g gs ok)) refl
 set_found (g ∷ gs) (suc i) a v h ok l e c =
     let before : end_of g.area ≤ h.area.start = at_index (λ later. end_of g.area ≤ later.area.start) gs i h (omega arith) e (IsSound-apart g gs ok) in
     elim (covers_cases h.area a) [
@@ -150,10 +150,10 @@ span_found s i a n h ok l e low fits =
     rw many (rw at at (span_held s i h ok l e n (a - h.area.start) fits))
 
 -- a span inside one area is inside the one that has its first address
-any_behind : (g : Held) (s : Storage) (a n : ℕ) → a < end_of g.area → AllByRecursion (λ later. end_of g.area ≤ later.area.start) s → in_one_area s a n ≡ false
+any_after : (g : Held) (s : Storage) (a n : ℕ) → a < end_of g.area → AllByRecursion (λ later. end_of g.area ≤ later.area.start) s → in_one_area s a n ≡ false
 unfolding in_one_area
-any_behind g [] a n below apart = refl
-any_behind g (h ∷ hs) a n below apart = rw (lt-leb h.area.start a (omega (arith, apart.0))) (any_behind g hs a n below apart.1)
+any_after g [] a n below apart = refl
+any_after g (h ∷ hs) a n below apart = rw (lt-leb h.area.start a (omega (arith, apart.0))) (any_after g hs a n below apart.1)
 
 pub together_skip : (s : Storage) (i a n : ℕ) (h : Held) → i < length s → h ≡ get_or s i h → covers h.area a ≡ false → 0 < n → in_one_area (drop (i + 1) s) a n ≡ in_one_area (drop i s) a n
 unfolding in_one_area
@@ -178,7 +178,7 @@ together_found (g ∷ gs) zero a n h ok l e c some one = elim (covers_cases h.ar
     | inl here ↦ let fits : a + n ≤ end_of g.area = leb-true _ _ (and_parts (nat_le g.area.start a) _ here).1 in rw e fits
     | inr there ↦
         let low = k.2 in
-        absurd (false≢true (sym (any_behind g gs a n (rw e at low) (IsSound-apart g gs ok)) ∙ there))
+        absurd (false≢true (sym (any_after g gs a n (rw e at low) (IsSound-apart g gs ok)) ∙ there))
   ]
   | inr k ↦ absurd (false≢true (sym k.0 ∙ c))
 ]
@@ -302,8 +302,8 @@ walk_least (h ∷ hs) len at b m above misses = elim (cases_Bool (nat_le (at + l
   | inr e ↦
       let meets = leb-false (at + len) h.area.start e in
       elim misses.0 [
-        | inl behind ↦
-            let next = next_16_least (end_of h.area) b m behind in
+        | inl after ↦
+            let next = next_16_least (end_of h.area) b m after in
             rw e (walk_least hs len (max at (next_multiple_of (end_of h.area) 16)) b m (omega (arith, next)) misses.1)
         | inr before ↦ absurd (omega arith)
       ]

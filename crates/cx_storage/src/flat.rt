@@ -56,7 +56,8 @@ impl StorageBlock {
         requires low { self.now.area.start ≤ a }
         requires within { a - self.now.area.start ≤ length self.now.bytes }
         ensures cases { MatchOption result (length self.now.bytes < a - self.now.area.start + n)
-            (λ part. (a - self.now.area.start + n ≤ length self.now.bytes) × (part.now ≡ slice_range self.now.bytes (a - self.now.area.start) (a - self.now.area.start + n))) }
+            (λ part. (a - self.now.area.start + n ≤ length self.now.bytes)
+            × (part.now ≡ slice_range self.now.bytes (a - self.now.area.start) (a - self.now.area.start + n))) }
     {
         let from = (a - self.area.start) as usize;
         if n <= self.bytes.len() - from {

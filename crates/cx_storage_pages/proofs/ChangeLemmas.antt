@@ -81,7 +81,7 @@ get_bytes areas old new first last len a owner shown some can each x =
       | inr c ↦ elim (cases_Bool (is_within (a / 16) ((a + len + 15) / 16) (x / 16))) [
         | inl inside ↦
             let both = granules_from a (a + len) x can.0 inside in
-            let past : a + len ≤ x = elim c.1 [ inl before ↦ absurd (omega (arith, before, both.0)) | inr behind ↦ behind ] in
+            let past : a + len ≤ x = elim c.1 [ inl before ↦ absurd (omega (arith, before, both.0)) | inr beyond ↦ beyond ] in
             let gone = tail_absent s a len x can.0 some (held_aligned areas old (shown_aligned areas old shown)) can.3 past both.1 in
             rw (inside, le-ltb x (a + len) past) (sym (rw c.0 at after ∙ gone))
         | inr outside ↦ rw (outside, shown_byte areas old x shown) (sym (rw c.0 at after))
@@ -129,14 +129,14 @@ get_shows areas old new first last len a owner shown below some placed each =
 goes : (Area → Bool) → Storage → ℕ → Bool
 goes keeps s x = list_any (λ h. not (keeps h.area) && covers h.area x) s
 
-goes_behind : (keeps : Area → Bool) (s : Storage) (e x : ℕ) → AllByRecursion (λ later. e ≤ later.area.start) s → x < e → goes keeps s x ≡ false
+goes_after : (keeps : Area → Bool) (s : Storage) (e x : ℕ) → AllByRecursion (λ later. e ≤ later.area.start) s → x < e → goes keeps s x ≡ false
 unfolding goes
-goes_behind keeps [] e x apart below = refl
-goes_behind keeps (h ∷ hs) e x apart below = elim (covers_cases h.area x) [
+goes_after keeps [] e x apart below = refl
+goes_after keeps (h ∷ hs) e x apart below = elim (covers_cases h.area x) [
   | inl c ↦ absurd (omega (arith, apart.0, c.1))
   | inr c ↦ elim (cases_Bool (keeps h.area)) [
-    | inl k ↦ rw (c.0, k) (goes_behind keeps hs e x apart.1 below)
-    | inr k ↦ rw (c.0, k) (goes_behind keeps hs e x apart.1 below)
+    | inl k ↦ rw (c.0, k) (goes_after keeps hs e x apart.1 below)
+    | inr k ↦ rw (c.0, k) (goes_after keeps hs e x apart.1 below)
   ]
 ]
 
@@ -147,7 +147,7 @@ free_byte (h ∷ hs) keeps x ok =
     let rest = free_byte hs keeps x (IsSound-tail h hs ok) in
     elim (covers_cases h.area x) [
       | inl c ↦ elim (cases_Bool (keeps h.area)) [
-        | inl k ↦ rw (k, c.0, goes_behind keeps hs (end_of h.area) x (IsSound-apart h hs ok) c.2) refl
+        | inl k ↦ rw (k, c.0, goes_after keeps hs (end_of h.area) x (IsSound-apart h hs ok) c.2) refl
         | inr k ↦
             let apart = All-filter (λ later. end_of h.area ≤ later.area.start) (λ g. keeps g.area) hs (IsSound-apart h hs ok) in
             rw (k, c.0) (byte_before (filter (λ g. keeps g.area) hs) (end_of h.area) x apart c.2)
@@ -191,34 +191,34 @@ free_shows areas old new keeps shown each =
     (λ x. each x ∙ rw (shown_byte areas old x shown) (sym (free_byte s keeps x (shown_sound areas old shown) ∙ rw (goes_same keeps areas old x) refl)))
 
 -- no byte follows an area in its last granule
-tail_behind : (s : Storage) (e x : ℕ) → AlignedHeld s → AllByRecursion (λ later. e ≤ later.area.start) s → x / 16 < (e + 15) / 16 → byte_at s x ≡ None
+tail_after : (s : Storage) (e x : ℕ) → AlignedHeld s → AllByRecursion (λ later. e ≤ later.area.start) s → x / 16 < (e + 15) / 16 → byte_at s x ≡ None
 unfolding byte_at AlignedHeld
-tail_behind [] e x aligned apart within = refl
-tail_behind (h ∷ hs) e x aligned apart within = elim (covers_cases h.area x) [
+tail_after [] e x aligned apart within = refl
+tail_after (h ∷ hs) e x aligned apart within = elim (covers_cases h.area x) [
   | inl c ↦
       let low : h.area.start ≤ x = c.1 in
       let mine : h.area.start % 16 ≡ 0 = aligned.0 in
       absurd (omega (arith, apart.0, low, mine))
-  | inr c ↦ rw c.0 (tail_behind hs e x aligned.1 apart.1 within)
+  | inr c ↦ rw c.0 (tail_after hs e x aligned.1 apart.1 within)
 ]
 
-granule_behind : (areas : List Area) (pages : List Page) (i x : ℕ) (area : Area) → IsSound (storage_of areas pages) → AlignedHeld (storage_of areas pages) → slice_get areas i ≡ Some area
+granule_after : (areas : List Area) (pages : List Page) (i x : ℕ) (area : Area) → IsSound (storage_of areas pages) → AlignedHeld (storage_of areas pages) → slice_get areas i ≡ Some area
     → end_of area ≤ x → x / 16 < (end_of area + 15) / 16 → byte_at (storage_of areas pages) x ≡ None
 unfolding byte_at storage_of AlignedHeld
-granule_behind [] pages i x area ok aligned at past within = cc
-granule_behind (b ∷ bs) pages zero x area ok aligned at past within =
+granule_after [] pages i x area ok aligned at past within = cc
+granule_after (b ∷ bs) pages zero x area ok aligned at past within =
     let same : b ≡ area = cc in
     let past' : end_of b ≤ x = rw same past in
     let within' : x / 16 < (end_of b + 15) / 16 = rw same within in
     elim (covers_cases b x) [
       | inl c ↦ absurd (omega (arith, c.2, past'))
-      | inr c ↦ rw c.0 (tail_behind (storage_of bs pages) (end_of b) x aligned.1 (IsSound-apart (held_in pages b) (storage_of bs pages) ok) within')
+      | inr c ↦ rw c.0 (tail_after (storage_of bs pages) (end_of b) x aligned.1 (IsSound-apart (held_in pages b) (storage_of bs pages) ok) within')
     ]
-granule_behind (b ∷ bs) pages (suc i) x area ok aligned at past within = elim (covers_cases b x) [
+granule_after (b ∷ bs) pages (suc i) x area ok aligned at past within = elim (covers_cases b x) [
   | inl c ↦
-      let behind = later_is bs (end_of b) i area (IsSound-apart (held_in pages b) (storage_of bs pages) ok) at in
-      absurd (omega (arith, c.2, past, behind))
-  | inr c ↦ rw c.0 (granule_behind bs pages i x area (IsSound-tail (held_in pages b) (storage_of bs pages) ok) aligned.1 at past within)
+      let beyond = later_is bs (end_of b) i area (IsSound-apart (held_in pages b) (storage_of bs pages) ok) at in
+      absurd (omega (arith, c.2, past, beyond))
+  | inr c ↦ rw c.0 (granule_after bs pages i x area (IsSound-tail (held_in pages b) (storage_of bs pages) ok) aligned.1 at past within)
 ]
   where
     later_is : (cs : List Area) (e j : ℕ) (a : Area) → AllByRecursion (λ later. e ≤ later.area.start) (map (held_in pages) cs) → slice_get cs j ≡ Some a → e ≤ a.start
@@ -255,8 +255,8 @@ cleared areas pages i x area o shown at gone = elim (covers_cases area x) [
     | inl inside ↦
         let fits = area_fits_in area areas pages i (shown_sound areas pages shown) (shown_aligned areas pages shown) at in
         let both = granules_from area.start (end_of area) x fits.0 inside in
-        let past : end_of area ≤ x = elim c.1 [ inl before ↦ absurd (omega (arith, before, both.0)) | inr behind ↦ behind ] in
-        let absent = granule_behind areas pages i x area (shown_sound areas pages shown) (held_aligned areas pages (shown_aligned areas pages shown)) at past both.1 in
+        let past : end_of area ≤ x = elim c.1 [ inl before ↦ absurd (omega (arith, before, both.0)) | inr beyond ↦ beyond ] in
+        let absent = granule_after areas pages i x area (shown_sound areas pages shown) (held_aligned areas pages (shown_aligned areas pages shown)) at past both.1 in
         rw (c.0, inside) (sym (gone (shown_byte areas pages x shown ∙ absent)))
     | inr outside ↦ rw (c.0, outside) refl
   ]
@@ -286,15 +286,15 @@ one_goes (b ∷ bs) pages zero start x area ok at e =
     rw (← same, eq-eqb b.start start here, rest) (elim (cases_Bool (covers b x)) [ inl k ↦ rw k refl | inr k ↦ rw k refl ])
 one_goes (b ∷ bs) pages (suc i) start x area ok at e =
     let some : 0 < b.len = (IsSound-head (held_in pages b) (storage_of bs pages) ok).nonempty in
-    let behind = later_in bs pages (end_of b) i area (IsSound-apart (held_in pages b) (storage_of bs pages) ok) at in
-    rw (ne_eqb b.start start (λ d. absurd (omega (arith, behind, some, e)))) (one_goes bs pages i start x area (IsSound-tail (held_in pages b) (storage_of bs pages) ok) at e)
+    let beyond = later_in bs pages (end_of b) i area (IsSound-apart (held_in pages b) (storage_of bs pages) ok) at in
+    rw (ne_eqb b.start start (λ d. absurd (omega (arith, beyond, some, e)))) (one_goes bs pages i start x area (IsSound-tail (held_in pages b) (storage_of bs pages) ok) at e)
 
 pub none_freed : (s : Storage) (start : ℕ) → area_at s start ≡ None → with_areas_kept (starts_elsewhere start) s ≡ s
 unfolding area_at with_areas_kept
 none_freed [] start e = refl
 none_freed (h ∷ hs) start e = elim (cases_eq h.area.start start) [
   | inl c ↦ let found = rw (eq-eqb h.area.start start c) at e in cc
-  | inr c ↦ let behind = rw (ne_eqb h.area.start start c) at e in rw (ne_eqb h.area.start start c) (ap (λ rest. h ∷ rest) (none_freed hs start behind))
+  | inr c ↦ let beyond = rw (ne_eqb h.area.start start c) at e in rw (ne_eqb h.area.start start c) (ap (λ rest. h ∷ rest) (none_freed hs start beyond))
 ]
 
 -- the areas of a slot, one after the other
@@ -365,8 +365,8 @@ taken_out (b ∷ bs) pages zero start area ok at e =
     rw (eq-eqb b.start start here) (sym (kept_past bs pages start (end_of b) (IsSound-apart (held_in pages b) (storage_of bs pages) ok) (omega (arith, here, some))))
 taken_out (b ∷ bs) pages (suc i) start area ok at e =
     let some : 0 < b.len = (IsSound-head (held_in pages b) (storage_of bs pages) ok).nonempty in
-    let behind = later_in bs pages (end_of b) i area (IsSound-apart (held_in pages b) (storage_of bs pages) ok) at in
-    rw (ne_eqb b.start start (λ d. absurd (omega (arith, behind, some, e)))) (ap (λ rest. b ∷ rest) (taken_out bs pages i start area (IsSound-tail (held_in pages b) (storage_of bs pages) ok) at e))
+    let beyond = later_in bs pages (end_of b) i area (IsSound-apart (held_in pages b) (storage_of bs pages) ok) at in
+    rw (ne_eqb b.start start (λ d. absurd (omega (arith, beyond, some, e)))) (ap (λ rest. b ∷ rest) (taken_out bs pages i start area (IsSound-tail (held_in pages b) (storage_of bs pages) ok) at e))
 
 pub removed : (areas : List Area) (pages : List Page) (i start : ℕ) (area : Area) → IsShown areas pages → i < length areas → area ≡ get_or areas i area → area.start ≡ start
     → remove areas i ≡ filter (starts_elsewhere start) areas

@@ -261,10 +261,10 @@ pub skips_in : (ps : List Page) (i need tail : ℕ) (p : Page) → i < length ps
 skips_in ps i need tail p h e skips = record {
   within = skips.within;
   small = skips.small;
-  free = λ k behind high.
+  free = λ k after high.
       let place : (i * 4096 + k) % 4096 ≡ k = omega (arith, high) in
       let page : (i * 4096 + k) / 4096 ≡ i = omega (arith, high) in
-      there_at ps i p (i * 4096 + k) (at_index ps i p h e) page ∙ rw place (skips.free k behind high);
+      there_at ps i p (i * 4096 + k) (at_index ps i p h e) page ∙ rw place (skips.free k after high);
   none = λ c within all. skips.none c within (λ j low near high.
       let place : (i * 4096 + j * 16) % 4096 ≡ j * 16 = omega (arith, high) in
       let page : (i * 4096 + j * 16) / 4096 ≡ i = omega (arith, high) in

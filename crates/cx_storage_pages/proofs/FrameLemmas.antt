@@ -78,8 +78,8 @@ pub has_all : (frame : Frame) (from to : ℕ) → to ≤ length frame.bytes → 
     → (to - 1) % 16 < slice_index frame.counts ((to - 1) / 16) → HasAll (frame_byte frame) from to
 has_all frame from to within some full counted = λ k low high. elim (cases_lt (k / 16) ((to - 1) / 16)) [
   | inl before ↦ let all = full (k / 16) (omega (arith, low)) before in seen_some frame k (omega (arith, within, high)) (omega (arith, all))
-  | inr behind ↦
-      let same : k / 16 ≡ (to - 1) / 16 = omega (arith, behind, high) in
+  | inr beyond ↦
+      let same : k / 16 ≡ (to - 1) / 16 = omega (arith, beyond, high) in
       let le : k % 16 ≤ (to - 1) % 16 = omega (arith, same, high) in
       seen_some frame k (omega (arith, within, high)) (rw same (omega (arith, le, counted)))
 ]
@@ -113,8 +113,8 @@ runs_free counts m longest tail more runs none is = record {
     | inl last ↦ elim (cases_lt m k) [
       | inl past ↦ omega (arith, within, past)
       | inr low ↦
-          let behind = runs.most k low (λ j from to. all j from (omega (arith, to, last))) in
-          omega (arith, behind, within, is)
+          let beyond = runs.most k low (λ j from to. all j from (omega (arith, to, last))) in
+          omega (arith, beyond, within, is)
     ]
   ];
   order = omega (arith, is);
@@ -127,8 +127,8 @@ runs_free counts m longest tail more runs none is = record {
   most = λ k within all. elim (cases_lt m k) [
     | inl past ↦ omega (arith, past)
     | inr low ↦
-        let behind = runs.most k low (λ j from to. all j from (omega (arith, to))) in
-        omega (arith, behind)
+        let beyond = runs.most k low (λ j from to. all j from (omega (arith, to))) in
+        omega (arith, beyond)
   ];
 }
 
@@ -171,8 +171,8 @@ unfolding frame_byte
 runs_skip frame need longest tail whole runs small = record {
   within = runs.within;
   small = omega (arith, small, runs.order);
-  free = λ k behind high.
-      let none = runs.free (k / 16) (omega (arith, behind)) (omega (arith, high)) in
+  free = λ k beyond high.
+      let none = runs.free (k / 16) (omega (arith, beyond)) (omega (arith, high)) in
       rw (none, le-ltb (k % 16) 0 (omega arith)) refl;
   none = λ c within all.
       let counted : AllFree frame.counts c (min (c + need) 256) = λ j low high. zero_count frame j whole (omega (arith, high)) (all j low (omega (arith, high)) (omega (arith, high))) in

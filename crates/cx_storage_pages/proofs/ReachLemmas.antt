@@ -34,9 +34,9 @@ more_full counts from g told full low all = (
   omega (arith, low),
   λ j above below. elim (cases_lt j g) [
     | inl before ↦ all j above before
-    | inr behind ↦
-        let place : g + (j - g) ≡ j = omega (arith, behind) in
-        let follows = told.0 g (j - g) (omega (arith, below, behind, full)) in
+    | inr after ↦
+        let place : g + (j - g) ≡ j = omega (arith, after) in
+        let follows = told.0 g (j - g) (omega (arith, below, after, full)) in
         rw place at follows
   ],
 )
@@ -81,8 +81,8 @@ counted_parts old filled counted new first long none end to o1 o2 o3 high_rows l
         | inl inside ↦
             let none_left : min (to - 16 * h) 255 ≡ 0 = let all = low_rows h gone inside in omega (arith, all) in
             rw (three h, le-leb first h from, le-leb none h gone, lt-ltb h end inside, none_left) refl
-        | inr behind ↦
-            rw (three h, two h, one h, le-leb first h from, le-leb none h gone, le-ltb h end behind, le-leb long h past, le-ltb h none gone, le-ltb h long past) refl
+        | inr after ↦
+            rw (three h, two h, one h, le-leb first h from, le-leb none h gone, le-ltb h end after, le-leb long h past, le-ltb h none gone, le-ltb h long past) refl
       ]
     ]
   ]
@@ -92,7 +92,7 @@ counted_parts old filled counted new first long none end to o1 o2 o3 high_rows l
 pub record MarkedTo (old new : List ℕ) (first end to : ℕ) : Type 0 where
   pub before : (h : ℕ) → h < first → slice_index new h ≡ min (slice_index old h) (16 * (first - h))
   pub inside : (h : ℕ) → first ≤ h → h < end → slice_index new h ≡ min (to - 16 * h) 255
-  pub behind : (h : ℕ) → first ≤ h → end ≤ h → slice_index new h ≡ slice_index old h
+  pub after : (h : ℕ) → first ≤ h → end ≤ h → slice_index new h ≡ slice_index old h
 
 pub counts_marked : (old cut new : List ℕ) (first end to : ℕ)
     → Recounts (λ h. nat_lt h first) (λ h. min (slice_index old h) (16 * (first - h))) old cut
@@ -100,7 +100,7 @@ pub counts_marked : (old cut new : List ℕ) (first end to : ℕ)
 counts_marked old cut new first end to first_cut then_counted = record {
   before = λ h low. then_counted h ∙ rw (lt-leb first h low) (first_cut h ∙ rw (lt-ltb h first low) refl);
   inside = λ h low high. then_counted h ∙ rw (le-leb first h low, lt-ltb h end high) refl;
-  behind = λ h low past. then_counted h ∙ rw (le-leb first h low, le-ltb h end past) (first_cut h ∙ rw (le-ltb h first low) refl);
+  after = λ h low past. then_counted h ∙ rw (le-leb first h low, le-ltb h end past) (first_cut h ∙ rw (le-ltb h first low) refl);
 }
 
 -- what they go past is full then
@@ -118,8 +118,8 @@ marked_reaches old new first end to few marked told = (
           let there = marked.inside (g + j) (omega (arith, from)) (omega (arith, here, more, few)) in
           omega (arith, here, there, more)
       | inr past ↦
-          let here = marked.behind g from past in
-          let there = marked.behind (g + j) (omega (arith, from)) (omega (arith, past)) in
+          let here = marked.after g from past in
+          let there = marked.after (g + j) (omega (arith, from)) (omega (arith, past)) in
           let full = told.0 g j (rw here at more) in
           omega (arith, there, full)
     ]
@@ -128,7 +128,7 @@ marked_reaches old new first end to few marked told = (
     | inl before ↦ let here = marked.before g before in let most = told.1 g in omega (arith, here, most)
     | inr from ↦ elim (cases_lt g end) [
       | inl inside ↦ let here = marked.inside g from inside in omega (arith, here)
-      | inr past ↦ let here = marked.behind g from past in let most = told.1 g in omega (arith, here, most)
+      | inr past ↦ let here = marked.after g from past in let most = told.1 g in omega (arith, here, most)
     ]
   ],
 )
@@ -139,11 +139,11 @@ pub marked_free : (old new : List ℕ) (first end to top more : ℕ) → MarkedT
 marked_free old new first end to top more marked order free used freed = λ j low high. elim (cases_lt 0 to) [
   | inl some ↦
       let is = used (lt-ltb 0 to some) in
-      marked.behind j (omega (arith, low, is, order)) (omega (arith, low, is)) ∙ free j (omega (arith, low, is)) high
+      marked.after j (omega (arith, low, is, order)) (omega (arith, low, is)) ∙ free j (omega (arith, low, is)) high
   | inr none ↦ elim (cases_lt end top) [
     | inl above ↦
         let is : more ≡ top = freed (le-ltb 0 to none) ∙ rw (lt-leb top end above) refl in
-        marked.behind j (omega (arith, low, is, above, order)) (omega (arith, low, is, above)) ∙ free j (omega (arith, low, is)) high
+        marked.after j (omega (arith, low, is, above, order)) (omega (arith, low, is, above)) ∙ free j (omega (arith, low, is)) high
     | inr below ↦
         let is : more ≡ min top first = freed (le-ltb 0 to none) ∙ rw (le-leb top end below) refl in
         elim (cases_lt j first) [
@@ -153,7 +153,7 @@ marked_free old new first end to top more marked order free used freed = λ j lo
               omega (arith, zero, here)
           | inr from ↦ elim (cases_lt j end) [
             | inl inside ↦ let here = marked.inside j from inside in omega (arith, here, none)
-            | inr past ↦ marked.behind j from past ∙ free j (omega (arith, past, below)) high
+            | inr past ↦ marked.after j from past ∙ free j (omega (arith, past, below)) high
           ]
         ]
   ]
@@ -180,7 +180,7 @@ marked_shows bytes zeroed old new first end to marked zero few = λ j. elim (cas
           | inr le ↦ rw (le-leb first (j / 16) from, lt-ltb (j / 16) end inside, le-ltb j to le, le-ltb (j % 16) (slice_index new (j / 16)) (omega (arith, le, here))) refl
         ]
     | inr past ↦
-        let here = marked.behind (j / 16) from past in
+        let here = marked.after (j / 16) from past in
         rw (here, zero j, le-leb first (j / 16) from, le-ltb (j / 16) end past, le-leb (16 * first) j (omega (arith, from)), le-ltb j to (omega (arith, past, few))) refl
   ]
 ]

@@ -29,7 +29,7 @@ front_absent (b ∷ bs) pages x ok aligned gone = elim (covers_cases b (x / 16 *
   | inr c ↦ elim (covers_cases b x) [
     | inl d ↦
         let even : b.start % 16 ≡ 0 = aligned.0 in
-        absurd (elim c.1 [ inl before ↦ omega (arith, before, even, d.1) | inr behind ↦ omega (arith, behind, d.2) ])
+        absurd (elim c.1 [ inl before ↦ omega (arith, before, even, d.1) | inr after ↦ omega (arith, after, d.2) ])
     | inr d ↦ rw d.0 (front_absent bs pages x (IsSound-tail (held_in pages b) (storage_of bs pages) ok) aligned.1 (rw c.0 at gone))
   ]
 ]
@@ -82,7 +82,7 @@ scan_taken areas pages first last len from g next shown law some scan more on ta
       let low = scan.none b can in
       let even = parts.0 in
       elim (cases_lt b (next * 16)) [
-        | inr behind ↦ behind
+        | inr after ↦ after
         | inl before ↦ elim (cases_lt b (g * 16)) [
           | inl front ↦
               let within : g * 16 < b + len = omega (arith, low, more) in
@@ -144,9 +144,9 @@ scan_skip areas pages first last len from g tail more shown law some scan inside
       elim (cases_lt (b / 16) (g / 256 * 256 + 256)) [
         | inr past ↦ elim which [ inl e ↦ omega (arith, e, start) | inr e ↦ omega (arith, e, past, even) ]
         | inl before ↦
-            let behind = skips.none (b / 16 - g / 256 * 256) (omega (arith, before)) (λ j near far end.
+            let after = skips.none (b / 16 - g / 256 * 256) (omega (arith, before)) (λ j near far end.
             shown_byte areas pages (g / 256 * 4096 + j * 16) shown
             ∙ parts.3 (g / 256 * 4096 + j * 16) (omega (arith, near, even, start, inside)) (omega (arith, far, even, start, inside))) in
-            elim which [ inl e ↦ omega (arith, e, start) | inr e ↦ omega (arith, e, behind, even, start, inside) ]
+            elim which [ inl e ↦ omega (arith, e, start) | inr e ↦ omega (arith, e, after, even, start, inside) ]
       ];
 }

@@ -44,10 +44,10 @@ spot_point (area ∷ areas) start (suc i) h below above =
     rw here (ap suc (spot_point areas start i (omega arith) (λ k d low high. below (suc k) d (omega arith) (omega arith)) (λ k d low high. above (suc k) d (omega arith) (omega arith))))
 
 -- the area at the spot of a start is the one that starts there
-area_behind : (s : Storage) (e start : ℕ) → AllByRecursion (λ later. e ≤ later.area.start) s → start < e → area_at s start ≡ None
+area_after : (s : Storage) (e start : ℕ) → AllByRecursion (λ later. e ≤ later.area.start) s → start < e → area_at s start ≡ None
 unfolding area_at
-area_behind [] e start apart below = refl
-area_behind (h ∷ hs) e start apart below = rw (ne_eqb h.area.start start (λ d. absurd (omega (arith, apart.0)))) (area_behind hs e start apart.1 below)
+area_after [] e start apart below = refl
+area_after (h ∷ hs) e start apart below = rw (ne_eqb h.area.start start (λ d. absurd (omega (arith, apart.0)))) (area_after hs e start apart.1 below)
 
 if_starts : ℕ → Area → Option Area
 if_starts start area = if area.start == start then Some area else None
@@ -66,7 +66,7 @@ area_spot (area ∷ areas) pages start ok = elim (cases_Bool (nat_lt area.start 
         | inl same ↦ rw (e, eq-eqb area.start start same) refl
         | inr ne ↦
             let whole = IsSound-head (held_in pages area) (storage_of areas pages) ok in
-            let gone = area_behind (storage_of areas pages) (area.start + area.len) start (IsSound-apart (held_in pages area) (storage_of areas pages) ok) (omega (arith, above)) in
+            let gone = area_after (storage_of areas pages) (area.start + area.len) start (IsSound-apart (held_in pages area) (storage_of areas pages) ok) (omega (arith, above)) in
             rw (e, ne_eqb area.start start ne) gone
       ]
 ]

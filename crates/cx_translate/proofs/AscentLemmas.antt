@@ -11,12 +11,12 @@ use Rattle.cx_source.specs.declared.source.Source.{Source}
 use Rattle.cx_source.specs.declared.source.Stmt.{Stmt}
 use Rattle.cx_source.specs.Statements.{is_continued}
 use Rattle.cx_translate.specs.Words.{words_of}
-use Rattle.cx_translate.specs.Made.{made_item, made_of}
-use Rattle.cx_translate.specs.Sections.{name_at, bases, begins_exec, begins_section, begins_storage, place_after, continuation_count, has_name, has_operation, is_end, lines, put_before, put_behind, storage_fields, with_bases, with_eib, with_storage}
+use Rattle.cx_translate.specs.Expansion.{made_item, made_of}
+use Rattle.cx_translate.specs.Sections.{name_at, bases, begins_exec, begins_section, begins_storage, place_after, continuation_count, has_name, has_operation, is_end, lines, put_before, put_after, storage_fields, with_bases, with_eib, with_storage}
 use Rattle.cx_translate.specs.Translation.{continues_exec, expanded_items, expansion, is_dropped, made_source, statement_faults, translation, translation_of}
 use Rattle.cx_translate.specs.Laws.Ascent.{AscendFrom, number_of, statement_lines}
 use Rattle.cx_translate.specs.Facts.AllFaults.{accepted}
-use Rattle.cx_translate.specs.Facts.Found.{bases_behind, continued, eib_before, eib_section, line_of, made_lines, storage_before, storage_behind, storage_section}
+use Rattle.cx_translate.specs.Facts.Found.{bases_after, continued, eib_before, eib_section, line_of, made_lines, storage_before, storage_after, storage_section}
 
 abbrev Ascend : ℕ → List Item → Type 0
 Ascend n items = AscendFrom n (statement_lines items)
@@ -86,18 +86,18 @@ in_tail line made continues (x ∷ rest) w =
         (add_none x.stmt line x.line _ none (f (skip_none x.stmt line x.line (statement_lines rest) none w)))
     go false e f = same_line line made (x ∷ rest) w
 
-behind_here : (o : Option Stmt) (n line : ℕ) (xs ys : List ℕ) → is_some o ≡ true → (AscendFrom line xs → AscendFrom line ys)
+after_here : (o : Option Stmt) (n line : ℕ) (xs ys : List ℕ) → is_some o ≡ true → (AscendFrom line xs → AscendFrom line ys)
     → AscendFrom n (number_of o line ++ xs) → AscendFrom n (number_of o line ++ ys)
-behind_here None n line xs ys h f a = absurd (cc)
-behind_here (Some s) n line xs ys h f a = (a.0, f a.1)
+after_here None n line xs ys h f a = absurd (cc)
+after_here (Some s) n line xs ys h f a = (a.0, f a.1)
 
-behind_in : (a : List Item) (n : ℕ) (made : List Stmt) (x : Item) (continues : Bool) (tail : List Item) → is_some x.stmt ≡ true
+after_in : (a : List Item) (n : ℕ) (made : List Stmt) (x : Item) (continues : Bool) (tail : List Item) → is_some x.stmt ≡ true
     → Ascend n (a ++ x ∷ tail)
     → Ascend n ((a ++ x ∷ []) ++ take (continuation_count continues tail) tail ++ lines x.line made ++ drop (continuation_count continues tail) tail)
-behind_in [] n made x continues tail h w =
-    behind_here x.stmt n x.line (statement_lines tail) _ h (λ v. in_tail x.line made continues tail v) w
-behind_in (y ∷ a) n made x continues tail h w =
-    step y.stmt n y.line (statement_lines (a ++ x ∷ tail)) _ (λ m v. behind_in a m made x continues tail h v) w
+after_in [] n made x continues tail h w =
+    after_here x.stmt n x.line (statement_lines tail) _ h (λ v. in_tail x.line made continues tail v) w
+after_in (y ∷ a) n made x continues tail h w =
+    step y.stmt n y.line (statement_lines (a ++ x ∷ tail)) _ (λ m v. after_in a m made x continues tail h v) w
 
 -- any line
 abbrev some_item : Item
@@ -115,11 +115,11 @@ put_before_ascends p n made place items f e w =
     let done = before_in (take place items) n made x (drop (place + 1) items) (f x at.1) (subst (Ascend n) whole w) in
     subst (Ascend n) (sym (ap (λ o. take place items ++ lines (line_of o) made ++ drop place items) got ∙ ap (λ l. take place items ++ lines x.line made ++ l) rest)) done
 
-put_behind_ascends : (p : Item → Bool) (n : ℕ) (made : List Stmt) (place : ℕ) (items : List Item)
+put_after_ascends : (p : Item → Bool) (n : ℕ) (made : List Stmt) (place : ℕ) (items : List Item)
     → ((x : Item) → p x ≡ true → is_some x.stmt ≡ true) → position p items ≡ Some place
-    → Ascend n items → Ascend n (put_behind made place items)
+    → Ascend n items → Ascend n (put_after made place items)
 unfolding place_after
-put_behind_ascends p n made place items f e w =
+put_after_ascends p n made place items f e w =
     let at = position-Some p items place some_item e in
     let x : Item = get_or items place some_item in
     let tail : List Item = drop (place + 1) items in
@@ -127,7 +127,7 @@ put_behind_ascends p n made place items f e w =
     let got : slice_get items place ≡ Some x = slice_get-get_or items place some_item at.0 in
     let rest : drop place items ≡ x ∷ tail = at_drop_more (λ l. l) items place some_item at.0 in
     let whole : items ≡ take place items ++ x ∷ tail = sym (take-append-drop place items) ∙ ap (λ l. take place items ++ l) rest in
-    let done = behind_in (take place items) n made x (continued (slice_get items place)) tail (f x at.1) (subst (Ascend n) whole w) in
+    let done = after_in (take place items) n made x (continued (slice_get items place)) tail (f x at.1) (subst (Ascend n) whole w) in
     let front : take (place + 1 + c) items ≡ (take place items ++ x ∷ []) ++ take c tail = take-add (place + 1) c items ∙ ap (λ l. l ++ take c tail) (take_more items place some_item at.0) in
     let back : drop (place + 1 + c) items ≡ drop c tail = sym (drop-drop c (place + 1) items) in
     let told : line_of (slice_get items place) ≡ x.line = ap line_of got in
@@ -163,13 +163,13 @@ ascends_in_storage_before : (n : ℕ) (items : List Item) (o : Option ℕ) → p
 ascends_in_storage_before n items None e w = w
 ascends_in_storage_before n items (Some place) e w = put_before_ascends begins_section n storage_section place items section_begins e w
 
-ascends_in_storage : (n : ℕ) (items : List Item) (o : Option ℕ) → position begins_storage items ≡ o → Ascend n items → Ascend n (storage_behind o items)
+ascends_in_storage : (n : ℕ) (items : List Item) (o : Option ℕ) → position begins_storage items ≡ o → Ascend n items → Ascend n (storage_after o items)
 ascends_in_storage n items None e w = ascends_in_storage_before n items (position begins_section items) refl w
-ascends_in_storage n items (Some place) e w = put_behind_ascends begins_storage n storage_fields place items storage_begins e w
+ascends_in_storage n items (Some place) e w = put_after_ascends begins_storage n storage_fields place items storage_begins e w
 
-ascends_in_bases : (n : ℕ) (items : List Item) (o : Option ℕ) → position begins_section items ≡ o → Ascend n items → Ascend n (bases_behind o items)
+ascends_in_bases : (n : ℕ) (items : List Item) (o : Option ℕ) → position begins_section items ≡ o → Ascend n items → Ascend n (bases_after o items)
 ascends_in_bases n items None e w = w
-ascends_in_bases n items (Some place) e w = put_behind_ascends begins_section n (bases (name_at place items)) place items section_begins e w
+ascends_in_bases n items (Some place) e w = put_after_ascends begins_section n (bases (name_at place items)) place items section_begins e w
 
 ascends_in_eib : (n : ℕ) (items : List Item) (o : Option ℕ) → position is_end items ≡ o → Ascend n items → Ascend n (eib_before o items)
 ascends_in_eib n items None e w = w

@@ -17,7 +17,7 @@ use Rattle.cx_base_commands.specs.Options.{common_of, option_name}
 use Rattle.cx_base_commands.specs.Legal.{lists_conditions}
 use Rattle.cx_translate.specs.declared.due.DueStatement.{DueStatement}
 use Rattle.cx_translate.specs.declared.words.Word.{Word}
-use Rattle.cx_translate.specs.Due.{common_due, condition_called, condition_due, due_of, due_of_mark, option_called}
+use Rattle.cx_translate.specs.PendingStatements.{common_due, condition_called, condition_due, due_of, due_of_mark, option_called}
 use Rattle.cx_translate.specs.Refusals.{conditions_in, fault_in, first_byte, has_too_many, has_unknown}
 use Rattle.cx_translate.proofs.RefusalLemmas.{few_conditions, known}
 use Rattle.cx_base_commands.specs.declared.options.CommonOption.TheVariants.{Resp}

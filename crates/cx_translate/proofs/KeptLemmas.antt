@@ -9,7 +9,7 @@ use Rattle.cx_translate.specs.Sections.{begins_exec, begins_section, begins_stor
 use Rattle.cx_translate.specs.Translation.{continues_exec, expanded_items, expansion, is_dropped, made_source, statement_faults, translation, translation_of}
 use Rattle.cx_translate.specs.Laws.Kept.{AreAmong, kept}
 use Rattle.cx_translate.specs.Facts.AllFaults.{accepted}
-use Rattle.cx_translate.specs.Facts.Found.{bases_behind, eib_before, made_lines, storage_before, storage_behind}
+use Rattle.cx_translate.specs.Facts.Found.{bases_after, eib_before, made_lines, storage_before, storage_after}
 
 one_more : (y : Item) (xs ys : List Item) → AreAmong xs ys → AreAmong xs (y ∷ ys)
 one_more y [] ys w = tt
@@ -34,11 +34,11 @@ stays_in_storage_before : (place : Option ℕ) (items xs : List Item) → AreAmo
 stays_in_storage_before None items xs w = w
 stays_in_storage_before (Some place) items xs w = put_in place _ items xs w
 
-stays_in_storage_behind : (place : Option ℕ) (items xs : List Item) → AreAmong xs items → AreAmong xs (storage_behind place items)
-stays_in_storage_behind None items xs w = stays_in_storage_before (position begins_section items) items xs w
-stays_in_storage_behind (Some place) items xs w = put_in (place_after items place) _ items xs w
+stays_in_storage_after : (place : Option ℕ) (items xs : List Item) → AreAmong xs items → AreAmong xs (storage_after place items)
+stays_in_storage_after None items xs w = stays_in_storage_before (position begins_section items) items xs w
+stays_in_storage_after (Some place) items xs w = put_in (place_after items place) _ items xs w
 
-stays_in_bases : (place : Option ℕ) (items xs : List Item) → AreAmong xs items → AreAmong xs (bases_behind place items)
+stays_in_bases : (place : Option ℕ) (items xs : List Item) → AreAmong xs items → AreAmong xs (bases_after place items)
 stays_in_bases None items xs w = w
 stays_in_bases (Some place) items xs w = put_in (place_after items place) _ items xs w
 
@@ -64,7 +64,7 @@ stays_translated : (items : List Item) → AreAmong (kept false items) (translat
 unfolding translation with_storage with_bases with_eib
 stays_translated items =
     let a = stays_expanded false items in
-    let b = stays_in_storage_behind (position begins_storage (expanded_items false items)) (expanded_items false items) (kept false items) a in
+    let b = stays_in_storage_after (position begins_storage (expanded_items false items)) (expanded_items false items) (kept false items) a in
     let c = stays_in_bases (position begins_section (with_storage (expanded_items false items))) (with_storage (expanded_items false items)) (kept false items) b in
     stays_in_eib (position is_end (with_bases (with_storage (expanded_items false items)))) (with_bases (with_storage (expanded_items false items))) (kept false items) c
 

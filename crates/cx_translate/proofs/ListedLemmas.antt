@@ -17,7 +17,7 @@ use Rattle.cx_translate.specs.declared.due.DueStatement.TheVariants.{Nothing, La
 use Rattle.cx_translate.specs.declared.words.Argument.{Argument}
 use Rattle.cx_translate.specs.declared.words.Argument.TheVariants.{Absent, Given, Bad}
 use Rattle.cx_translate.specs.declared.words.Word.{Word}
-use Rattle.cx_translate.specs.Due.{common_due, condition_called, condition_due, due_of, due_of_mark, option_called, suits}
+use Rattle.cx_translate.specs.PendingStatements.{common_due, condition_called, condition_due, due_of, due_of_mark, option_called, suits}
 use Rattle.cx_translate.specs.Refusals.{fault_in, has_twice, has_wrong, is_given}
 use Rattle.cx_translate.specs.Facts.Found.{is_wrong, listed_by}
 use Rattle.cx_translate.specs.Call.{listed_of, text_in}

@@ -9,12 +9,12 @@ use Rattle.cx_source.specs.declared.marks.Scan.{Scan}
 use Rattle.cx_source.specs.Marks.{outside_apostrophes, outside_from, scan_after, at_start}
 use Rattle.cx_translate.specs.declared.pieces.Token.{Token}
 use Rattle.cx_translate.specs.declared.pieces.Token.TheVariants.{Broken}
-use Rattle.cx_translate.specs.Pieces.{pieces_of, pieces_from, depth_behind, is_cut, end_of_pieces, last_of, word}
+use Rattle.cx_translate.specs.Pieces.{pieces_of, pieces_from, depth_after, is_cut, end_of_pieces, last_of, word}
 use Rattle.cx_translate.specs.Laws.Joined.{joined, written, unblanked_from}
 
 marks_length_from : (scan : Scan) (text : List ℕ) → length (outside_from scan text) ≡ length text
 marks_length_from scan [] = refl
-marks_length_from scan (c ∷ behind) = ap suc (marks_length_from (scan_after scan c behind) behind)
+marks_length_from scan (c ∷ following) = ap suc (marks_length_from (scan_after scan c following) following)
 
 -- each character is marked
 pub marks_length : (text : List ℕ) → length (outside_apostrophes text) ≡ length text
@@ -38,30 +38,30 @@ range_more text start i b h =
 text_at : (text : List ℕ) (i : ℕ) → i < length text → drop i text ≡ get_or text i 0 ∷ drop (i + 1) text
 text_at text i h = rw add-one (drop-cons text i 0 h)
 
-passed_cut : (depth : ℕ) (part cs behind : List ℕ) (marks after : List Bool) (o : Bool) (c : ℕ) → marks ≡ o ∷ after → cs ≡ c ∷ behind → is_cut depth o c ≡ true
-    → pieces_from depth part marks cs ≡ end_of_pieces depth part c ++ pieces_from (depth_behind depth o c) [] after behind
-passed_cut depth part cs behind marks after o c m t e = rw (m, t) (simp e)
+passed_cut : (depth : ℕ) (part cs following : List ℕ) (marks after : List Bool) (o : Bool) (c : ℕ) → marks ≡ o ∷ after → cs ≡ c ∷ following → is_cut depth o c ≡ true
+    → pieces_from depth part marks cs ≡ end_of_pieces depth part c ++ pieces_from (depth_after depth o c) [] after following
+passed_cut depth part cs following marks after o c m t e = rw (m, t) (simp e)
 
-passed_on : (depth : ℕ) (part cs behind : List ℕ) (marks after : List Bool) (o : Bool) (c : ℕ) → marks ≡ o ∷ after → cs ≡ c ∷ behind → is_cut depth o c ≡ false
-    → pieces_from depth part marks cs ≡ pieces_from (depth_behind depth o c) (part ++ c ∷ []) after behind
-passed_on depth part cs behind marks after o c m t e = rw (m, t) (simp e)
+passed_on : (depth : ℕ) (part cs following : List ℕ) (marks after : List Bool) (o : Bool) (c : ℕ) → marks ≡ o ∷ after → cs ≡ c ∷ following → is_cut depth o c ≡ false
+    → pieces_from depth part marks cs ≡ pieces_from (depth_after depth o c) (part ++ c ∷ []) after following
+passed_on depth part cs following marks after o c m t e = rw (m, t) (simp e)
 
 -- one character more, where it ends pieces
 pub cut_step : (pieces more whole : List Token) (depth next : ℕ) (text : List ℕ) (marks : List Bool) (start i : ℕ)
     → length marks ≡ length text → i < length text → is_cut depth (get_or marks i false) (get_or text i 0) ≡ true
-    → next ≡ depth_behind depth (get_or marks i false) (get_or text i 0)
+    → next ≡ depth_after depth (get_or marks i false) (get_or text i 0)
     → more ≡ pieces ++ end_of_pieces depth (slice_range text start i) (get_or text i 0)
     → pieces ++ pieces_from depth (slice_range text start i) (drop i marks) (drop i text) ≡ whole
     → more ++ pieces_from next (slice_range text (i + 1) (i + 1)) (drop (i + 1) marks) (drop (i + 1) text) ≡ whole
 cut_step pieces more whole depth next text marks start i l h e n m w =
     let a = marks_at marks i false (omega arith) in
     let b = text_at text i h in
-    rw (m, n, range_none text (i + 1)) (append_assoc pieces (end_of_pieces depth (slice_range text start i) (get_or text i 0)) (pieces_from (depth_behind depth (get_or marks i false) (get_or text i 0)) [] (drop (i + 1) marks) (drop (i + 1) text)) ∙ (ap (λ rest. pieces ++ rest) (sym (passed_cut depth (slice_range text start i) (drop i text) (drop (i + 1) text) (drop i marks) (drop (i + 1) marks) _ _ a b e)) ∙ w))
+    rw (m, n, range_none text (i + 1)) (append_assoc pieces (end_of_pieces depth (slice_range text start i) (get_or text i 0)) (pieces_from (depth_after depth (get_or marks i false) (get_or text i 0)) [] (drop (i + 1) marks) (drop (i + 1) text)) ∙ (ap (λ rest. pieces ++ rest) (sym (passed_cut depth (slice_range text start i) (drop i text) (drop (i + 1) text) (drop i marks) (drop (i + 1) marks) _ _ a b e)) ∙ w))
 
 -- and where it doesn't
 pub on_step : (pieces whole : List Token) (depth next : ℕ) (text : List ℕ) (marks : List Bool) (start i : ℕ)
     → length marks ≡ length text → start ≤ i → i < length text → is_cut depth (get_or marks i false) (get_or text i 0) ≡ false
-    → next ≡ depth_behind depth (get_or marks i false) (get_or text i 0)
+    → next ≡ depth_after depth (get_or marks i false) (get_or text i 0)
     → pieces ++ pieces_from depth (slice_range text start i) (drop i marks) (drop i text) ≡ whole
     → pieces ++ pieces_from next (slice_range text start (i + 1)) (drop (i + 1) marks) (drop (i + 1) text) ≡ whole
 on_step pieces whole depth next text marks start i l s h e n w =
@@ -94,9 +94,9 @@ written_last depth part = go (nat_eq depth 0)
 
 -- where a piece ends nothing is lost except a blank
 pub kept_cut : (depth : ℕ) (part rest : List ℕ) (o : Bool) (c : ℕ) → is_cut depth o c ≡ true
-    → joined (end_of_pieces depth part c) ++ (front (depth_behind depth o c) [] ++ rest)
+    → joined (end_of_pieces depth part c) ++ (front (depth_after depth o c) [] ++ rest)
     ≡ front depth part ++ unblanked (o && nat_eq depth 0 && nat_eq c 32) c rest
-unfolding is_cut depth_behind end_of_pieces
+unfolding is_cut depth_after end_of_pieces
 kept_cut depth part rest false c e = absurd (cc)
 kept_cut depth part rest true c e = at (eqb_tells depth 0) (eqb_tells depth 1) (eqb_tells c 32) (eqb_tells c 40) (eqb_tells c 41)
   where
@@ -105,7 +105,7 @@ kept_cut depth part rest true c e = at (eqb_tells depth 0) (eqb_tells depth 1) (
         → ((eqb c 32 ≡ true) × (c ≡ 32)) ⊎ ((eqb c 32 ≡ false) × (c ≢ 32))
         → ((eqb c 40 ≡ true) × (c ≡ 40)) ⊎ ((eqb c 40 ≡ false) × (c ≢ 40))
         → ((eqb c 41 ≡ true) × (c ≡ 41)) ⊎ ((eqb c 41 ≡ false) × (c ≢ 41))
-        → joined (end_of_pieces depth part c) ++ (front (depth_behind depth true c) [] ++ rest) ≡ front depth part ++ unblanked (true && nat_eq depth 0 && nat_eq c 32) c rest
+        → joined (end_of_pieces depth part c) ++ (front (depth_after depth true c) [] ++ rest) ≡ front depth part ++ unblanked (true && nat_eq depth 0 && nat_eq c 32) c rest
     at (inl d) _ (inl b) _ _ = rw (d.1, b.1) (simp (append-nil, written_word part))
     at (inl d) _ (inr _) (inl b) _ = rw (d.1, b.1) (simp (append-nil, written_word part))
     at (inl d) _ (inr _) (inr _) (inl b) = rw (d.1, b.1) (simp (flat_map-append, append-nil, written_word part, append_assoc))
@@ -133,9 +133,9 @@ in_parentheses d depth part rest true c x y = at (eqb_tells d 0) (eqb_tells dept
     at (inr a) (inr b) = simp (a.0, b.0) (ap (λ xs. 40 ∷ xs) (append_assoc part (c ∷ []) rest))
 
 pub kept_on : (depth : ℕ) (part rest : List ℕ) (o : Bool) (c : ℕ) → is_cut depth o c ≡ false
-    → front (depth_behind depth o c) (part ++ c ∷ []) ++ rest
+    → front (depth_after depth o c) (part ++ c ∷ []) ++ rest
     ≡ front depth part ++ unblanked (o && nat_eq depth 0 && nat_eq c 32) c rest
-unfolding is_cut depth_behind
+unfolding is_cut depth_after
 kept_on depth part rest false c e = at (eqb_tells depth 0)
   where
     at : ((eqb depth 0 ≡ true) × (depth ≡ 0)) ⊎ ((eqb depth 0 ≡ false) × (depth ≢ 0))
@@ -149,7 +149,7 @@ kept_on depth part rest true c e = at (eqb_tells depth 0) (eqb_tells depth 1) (e
         → ((eqb c 32 ≡ true) × (c ≡ 32)) ⊎ ((eqb c 32 ≡ false) × (c ≢ 32))
         → ((eqb c 40 ≡ true) × (c ≡ 40)) ⊎ ((eqb c 40 ≡ false) × (c ≢ 40))
         → ((eqb c 41 ≡ true) × (c ≡ 41)) ⊎ ((eqb c 41 ≡ false) × (c ≢ 41))
-        → front (depth_behind depth true c) (part ++ c ∷ []) ++ rest ≡ front depth part ++ unblanked (true && nat_eq depth 0 && nat_eq c 32) c rest
+        → front (depth_after depth true c) (part ++ c ∷ []) ++ rest ≡ front depth part ++ unblanked (true && nat_eq depth 0 && nat_eq c 32) c rest
     at (inl d) _ (inl b) _ _ = let f = (rw (d.1, b.1) at e) in absurd (cc)
     at (inl d) _ (inr _) (inl b) _ = let f = (rw (d.1, b.1) at e) in absurd (cc)
     at (inl d) _ (inr _) (inr _) (inl b) = let f = (rw (d.1, b.1) at e) in absurd (cc)
@@ -163,14 +163,14 @@ joined_from : (depth : ℕ) (part : List ℕ) (marks : List Bool) (cs : List ℕ
 joined_from depth part [] cs = written_last depth part
 joined_from depth part (o ∷ marks) [] = written_last depth part
 joined_from depth part (o ∷ marks) (c ∷ cs) =
-    go (is_cut depth o c) refl (joined_from (depth_behind depth o c) [] marks cs) (joined_from (depth_behind depth o c) (part ++ c ∷ []) marks cs)
+    go (is_cut depth o c) refl (joined_from (depth_after depth o c) [] marks cs) (joined_from (depth_after depth o c) (part ++ c ∷ []) marks cs)
   where
     go : (b : Bool) → is_cut depth o c ≡ b
-        → joined (pieces_from (depth_behind depth o c) [] marks cs) ≡ front (depth_behind depth o c) [] ++ unblanked_from (depth_behind depth o c) marks cs
-        → joined (pieces_from (depth_behind depth o c) (part ++ c ∷ []) marks cs) ≡ front (depth_behind depth o c) (part ++ c ∷ []) ++ unblanked_from (depth_behind depth o c) marks cs
-        → joined (cond b (end_of_pieces depth part c ++ pieces_from (depth_behind depth o c) [] marks cs) (pieces_from (depth_behind depth o c) (part ++ c ∷ []) marks cs)) ≡ front depth part ++ unblanked (o && nat_eq depth 0 && nat_eq c 32) c (unblanked_from (depth_behind depth o c) marks cs)
-    go true e cut on = flat_map-append written (end_of_pieces depth part c) (pieces_from (depth_behind depth o c) [] marks cs) ∙ (ap (λ xs. joined (end_of_pieces depth part c) ++ xs) cut ∙ kept_cut depth part (unblanked_from (depth_behind depth o c) marks cs) o c e)
-    go false e cut on = on ∙ kept_on depth part (unblanked_from (depth_behind depth o c) marks cs) o c e
+        → joined (pieces_from (depth_after depth o c) [] marks cs) ≡ front (depth_after depth o c) [] ++ unblanked_from (depth_after depth o c) marks cs
+        → joined (pieces_from (depth_after depth o c) (part ++ c ∷ []) marks cs) ≡ front (depth_after depth o c) (part ++ c ∷ []) ++ unblanked_from (depth_after depth o c) marks cs
+        → joined (cond b (end_of_pieces depth part c ++ pieces_from (depth_after depth o c) [] marks cs) (pieces_from (depth_after depth o c) (part ++ c ∷ []) marks cs)) ≡ front depth part ++ unblanked (o && nat_eq depth 0 && nat_eq c 32) c (unblanked_from (depth_after depth o c) marks cs)
+    go true e cut on = flat_map-append written (end_of_pieces depth part c) (pieces_from (depth_after depth o c) [] marks cs) ∙ (ap (λ xs. joined (end_of_pieces depth part c) ++ xs) cut ∙ kept_cut depth part (unblanked_from (depth_after depth o c) marks cs) o c e)
+    go false e cut on = on ∙ kept_on depth part (unblanked_from (depth_after depth o c) marks cs) o c e
 
 pub joined_again : (operand : List ℕ) → joined (pieces_of operand) ≡ unblanked_from 0 (outside_apostrophes operand) operand
 unfolding pieces_of

@@ -26,7 +26,7 @@ use Rattle.cx_translate.specs.declared.due.DueStatement.TheVariants.{Nothing, Na
 use Rattle.cx_translate.specs.declared.words.Argument.{Argument}
 use Rattle.cx_translate.specs.declared.words.Argument.TheVariants.{Absent, Given, Bad}
 use Rattle.cx_translate.specs.declared.words.Word.{Word}
-use Rattle.cx_translate.specs.Due.{common_due, condition_called, condition_due, due_of, option_called, suits}
+use Rattle.cx_translate.specs.PendingStatements.{common_due, condition_called, condition_due, due_of, option_called, suits}
 use Rattle.cx_translate.specs.Refusals.{fault_in, first_byte, has_wrong, is_given, second_byte}
 use Rattle.cx_translate.specs.Facts.Found.{is_wrong, listed_by, operand_by, with_option}
 use Rattle.cx_translate.specs.Call.{argument_of, labels_of, list_of, listed_condition, listed_of, operands_of, text_in}

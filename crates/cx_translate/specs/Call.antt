@@ -19,7 +19,7 @@ use Rattle.cx_translate.specs.declared.words.Argument.{Argument}
 use Rattle.cx_translate.specs.declared.words.Argument.TheVariants.{Given}
 use Rattle.cx_translate.specs.declared.words.Word.{Word}
 use Rattle.cx_translate.specs.Names.{bare_argument, is_quoted}
-use Rattle.cx_translate.specs.Due.{condition_called}
+use Rattle.cx_translate.specs.PendingStatements.{condition_called}
 use Rattle.cx_translate.specs.Refusals.{first_byte, second_byte}
 
 abbrev pub text_in : Argument → Option (List ℕ)

@@ -2,10 +2,10 @@
 pub mod Pieces
 pub mod Words
 pub mod Names
-pub mod Due
+pub mod PendingStatements
 pub mod Refusals
 pub mod Call
-pub mod Made
+pub mod Expansion
 pub mod Sections
 pub mod Translation
 pub mod Laws

@@ -10,8 +10,8 @@ use Rattle.cx_translate.specs.declared.pieces.Token.TheVariants.{Word, Argument,
 -- Each of these takes how many parentheses are open before a character, and whether it lies outside apostrophes.
 
 -- how many are open after it
-unfoldable pub depth_behind : ℕ → Bool → ℕ → ℕ
-depth_behind depth is_outside c =
+unfoldable pub depth_after : ℕ → Bool → ℕ → ℕ
+depth_after depth is_outside c =
     if is_outside && c == byte "(" then depth + 1 else (if is_outside && c == byte ")" then depth - 1 else depth)
 
 -- A piece ends before it: outside parentheses a word, at a blank or a parenthesis; in parentheses an argument, where
@@ -37,8 +37,8 @@ abbrev pub pieces_from : ℕ → List ℕ → List Bool → List ℕ → List To
 pieces_from depth part [] cs = last_of depth part
 pieces_from depth part marks [] = last_of depth part
 pieces_from depth part (is_outside ∷ marks) (c ∷ cs) =
-    if is_cut depth is_outside c then end_of_pieces depth part c ++ pieces_from (depth_behind depth is_outside c) [] marks cs
-    else pieces_from (depth_behind depth is_outside c) (part ++ c ∷ []) marks cs
+    if is_cut depth is_outside c then end_of_pieces depth part c ++ pieces_from (depth_after depth is_outside c) [] marks cs
+    else pieces_from (depth_after depth is_outside c) (part ++ c ∷ []) marks cs
 
 -- the pieces of an operand, in order
 unfoldable pub pieces_of : List ℕ → List Token

@@ -15,7 +15,7 @@ use Rattle.cx_translate.specs.declared.words.Word.{Word}
 use Rattle.cx_translate.specs.declared.due.DueStatement.TheVariants.{Nothing}
 use Rattle.cx_translate.specs.declared.faults.TransFault.{TransFault}
 use Rattle.cx_translate.specs.declared.faults.TransFault.TheVariants.{UnknownCommand, UnknownOption, MissingOption, Conflict, TooManyConditions, BadArgument, Memory}
-use Rattle.cx_translate.specs.Due.{condition_called, due_of, suits}
+use Rattle.cx_translate.specs.PendingStatements.{condition_called, due_of, suits}
 
 -- a fault's name
 abbrev pub fault_name : TransFault → List ℕ

@@ -10,7 +10,7 @@ use Rattle.cx_base_commands.specs.Eistg.{eistg_field}
 use Rattle.cx_source.specs.declared.source.Item.{Item}
 use Rattle.cx_source.specs.declared.source.Stmt.{Stmt}
 use Rattle.cx_source.specs.Statements.{is_continued}
-use Rattle.cx_translate.specs.Made.{made_item, stmt}
+use Rattle.cx_translate.specs.Expansion.{made_item, stmt}
 
 -- the statement that begins on a line is of this operation, or of this name
 abbrev pub has_operation : List ℕ → Option Stmt → Bool
@@ -74,8 +74,8 @@ numbered_items made place items = lines (option_map_or (λ item. item.line) (sli
 abbrev pub put_before : List Stmt → ℕ → List Item → List Item
 put_before made place items = insert_items place (numbered_items made place items) items
 
-abbrev pub put_behind : List Stmt → ℕ → List Item → List Item
-put_behind made place items = insert_items (place_after items place) (numbered_items made place items) items
+abbrev pub put_after : List Stmt → ℕ → List Item → List Item
+put_after made place items = insert_items (place_after items place) (numbered_items made place items) items
 
 -- a change at the first line that passes a test; without one a given list
 abbrev pub at_first : (Item → Bool) → (ℕ → List Item → List Item) → List Item → List Item → List Item
@@ -85,7 +85,7 @@ at_first test change items otherwise = option_map_or (λ place. change place ite
 -- where there is one.
 unfoldable pub with_storage : List Item → List Item
 with_storage items =
-    at_first begins_storage (put_behind storage_fields) items
+    at_first begins_storage (put_after storage_fields) items
     (at_first begins_section (put_before (stmt (codes "DFHEISTG") (codes "DSECT") [] ∷ storage_fields)) items items)
 
 -- The bases are placed after the control section's first CSECT or START, and name it.
@@ -93,7 +93,7 @@ abbrev pub name_at : ℕ → List Item → List ℕ
 name_at place items = option_map_or (λ s. s.name) (option_and_then (λ item. item.stmt) (slice_get items place)) []
 
 unfoldable pub with_bases : List Item → List Item
-with_bases items = at_first begins_section (λ place all. put_behind (bases (name_at place all)) place all) items items
+with_bases items = at_first begins_section (λ place all. put_after (bases (name_at place all)) place all) items items
 
 -- The EIB is placed before the first END.
 unfoldable pub with_eib : List Item → List Item

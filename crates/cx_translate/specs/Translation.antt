@@ -11,7 +11,7 @@ use Rattle.cx_translate.specs.declared.faults.TransFault.{TransFault}
 use Rattle.cx_translate.specs.declared.faults.TransFault.TheVariants.{Memory}
 use Rattle.cx_translate.specs.Words.{words_of}
 use Rattle.cx_translate.specs.Refusals.{fault_of}
-use Rattle.cx_translate.specs.Made.{made_of}
+use Rattle.cx_translate.specs.Expansion.{made_of}
 use Rattle.cx_translate.specs.Sections.{begins_exec, lines, with_bases, with_eib, with_storage}
 
 -- a line continues an EXEC statement: the EXEC's line before it, or its continuation, is continued, and no statement

@@ -8,16 +8,16 @@ use Rattle.cx_translate.specs.declared.words.Word.{Word}
 use Rattle.cx_translate.specs.Pieces.{pieces_of}
 
 -- What follows a word, up to the next: nothing, one argument, or anything else, which is bad.
-unfoldable pub argument_behind : List Token → Argument
-argument_behind [] = Absent
-argument_behind (piece.Word name ∷ rest) = Absent
-argument_behind (piece.Argument text ∷ []) = Given text
-argument_behind (piece.Argument text ∷ piece.Word name ∷ rest) = Given text
-argument_behind pieces = Bad
+unfoldable pub argument_after : List Token → Argument
+argument_after [] = Absent
+argument_after (piece.Word name ∷ rest) = Absent
+argument_after (piece.Argument text ∷ []) = Given text
+argument_after (piece.Argument text ∷ piece.Word name ∷ rest) = Given text
+argument_after pieces = Bad
 
 abbrev pub words_in : List Token → List Word
 words_in [] = []
-words_in (piece.Word name ∷ rest) = record { name = name; argument = argument_behind rest } ∷ words_in rest
+words_in (piece.Word name ∷ rest) = record { name = name; argument = argument_after rest } ∷ words_in rest
 words_in (other ∷ rest) = words_in rest
 
 -- what precedes the first word is given to an empty one

@@ -5,7 +5,7 @@ ghost use Rattle.std.specs.List.{flat_map};
 ghost use Rattle.std.specs.Option.{option_to_list, option_and};
 ghost use Rattle.cx_base_commands.specs.Options.{option_name};
 ghost use Rattle.cx_base_commands.specs.declared.legal.ListedCondition.{ListedCondition};
-ghost use Rattle.cx_translate.specs.Due.{condition_called};
+ghost use Rattle.cx_translate.specs.PendingStatements.{condition_called};
 ghost use Rattle.cx_translate.specs.Refusals.{has_too_many};
 ghost use Rattle.cx_translate.specs.Call.{
   argument_of,
@@ -147,7 +147,8 @@ fn push_response(alloc: Global, list: &mut Vec<Text>, words: &[Word]) -> Result<
 /// Puts the two bytes of a condition listed after others.
 fn push_listed(bytes: &mut Vec<u8>, word: &Word) -> Result<(), AllocError>
     ensures { let bytes_of = λ (condition : ListedCondition). condition.number ∷ condition.label ∷ [] in
-        let found = option_map (λ condition. listed_condition condition word.now.argument) (condition_called word.now.name) in
+        let found = option_map (λ condition. listed_condition condition word.now.argument)
+        (condition_called word.now.name) in
         OnOk result (bytes.new.items ≡ bytes.old.items ++ flat_map bytes_of (option_to_list found)) }
 {
     if let Some(condition) = condition_called(word.name.as_slice()) {

@@ -1,7 +1,7 @@
 //! Which argument is due with each word of a command.
 
 ghost use Rattle.std.specs.Prelude.{◌≡◌};
-ghost use Rattle.cx_translate.specs.Due.{
+ghost use Rattle.cx_translate.specs.PendingStatements.{
   common_due,
   condition_called,
   condition_due,
@@ -41,7 +41,7 @@ fn due_of_mark(mark: ArgumentKind) -> DueStatement
 }
 
 /// The option of a name among some.
-#[tactic(auto, unfolding(crate::specs::Due::option_called))]
+#[tactic(auto, unfolding(crate::specs::PendingStatements::option_called))]
 fn option_called(options: &[CommandOption], name: &[u8]) -> Option<CommandOption>
     ensures { result ≡ option_called options.now name.now }
 {
@@ -52,7 +52,7 @@ fn option_called(options: &[CommandOption], name: &[u8]) -> Option<CommandOption
 }
 
 /// The condition of a name, where a program can handle it.
-#[tactic(auto, unfolding(crate::specs::Due::condition_called))]
+#[tactic(auto, unfolding(crate::specs::PendingStatements::condition_called))]
 pub(crate) fn condition_called(name: &[u8]) -> Option<Condition>
     ensures { result ≡ condition_called name.now }
 {
@@ -63,7 +63,7 @@ pub(crate) fn condition_called(name: &[u8]) -> Option<Condition>
 }
 
 /// What is due with NOHANDLE and RESP.
-#[tactic(auto, unfolding(crate::specs::Due::common_due))]
+#[tactic(auto, unfolding(crate::specs::PendingStatements::common_due))]
 fn common_due(name: &[u8]) -> Option<DueStatement>
     ensures { result ≡ common_due name.now }
 {
@@ -77,7 +77,7 @@ fn common_due(name: &[u8]) -> Option<DueStatement>
 }
 
 /// What is due with a condition that the command lists.
-#[tactic(auto, unfolding(crate::specs::Due::condition_due))]
+#[tactic(auto, unfolding(crate::specs::PendingStatements::condition_due))]
 fn condition_due(command: Command, name: &[u8]) -> Option<DueStatement>
     ensures { result ≡ condition_due command name.now }
 {
@@ -91,7 +91,7 @@ fn condition_due(command: Command, name: &[u8]) -> Option<DueStatement>
 }
 
 /// What is due with a word of a command, or None where the command has no such option.
-#[tactic(auto, unfolding(crate::specs::Due::due_of))]
+#[tactic(auto, unfolding(crate::specs::PendingStatements::due_of))]
 pub(crate) fn due_of(command: Command, name: &[u8]) -> Option<DueStatement>
     ensures { result ≡ due_of command name.now }
 {
@@ -105,7 +105,7 @@ pub(crate) fn due_of(command: Command, name: &[u8]) -> Option<DueStatement>
 }
 
 /// Whether what follows a word is what is due.
-#[tactic(auto, unfolding(crate::specs::Due::suits))]
+#[tactic(auto, unfolding(crate::specs::PendingStatements::suits))]
 pub(crate) fn suits(due: DueStatement, argument: &Argument) -> bool
     ensures { result ≡ suits due argument.now }
 {

@@ -3,7 +3,7 @@
 ghost use Rattle.std.specs.Prelude.{◌≡◌, ◌≢◌, ◌*◌, ◌++◌, ◌∷◌, [], IfErr, IfOk, None, OnOk, Some, codes, decimal, false, map, string_bytes};
 ghost use Rattle.cx_base_commands.specs.Commands.{row_of};
 ghost use Rattle.cx_translate.specs.Call.{list_of, pointers_of};
-ghost use Rattle.cx_translate.specs.Made.{call, fill_to_column, label, load, made_in, made_item, made_of, stmt, stores};
+ghost use Rattle.cx_translate.specs.Expansion.{call, fill_to_column, label, load, made_in, made_item, made_of, stmt, stores};
 ghost use Rattle.cx_translate.specs.Refusals.{fault_of, has_too_many};
 ghost use Rattle.cx_translate.specs.declared.faults.TransFault.TheVariants.{Memory};
 ghost use Rattle.cx_translate.specs.Words.{words_of};
@@ -53,15 +53,15 @@ fn word_of_list(
     alloc: Global,
     before: &str,
     place: usize,
-    behind: &str,
+    after: &str,
 ) -> Result<String, AllocError>
     ensures { let word = codes "DFHEIPL+" ++ decimal (4 * place) in
-        IfOk result (λ text. string_bytes text ≡ before.now ++ word ++ behind.now) }
+        IfOk result (λ text. string_bytes text ≡ before.now ++ word ++ after.now) }
 {
     let offset = 4 * place as u128;
     let mut text = String::from_str(alloc, before)?;
     write!(text, "DFHEIPL+{offset}")?;
-    text.push_str(behind)?;
+    text.push_str(after)?;
     Ok(text)
 }
 
@@ -137,7 +137,7 @@ fn labels(alloc: Global, name: &[u8]) -> Result<Vec<Stmt>, AllocError>
 }
 
 /// The statements of a command, of which these words are the options.
-#[tactic(auto, unfolding(crate::specs::Made::made_in))]
+#[tactic(auto, unfolding(crate::specs::Expansion::made_in))]
 fn made_in(
     alloc: Global,
     name: &[u8],
@@ -159,7 +159,7 @@ fn made_in(
 /// The statements made of the EXEC statement on a line.
 ///
 /// Its fault is the first that applies. Memory comes only where an allocation failed.
-#[tactic(auto, using(crate::proofs::RefusalLemmas::few_conditions), unfolding(crate::specs::Made::made_of, crate::specs::Refusals::fault_of))]
+#[tactic(auto, using(crate::proofs::RefusalLemmas::few_conditions), unfolding(crate::specs::Expansion::made_of, crate::specs::Refusals::fault_of))]
 pub(crate) fn statements_of(
     alloc: Global,
     line: usize,
@@ -192,7 +192,7 @@ fn fill(text: &mut Vec<u8>, columns: usize) -> Result<(), AllocError>
 }
 
 /// A made line.
-#[tactic(auto, unfolding(crate::specs::Made::made_item))]
+#[tactic(auto, unfolding(crate::specs::Expansion::made_item))]
 pub(crate) fn made_item(alloc: Global, line: usize, stmt: Stmt) -> Result<Item, AllocError>
     ensures { IfOk result (λ item. item ≡ made_item line stmt) }
 {

@@ -89,10 +89,10 @@ fn characters(text: &[u8]) -> usize
 fn is_name_text(text: &[u8], most: u8) -> bool
     ensures { result ≡ is_name_text most text.now }
 {
-    let (_, behind) = text.split_at(text.len().min(1));
+    let (_, after) = text.split_at(text.len().min(1));
     begins_with_apostrophe(text)
-        && closes(behind)
-        && (2..=usize::from(most) + 1).contains(&characters(behind))
+        && closes(after)
+        && (2..=usize::from(most) + 1).contains(&characters(after))
 }
 
 /// Whether any character of a text isn't blank.

@@ -1,7 +1,7 @@
 //! An operand of EXEC cut into its words and the arguments in parentheses after them.
 
 ghost use Rattle.std.specs.Prelude.{◌≡◌, ◌<◌, ◌≤◌, ◌+◌, ◌^◌, ◌++◌, [], IfOk, OnOk, length};
-ghost use Rattle.cx_translate.specs.Pieces.{depth_behind, end_of_pieces, is_cut, last_of, pieces_from, pieces_of, word};
+ghost use Rattle.cx_translate.specs.Pieces.{depth_after, end_of_pieces, is_cut, last_of, pieces_from, pieces_of, word};
 
 use cx_source::{Text, outside};
 use std::alloc::{AllocError, Global};
@@ -19,10 +19,10 @@ pub enum Token {
 }
 
 /// How many parentheses are open after a character.
-#[tactic(auto, unfolding(crate::specs::Pieces::depth_behind))]
-fn depth_behind(depth: usize, is_outside: bool, c: u8) -> usize
+#[tactic(auto, unfolding(crate::specs::Pieces::depth_after))]
+fn depth_after(depth: usize, is_outside: bool, c: u8) -> usize
     requires { depth + 1 < 2 ^ 64 }
-    ensures value { result ≡ depth_behind depth is_outside c }
+    ensures value { result ≡ depth_after depth is_outside c }
     ensures bound { result ≤ depth + 1 }
 {
     match c {
@@ -106,7 +106,7 @@ fn pieces_in(alloc: Global, text: &[u8], marks: &[bool]) -> Result<Vec<Token>, A
     let mut start = 0;
     for (i, c) in text.iter().enumerate() {
         let (before, ends) = (depth, is_cut(depth, marks[i], *c));
-        depth = depth_behind(depth, marks[i], *c);
+        depth = depth_after(depth, marks[i], *c);
         if ends {
             push_ended(alloc, &mut pieces, before, &text[start..i], *c)?;
             start = i + 1;

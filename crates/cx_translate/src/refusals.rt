@@ -21,7 +21,7 @@ ghost use Rattle.cx_translate.specs.Refusals.{
 };
 ghost use Rattle.cx_base_commands.specs.Legal.{has_bit};
 ghost use Rattle.cx_base_commands.specs.Options.{common_of, option_name};
-ghost use Rattle.cx_translate.specs.Due.{due_of, suits};
+ghost use Rattle.cx_translate.specs.PendingStatements.{due_of, suits};
 
 use crate::due::{DueStatement, condition_called, due_of, suits};
 use crate::faults::TransFault;

@@ -4,7 +4,7 @@ ghost use Rattle.std.specs.Prelude.{[], ◌∷◌, codes, ◌≡◌, ◌≤◌, 
 ghost use Rattle.std.specs.List.{position};
 ghost use Rattle.std.specs.Option.{option_map_or};
 ghost use Rattle.cx_base_commands.specs.Eib.{eib_field, eib_pieces};
-ghost use Rattle.cx_translate.specs.Made.{stmt};
+ghost use Rattle.cx_translate.specs.Expansion.{stmt};
 ghost use Rattle.cx_translate.specs.Sections.{
   bases,
   begins_exec,
@@ -19,7 +19,7 @@ ghost use Rattle.cx_translate.specs.Sections.{
   lines,
   insert_items,
   put_before,
-  put_behind,
+  put_after,
   storage_fields,
   with_bases,
   with_eib,
@@ -207,7 +207,7 @@ fn continuing(items: &[Item], mut continues: bool) -> usize
 
 /// The place after the statement that begins at a place, and after the lines that continue it.
 #[tactic(auto, unfolding(crate::specs::Sections::place_after))]
-fn behind(items: &[Item], place: usize) -> usize
+fn after(items: &[Item], place: usize) -> usize
     requires { place < length items.now }
     ensures value { result ≡ place_after items.now place }
     ensures bound { result ≤ length items.now }
@@ -243,17 +243,17 @@ fn put_before(
 }
 
 /// Puts made statements after the statement that begins at a place.
-fn put_behind(
+fn put_after(
     alloc: Global,
     items: &mut Vec<Item>,
     place: usize,
     made: &[Stmt],
 ) -> Result<(), AllocError>
     requires { place < length items.old.items }
-    ensures { OnOk result (items.new.items ≡ put_behind made.now place items.old.items) }
+    ensures { OnOk result (items.new.items ≡ put_after made.now place items.old.items) }
 {
     let made = lines(alloc, items[place].line, made)?;
-    let place = behind(items.as_slice(), place);
+    let place = after(items.as_slice(), place);
     put(items, place, made)
 }
 
@@ -275,7 +275,7 @@ pub(crate) fn put_storage(alloc: Global, items: &mut Vec<Item>) -> Result<(), Al
 {
     if let Some(place) = storage_place(items.as_slice()) {
         let made = storage_fields(alloc)?;
-        return put_behind(alloc, items, place, made.as_slice());
+        return put_after(alloc, items, place, made.as_slice());
     }
     let Some(place) = section_place(items.as_slice()) else {
         return Ok(());
@@ -293,7 +293,7 @@ pub(crate) fn put_bases(alloc: Global, items: &mut Vec<Item>) -> Result<(), Allo
         return Ok(());
     };
     let made = bases(alloc, name_in(&items[place].stmt))?;
-    put_behind(alloc, items, place, made.as_slice())
+    put_after(alloc, items, place, made.as_slice())
 }
 
 /// Puts the EIB before the first END.

@@ -1,7 +1,7 @@
 //! The words of an operand of EXEC.
 
 ghost use Rattle.std.specs.Prelude.{◌≡◌, IfOk};
-ghost use Rattle.cx_translate.specs.Words.{argument_behind, nameless, words_in, words_of};
+ghost use Rattle.cx_translate.specs.Words.{argument_after, nameless, words_in, words_of};
 
 use crate::pieces::{Token, pieces_of};
 use cx_source::Text;
@@ -28,9 +28,9 @@ pub struct Word {
 }
 
 /// What is at the front of some pieces, up to the first word.
-#[tactic(auto, unfolding(crate::specs::Words::argument_behind))]
-fn argument_behind(alloc: Global, pieces: &[Token]) -> Result<Argument, AllocError>
-    ensures { IfOk result (λ argument. argument ≡ argument_behind pieces.now) }
+#[tactic(auto, unfolding(crate::specs::Words::argument_after))]
+fn argument_after(alloc: Global, pieces: &[Token]) -> Result<Argument, AllocError>
+    ensures { IfOk result (λ argument. argument ≡ argument_after pieces.now) }
 {
     match pieces {
         [] | [Token::Word(_), ..] => Ok(Argument::Absent),
@@ -50,7 +50,7 @@ fn words_in(alloc: Global, pieces: &[Token]) -> Result<Vec<Word>, AllocError>
         if let Token::Word(name) = piece {
             words.push(Word {
                 name: Text::from_slice(alloc, name.as_slice())?,
-                argument: argument_behind(alloc, &pieces[i + 1..])?,
+                argument: argument_after(alloc, &pieces[i + 1..])?,
             })?;
         }
     }

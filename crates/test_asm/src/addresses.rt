@@ -29,7 +29,7 @@ const NOT_REACHED: &[(&[u8], &[u8], &[u8])] = &[
     (b"P,5", b"P+4,5", b"1,P"),
 ];
 
-fn behind_two(
+fn after_two(
     alloc: Global,
     symbols: &SymbolTable,
     first: &[u8],
@@ -47,10 +47,10 @@ fn a_place_has_the_nearest_address(rt: HostRuntime) -> Result<(), Fail> {
     let alloc = rt.alloc();
     let symbols = table(alloc)?;
     for &(first, second, operand, bytes) in REACHED {
-        assert!(rt; makes(behind_two(alloc, &symbols, first, second, operand), bytes));
+        assert!(rt; makes(after_two(alloc, &symbols, first, second, operand), bytes));
     }
     for &(first, second, operand) in NOT_REACHED {
-        let made = behind_two(alloc, &symbols, first, second, operand);
+        let made = after_two(alloc, &symbols, first, second, operand);
         assert!(rt; is_refused(made, FaultKind::NoAddressability));
     }
     Ok(())

@@ -39,20 +39,20 @@ fn sources_are_refused_so(rt: HostRuntime) -> Result<(), Fail> {
 #[test]
 fn every_front_of_a_program_has_no_end(rt: HostRuntime) -> Result<(), Fail> {
     let mut front = Vec::new(rt.alloc());
-    let mut behind: usize = 1;
+    let mut after: usize = 1;
     let mut begins = true;
     for byte in PROGRAM {
-        assert!(rt; line_without_end(rt.alloc(), front.as_slice()) == Some(behind));
+        assert!(rt; line_without_end(rt.alloc(), front.as_slice()) == Some(after));
         if *byte == b'D' && front.as_slice().ends_with(b" EN") {
             break;
         }
         front.push(*byte)?;
         if begins {
-            behind = behind.saturating_add(1);
+            after = after.saturating_add(1);
         }
         begins = *byte == b'\n';
     }
-    assert!(rt; behind == 8);
+    assert!(rt; after == 8);
     assert!(rt; line_without_end(rt.alloc(), PROGRAM) == None);
     Ok(())
 }

@@ -75,9 +75,9 @@ impl<'a> ScriptIn for PieceIn<'a> {
             return Err(DeviceFault);
         }
         let n = buffer.len().min(self.rest.len()).min(self.first.max(1));
-        let (front, behind) = self.rest.split_at(n);
+        let (front, after) = self.rest.split_at(n);
         buffer[..n].copy_from_slice(front);
-        self.rest = behind;
+        self.rest = after;
         self.first = self.most;
         Ok(n)
     }

@@ -70,7 +70,8 @@ impl<'a> ScriptOut for PieceOut<'a> {
         ensures piece { let room = length self.old.text.buffer.now - self.old.text.len in
             IfOk result (λ n. n ≡ bytes_moved self.old.most (length bytes.now) room) }
         ensures room { let room = length self.old.text.buffer.now - self.old.text.len in
-            length self.new.text.buffer.now - self.new.text.len ≡ room - bytes_moved self.old.most (length bytes.now) room }
+            length self.new.text.buffer.now - self.new.text.len ≡ room
+            - bytes_moved self.old.most (length bytes.now) room }
         ensures kept { (self.new.most ≡ self.old.most) × (self.new.fails ≡ self.old.fails) }
     {
         let n = bytes.len().min(self.most.max(1));

@@ -164,7 +164,7 @@ const XFUN: [u8; 4] = [0xE7, 0xC6, 0xE4, 0xD5];
 const ENTER: Act = Act::Key(Aid::Enter);
 
 #[test]
-fn the_turn_behind_an_alteration_is_another(rt: HostRuntime) -> Result<(), Fail> {
+fn the_turn_after_an_alteration_is_another(rt: HostRuntime) -> Result<(), Fail> {
     let alloc = rt.alloc();
     let nop = Act::Alter(Change::Nop);
     assert!(rt; ends(alloc, &[nop], ALTERED)?);

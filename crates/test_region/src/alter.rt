@@ -63,7 +63,7 @@ fn refusal(alloc: Global, count: usize, n: u8, change: Change) -> Result<Option<
 }
 
 #[test]
-fn behind_an_alteration_the_turn_is_another(rt: HostRuntime) -> Result<(), Fail> {
+fn after_an_alteration_the_turn_is_another(rt: HostRuntime) -> Result<(), Fail> {
     // After the command comes 0000, which is no instruction.
     assert!(rt; turns_to(rt.alloc(), Change::Nop, abended(ASRA))?);
     // The command is RETURN with a function that there isn't.

@@ -120,7 +120,7 @@ fn listed(number: u8, label: u8) -> ListedCondition {
 }
 
 #[test]
-fn conditions_are_listed_behind_the_block(rt: HostRuntime) -> Result<(), Fail> {
+fn conditions_are_listed_after_the_block(rt: HostRuntime) -> Result<(), Fail> {
     // HANDLE CONDITION PGMIDERR(label) ERROR, with RESP.
     let list = [
         0x00, 0x01, 0x00, 0x0C, 0x00, 0x01, 0x23, 0x45, 0x80, 0x20, 0x00, 0x10, 0x02, 0x04, 0x02,

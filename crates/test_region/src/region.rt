@@ -22,7 +22,7 @@ const ONE_COMMAND: [u8; 32] = [
 
 /// A program that sets all bytes of its EIB to FF, and then gives SUSPEND: MVI 0(11),255; MVC 1(87,11),0(11); and the
 /// list as above.
-const SUSPEND_BEHIND_FF: [u8; 44] = [
+const SUSPEND_AFTER_FF: [u8; 44] = [
     0x92, 0xFF, 0xB0, 0x00, 0xD2, 0x56, 0xB0, 0x01, 0xB0, 0x00, 0x41, 0x00, 0xF0, 0x28, 0x50, 0x00,
     0xF0, 0x24, 0x96, 0x80, 0xF0, 0x24, 0x41, 0x10, 0xF0, 0x24, 0x41, 0xE0, 0x08, 0x00, 0x05, 0xEE,
     0x00, 0x00, 0x00, 0x00, 0x00, 0x00, 0x00, 0x00, 0x12, 0x08, 0x00, 0x00,
@@ -235,7 +235,7 @@ fn a_task_is_shown(rt: HostRuntime) -> Result<(), Fail> {
 }
 
 /// What the EIB holds after SUSPEND where it was all FF: EIBFN 1208, EIBRCODE and EIBRESP zero.
-fn behind_suspend(k: usize) -> u8 {
+fn after_suspend(k: usize) -> u8 {
     match k {
         27 => 0x12,
         28 => 0x08,
@@ -248,13 +248,13 @@ fn behind_suspend(k: usize) -> u8 {
 fn suspend_writes_its_fields_alone(rt: HostRuntime) -> Result<(), Fail> {
     let alloc = rt.alloc();
     let performed = TurnReply::Performed(Condition::Normal);
-    assert!(rt; turns_to(alloc, &SUSPEND_BEHIND_FF, 2, performed)?);
-    let eib = bytes(alloc, &acts_of(&SUSPEND_BEHIND_FF)[..6], EIB, 88)?;
+    assert!(rt; turns_to(alloc, &SUSPEND_AFTER_FF, 2, performed)?);
+    let eib = bytes(alloc, &acts_of(&SUSPEND_AFTER_FF)[..6], EIB, 88)?;
     assert!(rt; eib.len() == 88);
     assert!(rt;
         eib.iter()
             .enumerate()
-            .all(|(k, value)| *value == behind_suspend(k))
+            .all(|(k, value)| *value == after_suspend(k))
     );
     Ok(())
 }
@@ -262,8 +262,8 @@ fn suspend_writes_its_fields_alone(rt: HostRuntime) -> Result<(), Fail> {
 #[test]
 fn an_abend_leaves_nothing(rt: HostRuntime) -> Result<(), Fail> {
     let alloc = rt.alloc();
-    assert!(rt; turns_to(alloc, &SUSPEND_BEHIND_FF, 3, abended(ASRA))?);
-    let acts = acts_of(&SUSPEND_BEHIND_FF);
+    assert!(rt; turns_to(alloc, &SUSPEND_AFTER_FF, 3, abended(ASRA))?);
+    let acts = acts_of(&SUSPEND_AFTER_FF);
     assert!(rt; task(alloc, &acts[..6], FIRST)?.is_some());
     assert!(rt; task(alloc, &acts, FIRST)?.is_none());
     assert!(rt; bytes(alloc, &acts, EIB, 1)?.is_empty());

@@ -30,10 +30,10 @@ fn a_full_key_attaches_a_task_with_full_working_storage(rt: HostRuntime) -> Resu
 }
 
 /// Adds a line about the terminal of this letter.
-fn push_line(text: &mut Vec<u8>, front: &[u8], letter: u8, behind: &[u8]) -> Result<(), Fail> {
+fn push_line(text: &mut Vec<u8>, front: &[u8], letter: u8, after: &[u8]) -> Result<(), Fail> {
     text.extend_from_slice(front)?;
     text.push(letter)?;
-    text.extend_from_slice(behind)?;
+    text.extend_from_slice(after)?;
     Ok(())
 }
 

@@ -122,9 +122,9 @@ fn each_fault_is_told_by_the_scripts_line(rt: HostRuntime) -> Result<(), Fail> {
             b"/*\nTERMINAL T001\n",
         )?;
         expect_run(&rt, &script, Err(RunFault::Source(*line, *kind)), b"");
-        let behind = with_block(&rt, b"TERMINAL T001\n", &script, b"")?;
+        let after = with_block(&rt, b"TERMINAL T001\n", &script, b"")?;
         let fault = RunFault::Source(*line + 1, *kind);
-        expect_run(&rt, &behind, Err(fault), b"TERMINAL T001 DEFINED\n");
+        expect_run(&rt, &after, Err(fault), b"TERMINAL T001 DEFINED\n");
         assert_eq!(rt;
             format!(in rt.alloc(); "{fault}")?,
             format!(in rt.alloc(); "cicsedf: line {}: {}", *line + 1, kind.name())?
@@ -188,7 +188,7 @@ fn a_source_lacks_a_line(rt: HostRuntime) -> Result<(), Fail> {
 }
 
 #[test]
-fn words_behind_source_stand_in_their_order(rt: HostRuntime) {
+fn words_after_source_stand_in_their_order(rt: HostRuntime) {
     let lines: [&[u8]; 9] = [
         b"SOURCE X DISASM LIST\n",
         b"SOURCE X LIST LIST\n",
@@ -206,7 +206,7 @@ fn words_behind_source_stand_in_their_order(rt: HostRuntime) {
 }
 
 #[test]
-fn a_refused_definition_stands_behind_the_listing(rt: HostRuntime) {
+fn a_refused_definition_stands_after_the_listing(rt: HostRuntime) {
     let twice =
         b"SOURCE P LIST\nP        CSECT\n         BR    14\n         END\n/*\nSOURCE P DISASM\nP        CSECT\n         BR    14\n         END\n/*\n";
     let written =

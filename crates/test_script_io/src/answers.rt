@@ -55,9 +55,9 @@ impl<'a, 'b> ScriptIn for LookingIn<'a, 'b> {
             self.good = self.good.saturating_add(1);
         }
         let n = buffer.len().min(self.script.len()).min(self.most);
-        let (front, behind) = self.script.split_at(n);
+        let (front, after) = self.script.split_at(n);
         buffer[..n].copy_from_slice(front);
-        self.script = behind;
+        self.script = after;
         self.given = self.given.saturating_add(n);
         Ok(n)
     }

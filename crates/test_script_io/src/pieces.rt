@@ -59,9 +59,9 @@ impl<'a> ScriptIn for Drawn<'a> {
         self.seed = self.seed.wrapping_mul(1_103_515_245).wrapping_add(12_345);
         let drawn = (self.seed / 65_536 % 48) as usize + 1;
         let n = buffer.len().min(self.rest.len()).min(drawn);
-        let (front, behind) = self.rest.split_at(n);
+        let (front, after) = self.rest.split_at(n);
         buffer[..n].copy_from_slice(front);
-        self.rest = behind;
+        self.rest = after;
         Ok(n)
     }
 

@@ -47,9 +47,9 @@ fn read_in_pieces(alloc: Global, bytes: &[u8], size: usize) -> Result<Source, So
     let mut reader = SourceReader::new(alloc);
     let mut rest = bytes;
     for _ in 0..bytes.len() {
-        let (piece, behind) = rest.split_at(rest.len().min(size));
+        let (piece, after) = rest.split_at(rest.len().min(size));
         reader.feed(piece)?;
-        rest = behind;
+        rest = after;
     }
     reader.finish()
 }
@@ -161,11 +161,11 @@ fn fault_of(alloc: Global, bytes: &[u8]) -> Option<SourceFault> {
 }
 
 #[test]
-fn a_source_without_its_end_is_refused_behind_its_last_line(rt: HostRuntime) {
+fn a_source_without_its_end_is_refused_after_its_last_line(rt: HostRuntime) {
     let mut line = 1usize;
     for (i, c) in PROGRAM.iter().enumerate() {
-        let (front, behind) = PROGRAM.split_at(i);
-        if behind.len() < 2 {
+        let (front, after) = PROGRAM.split_at(i);
+        if after.len() < 2 {
             break;
         }
         let unfinished = usize::from(front.last().is_some_and(|last| *last != b'\n'));
@@ -468,8 +468,8 @@ fn names_begin_with_a_letter(rt: HostRuntime) {
 }
 
 /// Whether a text without the blanks at its beginning is the one, and without those at its end the other.
-fn is_stripped(text: &[u8], behind: &[u8], before: &[u8]) -> bool {
-    skip_blanks(text) == behind && trimmed(text) == before
+fn is_stripped(text: &[u8], after: &[u8], before: &[u8]) -> bool {
+    skip_blanks(text) == after && trimmed(text) == before
 }
 
 /// Whether the text of a line of 80 columns ends with column 72.

@@ -49,7 +49,7 @@ fn each_command_makes_its_list(rt: HostRuntime) -> Result<(), Fail> {
 }
 
 #[test]
-fn a_pointer_is_loaded_behind_the_call(rt: HostRuntime) -> Result<(), Fail> {
+fn a_pointer_is_loaded_after_the_call(rt: HostRuntime) -> Result<(), Fail> {
     let made = made_of(rt.alloc(), b"CICS GETMAIN SET(5) LENGTH(B) RESP(R)")?;
     let expected: &[u8] =
         b"LA 0,=X'0C02C040'\nST 0,DFHEIPL+0\nLA 0,DFHEITP\nST 0,DFHEIPL+4\nLA 0,B\nST 0,DFHEIPL+8\nLA 0,R\nST 0,DFHEIPL+12\nOI DFHEIPL+12,X'80'\nLA 1,DFHEIPL\nL 15,=V(DFHEI1)\nBALR 14,15\nL 5,DFHEITP\n";

@@ -70,17 +70,17 @@ fn a_name_and_continuations_and_comments(rt: HostRuntime) -> Result<(), Fail> {
 }
 
 #[test]
-fn fields_stand_behind_the_first_dfheistg(rt: HostRuntime) -> Result<(), Fail> {
+fn fields_stand_after_the_first_dfheistg(rt: HostRuntime) -> Result<(), Fail> {
     let source: &[u8] =
         b"DFHEISTG DSECT\nX        DS    F\nP        CSECT\nDFHEISTG DSECT\nP        CSECT\n         EXEC  CICS SUSPEND\n         END\n";
     let front: &[u8] =
         b"01 DFHEISTG DSECT\n01 DFHEIPL  DS    18F\n01 DFHEITP  DS    F\n01 DFHEICAP DS    A\n02 X        DS    F\n03 P        CSECT\n03          USING P,3\n03          USING DFHEISTG,13\n03          USING DFHEIBLK,11\n04 DFHEISTG DSECT\n05 P        CSECT\n06          LA    0,=X'12080000'\n";
     assert!(rt; begins(rt.alloc(), source, front)?);
-    let behind: &[u8] =
+    let after: &[u8] =
         b"P        CSECT\nDFHEISTG DSECT\nP        CSECT\n         EXEC  CICS SUSPEND\n         END\n";
     let front: &[u8] =
         b"01 P        CSECT\n01          USING P,3\n01          USING DFHEISTG,13\n01          USING DFHEIBLK,11\n02 DFHEISTG DSECT\n02 DFHEIPL  DS    18F\n02 DFHEITP  DS    F\n02 DFHEICAP DS    A\n03 P        CSECT\n04          LA    0,";
-    assert!(rt; begins(rt.alloc(), behind, front)?);
+    assert!(rt; begins(rt.alloc(), after, front)?);
     Ok(())
 }
 

@@ -83,7 +83,7 @@ impl Run {
     }
 
     // Takes a line after a source. Whether the source agrees, once the last is there.
-    fn behind(&mut self, alloc: Global, line: &str) -> Result<bool, AllocError> {
+    fn after(&mut self, alloc: Global, line: &str) -> Result<bool, AllocError> {
         self.made.push_str(line)?;
         self.made.push_str("\n")?;
         if !line.starts_with("PLACES") {
@@ -116,7 +116,7 @@ impl Run {
                 self.text.push_str("\n")?;
                 Ok(true)
             }
-            State::Made => self.behind(alloc, line),
+            State::Made => self.after(alloc, line),
         }
     }
 }

@@ -76,7 +76,7 @@ fn registers_of(layout: &Layout<'_>) -> Option<[u32; 16]> {
 }
 
 /// The name of how a run ended.
-fn name_of(halt: Halt) -> &'static str {
+fn halt_name(halt: Halt) -> &'static str {
     match halt {
         Halt::AtEntry => "AtEntry",
         Halt::Limit => "Limit",
@@ -88,7 +88,7 @@ fn name_of(halt: Halt) -> &'static str {
 /// the list and four.
 fn ends_so(case: &Case, cpu: &mut Cpu, store: &mut FlatStore) -> bool {
     if let Some(limit) = case.limit {
-        return name_of(advance(cpu, store, limit)) == case.ends.as_str();
+        return halt_name(advance(cpu, store, limit)) == case.ends.as_str();
     }
     let arguments = u32::try_from(case.arguments.len()).unwrap_or(0);
     let most = arguments.wrapping_mul(2).wrapping_add(5);

@@ -2,7 +2,7 @@
 use Rattle.std.specs.Prelude.{ℕ, ◌+◌, List, [], ◌∷◌, ◌++◌, Bool, true, false, Option, Some, None, codes, decimal}
 use Rattle.cx_code.specs.declared.instruction.Fields.{Fields}
 use Rattle.cx_code.specs.declared.instruction.Fields.TheVariants.{Rr, Rx, Rs, Si, Ss, Ss2}
-use Rattle.cx_code.specs.Table.{name_of, is_shift}
+use Rattle.cx_code.specs.Table.{mnemonic_of, is_shift}
 use Rattle.cx_code.specs.Spelling.{Instruction}
 
 -- numbers in decimal, with commas between them
@@ -24,4 +24,4 @@ numbers shift (Ss2 l1 l2 b1 d1 b2 d2) = d1 ∷ (l1 + 1) ∷ b1 ∷ d2 ∷ (l2 + 
 -- a mnemonic and operands, or two dashes where there is no instruction
 unfoldable pub description : Option Instruction → List ℕ
 description None = codes "- -"
-description (Some i) = name_of i.op ++ codes " " ++ with_commas (numbers (is_shift i.op) i.fields)
+description (Some i) = mnemonic_of i.op ++ codes " " ++ with_commas (numbers (is_shift i.op) i.fields)

@@ -12,10 +12,10 @@ pub fn split_block(lines: &[u8]) -> (&[u8], &[u8]) {
     let mut len = 0usize;
     let mut rest = lines;
     for _ in 0..lines.len() {
-        let Some((line, behind)) = split_line(rest) else {
+        let Some((line, after)) = split_line(rest) else {
             break;
         };
-        rest = behind;
+        rest = after;
         if line == b"/*".as_slice() {
             break;
         }

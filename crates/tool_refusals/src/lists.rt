@@ -123,17 +123,12 @@ impl<S: Store + Drop> List<S> {
 
     /// Does what a text asks; the lines after it begin with its block where it begins one. Answers the lines that are
     /// left.
-    fn text<'a>(
-        &mut self,
-        rt: &HostRuntime,
-        text: &[u8],
-        behind: &'a [u8],
-    ) -> io::Result<&'a [u8]> {
+    fn text<'a>(&mut self, rt: &HostRuntime, text: &[u8], after: &'a [u8]) -> io::Result<&'a [u8]> {
         let Some(line) = allowed_line(rt.alloc(), text)? else {
             println!(rt; "a bad line")?;
-            return Ok(behind);
+            return Ok(after);
         };
-        let (block, rest) = block_of(&line, behind);
+        let (block, rest) = block_of(&line, after);
         self.line(rt, line, block)?;
         Ok(rest)
     }
@@ -148,10 +143,10 @@ impl<S: Store + Drop> List<S> {
 }
 
 /// The lines of the block that a line begins, none where it begins none, and those after it.
-fn block_of<'a>(line: &Line<Action>, behind: &'a [u8]) -> (&'a [u8], &'a [u8]) {
+fn block_of<'a>(line: &Line<Action>, after: &'a [u8]) -> (&'a [u8], &'a [u8]) {
     match line {
-        Line::Image(_, _) | Line::Source(_, _) | Line::Lines(_) => split_block(behind),
-        Line::Blank | Line::Action(_) => (b"", behind),
+        Line::Image(_, _) | Line::Source(_, _) | Line::Lines(_) => split_block(after),
+        Line::Blank | Line::Action(_) => (b"", after),
     }
 }
 
@@ -160,14 +155,14 @@ fn do_list<S: Store + Drop>(rt: &HostRuntime, region: Debugged<S>, lines: &[u8])
     let mut list = List::new(rt, region);
     let mut rest = lines;
     for _ in 0..MOST_LINES {
-        let Some((line, behind)) = split_line(rest) else {
+        let Some((line, after)) = split_line(rest) else {
             break;
         };
         if line.starts_with(b"LIST ") {
             println!(rt; "{}", std::str::from_utf8(line).unwrap_or("LIST"))?;
-            rest = behind;
+            rest = after;
         } else {
-            rest = list.text(rt, line, behind)?;
+            rest = list.text(rt, line, after)?;
         }
     }
     list.end(rt)
@@ -177,10 +172,10 @@ fn do_list<S: Store + Drop>(rt: &HostRuntime, region: Debugged<S>, lines: &[u8])
 fn split_list(lines: &[u8]) -> (&[u8], &[u8]) {
     let mut rest = lines;
     for _ in 0..MOST_LINES {
-        let Some((_, behind)) = split_line(rest) else {
+        let Some((_, after)) = split_line(rest) else {
             break;
         };
-        rest = behind;
+        rest = after;
         if rest.starts_with(b"LIST ") {
             let end = lines.len().saturating_sub(rest.len());
             return (lines.get(..end).unwrap_or(lines), rest);
@@ -199,13 +194,13 @@ pub fn do_lists(rt: &HostRuntime, input: &[u8]) -> io::Result<()> {
         if rest.is_empty() {
             break;
         }
-        let (list, behind) = split_list(rest);
+        let (list, after) = split_list(rest);
         if is_flat {
             do_list(rt, begun_over_areas(rt.alloc())?, list)?;
         } else {
             do_list(rt, begun_over_pages(rt.alloc())?, list)?;
         }
-        rest = behind;
+        rest = after;
     }
     Ok(())
 }

@@ -138,7 +138,7 @@ fn run_under_edf<S: Store + Drop>(rt: &HostRuntime, stored: &str, store: S) -> i
             let well = agreeing(found.as_slice(), list.due());
             let displays = displays_of(&region);
             println!(rt; "Debugged::run over {stored}: {len} events, {well} answers as is due")?;
-            println!(rt; "{defined} definitions before, {displays} displays behind")
+            println!(rt; "{defined} definitions before, {displays} displays after")
         }
         Err(stop) => println!(rt; "Debugged::run over {stored}: stopped at {}", stop.done),
     }

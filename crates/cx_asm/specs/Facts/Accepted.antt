@@ -6,7 +6,7 @@ use Rattle.std.proofs.lemmas.Bool.Decides.{nat_tests}
 use Rattle.cx_asm_pass1.specs.AllFaults.{place_faults}
 use Rattle.cx_asm_pass1.specs.Facts.AllFaults as places
 use Rattle.cx_asm_pass1.specs.PassState.{line_fault}
-use Rattle.cx_asm_pass1.specs.Placed.{known_of}
+use Rattle.cx_asm_pass1.specs.Locations.{known_of}
 use Rattle.cx_asm_pass1.specs.declared.place.LineFault.{LineFault}
 use Rattle.cx_source.specs.declared.source.Source.{Source}
 use Rattle.cx_asm.specs.Assembly.{AssemblyParts, assembly_faults, assembly_of, end_line, fault_at, first_found, made_of, second_faults_of, size_faults, size_of}

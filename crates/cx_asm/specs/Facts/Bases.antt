@@ -25,30 +25,30 @@ ended_length : (registers : List ℕ) (bases : Bases) → length (after_drop (So
 ended_length [] bases = refl
 ended_length (register ∷ registers) bases = ended_length registers (slice_set bases register None) ∙ length-set bases register None
 
-abbrev behind : Result Bases FaultKind → Bases → Bases
-behind made bases = unwrap_or (result_ok made) bases
+abbrev or_kept : Result Bases FaultKind → Bases → Bases
+or_kept made bases = unwrap_or (result_ok made) bases
 
 using_sixteen : (given : Result UsingStatement FaultKind) (bases : Bases) → length bases ≡ 16
-    → length (behind (made_of (λ u. after_using u.section u.number u.registers bases) given) bases) ≡ 16
+    → length (or_kept (made_of (λ u. after_using u.section u.number u.registers bases) given) bases) ≡ 16
 using_sixteen (Ok given) bases e = held_length given.section given.registers given.number bases ∙ e
 using_sixteen (Err fault) bases e = e
 
 drop_sixteen : (registers : Result (Option (List ℕ)) FaultKind) (bases : Bases) → length bases ≡ 16
-    → length (behind (made_of (λ named. after_drop named bases) registers) bases) ≡ 16
+    → length (or_kept (made_of (λ named. after_drop named bases) registers) bases) ≡ 16
 drop_sixteen (Ok None) bases e = refl
 drop_sixteen (Ok (Some registers)) bases e = ended_length registers bases ∙ e
 drop_sixteen (Err fault) bases e = e
 
-behind_sixteen : (o : Operation) (c : Context) (operand : List ℕ) → length c.bases ≡ 16 → length (behind (bases_in o c operand) c.bases) ≡ 16
+operand_sixteen : (o : Operation) (c : Context) (operand : List ℕ) → length c.bases ≡ 16 → length (or_kept (bases_in o c operand) c.bases) ≡ 16
 unfolding bases_in
-behind_sixteen (operation.Directive directive.Using) c operand e = using_sixteen (using_in c (operands_of operand)) c.bases e
-behind_sixteen (operation.Directive directive.Drop) c operand e = drop_sixteen (drop_in c operand) c.bases e
-behind_sixteen o c operand e = e
+operand_sixteen (operation.Directive directive.Using) c operand e = using_sixteen (using_in c (operands_of operand)) c.bases e
+operand_sixteen (operation.Directive directive.Drop) c operand e = drop_sixteen (drop_in c operand) c.bases e
+operand_sixteen o c operand e = e
 
 pub after_sixteen : (told : Whole) (bases : Bases) (s : PlacedStatement) → length bases ≡ 16 → length (bases_after told bases s) ≡ 16
 unfolding bases_after
 after_sixteen told bases s e = go (operation_of s)
   where
-    go : (o : Option Operation) → length (option_map_or (λ it. behind (bases_in it (directive_context told bases s) s.stmt.operand) bases) o bases) ≡ 16
+    go : (o : Option Operation) → length (option_map_or (λ it. or_kept (bases_in it (directive_context told bases s) s.stmt.operand) bases) o bases) ≡ 16
     go None = e
-    go (Some o) = behind_sixteen o (directive_context told bases s) s.stmt.operand e
+    go (Some o) = operand_sixteen o (directive_context told bases s) s.stmt.operand e

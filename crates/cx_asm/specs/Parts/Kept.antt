@@ -1,6 +1,6 @@
 -- What is there with a part after it, where the part is kept.
 use Rattle.std.specs.Prelude.{◌≡◌, Bool, true, false}
-use Rattle.cx_asm.specs.Laws.Standing.{IsWithin}
+use Rattle.cx_asm.specs.Laws.SectionLines.{IsWithin}
 use Rattle.cx_asm.specs.Resolving.{Standing, join_sections}
 
 abbrev pub kept : Bool → Standing → Standing → Standing

@@ -3,7 +3,7 @@ use Rattle.std.specs.Prelude.{◌≡◌, ℕ, ◌+◌, ◌*◌, ◌≤◌, lengt
 use Rattle.cx_exec.specs.declared.machine.Halt.TheVariants as halt
 use Rattle.cx_exec.specs.Machine.{Machine}
 use Rattle.cx_exec.specs.Advance.{Advances}
-use Rattle.cx_asm_arrival.specs.Made.{Statement, instructions_made, words_of}
+use Rattle.cx_asm_arrival.specs.Expansion.{Statement, instructions_made, words_of}
 use Rattle.cx_asm_arrival.specs.Stands.{IsMachine, IsLegal, Stands, IsAddressed, IsClear, code_length}
 use Rattle.cx_asm_arrival.specs.Arrives.{Arrives}
 

@@ -1,31 +1,31 @@
 -- Lines that don't overlap: up to a different size, with one line or several after them, and each on its own.
 use Rattle.std.proofs.Common.{◌≡◌, ℕ, zero, suc, ◌<◌, ◌≤◌, List, [], ◌∷◌, ◌++◌, length, get_or, refl, arith}
 use Rattle.cx_code.specs.declared.disassembly.Line.{Line}
-use Rattle.cx_asm_image.specs.Resolved.{end_of, end_behind, AreApart}
+use Rattle.cx_asm_image.specs.Resolved.{end_of, end_after, AreApart}
 
 -- lines that don't overlap end in the section
-pub apart_below : (from : ℕ) (ls : List Line) (size : ℕ) → AreApart from ls size → end_behind from ls ≤ size
+pub apart_below : (from : ℕ) (ls : List Line) (size : ℕ) → AreApart from ls size → end_after from ls ≤ size
 apart_below from [] size apart = apart
 apart_below from (l ∷ ls) size apart = apart_below (end_of l) ls size apart.1
 
-pub ends_behind : (from : ℕ) (ls : List Line) (size : ℕ) → AreApart from ls size → from ≤ size
-ends_behind from [] size apart = apart
-ends_behind from (l ∷ ls) size apart =
-    let rest = ends_behind (end_of l) ls size apart.1 in
+pub ends_after : (from : ℕ) (ls : List Line) (size : ℕ) → AreApart from ls size → from ≤ size
+ends_after from [] size apart = apart
+ends_after from (l ∷ ls) size apart =
+    let rest = ends_after (end_of l) ls size apart.1 in
     let first = apart.0 in
     omega arith
 
 -- and in every section as long as their end
-pub apart_up_to : (from : ℕ) (ls : List Line) (end size : ℕ) → AreApart from ls end → end_behind from ls ≤ size → AreApart from ls size
+pub apart_up_to : (from : ℕ) (ls : List Line) (end size : ℕ) → AreApart from ls end → end_after from ls ≤ size → AreApart from ls size
 apart_up_to from [] end size apart h = h
 apart_up_to from (l ∷ ls) end size apart h = (apart.0, apart_up_to (end_of l) ls end size apart.1 h)
 
 -- a line after the others
-pub apart_with : (from : ℕ) (ls : List Line) (l : Line) → AreApart from ls (end_behind from ls) → end_behind from ls ≤ l.at → AreApart from (ls ++ l ∷ []) (end_of l)
+pub apart_with : (from : ℕ) (ls : List Line) (l : Line) → AreApart from ls (end_after from ls) → end_after from ls ≤ l.at → AreApart from (ls ++ l ∷ []) (end_of l)
 apart_with from [] l apart h = (h, omega arith)
 apart_with from (k ∷ ls) l apart h = (apart.0, apart_with (end_of k) ls l apart.1 h)
 
-pub end_with : (from : ℕ) (ls : List Line) (l : Line) → end_behind from (ls ++ l ∷ []) ≡ end_of l
+pub end_with : (from : ℕ) (ls : List Line) (l : Line) → end_after from (ls ++ l ∷ []) ≡ end_of l
 end_with from [] l = refl
 end_with from (k ∷ ls) l = end_with (end_of k) ls l
 
@@ -41,5 +41,5 @@ apart_append from (l ∷ ls) ms mid size apart more = (apart.0, apart_append (en
 -- each line ends in the section
 pub fits_at : (from : ℕ) (ls : List Line) (size i : ℕ) (d : Line) → AreApart from ls size → i < length ls → end_of (get_or ls i d) ≤ size
 fits_at from [] size i d apart h = absurd (omega arith)
-fits_at from (l ∷ ls) size zero d apart h = ends_behind (end_of l) ls size apart.1
+fits_at from (l ∷ ls) size zero d apart h = ends_after (end_of l) ls size apart.1
 fits_at from (l ∷ ls) size (suc i) d apart h = fits_at (end_of l) ls size i d apart.1 (omega arith)

@@ -5,7 +5,7 @@ use Rattle.cx_code.specs.declared.disassembly.Line.{Line}
 use Rattle.cx_code.specs.declared.disassembly.What.{What}
 use Rattle.cx_code.specs.declared.disassembly.What.TheVariants.{Code}
 use Rattle.cx_code.specs.Spelling.{spelling, Spells}
-use Rattle.cx_asm_image.specs.Resolved.{AreApart, end_behind}
+use Rattle.cx_asm_image.specs.Resolved.{AreApart, end_after}
 use Rattle.cx_asm_image.specs.Text.{text_from}
 
 -- an instruction is spelled by its spelling, as a well-formed one is
@@ -24,5 +24,5 @@ pub record GoesOn (all rest : List Line) (size : ℕ) (text : List ℕ) : Type 0
 
 -- lines that don't overlap, and the offset after them
 pub record IsEndOf (lines : List Line) (end : ℕ) : Type 0 where
-  pub at : end ≡ end_behind 0 lines
+  pub at : end ≡ end_after 0 lines
   pub apart : AreApart 0 lines end

@@ -6,7 +6,7 @@ use Rattle.cx_source.specs.declared.source.Stmt.{Stmt}
 use Rattle.cx_asm_expressions.specs.Faults.{lower_of}
 use Rattle.cx_asm_expressions.specs.declared.faults.FaultKind.{FaultKind}
 use Rattle.cx_asm_pass1.specs.AllFaults.{faults_after, with_fault}
-use Rattle.cx_asm_pass1.specs.PassState.{PassState, next_state, after_line, fault_in, first_fault_behind, state_after, line_fault}
+use Rattle.cx_asm_pass1.specs.PassState.{PassState, next_state, after_line, fault_in, first_fault_after, state_after, line_fault}
 use Rattle.cx_asm_pass1.specs.declared.place.LineFault.{LineFault}
 
 kept_first : (is : Bool) (first : LineFault) → Some first ≡ cond is (Some (line_fault first.line first.kind)) (Some first)
@@ -20,7 +20,7 @@ lowered_first true kind first more rest = refl
 lowered_first false kind first more rest = refl
 
 pub first_with_fault : (line : ℕ) (fault : Option FaultKind) (faults : List LineFault)
-    → slice_get (with_fault line fault faults) 0 ≡ first_fault_behind line fault (slice_get faults 0)
+    → slice_get (with_fault line fault faults) 0 ≡ first_fault_after line fault (slice_get faults 0)
 first_with_fault line None [] = refl
 first_with_fault line (Some kind) [] = refl
 first_with_fault line None (first ∷ more) = kept_first (line == first.line) first
@@ -31,7 +31,7 @@ line_more : (line : ℕ) (stmt : Option Stmt) (known : PassState) (faults : List
 unfolding next_state
 line_more line None known faults e = e
 line_more line (Some stmt) known faults e =
-    first_with_fault line (fault_in stmt known) faults ∙ ap (λ (o : Option LineFault). first_fault_behind line (fault_in stmt known) o) e
+    first_with_fault line (fault_in stmt known) faults ∙ ap (λ (o : Option LineFault). first_fault_after line (fault_in stmt known) o) e
 
 pub first_of_faults : (items : List Item) → slice_get (faults_after items) 0 ≡ (state_after items).fault
 first_of_faults [] = refl

@@ -11,10 +11,10 @@ use Rattle.cx_asm_pools.specs.Facts.Literals.{no_pool, pool_more}
 use Rattle.cx_asm_pools.specs.Laws.Literals.{IsPool}
 use Rattle.cx_asm_pools.specs.Pools.{OpenLiterals, cap, pool_extent}
 use Rattle.cx_asm_pass1.specs.Facts.Faults.{none_before, sound_statement}
-use Rattle.cx_asm_pass1.specs.Facts.Laid.{capped_same, laid_begins, laid_stands, laid_within, pool_apart, pool_begins}
+use Rattle.cx_asm_pass1.specs.Facts.StatementExtents.{capped_same, laid_begins, laid_stands, laid_within, pool_apart, pool_begins}
 use Rattle.cx_asm_pass1.specs.PassState.{PassState, next_state, after_line, control_after, is_control, state_after, laid_in, length_after, length_of_section, name_in, next_in, parts_in, pool_after, role_in}
-use Rattle.cx_asm_pass1.specs.Laws.Apart.{AreApart, ClosesApart, EndWithin, IsBehind, Stands, Stretch, control_length, section_length, stretch_before, stretch_of, stretches_behind}
-use Rattle.cx_asm_pass1.specs.Placed.{last_pool_extent}
+use Rattle.cx_asm_pass1.specs.Laws.Apart.{AreApart, ClosesApart, EndWithin, ComesAfter, Stands, Stretch, control_length, section_length, stretch_before, stretch_of, stretches_after}
+use Rattle.cx_asm_pass1.specs.Locations.{last_pool_extent}
 use Rattle.cx_asm_pass1.specs.declared.roles.Role.{Role}
 use Rattle.cx_asm_pass1.specs.declared.roles.Role.TheVariants.{Unknown, Instruction, Control, Dummy, Equate, Storage, Pool, Registers, Member, Nothing}
 
@@ -36,9 +36,9 @@ unfolding next_state
 pool_line line None known h = h
 pool_line line (Some stmt) known h = pool_step (role_in stmt) _ (parts_in stmt) known.pool h
 
-pub pool_behind : (items : List Item) → IsPool (state_after items).pool
-pool_behind [] = no_pool
-pool_behind (item ∷ before) = pool_line item.line item.stmt (state_after before) (pool_behind before)
+pub pool_of_lines : (items : List Item) → IsPool (state_after items).pool
+pool_of_lines [] = no_pool
+pool_of_lines (item ∷ before) = pool_line item.line item.stmt (state_after before) (pool_of_lines before)
 
 -- ---- lengths
 within_section : (known : PassState) (section : Option (List ℕ)) → ((name : List ℕ) → known.lengths name ≤ bound) → length_of_section section known.lengths ≤ bound
@@ -68,14 +68,14 @@ within_line line None known h e = h e
 within_line line (Some stmt) known h e = lengths_step line stmt known (h (none_before line stmt known e)) e
 
 -- no section goes beyond the bound
-pub within_behind : (items : List Item) → (state_after items).fault ≡ None → (name : List ℕ) → (state_after items).lengths name ≤ bound
-within_behind [] e = λ name. omega arith
-within_behind (item ∷ before) e = within_line item.line item.stmt (state_after before) (within_behind before) e
+pub within_after : (items : List Item) → (state_after items).fault ≡ None → (name : List ℕ) → (state_after items).lengths name ≤ bound
+within_after [] e = λ name. omega arith
+within_after (item ∷ before) e = within_line item.line item.stmt (state_after before) (within_after before) e
 
 -- ---- one statement more
 module _ (before : List Item) (line : ℕ) (stmt : Stmt) (sound : (next_state line stmt (state_after before)).fault ≡ None) where
   lengths_within : (name : List ℕ) → (state_after before).lengths name ≤ bound
-  lengths_within = within_behind before (none_before line stmt (state_after before) sound)
+  lengths_within = within_after before (none_before line stmt (state_after before) sound)
 
   -- it ends within the bound
   pub statement_within : (laid_in stmt (state_after before)).end ≤ bound
@@ -83,7 +83,7 @@ module _ (before : List Item) (line : ℕ) (stmt : Stmt) (sound : (next_state li
 
   -- what it has lies from its section's length so far to its end
   pub statement_stands : Stands (role_in stmt) (parts_in stmt) (state_after before).pool (section_length (state_after before)) (laid_in stmt (state_after before))
-  statement_stands = laid_stands (role_in stmt) (parts_in stmt) (state_after before).pool (section_length (state_after before)) (pool_behind before) statement_within
+  statement_stands = laid_stands (role_in stmt) (parts_in stmt) (state_after before).pool (section_length (state_after before)) (pool_of_lines before) statement_within
 
   -- it begins at or past that length, and ends at or past its beginning
   pub statement_begins : (section_length (state_after before) ≤ (laid_in stmt (state_after before)).offset)
@@ -181,45 +181,45 @@ inside_line before line (Some stmt) stretches e h = (
   still_inside (state_after before) (next_state line stmt (state_after before)) stretches (lengths_grow before line stmt e) (h (none_before line stmt (state_after before) e)),
 )
 
-inside_behind : (items : List Item) → (state_after items).fault ≡ None → AreInside (state_after items) (stretches_behind items)
+inside_after : (items : List Item) → (state_after items).fault ≡ None → AreInside (state_after items) (stretches_after items)
 unfolding AreInside
-inside_behind [] e = tt
-inside_behind (item ∷ before) e = inside_line before item.line item.stmt (stretches_behind before) e (inside_behind before)
+inside_after [] e = tt
+inside_after (item ∷ before) e = inside_line before item.line item.stmt (stretches_after before) e (inside_after before)
 
-behind_all : (known : PassState) (later : Stretch) (stretches : List Stretch) → later.section ≡ known.section → section_length known ≤ later.offset → AreInside known stretches
-    → AllByRecursion (IsBehind later) stretches
+after_all : (known : PassState) (later : Stretch) (stretches : List Stretch) → later.section ≡ known.section → section_length known ≤ later.offset → AreInside known stretches
+    → AllByRecursion (ComesAfter later) stretches
 unfolding AreInside
-behind_all known later [] e le all = tt
-behind_all known later (stretch ∷ stretches) e le all = (
+after_all known later [] e le all = tt
+after_all known later (stretch ∷ stretches) e le all = (
   (λ name own other. omega (arith, all.0 name other, subst (λ s. length_of_section s known.lengths ≤ later.offset) (sym e ∙ own) le)),
-  behind_all known later stretches e le all.1,
+  after_all known later stretches e le all.1,
 )
 
 apart_line : (before : List Item) (line : ℕ) (stmt : Option Stmt) → (after_line line stmt (state_after before)).fault ≡ None
-    → ((state_after before).fault ≡ None → AreApart (stretches_behind before)) → AreApart (stretch_before stmt (state_after before) (stretches_behind before))
+    → ((state_after before).fault ≡ None → AreApart (stretches_after before)) → AreApart (stretch_before stmt (state_after before) (stretches_after before))
 apart_line before line None e h = h e
 apart_line before line (Some stmt) e h =
     let order = statement_begins before line stmt e in
     let none = none_before line stmt (state_after before) e in
-    (order.1, behind_all (state_after before) (stretch_of stmt (state_after before)) (stretches_behind before) refl order.0 (inside_behind before none), h none)
+    (order.1, after_all (state_after before) (stretch_of stmt (state_after before)) (stretches_after before) refl order.0 (inside_after before none), h none)
 
-pub apart_behind : (items : List Item) → (state_after items).fault ≡ None → AreApart (stretches_behind items)
-apart_behind [] e = tt
-apart_behind (item ∷ before) e = apart_line before item.line item.stmt e (apart_behind before)
+pub apart_after : (items : List Item) → (state_after items).fault ≡ None → AreApart (stretches_after items)
+apart_after [] e = tt
+apart_after (item ∷ before) e = apart_line before item.line item.stmt e (apart_after before)
 
 -- ---- the control section's end
 pub closing_begins : (items : List Item) → (state_after items).fault ≡ None
     → (control_length (state_after items) ≤ (last_pool_extent (state_after items)).offset) × ((last_pool_extent (state_after items)).offset ≤ (last_pool_extent (state_after items)).end)
 closing_begins items e =
     let order = pool_begins [] (pool_extent (state_after items).pool) (cap (control_length (state_after items))) in
-    let same = capped_same (control_length (state_after items)) (within_section (state_after items) (state_after items).control (within_behind items e)) in
+    let same = capped_same (control_length (state_after items)) (within_section (state_after items) (state_after items).control (within_after items e)) in
     (omega (arith, order.0, same), order.1)
 
 pub closing_apart : (items : List Item) → (state_after items).fault ≡ None → (last_pool_extent (state_after items)).end ≤ bound → ClosesApart (state_after items)
 closing_apart items e within =
     record {
       begins = (closing_begins items e).0;
-      literals = pool_apart [] (state_after items).pool (cap (control_length (state_after items))) (pool_behind items) within;
+      literals = pool_apart [] (state_after items).pool (cap (control_length (state_after items))) (pool_of_lines items) within;
     }
 
 ends_inside : (known : PassState) (section control : Option (List ℕ)) (end most : ℕ) → ((name : List ℕ) → section ≡ Some name → end ≤ known.lengths name)
@@ -233,7 +233,7 @@ unfolding AreInside
 all_end known [] le all = tt
 all_end known (stretch ∷ stretches) le all = (ends_inside known stretch.section known.control stretch.end (last_pool_extent known).end all.0 le, all_end known stretches le all.1)
 
-pub end_within_control : (items : List Item) → (state_after items).fault ≡ None → EndWithin (state_after items) (stretches_behind items)
+pub end_within_control : (items : List Item) → (state_after items).fault ≡ None → EndWithin (state_after items) (stretches_after items)
 end_within_control items e =
     let order = closing_begins items e in
-    all_end (state_after items) (stretches_behind items) (omega (arith, order.0, order.1)) (inside_behind items e)
+    all_end (state_after items) (stretches_after items) (omega (arith, order.0, order.1)) (inside_after items e)

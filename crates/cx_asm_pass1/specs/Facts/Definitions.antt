@@ -8,7 +8,7 @@ use Rattle.std.specs.Str.{bytes_eq}
 use Rattle.std.proofs.lemmas.Map.Keys.{IsDistinct-head, IsDistinct-tail, IsDistinct-cons}
 use Rattle.cx_ebcdic.specs.Facts.Names.{is_name-laws}
 use Rattle.cx_ebcdic.specs.Characters.{code_of, table}
-use Rattle.cx_ebcdic.specs.Names.{is_name_character as is_character, name_code, name_of}
+use Rattle.cx_ebcdic.specs.Names.{is_name_character as is_character, name_code, padded_name}
 use Rattle.cx_source.specs.Lines.{is_letter, is_name as is_symbol, is_name_character as is_symbol_character}
 use Rattle.cx_source.specs.declared.source.Item.{Item}
 use Rattle.cx_source.specs.declared.source.Stmt.{Stmt}
@@ -19,7 +19,7 @@ use Rattle.cx_asm_expressions.specs.declared.values.Value.{Value}
 use Rattle.cx_asm_pass1.specs.Facts.Faults.{none_before, sound_statement}
 use Rattle.cx_asm_pass1.specs.Given.{aid_rows, definitions, is_any_known, symbol_entry, register_rows, resumes, row_symbols}
 use Rattle.cx_asm_pass1.specs.PassState.{PassState, next_state, after_line, definitions_in, state_after, name_in, role_in}
-use Rattle.cx_asm_pass1.specs.Laws.Definitions.{definitions_at, definitions_behind}
+use Rattle.cx_asm_pass1.specs.Laws.Definitions.{definitions_at, definitions_after}
 use Rattle.cx_asm_pass1.specs.declared.roles.Role.{Role}
 use Rattle.cx_asm_pass1.specs.declared.roles.Role.TheVariants.{Unknown, Instruction, Control, Dummy, Equate, Storage, Pool, Registers, Member, Nothing}
 
@@ -35,16 +35,16 @@ or_nothing : (a : Option Value) → a ≡ option_or a None
 or_nothing None = refl
 or_nothing (Some x) = refl
 
-symbol_line : (line : ℕ) (stmt : Option Stmt) (known : PassState) (behind : Symbols) (name : List ℕ) → known.symbols name ≡ find_in behind name
-    → (after_line line stmt known).symbols name ≡ find_in (behind ++ definitions_at stmt known) name
+symbol_line : (line : ℕ) (stmt : Option Stmt) (known : PassState) (after : Symbols) (name : List ℕ) → known.symbols name ≡ find_in after name
+    → (after_line line stmt known).symbols name ≡ find_in (after ++ definitions_at stmt known) name
 unfolding next_state
-symbol_line line None known behind name e = e ∙ or_nothing (find_in behind name) ∙ sym (found_in_both behind [] name)
-symbol_line line (Some stmt) known behind name e = ap (λ o. option_or o (find_in (definitions_in stmt known None) name)) e ∙ sym (found_in_both behind (definitions_in stmt known None) name)
+symbol_line line None known after name e = e ∙ or_nothing (find_in after name) ∙ sym (found_in_both after [] name)
+symbol_line line (Some stmt) known after name e = ap (λ o. option_or o (find_in (definitions_in stmt known None) name)) e ∙ sym (found_in_both after (definitions_in stmt known None) name)
 
 -- a symbol's value is that of its first definition
-pub first_value : (items : List Item) (name : List ℕ) → (state_after items).symbols name ≡ find_in (definitions_behind items) name
+pub first_value : (items : List Item) (name : List ℕ) → (state_after items).symbols name ≡ find_in (definitions_after items) name
 first_value [] name = refl
-first_value (item ∷ before) name = symbol_line item.line item.stmt (state_after before) (definitions_behind before) name (first_value before name)
+first_value (item ∷ before) name = symbol_line item.line item.stmt (state_after before) (definitions_after before) name (first_value before name)
 
 -- ---- no name twice
 Lacks : List ℕ → Symbols → Type 0
@@ -77,19 +77,19 @@ unfolding AreNew
 new_by one other [] same h = tt
 new_by one other (s ∷ symbols) same h = (ap is_some (sym (same s.0)) ∙ h.0, new_by one other symbols same h.1)
 
-new_behind : (s : List ℕ × Value) (one other : Symbols) → AreNew (find_in (s ∷ one)) other → Lacks s.0 other × AreNew (find_in one) other
+new_after : (s : List ℕ × Value) (one other : Symbols) → AreNew (find_in (s ∷ one)) other → Lacks s.0 other × AreNew (find_in one) other
 unfolding AreNew Lacks
-new_behind s one [] h = (tt, tt)
-new_behind s one (o ∷ other) h =
+new_after s one [] h = (tt, tt)
+new_after s one (o ∷ other) h =
     let both = not_found (is_same o.0 s.0) s.1 (find_in one o.0) h.0 in
-    let rest = new_behind s one other h.1 in
+    let rest = new_after s one other h.1 in
     ((is_name-laws.symm s.0 o.0 ∙ both.0, rest.0), (both.1, rest.1))
 
 once_both : (one other : Symbols) → IsDistinct is_same (keys_of one) → IsDistinct is_same (keys_of other) → AreNew (find_in one) other → IsDistinct is_same (keys_of (one ++ other))
 unfolding Lacks
 once_both [] other h k new = k
 once_both (s ∷ one) other h k new =
-    let rest = new_behind s one other new in
+    let rest = new_after s one other new in
     IsDistinct-cons is_same s.0 (keys_of (one ++ other)) (lacks_both s.0 one other (IsDistinct-head is_same s.0 (keys_of one) h) rest.0)
     (once_both one other (IsDistinct-tail is_same s.0 (keys_of one) h) k rest.1)
 
@@ -122,11 +122,11 @@ once_tested (s ∷ symbols) e =
     IsDistinct-cons is_same s.0 (keys_of symbols) (lacks_tested s.0 symbols both.0) (once_tested symbols both.1)
 
 registers_once : IsDistinct is_same (keys_of (row_symbols register_rows))
-unfolding are_once symbol_name is_symbol is_letter is_symbol_character name_of name_code is_character code_of table
+unfolding are_once symbol_name is_symbol is_letter is_symbol_character padded_name name_code is_character code_of table
 registers_once = once_tested (row_symbols register_rows) refl
 
 aids_once : IsDistinct is_same (keys_of (row_symbols aid_rows))
-unfolding are_once symbol_name is_symbol is_letter is_symbol_character name_of name_code is_character code_of table
+unfolding are_once symbol_name is_symbol is_letter is_symbol_character padded_name name_code is_character code_of table
 aids_once = once_tested (row_symbols aid_rows) refl
 
 chosen_once : (test : Bool) (one other : Symbols) → IsDistinct is_same (keys_of one) → IsDistinct is_same (keys_of other) → IsDistinct is_same (keys_of (if test then one else other))
@@ -161,17 +161,17 @@ append_none [] = refl
 append_none (s ∷ symbols) = ap (λ l. s ∷ l) (append_none symbols)
 
 once_line : (before : List Item) (line : ℕ) (stmt : Option Stmt) → (after_line line stmt (state_after before)).fault ≡ None
-    → ((state_after before).fault ≡ None → IsDistinct is_same (keys_of (definitions_behind before)))
-    → IsDistinct is_same (keys_of (definitions_behind before ++ definitions_at stmt (state_after before)))
-once_line before line None e h = subst (λ l. IsDistinct is_same (keys_of l)) (sym (append_none (definitions_behind before))) (h e)
+    → ((state_after before).fault ≡ None → IsDistinct is_same (keys_of (definitions_after before)))
+    → IsDistinct is_same (keys_of (definitions_after before ++ definitions_at stmt (state_after before)))
+once_line before line None e h = subst (λ l. IsDistinct is_same (keys_of l)) (sym (append_none (definitions_after before))) (h e)
 once_line before line (Some stmt) e h =
     let known = state_after before in
     let unknown = no_duplicate (is_any_known known.symbols (definitions_in stmt known None)) (sound_statement line stmt known e).definitions in
-    once_both (definitions_behind before) (definitions_in stmt known None) (h (none_before line stmt known e))
+    once_both (definitions_after before) (definitions_in stmt known None) (h (none_before line stmt known e))
     (defined_once (role_in stmt) (name_in stmt) known.control known.symbols stmt.operand _)
-    (new_by known.symbols (find_in (definitions_behind before)) (definitions_in stmt known None) (first_value before) (new_unknown known.symbols (definitions_in stmt known None) unknown))
+    (new_by known.symbols (find_in (definitions_after before)) (definitions_in stmt known None) (first_value before) (new_unknown known.symbols (definitions_in stmt known None) unknown))
 
 -- without a fault no name is defined twice
-pub defined_once_behind : (items : List Item) → (state_after items).fault ≡ None → IsDistinct is_same (keys_of (definitions_behind items))
-defined_once_behind [] e = none_once
-defined_once_behind (item ∷ before) e = once_line before item.line item.stmt e (defined_once_behind before)
+pub defined_once_after : (items : List Item) → (state_after items).fault ≡ None → IsDistinct is_same (keys_of (definitions_after items))
+defined_once_after [] e = none_once
+defined_once_after (item ∷ before) e = once_line before item.line item.stmt e (defined_once_after before)

@@ -7,9 +7,9 @@ use Rattle.cx_asm_expressions.specs.Faults.{lower}
 use Rattle.cx_asm_expressions.specs.Symbols.{absolute}
 use Rattle.cx_asm_expressions.specs.declared.faults.FaultKind.{FaultKind}
 use Rattle.cx_asm_expressions.specs.declared.values.Value.{Value}
-use Rattle.cx_asm_pass1.specs.Facts.Laid.{lower_none}
+use Rattle.cx_asm_pass1.specs.Facts.StatementExtents.{lower_none}
 use Rattle.cx_asm_pass1.specs.Given.{definitions, duplicate}
-use Rattle.cx_asm_pass1.specs.PassState.{PassState, next_state, definitions_in, duplicate_in, fault_in, first_fault_behind, given_in, laid_in, literal_fault, name_fault, name_in, operation_fault, own_fault, parts_in, role_in, section_fault, line_fault}
+use Rattle.cx_asm_pass1.specs.PassState.{PassState, next_state, definitions_in, duplicate_in, fault_in, first_fault_after, given_in, laid_in, literal_fault, name_fault, name_in, operation_fault, own_fault, parts_in, role_in, section_fault, line_fault}
 use Rattle.cx_asm_pass1.specs.declared.place.LineFault.{LineFault}
 
 lower_some : (one : FaultKind) (other : Option FaultKind) (line : ℕ) → option_map (line_fault line) (lower (Some one) other) ≡ None → ⊥
@@ -25,7 +25,7 @@ none_new : (line : ℕ) (fault : Option FaultKind) → option_map (line_fault li
 none_new line None e = refl
 none_new line (Some fault) e = cc
 
-none_first : (line : ℕ) (fault : Option FaultKind) (first : Option LineFault) → first_fault_behind line fault first ≡ None → (first ≡ None) × (fault ≡ None)
+none_first : (line : ℕ) (fault : Option FaultKind) (first : Option LineFault) → first_fault_after line fault first ≡ None → (first ≡ None) × (fault ≡ None)
 none_first line fault None e = (refl, none_new line fault e)
 none_first line fault (Some first) e = absurd (some_stays (line == first.line) first.line fault first e)
 

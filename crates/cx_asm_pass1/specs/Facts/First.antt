@@ -7,7 +7,7 @@ use Rattle.std.proofs.lemmas.Bool.Decides.{nat_tests}
 use Rattle.cx_asm_expressions.specs.Faults.{lower, fault_row}
 use Rattle.cx_asm_expressions.specs.Laws.FaultLaws.{IsNotBelow}
 use Rattle.cx_asm_expressions.specs.declared.faults.FaultKind.{FaultKind}
-use Rattle.cx_asm_pass1.specs.PassState.{first_fault_behind, line_fault}
+use Rattle.cx_asm_pass1.specs.PassState.{first_fault_after, line_fault}
 use Rattle.cx_asm_pass1.specs.Laws.FirstFaults.{AreSound, Fault, HasNoLower, IsFirst, IsFirstOf}
 use Rattle.cx_asm_pass1.specs.declared.place.LineFault.{LineFault}
 
@@ -60,7 +60,7 @@ same_line line (Some other) before first on h =
 different : (a b : ℕ) → (a == b) ≡ false → a ≡ b → ⊥
 different a b e h = grind (arith, nat_tests)
 
-pub one_more : (line : ℕ) (fault : Option FaultKind) (before : List Fault) (first : Option LineFault) → IsFirstOf before first → IsFirstOf ((line, fault) ∷ before) (first_fault_behind line fault first)
+pub one_more : (line : ℕ) (fault : Option FaultKind) (before : List Fault) (first : Option LineFault) → IsFirstOf before first → IsFirstOf ((line, fault) ∷ before) (first_fault_after line fault first)
 one_more line None before None h = (refl, h)
 one_more line (Some kind) before None h = new_fault line kind before h
 one_more line fault before (Some first) h = ⊎_elim

@@ -8,7 +8,7 @@ use Rattle.cx_asm_expressions.specs.Symbols.{find_in}
 use Rattle.cx_asm_expressions.specs.declared.values.Value.{Value}
 use Rattle.cx_asm_pools.specs.Pools.{OpenLiterals, PlacedLiterals, cap, closed_pool}
 use Rattle.cx_asm_pass1.specs.PassState.{PassState, next_state, after_line, definitions_in, state_after, laid_in, place_in, pools_after, role_in}
-use Rattle.cx_asm_pass1.specs.Placed.{all_pools, last_pool_extent}
+use Rattle.cx_asm_pass1.specs.Locations.{all_pools, last_pool_extent}
 use Rattle.cx_asm_pass1.specs.declared.place.Place.{Place}
 use Rattle.cx_asm_pass1.specs.declared.roles.Role.{Role}
 use Rattle.cx_asm_pass1.specs.declared.roles.Role.TheVariants.{Unknown, Instruction, Control, Dummy, Equate, Storage, Pool, Registers, Member, Nothing}

@@ -9,7 +9,7 @@ use Rattle.cx_asm_pools.specs.Pools.{OpenLiterals, cap, constant_size, closed_po
 use Rattle.cx_asm_pools.specs.Laws.Literals.{StandApart}
 use Rattle.cx_asm_pass1.specs.Layout.{StorageItem}
 use Rattle.cx_asm_pass1.specs.PassState.{PassState, is_control, state_after, laid_in, length_of_section}
-use Rattle.cx_asm_pass1.specs.Placed.{last_pool_extent}
+use Rattle.cx_asm_pass1.specs.Locations.{last_pool_extent}
 use Rattle.cx_asm_pass1.specs.declared.layout.Extent.{Extent}
 use Rattle.cx_asm_pass1.specs.declared.roles.Role.{Role}
 use Rattle.cx_asm_pass1.specs.declared.roles.Role.TheVariants.{Instruction, Storage, Pool}
@@ -58,17 +58,17 @@ abbrev pub stretch_before : Option Stmt → PassState → List Stretch → List 
 stretch_before None known stretches = stretches
 stretch_before (Some stmt) known stretches = stretch_of stmt known ∷ stretches
 
-abbrev pub stretches_behind : List Item → List Stretch
-stretches_behind [] = []
-stretches_behind (item ∷ before) = stretch_before item.stmt (state_after before) (stretches_behind before)
+abbrev pub stretches_after : List Item → List Stretch
+stretches_after [] = []
+stretches_after (item ∷ before) = stretch_before item.stmt (state_after before) (stretches_after before)
 
 -- in one section a later one begins at or past the end of an earlier one
-abbrev pub IsBehind : Stretch → Stretch → Type 0
-IsBehind later earlier = (name : List ℕ) → later.section ≡ Some name → earlier.section ≡ Some name → earlier.end ≤ later.offset
+abbrev pub ComesAfter : Stretch → Stretch → Type 0
+ComesAfter later earlier = (name : List ℕ) → later.section ≡ Some name → earlier.section ≡ Some name → earlier.end ≤ later.offset
 
 abbrev pub AreApart : List Stretch → Type 0
 AreApart [] = Unit {0}
-AreApart (stretch ∷ before) = (stretch.offset ≤ stretch.end) × AllByRecursion (IsBehind stretch) before × AreApart before
+AreApart (stretch ∷ before) = (stretch.offset ≤ stretch.end) × AllByRecursion (ComesAfter stretch) before × AreApart before
 
 -- every one of the control section ends inside it
 abbrev pub EndWithin : PassState → List Stretch → Type 0

@@ -10,6 +10,6 @@ abbrev pub definitions_at : Option Stmt → PassState → Symbols
 definitions_at None known = []
 definitions_at (Some stmt) known = definitions_in stmt known None
 
-abbrev pub definitions_behind : List Item → Symbols
-definitions_behind [] = []
-definitions_behind (item ∷ before) = definitions_behind before ++ definitions_at item.stmt (state_after before)
+abbrev pub definitions_after : List Item → Symbols
+definitions_after [] = []
+definitions_after (item ∷ before) = definitions_after before ++ definitions_at item.stmt (state_after before)

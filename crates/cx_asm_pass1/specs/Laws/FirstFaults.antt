@@ -17,9 +17,9 @@ abbrev pub fault_at : ℕ → Option Stmt → PassState → List Fault → List 
 fault_at line None known faults = faults
 fault_at line (Some stmt) known faults = (line, fault_in stmt known) ∷ faults
 
-abbrev pub faults_behind : List Item → List Fault
-faults_behind [] = []
-faults_behind (item ∷ before) = fault_at item.line item.stmt (state_after before) (faults_behind before)
+abbrev pub faults_after : List Item → List Fault
+faults_after [] = []
+faults_after (item ∷ before) = fault_at item.line item.stmt (state_after before) (faults_after before)
 
 abbrev pub AreSound : List Fault → Type 0
 AreSound faults = AllByRecursion (λ fault. fault.1 ≡ None) faults

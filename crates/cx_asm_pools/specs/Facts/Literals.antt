@@ -58,9 +58,9 @@ append_none [] = refl
 append_none (x ∷ xs) = ap (λ l. x ∷ l) (append_none xs)
 
 -- a text after the others that none of them has
-pub once_behind : (pool : OpenLiterals) (text : List ℕ) (used : Used) → is_some (lookup (bytes_eq text) pool) ≡ false → IsDistinct bytes_eq (keys_of pool)
+pub once_after : (pool : OpenLiterals) (text : List ℕ) (used : Used) → is_some (lookup (bytes_eq text) pool) ≡ false → IsDistinct bytes_eq (keys_of pool)
     → IsDistinct bytes_eq (keys_of (pool ++ (text, used) ∷ []))
-once_behind pool text used none once =
+once_after pool text used none once =
     once_more pool [] (text, used) (subst (λ l. IsDistinct bytes_eq (keys_of l)) (sym (append_none pool)) once)
     (subst (λ l. Lacks text l) (sym (append_none pool)) (lacks_absent text pool none))
 
@@ -69,7 +69,7 @@ with_literal_pool pool text used same h = ⊎_elim
     (λ yes. rw yes h)
     (λ no. rw no (
     record {
-      once = once_behind pool text used no h.once;
+      once = once_after pool text used no h.once;
       sizes = size_pushed pool (text, used) h.sizes same;
     }))
     (cases_Bool (is_some (lookup (bytes_eq text) pool)))
@@ -97,13 +97,13 @@ abbrev chosen : Bool → Bool → Bool → ℕ
 chosen by8 by4 by2 = if by8 then 8 else (if by4 then 4 else (if by2 then 2 else 1))
 
 module _ (P : OpenLiterals → Type 0) (e : List ℕ × Used) (f8 f4 f2 f1 : OpenLiterals) (h : (xs ys : OpenLiterals) → xs ++ ys ≡ f8 ++ f4 ++ f2 ++ f1 → P (xs ++ e ∷ ys)) where
-  behind_first : (second : OpenLiterals) → ((f8 ++ second) ++ f2) ++ f1 ≡ f8 ++ ((second ++ f2) ++ f1)
-  behind_first second = ap (λ l. l ++ f1) (append_assoc f8 second f2) ∙ append_assoc f8 (second ++ f2) f1
+  after_first : (second : OpenLiterals) → ((f8 ++ second) ++ f2) ++ f1 ≡ f8 ++ ((second ++ f2) ++ f1)
+  after_first second = ap (λ l. l ++ f1) (append_assoc f8 second f2) ∙ append_assoc f8 (second ++ f2) f1
 
   by_tests : (by8 by4 by2 : Bool)
       → P (put_first (chosen by8 by4 by2) 8 e f8 ++ put_first (chosen by8 by4 by2) 4 e f4 ++ put_first (chosen by8 by4 by2) 2 e f2 ++ put_first (chosen by8 by4 by2) 1 e f1)
   by_tests true by4 by2 = h [] (f8 ++ f4 ++ f2 ++ f1) refl
-  by_tests false true by2 = subst P (sym (behind_first (e ∷ f4))) (h f8 ((f4 ++ f2) ++ f1) (sym (behind_first f4)))
+  by_tests false true by2 = subst P (sym (after_first (e ∷ f4))) (h f8 ((f4 ++ f2) ++ f1) (sym (after_first f4)))
   by_tests false false true = subst P (sym (append_assoc (f8 ++ f4) (e ∷ f2) f1)) (h (f8 ++ f4) (f2 ++ f1) (sym (append_assoc (f8 ++ f4) f2 f1)))
   by_tests false false false = h ((f8 ++ f4) ++ f2) f1 refl
 

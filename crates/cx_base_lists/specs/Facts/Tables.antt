@@ -12,15 +12,15 @@ use Rattle.std.proofs.lemmas.Map.Keys.{IsDistinct-push, IsDistinct-head, IsDisti
 use Rattle.indexmap.specs.IndexMap.{insert_entry}
 
 -- a key that isn't there is after no entry either
-none_behind : {V : Type 0} (b : Bool) (v : V) (rest : Option V) → cond b (Some v) rest ≡ None → (b ≡ false) × (rest ≡ None)
-none_behind true v rest e = absurd (none-some v (sym e))
-none_behind false v rest e = (refl, e)
+none_after : {V : Type 0} (b : Bool) (v : V) (rest : Option V) → cond b (Some v) rest ≡ None → (b ≡ false) × (rest ≡ None)
+none_after true v rest e = absurd (none-some v (sym e))
+none_after false v rest e = (refl, e)
 
 -- a key that isn't there has no value to set
 pub set_value_absent : {K V : Type 0} (test : K → Bool) (es : List (K × V)) (v : V) → lookup test es ≡ None → set_value test es v ≡ es
 set_value_absent test [] v e = refl
 set_value_absent test (x ∷ es) v e =
-    let parts = none_behind (test x.0) x.1 (lookup test es) e in
+    let parts = none_after (test x.0) x.1 (lookup test es) e in
     cond-false _ _ _ parts.0 ∙ ap (λ l. x ∷ l) (set_value_absent test es v parts.1)
 
 -- a key that is there keeps its place
@@ -38,13 +38,13 @@ insert_entry_present eq (e ∷ es) k v old there = ⊎_elim
 pub insert_entry_absent : {K V : Type 0} (eq : K → K → Bool) (es : List (K × V)) (k : K) (v : V) → lookup (eq k) es ≡ None → insert_entry eq es k v ≡ es ++ (k, v) ∷ []
 insert_entry_absent eq [] k v none = refl
 insert_entry_absent eq (e ∷ es) k v none =
-    let parts = none_behind (eq k e.0) e.1 (lookup (eq k) es) none in
+    let parts = none_after (eq k e.0) e.1 (lookup (eq k) es) none in
     cond-false _ _ _ parts.0 ∙ ap (λ l. e ∷ l) (insert_entry_absent eq es k v parts.1)
 
 none_among : {K V : Type 0} (test : K → Bool) (es : List (K × V)) → lookup test es ≡ None → list_any test (keys_of es) ≡ false
 none_among test [] none = refl
 none_among test (e ∷ es) none =
-    let parts = none_behind (test e.0) e.1 (lookup test es) none in
+    let parts = none_after (test e.0) e.1 (lookup test es) none in
     ap (λ b. b || list_any test (keys_of es)) parts.0 ∙ none_among test es parts.1
 
 -- what holds of the value found

@@ -10,7 +10,7 @@ use Rattle.cx_region.specs.Events.{Applies, Run}
 use Rattle.cx_edf.specs.declared.answers.Answer.{Answer}
 use Rattle.cx_edf.specs.declared.answers.EdfEvent.{EdfEvent}
 use Rattle.cx_edf.specs.State.{EdfState}
-use Rattle.cx_headline.specs.Laws.Runs.{state_behind}
+use Rattle.cx_headline.specs.Laws.Runs.{state_after_first}
 
 -- wherever a command of a terminal's task is due, the task's current level keeps the registers and the code of its program
 abbrev pub KeepsWhatIsDue : RegionState → Type 0
@@ -28,7 +28,7 @@ RunsKeepWhatIsDue = (old : RegionState) (events : List Event) (replies : List Re
 
 -- so it is after each event of a run under EDF, and before the first
 abbrev pub AlwaysKeepsWhatIsDue : EdfState → List EdfEvent → List Answer → List EdfState → Type 0
-AlwaysKeepsWhatIsDue old events answers states = (n : ℕ) → KeepsWhatIsDue (state_behind old states n).region
+AlwaysKeepsWhatIsDue old events answers states = (n : ℕ) → KeepsWhatIsDue (state_after_first old states n).region
 
 -- that, of a run that begins so
 abbrev pub StillKeepsWhatIsDue : EdfState → List EdfEvent → List Answer → List EdfState → Type 0

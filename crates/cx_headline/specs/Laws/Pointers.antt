@@ -16,7 +16,7 @@ use Rattle.cx_exec.specs.declared.machine.Step.TheVariants.{Done}
 use Rattle.cx_region_call.specs.declared.outputs.Output.{Output}
 use Rattle.cx_region_call.specs.declared.outputs.OutputValue.TheVariants.{Word}
 use Rattle.cx_asm_arrival.specs.Arrives.{Arrives}
-use Rattle.cx_asm_arrival.specs.Made.{Statement, argument_address, call_made, instructions_made}
+use Rattle.cx_asm_arrival.specs.Expansion.{Statement, argument_address, call_made, instructions_made}
 use Rattle.cx_asm_arrival.specs.Stands.{IsMachine, code_length}
 use Rattle.cx_source.specs.declared.source.Item.{Item}
 use Rattle.cx_source.specs.declared.source.Source.{Source}
@@ -25,8 +25,8 @@ use Rattle.cx_asm_operands.specs.Bases.{Bases}
 use Rattle.cx_asm_operands.specs.Forms.{operands_of}
 use Rattle.cx_asm.specs.Assembly.{AssemblyParts}
 use Rattle.cx_asm_execution.specs.Arguments.{HoldsBase, Sections}
-use Rattle.cx_asm_execution.specs.Arriving.{AreKept, CommandArrives, ComesBack, IsPointer}
-use Rattle.cx_asm_execution.specs.Standing.{Site, bases_of, site_of}
+use Rattle.cx_asm_execution.specs.Arrival.{AreKept, CommandArrives, ComesBack, IsPointer}
+use Rattle.cx_asm_execution.specs.MadeLines.{Site, bases_of, site_of}
 use Rattle.cx_region_commands.specs.Common.{output as output_of}
 use Rattle.cx_region_state.specs.State.{TaskContext}
 use Rattle.cx_region_state.specs.Verdicts.{handed_over}
@@ -59,9 +59,9 @@ pub record GetsPointer (load place number : ℕ) (option : OptionName) (s : Stat
   pub next : after.task.next ≡ load
   pub put : HasPutOut condition before after
   pub call : put.call ≡ call_made m.regs s
-  pub gets : (front behind : List Output) (given : ℕ) → put.outputs ≡ front ++ output_of option (Word given) ∷ behind
+  pub gets : (front later : List Output) (given : ℕ) → put.outputs ≡ front ++ output_of option (Word given) ∷ later
       → ((k : ℕ) → k < 4
-      → is_written_again (address_after place k) before.task.eib put.call (handed_over put.change before) behind ≡ false)
+      → is_written_again (address_after place k) before.task.eib put.call (handed_over put.change before) later ≡ false)
       → Steps (machine_of after) Done
       (record (machine_of after) { regs = slice_set after.task.regs number given; next = address_after load 4 })
 

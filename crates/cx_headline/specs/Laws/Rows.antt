@@ -22,7 +22,7 @@ use Rattle.cx_edf.specs.declared.answers.EdfEvent.TheVariants as edf_event
 use Rattle.cx_edf.specs.State.{EdfState, ends_by_key}
 use Rattle.cx_edf.specs.Erasure.{is_own}
 use Rattle.cx_edf.specs.Laws.Edf.{ends_task}
-use Rattle.cx_headline.specs.Laws.Runs.{state_behind}
+use Rattle.cx_headline.specs.Laws.Runs.{state_after_first}
 
 -- The region is the one before with what a half-turn of the terminal's task reached put back; the answer is its reply; and it is
 -- the only half-turn that there is.
@@ -62,4 +62,4 @@ pub record IsItsRow (before : EdfState) (e : EdfEvent) (given : Answer) (after :
 -- each event of a run, by the state before it, its answer, and the state after it
 abbrev pub EachIsItsRow : EdfState → List EdfEvent → List Answer → List EdfState → Type 0
 EachIsItsRow old events answers states = (n : ℕ) (e : EdfEvent) → slice_get events n ≡ Some e
-    → IsSomeAnd (slice_get answers n) (λ given. IsItsRow (state_behind old states n) e given (state_behind old states (n + 1)))
+    → IsSomeAnd (slice_get answers n) (λ given. IsItsRow (state_after_first old states n) e given (state_after_first old states (n + 1)))

@@ -18,8 +18,8 @@ use Rattle.cx_script.specs.Laws.Events.{IsRun, events_of}
 use Rattle.cx_script.specs.Laws.Inputs.{was_stopped}
 
 -- the state after the first n events of a run
-abbrev pub state_behind : EdfState → List EdfState → ℕ → EdfState
-state_behind old states n = last_state old (take n states)
+abbrev pub state_after_first : EdfState → List EdfState → ℕ → EdfState
+state_after_first old states n = last_state old (take n states)
 
 -- ---- every list of events
 -- what holds of each run of events under EDF: of the state before it, its events, their answers, and the state after each

@@ -17,20 +17,20 @@ use Rattle.cx_edf.specs.Laws.Edf.{ends_task, is_alteration}
 use Rattle.cx_script_actions.specs.Effects.{Performs}
 use Rattle.cx_script_actions.specs.declared.actions.Action.{Action}
 use Rattle.cx_script.specs.Laws.Events.{event_of}
-use Rattle.cx_headline.specs.Laws.Runs.{state_behind}
+use Rattle.cx_headline.specs.Laws.Runs.{state_after_first}
 
 -- of a run's first n events what is left for the region, and what it replies
-abbrev pub left_behind : EdfState → List EdfEvent → List Answer → List EdfState → ℕ → List Event
-left_behind old events answers states n = erasure old (take n events) (take n answers) (take n states)
+abbrev pub left_of_first : EdfState → List EdfEvent → List Answer → List EdfState → ℕ → List Event
+left_of_first old events answers states n = erasure old (take n events) (take n answers) (take n states)
 
-abbrev pub told_behind : EdfState → List EdfEvent → List Answer → List EdfState → ℕ → List Reply
-told_behind old events answers states n = region_replies old (take n events) (take n answers) (take n states)
+abbrev pub replies_of_first : EdfState → List EdfEvent → List Answer → List EdfState → ℕ → List Reply
+replies_of_first old events answers states n = region_replies old (take n events) (take n answers) (take n states)
 
 -- ---- nothing altered
 -- no event ends a task by PF12, and none is answered Altered
 abbrev pub AltersNothing : EdfState → List EdfEvent → List Answer → List EdfState → Type 0
 AltersNothing old events answers states = (n : ℕ) (e : EdfEvent) → slice_get events n ≡ Some e
-    → (ends_task (state_behind old states n) e ≡ false) × (slice_get answers n ≡ Some (answer.Region (reply.Alter alter.Altered)) → ⊥)
+    → (ends_task (state_after_first old states n) e ≡ false) × (slice_get answers n ≡ Some (answer.Region (reply.Alter alter.Altered)) → ⊥)
 
 -- the events that the region answered, with its replies, except alterations
 abbrev pub answered_of : EdfEvent → Answer → List (Event × Reply)
@@ -55,14 +55,14 @@ pub record IsUnaltered (old : EdfState) (events : List EdfEvent) (answers : List
 -- The region after each event is that of a plain run of the events that are left up to there, with the region's
 -- replies; and there is no other such run.
 pub record IsAsUnwatched (old : EdfState) (events : List EdfEvent) (answers : List Answer) (states : List EdfState) : Type 0 where
-  pub plain : (n : ℕ) → Run old.region (left_behind old events answers states n) (told_behind old events answers states n)
-      (state_behind old states n).region
+  pub plain : (n : ℕ) → Run old.region (left_of_first old events answers states n) (replies_of_first old events answers states n)
+      (state_after_first old states n).region
   pub only : (n : ℕ) (replies : List Reply) (after : RegionState)
-      → Run old.region (left_behind old events answers states n) replies after
-      → (replies ≡ told_behind old events answers states n) × (after ≡ (state_behind old states n).region)
+      → Run old.region (left_of_first old events answers states n) replies after
+      → (replies ≡ replies_of_first old events answers states n) × (after ≡ (state_after_first old states n).region)
   pub unaltered : AltersNothing old events answers states → (n : ℕ)
-      → IsUnaltered old (take n events) (take n answers) (left_behind old events answers states n)
-      (told_behind old events answers states n) (state_behind old states n)
+      → IsUnaltered old (take n events) (take n answers) (left_of_first old events answers states n)
+      (replies_of_first old events answers states n) (state_after_first old states n)
 
 -- what a script shows comes between events: an action that gives none changes nothing
 abbrev pub ShowingChangesNothing : Type 0

@@ -39,6 +39,6 @@ abbrev pub with_stmt : (List ℕ → Option Value) → ℕ → Option Stmt → R
 with_stmt find line None rows = rows
 with_stmt find line (Some stmt) rows = with_names find line rows (names_given (role_in stmt) (name_in stmt) stmt.operand)
 
-abbrev pub table_behind : (List ℕ → Option Value) → List Item → Rows
-table_behind find [] = []
-table_behind find (item ∷ before) = with_stmt find item.line item.stmt (table_behind find before)
+abbrev pub table_after : (List ℕ → Option Value) → List Item → Rows
+table_after find [] = []
+table_after find (item ∷ before) = with_stmt find item.line item.stmt (table_after find before)

@@ -20,7 +20,7 @@ use Rattle.cx_region_state.specs.declared.verdict.Verdict.TheVariants.{Refuses}
 use Rattle.cx_region_commands.specs.declared.common.Called.{Called}
 use Rattle.cx_region_commands.specs.Common.{AtPlace, commarea_of, has, named_program}
 use Rattle.cx_region_commands.specs.Getmain.{GetmainRow, asked_len, is_area_length}
-use Rattle.cx_region_commands.specs.Judged.{HasVerdict, JudgedBy}
+use Rattle.cx_region_commands.specs.CommandVerdicts.{HasVerdict, JudgedBy}
 use Rattle.cx_region_commands.specs.Link.{LinkRow, Links}
 use Rattle.cx_region_commands.specs.ReadqTs.{Reads, ReadsItem, ReadsQueue, ReadqRow, item_asked}
 use Rattle.cx_region_commands.specs.Xctl.{Copies, Transfers, XctlRow, XctlTo, copying_to}

@@ -32,7 +32,7 @@ use Rattle.cx_region_commands.specs.Common.{AreSoundPrograms, commarea_of, does,
 use Rattle.cx_region_commands.specs.Abend.{abend_row}
 use Rattle.cx_region_commands.specs.HandleAbend.{handle_abend_row}
 use Rattle.cx_region_commands.specs.Handling.{asks, handle_row, ignore_row, pop_row, push_row}
-use Rattle.cx_region_commands.specs.Judged.{HasVerdict, JudgedBy}
+use Rattle.cx_region_commands.specs.CommandVerdicts.{HasVerdict, JudgedBy}
 use Rattle.cx_region_commands.specs.Link.{LinkRow, Links, enters}
 use Rattle.cx_region_commands.specs.Receive.{receive_row}
 use Rattle.cx_region_commands.specs.Return.{highest_return, next_of, return_row}

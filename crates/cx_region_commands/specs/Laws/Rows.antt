@@ -3,7 +3,7 @@ use Rattle.std.specs.Prelude.{◌≡◌}
 use Rattle.cx_region_call.specs.Call.{Call}
 use Rattle.cx_region_state.specs.State.{TaskContext}
 use Rattle.cx_region_state.specs.declared.verdict.Verdict.{Verdict}
-use Rattle.cx_region_commands.specs.Judged.{HasVerdict}
+use Rattle.cx_region_commands.specs.CommandVerdicts.{HasVerdict}
 
 -- a call is judged in one way
 abbrev pub JudgedOnce : Type 0

@@ -3,7 +3,7 @@ use Rattle.std.specs.Prelude.{◌≡◌, true, false, Option, Some, None, Ok, Er
 use Rattle.cx_base_commands.specs.declared.commands.Command.{Command}
 use Rattle.cx_region_call.specs.Call.{Call}
 use Rattle.cx_region_call.specs.Inputs.{are_inputs_there}
-use Rattle.cx_region_commands.specs.Judged.{HasVerdict}
+use Rattle.cx_region_commands.specs.CommandVerdicts.{HasVerdict}
 use Rattle.cx_region_state.specs.declared.verdict.Verdict.{Verdict}
 use Rattle.cx_region_state.specs.State.{TaskContext}
 use Rattle.cx_region_state.specs.Parts.Fits.{Fits}

@@ -9,7 +9,7 @@ use Rattle.cx_region_call.specs.declared.outputs.Output.{Output}
 use Rattle.cx_region_call.specs.Call.{Call, call_of, place_of, resp_place}
 use Rattle.cx_region_call.specs.Outputs.{bytes_from}
 use Rattle.cx_region_commands.specs.Common.{AreSoundPrograms}
-use Rattle.cx_region_commands.specs.Judged.{HasVerdict}
+use Rattle.cx_region_commands.specs.CommandVerdicts.{HasVerdict}
 use Rattle.cx_region_state.specs.declared.replies.TurnReply.{TurnReply}
 use Rattle.cx_region_state.specs.declared.verdict.Verdict.{Verdict}
 use Rattle.cx_region_state.specs.declared.verdict.Verdict.TheVariants.{Meets}

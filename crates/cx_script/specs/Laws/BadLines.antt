@@ -19,10 +19,10 @@ block_after (Err fault) = None
 block_after (Ok step) = step.block
 
 -- the block that the line after these lines is in; the first of them has this number, and is in this block
-unfoldable pub block_behind : {A : Type 0} → Language A → ℕ → Option Block → List (List ℕ) → Option Block
-block_behind language number block [] = block
-block_behind language number block (line ∷ lines) =
-    block_behind language (number + 1) (block_after (step_at language number block line)) lines
+unfoldable pub block_after_lines : {A : Type 0} → Language A → ℕ → Option Block → List (List ℕ) → Option Block
+block_after_lines language number block [] = block
+block_after_lines language number block (line ∷ lines) =
+    block_after_lines language (number + 1) (block_after (step_at language number block line)) lines
 
 -- A bad line at its place: it is too long; or it is no line of a script outside a block, and in one neither the
 -- block's end nor a line that the block may have.
@@ -34,13 +34,13 @@ IsBadIn language (Some block) line =
 -- the line with this number is bad at its place
 abbrev pub IsBadThere : {A : Type 0} → Language A → List (List ℕ) → ℕ → Type 0
 IsBadThere language lines number =
-    let block = block_behind language 1 None (take (number - 1) lines) in
+    let block = block_after_lines language 1 None (take (number - 1) lines) in
     IsSomeAnd (slice_get lines (number - 1)) (IsBadIn language block)
 
 -- it begins a block that the script's end leaves without its own
 abbrev pub IsLeftOpen : {A : Type 0} → Language A → Ending → List (List ℕ) → ℕ → Type 0
 IsLeftOpen language ending lines number =
-    (ending ≡ AtEnd) × IsSomeAnd (block_behind language 1 None lines) (λ block. block.line ≡ number)
+    (ending ≡ AtEnd) × IsSomeAnd (block_after_lines language 1 None lines) (λ block. block.line ≡ number)
 
 -- A bad line of the script that these bytes are: it is one of its lines, and bad; those in front of it are not, and exactly what they
 -- complete is done.

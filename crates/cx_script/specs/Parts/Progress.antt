@@ -37,8 +37,8 @@ TakesLine {A} performs number due old before (Ok done) new after block =
     (step : LineStep A) × (due ≡ Ok step) × (block ≡ step.block) × Acted performs step.action old before (Ok done) new after
 
 -- what is left of a script, after actions that were done
-abbrev pub behind_done : {A : Type 0} → List A → Script A → Script A
-behind_done done left = record { actions = done ++ left.actions; fault = left.fault }
+abbrev pub after_done : {A : Type 0} → List A → Script A → Script A
+after_done done left = record { actions = done ++ left.actions; fault = left.fault }
 
 -- Some lines are done, after n others and in this block: however the script goes on, what it asks is their actions, and
 -- what the next lines ask.
@@ -47,7 +47,7 @@ pub record Took {A S : Type 0} (language : Language A) (performs : S → A → L
   pub text : List ℕ
   pub runs : Runs performs old done text new
   pub written : Sends before after text
-  pub asks : (ending : Ending) (more : List (List ℕ)) → script_from language ending (n + 1) block (lines ++ more) ≡ behind_done done (script_from language ending (m + 1) next more)
+  pub asks : (ending : Ending) (more : List (List ℕ)) → script_from language ending (n + 1) block (lines ++ more) ≡ after_done done (script_from language ending (m + 1) next more)
   pub count : n + length lines ≡ m
 
 -- how far a run has come from one place of a script to another: the lines are done that the bytes ahead have in front of those

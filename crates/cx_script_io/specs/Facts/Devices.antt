@@ -66,9 +66,9 @@ sends_trans a b c s t p q =
     }
 
 -- a front of what was written before and of some more
-wrote_behind : (a b c : Option (List ℕ)) (s t : List ℕ) → Appends a b s → WroteFront b c t → WroteFront a c (s ++ t)
+wrote_after : (a b c : Option (List ℕ)) (s t : List ℕ) → Appends a b s → WroteFront b c t → WroteFront a c (s ++ t)
 unfolding WroteFront
-wrote_behind a b c s t p w = (length s + w.0, subst (Appends a c) (sym (take-append-add s t w.0)) (Appends-trans a b c s (take w.0 t) p w.1))
+wrote_after a b c s t p w = (length s + w.0, subst (Appends a c) (sym (take-append-add s t w.0)) (Appends-trans a b c s (take w.0 t) p w.1))
 
 -- all of it is a front of it and of some more
 wrote_part : (a b : Option (List ℕ)) (s t : List ℕ) → Appends a b s → WroteFront a b (s ++ t)
@@ -78,7 +78,7 @@ wrote_part a b s t p = (length s, subst (Appends a b) (sym (take-append_seam s t
 pub sends_front : (a b c : DeviceOutput) (s t : List ℕ) → Sends a b s → SentFront b c t → SentFront a c (s ++ t)
 sends_front a b c s t p w =
     let all : a.waits ++ (s ++ t) ≡ p.sent ++ (b.waits ++ t) = sym (append_assoc a.waits s t) ∙ ap (λ l. l ++ t) p.whole ∙ append_assoc p.sent b.waits t in
-    subst (WroteFront a.written c.written) (sym all) (wrote_behind a.written b.written c.written p.sent (b.waits ++ t) p.written w)
+    subst (WroteFront a.written c.written) (sym all) (wrote_after a.written b.written c.written p.sent (b.waits ++ t) p.written w)
 
 pub sends_all : (a b : DeviceOutput) (s : List ℕ) → Sends a b s → SentFront a b s
 sends_all a b s p = subst (WroteFront a.written b.written) (sym p.whole) (wrote_part a.written b.written p.sent b.waits p.written)
@@ -94,7 +94,7 @@ sends_flushed a b c waits s p w =
 
 -- a front of it was
 pub front_flushed : (a : DeviceOutput) (b c : Option (List ℕ)) (waits last s : List ℕ) → Sends a (device_output b waits) s → WroteFront b c waits → SentFront a (device_output c last) s
-front_flushed a b c waits last s p w = subst (WroteFront a.written c) (sym p.whole) (wrote_behind a.written b c p.sent waits p.written w)
+front_flushed a b c waits last s p w = subst (WroteFront a.written c) (sym p.whole) (wrote_after a.written b c p.sent waits p.written w)
 
 -- where nothing waits any more
 pub sends_written : (a b : Option (List ℕ)) (s : List ℕ) → Sends (device_output a []) (device_output b []) s → Appends a b s
@@ -118,4 +118,4 @@ front_more a b waits text w = (min w.0 (length waits), subst (Appends a b) (fron
     front_same l more n = sym (take_min n l) ∙ sym (take-append-le (min n (length l)) l more (omega arith))
 
 pub front_after : (a b c : Option (List ℕ)) (waits text : List ℕ) → Appends a b waits → WroteFront b c text → WroteFront a c (waits ++ text)
-front_after a b c waits text p w = wrote_behind a b c waits text p w
+front_after a b c waits text p w = wrote_after a b c waits text p w

@@ -86,16 +86,16 @@ split_all (x ∷ xs) rest h =
     ∙ ap (onto_first x) (split_all xs rest (All-tail (λ z. feed z ≡ false) x xs h)) ∙ onto_cons x xs (slice_split feed rest)
 
 -- a line that an LF ends, and what follows it
-behind_line : (ending : Ending) (line : List ℕ) (parts : List (List ℕ)) (part : List ℕ) (more : List (List ℕ)) → parts ≡ part ∷ more
+after_line : (ending : Ending) (line : List ℕ) (parts : List (List ℕ)) (part : List ℕ) (more : List (List ℕ)) → parts ≡ part ∷ more
     → lines_of_parts ending (line ∷ parts) ≡ strip_carriage_return line ∷ lines_of_parts ending parts
-behind_line ending line [] part more e = cc
-behind_line ending line (p ∷ ps) part more e = refl
+after_line ending line [] part more e = cc
+after_line ending line (p ∷ ps) part more e = refl
 
 pub line_met : (ending : Ending) (line rest : List ℕ) → IsUnbroken line → lines_met ending (line ++ 10 ∷ rest) ≡ strip_carriage_return line ∷ lines_met ending rest
 unfolding lines_met IsUnbroken
 line_met ending line rest h =
     let some = some_parts rest in
-    ap (lines_of_parts ending) (slice_split_at feed line 10 rest h refl) ∙ behind_line ending line (slice_split feed rest) some.0 some.1 some.2
+    ap (lines_of_parts ending) (slice_split_at feed line 10 rest h refl) ∙ after_line ending line (slice_split feed rest) some.0 some.1 some.2
 
 -- bytes without an LF
 pub none_met : (ending : Ending) (bytes : List ℕ) → IsUnbroken bytes → lines_met ending bytes ≡ last_met ending bytes

@@ -5,7 +5,7 @@ use Rattle.cx_service.specs.Lines.{parts_of, IsBreak, AreLinesOf}
 -- a text's first part, and the text after the new line that ends it, if one does
 abbrev pub IsFirstPart : List ℕ → List ℕ → Option (List ℕ) → Type 0
 IsFirstPart text part None = parts_of text ≡ part ∷ []
-IsFirstPart text part (Some behind) = parts_of text ≡ part ∷ parts_of behind
+IsFirstPart text part (Some after) = parts_of text ≡ part ∷ parts_of after
 
 -- the lines still to come: none, or those of the text that is left
 abbrev pub AreLinesLeft : Option (List ℕ) → List (List ℕ) → Type 0

@@ -173,7 +173,7 @@ one_area_ends (h ∷ hs) a n ok one = elim (or_cases (nat_le h.area.start a && n
   | inl here ↦
       let fits : a + n ≤ end_of h.area = leb-true _ _ (and_parts (nat_le h.area.start a) _ here).1 in
       omega (arith, (IsSound-head h hs ok).below)
-  | inr behind ↦ one_area_ends hs a n (IsSound-tail h hs ok) behind
+  | inr after ↦ one_area_ends hs a n (IsSound-tail h hs ok) after
 ]
 
 one_area_covers : (s : Storage) (a n x : ℕ) → in_one_area s a n ≡ true → a ≤ x → x < a + n → list_any (λ area. covers area x) (areas_of s) ≡ true
@@ -185,7 +185,7 @@ one_area_covers (h ∷ hs) a n x one low high = elim (or_cases (nat_le h.area.st
       let from : h.area.start ≤ a = leb-true _ _ both.0 in
       let to : a + n ≤ end_of h.area = leb-true _ _ both.1 in
       or_left (covers h.area x) (list_any (λ area. covers area x) (areas_of hs)) (covers_from h.area x (omega arith) (omega arith))
-  | inr behind ↦ or_right (covers h.area x) (list_any (λ area. covers area x) (areas_of hs)) (one_area_covers hs a n x behind low high)
+  | inr after ↦ or_right (covers h.area x) (list_any (λ area. covers area x) (areas_of hs)) (one_area_covers hs a n x after low high)
 ]
 
 pub one_area_span : (s : Storage) (a n : ℕ) → IsSound s → in_one_area s a n ≡ true → is_some (span s a n) ≡ true
@@ -208,8 +208,8 @@ area_in_one (h ∷ hs) start area a n e low high = elim (cases_eq h.area.start s
       or_left (nat_le h.area.start a && nat_le (a + n) (end_of h.area)) (in_one_area hs a n)
       (and_from _ _ (le-leb h.area.start a (omega arith)) (le-leb (a + n) (end_of h.area) fits))
   | inr c ↦
-      let behind = rw (ne_eqb h.area.start start c) at e in
-      or_right (nat_le h.area.start a && nat_le (a + n) (end_of h.area)) (in_one_area hs a n) (area_in_one hs start area a n behind low high)
+      let after = rw (ne_eqb h.area.start start c) at e in
+      or_right (nat_le h.area.start a && nat_le (a + n) (end_of h.area)) (in_one_area hs a n) (area_in_one hs start area a n after low high)
 ]
 
 pub area_is_together : (s : Storage) (start : ℕ) (area : Area) (a n : ℕ)

@@ -132,11 +132,11 @@ sound_put_held h (g ∷ gs) whole misses ok = elim (cases_Bool (nat_lt h.area.st
   | inl e ↦
       let first = ltb-true _ _ e in
       let head = IsSound-head g gs ok in
-      let apart : end_of h.area ≤ g.area.start = elim misses.0 [ inl before ↦ absurd (omega (arith, head.nonempty)) | inr behind ↦ behind ] in
+      let apart : end_of h.area ≤ g.area.start = elim misses.0 [ inl before ↦ absurd (omega (arith, head.nonempty)) | inr beyond ↦ beyond ] in
       let later = All-weaker (λ later. end_of g.area ≤ later.area.start) (λ later. end_of h.area ≤ later.area.start) gs (λ later le. omega (arith, head.nonempty)) (IsSound-apart g gs ok) in
       rw e (IsSound-cons h (g ∷ gs) whole (apart, later) ok)
   | inr e ↦
-      let behind = ltb-false _ _ e in
+      let beyond = ltb-false _ _ e in
       let apart : end_of g.area ≤ h.area.start = elim misses.0 [ inl before ↦ before | inr after ↦ absurd (omega (arith, whole.nonempty)) ] in
       rw e (IsSound-cons g (put_held h gs) (IsSound-head g gs ok)
       (All-put_held (λ later. end_of g.area ≤ later.area.start) h gs apart (IsSound-apart g gs ok))

@@ -17,12 +17,12 @@ use Rattle.cx_base_commands.specs.Options.{option_name}
 use Rattle.cx_translate.specs.declared.due.DueStatement.{DueStatement}
 use Rattle.cx_translate.specs.declared.words.Argument.{Argument}
 use Rattle.cx_translate.specs.Call.{listed_condition, operand_of}
-use Rattle.cx_translate.specs.Due.{suits}
+use Rattle.cx_translate.specs.PendingStatements.{suits}
 use Rattle.cx_translate.specs.declared.faults.TransFault.TheVariants.{UnknownCommand}
 use Rattle.cx_translate.specs.declared.words.Word.{Word}
-use Rattle.cx_translate.specs.Made.{made_in, made_of, stmt}
+use Rattle.cx_translate.specs.Expansion.{made_in, made_of, stmt}
 use Rattle.cx_translate.specs.Refusals.{fault_in, fault_of, is_given}
-use Rattle.cx_translate.specs.Sections.{bases, begins_section, field, lines, name_at, put_before, put_behind, storage_fields}
+use Rattle.cx_translate.specs.Sections.{bases, begins_section, field, lines, name_at, put_before, put_after, storage_fields}
 use Rattle.cx_translate.specs.Words.{words_of}
 
 -- ---- what is put in at a place, if there is one
@@ -41,11 +41,11 @@ eib_section = stmt (codes "DFHEIBLK") (codes "DSECT") [] ∷ map field eib_piece
 abbrev pub storage_before : Option ℕ → List Item → List Item
 storage_before place items = option_map_or (λ p. put_before storage_section p items) place items
 
-abbrev pub storage_behind : Option ℕ → List Item → List Item
-storage_behind place items = option_map_or (λ p. put_behind storage_fields p items) place (storage_before (position begins_section items) items)
+abbrev pub storage_after : Option ℕ → List Item → List Item
+storage_after place items = option_map_or (λ p. put_after storage_fields p items) place (storage_before (position begins_section items) items)
 
-abbrev pub bases_behind : Option ℕ → List Item → List Item
-bases_behind place items = option_map_or (λ p. put_behind (bases (name_at p items)) p items) place items
+abbrev pub bases_after : Option ℕ → List Item → List Item
+bases_after place items = option_map_or (λ p. put_after (bases (name_at p items)) p items) place items
 
 abbrev pub eib_before : Option ℕ → List Item → List Item
 eib_before place items = option_map_or (λ p. put_before eib_section p items) place items

@@ -3,7 +3,7 @@ use Rattle.std.specs.Prelude.{ℕ, Bool, ◌&&◌, ◌==◌, if◌then◌else◌
 use Rattle.std.specs.List.{flat_map}
 use Rattle.cx_translate.specs.declared.pieces.Token.{Token}
 use Rattle.cx_translate.specs.declared.pieces.Token.TheVariants.{Word, Argument, Broken}
-use Rattle.cx_translate.specs.Pieces.{depth_behind}
+use Rattle.cx_translate.specs.Pieces.{depth_after}
 
 -- a piece as it is written
 abbrev pub written : Token → List ℕ
@@ -19,5 +19,5 @@ abbrev pub unblanked_from : ℕ → List Bool → List ℕ → List ℕ
 unblanked_from depth [] cs = []
 unblanked_from depth marks [] = []
 unblanked_from depth (is_outside ∷ marks) (c ∷ cs) =
-    let rest = unblanked_from (depth_behind depth is_outside c) marks cs in
+    let rest = unblanked_from (depth_after depth is_outside c) marks cs in
     if is_outside && depth == 0 && c == 32 then rest else (c ∷ rest)

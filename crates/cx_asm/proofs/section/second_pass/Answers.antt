@@ -24,9 +24,9 @@ loop-number-preserved c =
     record {
       bases = bases_more told c.args.statements.now s c.loop-number.number c.loop-number.bases c.judge.new.bases within is c.loop-number.invariant.bases
           c.in_ok-fault.ensures.bases;
-      first = first_more told c.args.statements.now s c.loop-number.number c.loop-number.bases c.loop-number.first c.first_fault_behind-first.result c.in_ok-fault.fault
+      first = first_more told c.args.statements.now s c.loop-number.number c.loop-number.bases c.loop-number.first c.first_fault_after-first.result c.in_ok-fault.fault
           within is c.loop-number.invariant.bases c.loop-number.invariant.first c.in_ok-fault.ensures.fault
-          (rw (sym c.line.ensures) c.first_fault_behind-first.ensures);
+          (rw (sym c.line.ensures) c.first_fault_after-first.ensures);
       standing =
           rw c.in_ok-fault.ensures.bases
           (kept_more c.args.keeps c.loop-number.standing _ _ _ _ _ c.in_ok-fault.ensures.standing (rw (sym c.index-statements-number.is) at next) c.loop-number.invariant.standing);

@@ -1,7 +1,7 @@
 -- Two machines that have arrived were reached by one run.
 use Rattle.cx_exec.specs.declared.machine.Halt.TheVariants as halt
 use Rattle.std.proofs.Common.{length}
-use Rattle.cx_asm_arrival.specs.Made.{instructions_made}
+use Rattle.cx_asm_arrival.specs.Expansion.{instructions_made}
 use Rattle.cx_asm_arrival.proofs.TimeLemmas.{in_due_time}
 use Rattle.cx_asm_arrival.proofs.laws.arrivals_decide.Goals as goal
 

@@ -1,4 +1,4 @@
-use Rattle.cx_asm_pass1.specs.Facts.Definitions.{defined_once_behind, first_value}
+use Rattle.cx_asm_pass1.specs.Facts.Definitions.{defined_once_after, first_value}
 use Rattle.cx_asm_pass1.specs.Facts.Kept.{value_kept}
 use Rattle.cx_asm_pass1.proofs.laws.every_name_has_one_value.Goals as goal
 
@@ -9,4 +9,4 @@ pub returns-clause-stays : goal.returns-clause-stays
 returns-clause-stays c = value_kept
 
 pub returns-clause-once : goal.returns-clause-once
-returns-clause-once c = defined_once_behind
+returns-clause-once c = defined_once_after

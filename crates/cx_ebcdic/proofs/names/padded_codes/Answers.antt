@@ -1,11 +1,11 @@
 use Rattle.std.proofs.Common.{◌≡◌, ◌<◌, Some, None, get_or, length, rules, arith}
 use Rattle.std.proofs.lemmas.Grind.{common_steps}
-use Rattle.cx_ebcdic.specs.Names.{name_code, name_of}
+use Rattle.cx_ebcdic.specs.Names.{name_code, padded_name}
 use Rattle.cx_ebcdic.proofs.CodedLemmas.{coded_more, uncoded, blanks_more}
 use Rattle.cx_ebcdic.proofs.names.padded_codes.Goals as goal
 
 pub returns-in_err-bytes : goal.returns-in_err-bytes
-unfolding name_of
+unfolding padded_name
 returns-in_err-bytes g c =
     let none : name_code (get_or c.args.text.now c.loop-i.i 0) ≡ None = search rules in
     let gone = uncoded name_code c.args.text.now c.loop-i.i (omega arith) none in

@@ -7,7 +7,7 @@ abbrev pub invariant-loop-marked : goal.invariant-loop-marked
 invariant-loop-marked l =
     record {
       within : l.next ≤ length l.more.items;
-      goes_on : l.written.items ++ written_on l.marked (drop l.next l.more.items) ≡ l.behind ++ written_on (is_marked l.first) l.more.items;
+      goes_on : l.written.items ++ written_on l.marked (drop l.next l.more.items) ≡ l.after ++ written_on (is_marked l.first) l.more.items;
     }
 
 abbrev pub decreases-loop-marked : goal.decreases-loop-marked

@@ -1,5 +1,5 @@
 use Rattle.std.proofs.Common.{◌≡◌, ◌-◌, length}
-use Rattle.cx_translate.specs.Made.{fill_to_column}
+use Rattle.cx_translate.specs.Expansion.{fill_to_column}
 use Rattle.cx_translate.proofs.made.fill.Given as goal
 
 abbrev pub invariant-loop-text : goal.invariant-loop-text

@@ -1,5 +1,5 @@
 use Rattle.std.proofs.Common.{◌≡◌, ◌++◌, drop, map}
-use Rattle.cx_translate.specs.Made.{load}
+use Rattle.cx_translate.specs.Expansion.{load}
 use Rattle.cx_translate.proofs.made.push_loads.Given as goal
 
 abbrev pub invariant-loop-register : goal.invariant-loop-register

@@ -1,5 +1,5 @@
 use Rattle.std.proofs.Common.{◌≡◌, ◌++◌, drop}
-use Rattle.cx_translate.specs.Made.{stores}
+use Rattle.cx_translate.specs.Expansion.{stores}
 use Rattle.cx_translate.proofs.made.push_stores.Given as goal
 
 abbrev pub invariant-loop-place : goal.invariant-loop-place

@@ -8,11 +8,11 @@ loop-i-preserved c = elim c.if-ends.branch [
   | then-ends+in_ok-push_ended w ↦ record {
     shallow = omega arith;
     begun = omega arith;
-    goes_on = rw w.start-is (cut_step c.loop-i.pieces.items _ _ c.loop-i.depth _ c.args.text.now c.args.marks.now c.loop-i.start c.loop-i.i c.requires (omega arith) (sym c.is_cut-ends.ensures ∙ w.if-ends.true) c.depth_behind-depth.ensures.value (ap (λ v. v.items) w.pieces-is ∙ w.in_ok-push_ended.ensures) c.loop-i.invariant.goes_on);
+    goes_on = rw w.start-is (cut_step c.loop-i.pieces.items _ _ c.loop-i.depth _ c.args.text.now c.args.marks.now c.loop-i.start c.loop-i.i c.requires (omega arith) (sym c.is_cut-ends.ensures ∙ w.if-ends.true) c.depth_after-depth.ensures.value (ap (λ v. v.items) w.pieces-is ∙ w.in_ok-push_ended.ensures) c.loop-i.invariant.goes_on);
   }
   | else-ends w ↦ record {
     shallow = omega arith;
     begun = omega arith;
-    goes_on = rw (w.start-is, w.pieces-is) (on_step c.loop-i.pieces.items _ c.loop-i.depth _ c.args.text.now c.args.marks.now c.loop-i.start c.loop-i.i c.requires (omega arith) (omega arith) (sym c.is_cut-ends.ensures ∙ w.if-ends.false) c.depth_behind-depth.ensures.value c.loop-i.invariant.goes_on);
+    goes_on = rw (w.start-is, w.pieces-is) (on_step c.loop-i.pieces.items _ c.loop-i.depth _ c.args.text.now c.args.marks.now c.loop-i.start c.loop-i.i c.requires (omega arith) (omega arith) (sym c.is_cut-ends.ensures ∙ w.if-ends.false) c.depth_after-depth.ensures.value c.loop-i.invariant.goes_on);
   }
 ]

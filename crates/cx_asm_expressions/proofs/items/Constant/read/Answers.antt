@@ -10,5 +10,5 @@ returns-in-Some c =
     let digits = c.split_digits.result.0.now in
     let rest = c.split_digits.result.1.now in
     let kind : kind_of (slice_index rest 0) ≡ Some c.in-Some.kind = search rules in
-    c.with_modifier.ensures ∙ ap (with_modifier c.args.is_ds digits c.in-Some.kind) c.behind_first.ensures
-    ∙ kind_read c.args.is_ds c.args.text.now digits rest c.in-Some.kind c.split_digits.ensures.digits c.split_digits.ensures.behind kind
+    c.with_modifier.ensures ∙ ap (with_modifier c.args.is_ds digits c.in-Some.kind) c.after_first.ensures
+    ∙ kind_read c.args.is_ds c.args.text.now digits rest c.in-Some.kind c.split_digits.ensures.digits c.split_digits.ensures.after kind

@@ -26,7 +26,7 @@ returns-clause-known c =
     c.in_ok-push.ensures.items
     c.in_ok-literals.ensures.fault
     c.lower-lowest.ensures
-    c.first_fault_behind-self.ensures
+    c.first_fault_after-self.ensures
 
 pub returns-clause-fault : goal.returns-clause-fault
 unfolding judged_in

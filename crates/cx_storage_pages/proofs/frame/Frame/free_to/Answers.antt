@@ -12,5 +12,5 @@ returns-then-self-k-ne0-clause-taken c = λ _. granule_taken c.args.self.now c.l
 pub returns-clause-free : goal.returns-clause-free
 returns-clause-free c = λ j low high. granule_free c.args.self.now j (elim (cases_lt j c.loop-k.k) [
   | inl before ↦ c.loop-k.invariant j low before
-  | inr behind ↦ c.args.self.now.topped j (omega (arith, behind, high, c.loop-k-test.false)) (omega (arith, high))
+  | inr after ↦ c.args.self.now.topped j (omega (arith, after, high, c.loop-k-test.false)) (omega (arith, high))
 ])

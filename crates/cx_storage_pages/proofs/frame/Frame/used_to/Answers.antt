@@ -12,6 +12,6 @@ used-preserved c = (
   c.row_to-next-in-used.ensures.within,
   λ j low high. elim (cases_lt j c.used.next) [
     | inl before ↦ c.used.invariant.2 j low before
-    | inr behind ↦ c.row_to-next-in-used.ensures.taken j behind high
+    | inr after ↦ c.row_to-next-in-used.ensures.taken j after high
   ],
 )

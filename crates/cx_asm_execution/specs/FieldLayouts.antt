@@ -26,10 +26,10 @@ pub record LaysOut {F : Type 0} (name : List ℕ) (made : List Stmt) (field : F 
   pub first : Item
   pub more : List Item
   pub line : ℕ
-  pub behind : List Item
+  pub after : List Item
   pub begins : (has_name name first.stmt && has_operation (codes "DSECT") first.stmt) ≡ true
   pub follow : AllByRecursion (λ item. item.stmt ≡ None) more
-  pub is : items ≡ before ++ (first ∷ more ++ lines line made) ++ behind
+  pub is : items ≡ before ++ (first ∷ more ++ lines line made) ++ after
   pub laid : (state_after (reverse items)).fault ≡ None → Ends (symbol_name name) before 0
       → ((f : F) → option_and_then (state_after (reverse items)).symbols (symbol_name (field f).name)
       ≡ Some (record { section = symbol_name name; number = pos (field f).offset; length = length f }))

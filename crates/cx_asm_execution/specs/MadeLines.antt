@@ -12,7 +12,7 @@ use Rattle.cx_source.specs.declared.source.Source.{Source}
 use Rattle.cx_source.specs.declared.source.Stmt.{Stmt}
 use Rattle.cx_translate.specs.declared.words.Word.{Word}
 use Rattle.cx_translate.specs.Call.{list_of}
-use Rattle.cx_translate.specs.Made.{call, label, made_item, made_of, stores}
+use Rattle.cx_translate.specs.Expansion.{call, label, made_item, made_of, stores}
 use Rattle.cx_translate.specs.Refusals.{command_in, fault_of}
 use Rattle.cx_translate.specs.Sections.{lines}
 use Rattle.cx_translate.specs.Words.{words_of}
@@ -35,8 +35,8 @@ pub record IsMade (item : Item) (exec : Stmt) (items : List Item) : Type 0 where
   pub found : command_in (words_of exec.operand) ≡ Some (command, named)
   pub accepted : fault_of item.line (words_of exec.operand) ≡ None
   pub before : List Item
-  pub behind : List Item
-  pub is : items ≡ before ++ lines item.line (made_of exec.name (words_of exec.operand)) ++ behind
+  pub after : List Item
+  pub is : items ≡ before ++ lines item.line (made_of exec.name (words_of exec.operand)) ++ after
 
 -- What made instructions are of: a source that was translated, its lines before the first of them, the line that they
 -- have, the command, and the words after its name.

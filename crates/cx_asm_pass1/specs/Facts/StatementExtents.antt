@@ -43,8 +43,8 @@ alignment_small item = small item.kind item.modifier
 rounds_up : (n boundary at q : ℕ) → n ≡ at + (boundary - 1) → 1 ≤ boundary → n % boundary < boundary → n % boundary + q ≡ n → at ≤ q
 rounds_up n boundary at q is positive below parts = omega (arith, is, positive, below, parts)
 
-aligned_behind : (boundary at : ℕ) → 1 ≤ boundary → at ≤ align boundary at
-aligned_behind boundary at positive =
+aligned_after : (boundary at : ℕ) → 1 ≤ boundary → at ≤ align boundary at
+aligned_after boundary at positive =
     let n = at + (boundary - 1) in
     rounds_up n boundary at (n / boundary * boundary) refl positive (mod-lt n positive) (mod-add-div' n boundary)
 
@@ -73,9 +73,9 @@ pub record ItemStands (item : StorageItem) (at : ℕ) : Type 0 where
 item_begins : (item : StorageItem) (at : ℕ) → item_end at item ≤ bound → at ≤ item_start at item
 item_begins (Err fault) at within = omega arith
 item_begins (Ok item) at within =
-    let behind : cap at ≤ item_start at (Ok item) = aligned_behind (alignment_of item) (cap at) (alignment_small item).0 in
-    let inside : at ≤ bound = capped_within at (omega (arith, behind, within)) in
-    omega (arith, behind, capped_same at inside)
+    let after : cap at ≤ item_start at (Ok item) = aligned_after (alignment_of item) (cap at) (alignment_small item).0 in
+    let inside : at ≤ bound = capped_within at (omega (arith, after, within)) in
+    omega (arith, after, capped_same at inside)
 
 item_stands : (item : StorageItem) (at : ℕ) → item_end at item ≤ bound → ItemStands item at
 item_stands (Err fault) at within = record { begins = omega arith; multiple = omega arith; ends = omega arith }
@@ -110,7 +110,7 @@ first_begins (item ∷ items) at within =
 
 -- ---- statements
 bytes_begin : (boundary size length at : ℕ) → 1 ≤ boundary → (at ≤ (bytes_at boundary size length at).offset) × ((bytes_at boundary size length at).offset ≤ (bytes_at boundary size length at).end)
-bytes_begin boundary size length at positive = (aligned_behind boundary at positive, omega arith)
+bytes_begin boundary size length at positive = (aligned_after boundary at positive, omega arith)
 
 pub pool_begins : (operands : List (List ℕ)) (extent : Option ℕ) (at : ℕ)
     → (at ≤ (extent_of Pool operands extent at).offset) × ((extent_of Pool operands extent at).offset ≤ (extent_of Pool operands extent at).end)
@@ -172,7 +172,7 @@ stands_at : (role : Role) (operands : List (List ℕ)) (pool : OpenLiterals) (at
     → Stands role operands pool at (extent_of role operands (pool_extent pool) at)
 unfolding extent_of
 stands_at (Instruction size) operands pool at is within = (
-  aligned_behind 2 at (omega arith),
+  aligned_after 2 at (omega arith),
   aligned_multiple 2 at,
   ap (λ n. align 2 at + n) (capped_same size (capped_within size (omega (arith, within)))),
 )

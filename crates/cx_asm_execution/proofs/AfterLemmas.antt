@@ -11,12 +11,12 @@ use Rattle.cx_asm_expressions.specs.Faults.{lower, lowest}
 use Rattle.cx_asm_expressions.specs.declared.faults.FaultKind.{FaultKind}
 use Rattle.cx_asm_pass1.specs.Facts.Apart.{in_control}
 use Rattle.cx_asm_pass1.specs.Facts.Faults.{none_before}
-use Rattle.cx_asm_pass1.specs.Facts.Laid.{lower_none}
-use Rattle.cx_asm_pass1.specs.PassState.{PassState, next_state, after_line, duplicate_in, fault_in, first_fault_behind, given_in, is_control, literal_fault, name_fault, operation_fault, control_after, state_after, laid_in, line_fault, own_fault, parts_in, role_in, section_fault, name_in}
+use Rattle.cx_asm_pass1.specs.Facts.StatementExtents.{lower_none}
+use Rattle.cx_asm_pass1.specs.PassState.{PassState, next_state, after_line, duplicate_in, fault_in, first_fault_after, given_in, is_control, literal_fault, name_fault, operation_fault, control_after, state_after, laid_in, line_fault, own_fault, parts_in, role_in, section_fault, name_in}
 use Rattle.cx_asm_pass1.specs.declared.place.LineFault.{LineFault}
 use Rattle.cx_asm_pass1.specs.declared.roles.Role.{Role}
 use Rattle.cx_asm_pass1.specs.declared.roles.Role.TheVariants as role
-use Rattle.cx_asm_pass2.specs.Statements.{placed_behind, placed_of, stated_in, statements_of}
+use Rattle.cx_asm_pass2.specs.Statements.{placed_latest_first, placed_of, stated_in, statements_of}
 use Rattle.cx_asm.specs.Resolving.{line}
 use Rattle.cx_asm_execution.proofs.Resolved.{placed_from, statements_from, placed_item, place_for}
 
@@ -27,20 +27,20 @@ reverse_cons x xs = reverse-append (x ∷ []) xs
 pub reverse_step : {X : Type 0} (x : X) (xs before : List X) → reverse (x ∷ xs) ++ before ≡ reverse xs ++ (x ∷ before)
 reverse_step x xs before = ap (λ k. k ++ before) (reverse_cons x xs) ∙ append_assoc (reverse xs) (x ∷ []) before
 
-placed_turned : (xs before : List Item) → reverse (placed_behind (reverse xs ++ before)) ≡ reverse (placed_behind before) ++ placed_from before xs
-placed_turned [] before = sym (append-nil (reverse (placed_behind before)))
+placed_turned : (xs before : List Item) → reverse (placed_latest_first (reverse xs ++ before)) ≡ reverse (placed_latest_first before) ++ placed_from before xs
+placed_turned [] before = sym (append-nil (reverse (placed_latest_first before)))
 placed_turned (x ∷ xs) before =
     let p = placed_item x (place_for x.stmt (state_after before)) in
-    ap (λ k. reverse (placed_behind k)) (reverse_step x xs before) ∙ placed_turned xs (x ∷ before)
-    ∙ ap (λ k. k ++ placed_from (x ∷ before) xs) (reverse_cons p (placed_behind before))
-    ∙ append_assoc (reverse (placed_behind before)) (p ∷ []) (placed_from (x ∷ before) xs)
+    ap (λ k. reverse (placed_latest_first k)) (reverse_step x xs before) ∙ placed_turned xs (x ∷ before)
+    ∙ ap (λ k. k ++ placed_from (x ∷ before) xs) (reverse_cons p (placed_latest_first before))
+    ∙ append_assoc (reverse (placed_latest_first before)) (p ∷ []) (placed_from (x ∷ before) xs)
 
 pub statements_are : (source : Source) → statements_of source ≡ statements_from [] source.items
 unfolding placed_of
 statements_are source =
-    ap (filter_map stated_in) (ap (λ k. reverse (placed_behind k)) (sym (append-nil (reverse source.items))) ∙ placed_turned source.items [])
+    ap (filter_map stated_in) (ap (λ k. reverse (placed_latest_first k)) (sym (append-nil (reverse source.items))) ∙ placed_turned source.items [])
 
-pub none_first : (line : ℕ) (fault : Option FaultKind) (first : Option LineFault) → first_fault_behind line fault first ≡ None → (first ≡ None) × (fault ≡ None)
+pub none_first : (line : ℕ) (fault : Option FaultKind) (first : Option LineFault) → first_fault_after line fault first ≡ None → (first ≡ None) × (fault ≡ None)
 none_first line None None e = (refl, refl)
 none_first line (Some fault) None e = absurd (cc)
 none_first line fault (Some first) e = absurd (some_stays (line == first.line) (lower (Some first.kind) fault) refl e)

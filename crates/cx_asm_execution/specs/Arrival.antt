@@ -5,7 +5,7 @@
 use Rattle.std.specs.Prelude.{◌≡◌, ◌≢◌, ℕ, pos, ◌+◌, ◌<◌, true, Ok, Some, List, [], ◌∷◌, ◌++◌, codes, is_some, length, map, slice_get, slice_set, take}
 use Rattle.std.specs.List.{AllByRecursion, Contains}
 use Rattle.cx_asm_arrival.specs.Arrives.{Arrives}
-use Rattle.cx_asm_arrival.specs.Made.{Argument, ImpliedAddress, Statement, argument_address, block_bytes, instructions_made as made_code, address_reached, words_of}
+use Rattle.cx_asm_arrival.specs.Expansion.{Argument, ImpliedAddress, Statement, argument_address, block_bytes, instructions_made as made_code, address_reached, words_of}
 use Rattle.cx_asm_arrival.specs.Stands.{IsApart, IsMachine, code_length, list_length}
 use Rattle.cx_code.specs.declared.disassembly.Line.{Line}
 use Rattle.cx_code.specs.Spelling.{Instruction}
@@ -30,7 +30,7 @@ use Rattle.cx_storage.specs.Word.{word_at}
 use Rattle.cx_asm_expressions.specs.Names.{symbol_name}
 use Rattle.cx_translate.specs.declared.words.Word.{Word}
 use Rattle.cx_translate.specs.Call.{argument_of, listed_of, operands_of as arguments_handed, pointers_of}
-use Rattle.cx_translate.specs.Made.{load, stmt, stores}
+use Rattle.cx_translate.specs.Expansion.{load, stmt, stores}
 use Rattle.cx_translate.specs.Refusals.{first_byte, second_byte}
 use Rattle.cx_translate.specs.Sections.{begins_exec}
 use Rattle.cx_translate.specs.Translation.{translation_of}
@@ -41,7 +41,7 @@ use Rattle.cx_asm_operands.specs.Forms.{operands_of}
 use Rattle.cx_asm_pass2.specs.Whole.{whole_of}
 use Rattle.cx_asm.specs.Assembly.{AssemblyParts, assembly_of}
 use Rattle.cx_asm_execution.specs.Arguments.{HoldsBase, IsAddressed, Sections}
-use Rattle.cx_asm_execution.specs.Standing.{AreResolved, IsMade, Site, bases_of, lines_after, call_of, code_lines, context_in, list_in, site_of}
+use Rattle.cx_asm_execution.specs.MadeLines.{AreResolved, IsMade, Site, bases_of, lines_after, call_of, code_lines, context_in, list_in, site_of}
 
 -- ---- the statement
 -- The statement that a call is of, which is at an offset: what the translator has put into the block, and the addresses
@@ -82,8 +82,8 @@ pub record IsReady (loaded : Storage) (program : ℕ) (sections : Sections) (sit
 pub record IsPointer (command : Command) (words : List Word) (earlier : List CommandOption)
     (register : List ℕ) : Type 0 where
   pub option : CommandOption
-  pub behind : List CommandOption
-  pub is : (row_of command).options ≡ earlier ++ option ∷ behind
+  pub after : List CommandOption
+  pub is : (row_of command).options ≡ earlier ++ option ∷ after
   pub marked : option.mark ≡ Pointer
   pub given : argument_of words (option_name option.name) ≡ Some register
 
