@@ -1,6 +1,7 @@
 """Tries wrong bodies of a crate together: a function's proof reads no other function's body, so edits in different functions
 are tried by one check, which reports each function that isn't proved. An edit is refused where that check fails in a function that it
-edits. One that isn't reported so (it edits a type, say, or spoils what the others need) is left to be tried alone."""
+edits. One for which no such failure is reported (it edits a type, say, or spoils what the others need) is left to be tried
+alone."""
 import itertools
 import os
 import re

@@ -81,7 +81,7 @@ def in_pairs(digits):
 
 
 class Alteration(NamedTuple):
-    """What ALTER is asked after the terminal, and the texts that are then at positions of the page."""
+    """The words of ALTER after the terminal's name, and the texts that are then at positions of the page."""
 
     asked: str
     shown: tuple = ()

@@ -100,7 +100,7 @@ class Owner:
 
     def work(self):
         while True:
-            for _ in range(len(self.jobs)):  # what comes meanwhile is for after the turns
+            for _ in range(len(self.jobs)):  # what comes meanwhile is done after the turns
                 yield from self.jobs.popleft()()
             due = self.due()
             for terminal in due:
