@@ -243,12 +243,12 @@ def has_gained(path, old, new, of_source):
     try:
         before = {it[2] for it in functions_at(old)}
         more = without(new, [it[:2] for it in functions_at(new) if it[2] not in before])
-        return told_of(old) == told_of(without(more, added_items(old, more)))
+        return reported_of(old) == reported_of(without(more, added_items(old, more)))
     except (Unclear, IndexError):
         return old == new
 
 
-def told_of(source):
+def reported_of(source):
     """Returns a source without what no verdict rests on: imports that nothing cites, who may name an item, layout."""
     source = re.sub(r"(?m)^ghost use Rattle\.std\.specs\.Prelude\.{[^}]*};\n", "", without_unused(source))
     return spelled(re.sub(r"(?<=::){(\w+)}", r"\1", source))

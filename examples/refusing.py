@@ -32,7 +32,7 @@ def compile_library():
         sys.exit(f"FAILED: there is no C compiler {name} for refuse.c: install one, as gcc and libc6-dev")
     ended = run([compiler, *options, "-O2", "-shared", "-fPIC", "-o", LIBRARY, "refuse.c"])
     if ended.status != 0 or not os.path.exists(LIBRARY):
-        sys.exit(f"{ended.told.decode(errors='replace')}FAILED: {name} doesn't compile refuse.c: install gcc and libc6-dev, or another that does")
+        sys.exit(f"{ended.reported.decode(errors='replace')}FAILED: {name} doesn't compile refuse.c: install gcc and libc6-dev, or another that does")
 
 
 class Sweep:

@@ -36,17 +36,17 @@ class Ended(NamedTuple):
 
     status: int
     out: bytes
-    told: bytes
+    reported: bytes
 
     def is_well(self):
-        return self.status == 0 and self.told == b""
+        return self.status == 0 and self.reported == b""
 
     def lines(self):
         """The lines of its standard output."""
         return lines_of(self.out.decode(errors="replace"))
 
     def __str__(self):
-        return f"status {self.status}, {self.out[:100]!r}, {self.told[:200]!r} on standard error"
+        return f"status {self.status}, {self.out[:100]!r}, {self.reported[:200]!r} on standard error"
 
 
 def lines_of(text):
@@ -109,8 +109,8 @@ def looks():
 def wanted(name):
     """How the run of an example ends: NAME.transcript is written, NAME.stderr is written on standard error, and
     NAME.status is the status; where one of the latter two is missing, nothing is written there, and the status is 0."""
-    told, status = (read(path) if os.path.exists(path) else b"" for path in (f"{name}.stderr", f"{name}.status"))
-    return Ended(int(status or b"0"), read(f"{name}.transcript"), told)
+    reported, status = (read(path) if os.path.exists(path) else b"" for path in (f"{name}.stderr", f"{name}.status"))
+    return Ended(int(status or b"0"), read(f"{name}.transcript"), reported)
 
 
 def actions(name):
@@ -125,22 +125,22 @@ def is_of_page(line):
     return line[:2].isdigit() and line[2:3] == "|"
 
 
-def told_of(terminals, transcript):
+def reported_of(terminals, transcript):
     """The lines written for terminals; a page's lines belong to the line in front of them."""
-    told, mine = [], False
+    reported, mine = [], False
     for line in transcript:
         if not is_of_page(line):
             words = line.split()
             mine = len(words) > 1 and words[1] in terminals
         if mine:
-            told.append(line)
-    return told
+            reported.append(line)
+    return reported
 
 
 @functools.cache
 def files_of(_process, _thread):
     """The three standard files of the runs of a thread, in memory."""
-    return [os.memfd_create(name) for name in ("given", "out", "told")]
+    return [os.memfd_create(name) for name in ("given", "out", "reported")]
 
 
 def emptied(file):
@@ -172,11 +172,11 @@ def run(command, given=b"", environment=None, seconds=SECONDS):
     if not in_time:
         os.kill(child, signal.SIGKILL)
     status = os.waitstatus_to_exitcode(os.waitpid(child, 0)[1])
-    _, out, told = (emptied(file) for file in files)
+    _, out, reported = (emptied(file) for file in files)
     if not in_time or status == -signal.SIGXFSZ:
         why = f"it writes more than {BYTES} bytes" if in_time else f"no end within {seconds} seconds"
         raise Overdue(f"{' '.join(map(str, command))}: FAILED, {why}")
-    return Ended(status, out, told)
+    return Ended(status, out, reported)
 
 
 def transcript_of(lines):
@@ -191,8 +191,8 @@ class Session:
     def __init__(self, command):
         self.name, self.typed, self.unread, self.left, self.stops = " ".join(command), "nothing", b"", ANSWERED, 0
         self.until = time.monotonic() + SECONDS
-        self.told = os.memfd_create("told")
-        self.process = subprocess.Popen(command, stdin=subprocess.PIPE, stdout=subprocess.PIPE, stderr=self.told)
+        self.reported = os.memfd_create("reported")
+        self.process = subprocess.Popen(command, stdin=subprocess.PIPE, stdout=subprocess.PIPE, stderr=self.reported)
         self.keys, self.screen = self.process.stdin.fileno(), self.process.stdout.fileno()
         os.set_blocking(self.keys, False)
 
@@ -204,7 +204,7 @@ class Session:
         self.process.stdin.close()
         self.process.stdout.close()
         self.process.wait()
-        os.close(self.told)
+        os.close(self.reported)
 
     def overdue(self, why):
         return Overdue(f"{self.name}: FAILED, {why}, after {self.typed!r}")
@@ -257,9 +257,9 @@ class Session:
         answer = self.ask(line)
         while answer and answer[0].endswith((" Held", " ToEdf")):
             self.stops += 1
-            told = self.ask(f"{key} ENTER")
-            if told != [f"{key} ToEdf"]:
-                return told
+            reported = self.ask(f"{key} ENTER")
+            if reported != [f"{key} ToEdf"]:
+                return reported
             answer = self.ask(line)
         return answer
 
@@ -270,4 +270,4 @@ class Session:
             pass
         if not ends_in_time(self.process.pid):
             raise self.overdue(f"no end within {SECONDS} seconds")
-        return Ended(self.process.wait(), self.unread, os.pread(self.told, BYTES, 0))
+        return Ended(self.process.wait(), self.unread, os.pread(self.reported, BYTES, 0))

@@ -19,7 +19,7 @@ class Answer(Enum):
 
     NONE = "nothing"
     LINE = "a line"
-    LINES = "lines, whose end is told by the mark"
+    LINES = "lines, whose end is reported by the mark"
 
 
 class Request(NamedTuple):
@@ -127,12 +127,12 @@ class Region:
             self.child.kill()
         status = self.child.wait()
         self.error.seek(0)
-        told = self.error.read(4096).decode(errors="replace").strip()
+        reported = self.error.read(4096).decode(errors="replace").strip()
         try:
             self.keep(f"* The transcript has {self.received} bytes, SHA-256 {self.digest.hexdigest()}.\n".encode())
         except Fault:
-            pass  # it was told before
-        return told or f"status {status}"
+            pass  # it was reported before
+        return reported or f"status {status}"
 
     def ends_in_time(self):
         """Writes and reads until the child has closed what it writes."""

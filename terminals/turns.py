@@ -24,7 +24,7 @@ NO_TASK = {"Idle", "Ended", "Abended"}
 
 BEGINS_OR_GOES_ON = {"Attached", "Given"}
 LEAVES_STOP = {"ENTER", "PF3", "PF4", "PF12"}  # keys after which a turn says what came of them
-TOLD = {"AlreadyHeldInput": "AN INPUT IS HELD ALREADY", "NoSuchTransaction": "NO SUCH TRANSACTION",
+REPORTED = {"AlreadyHeldInput": "AN INPUT IS HELD ALREADY", "NoSuchTransaction": "NO SUCH TRANSACTION",
         "NoStorage": "NO STORAGE FOR A TASK"}
 EDF_TOLD = {"Started": "IS ON", "AlreadyOn": "IS ON ALREADY", "Closed": "IS OFF", "NotOn": "IS OFF ALREADY"}
 TAKEN = "ALTERED. THE PAGE SHOWS WHAT WAS TYPED UNTIL THE NEXT STOP"
@@ -195,7 +195,7 @@ class Owner:
             terminal.is_blanked = True
             yield from self.paint(terminal)
         else:
-            yield from self.paint(terminal, TOLD.get(reply, reply), alarm=True)
+            yield from self.paint(terminal, REPORTED.get(reply, reply), alarm=True)
 
     # ---- EDF
 
@@ -214,19 +214,19 @@ class Owner:
 
     def begin_edf(self, terminal):
         """PF24, at any time."""
-        told = yield from self.switch(terminal, "ON")
+        reported = yield from self.switch(terminal, "ON")
         if terminal.state is State.PAUSED:
             terminal.state = State.RUNNING
         else:
-            yield from self.paint(terminal, told)
+            yield from self.paint(terminal, reported)
 
     def cedf(self, terminal, words):
         """CEDF [terminal] [ON or OFF], typed where no task lives."""
         word = words.pop() if words[-1:] in (["ON"], ["OFF"]) else "ON"
         named = [it for it in self.terminals if [it.name] == (words or [terminal.name])]
         if named:
-            told = yield from self.switch(named[0], word)
-            yield from self.paint(terminal, told)
+            reported = yield from self.switch(named[0], word)
+            yield from self.paint(terminal, reported)
         else:
             yield from self.paint(terminal, "CEDF, A TERMINAL OR NONE, ON OR OFF", alarm=True)
 
@@ -252,18 +252,18 @@ class Owner:
 
     def alter(self, terminal, altered):
         """Asks each alteration, up to one that is refused."""
-        told = TAKEN
+        reported = TAKEN
         for alteration in altered:
             answer = yield Request(f"ALTER {terminal.name} {alteration.asked}")
             if not answer.endswith(" Altered"):
-                told = answer.upper()
+                reported = answer.upper()
                 break
             self.stir(terminal)
             terminal.edf.take(alteration)
             if alteration.asked == "NOP":
                 terminal.edf.is_stopped, terminal.state = False, State.RUNNING
         if terminal.state is not State.RUNNING:
-            yield from self.paint(terminal, told)
+            yield from self.paint(terminal, reported)
 
     # ---- screens
 

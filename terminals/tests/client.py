@@ -29,7 +29,7 @@ class RawTerminal:
             self.socket.setsockopt(socket.SOL_SOCKET, socket.SO_RCVBUF, buffer)
         self.socket.settimeout(SECONDS)
         self.socket.connect(("127.0.0.1", port))
-        self.kind, self.raw, self.told = kind, b"", b""
+        self.kind, self.raw, self.reported = kind, b"", b""
         self.codes, self.attributes, self.modified, self.cursor = bytearray(SIZE), {}, set(), 0
         self.is_locked, self.has_rung, self.writes = True, False, 0
 
@@ -47,7 +47,7 @@ class RawTerminal:
         while len(self.raw) < count:
             data = self.socket.recv(65536)
             if not data:
-                raise EOFError(f"closed, after {self.told!r}")
+                raise EOFError(f"closed, after {self.reported!r}")
             self.raw += data
         taken, self.raw = self.raw[:count], self.raw[count:]
         return taken
@@ -64,7 +64,7 @@ class RawTerminal:
             byte = self.need(1)
             if byte != b"\xFF":
                 record += byte
-                self.told = record
+                self.reported = record
                 continue
             command = self.need(1)[0]
             if command == 0xFF:

@@ -23,7 +23,7 @@ def refused(*parts, options=()):
 
 @test
 def faulty_set_ups():
-    for text, told in (
+    for text, reported in (
         (RETURN + "SOURCE P\n/\n", "7: the block isn't ended by a line /*"),
         (RETURN + "TERMINAL T001", "7: the last line isn't ended by a line feed"),
         (RETURN + "TERMINAL T001\nKEY T001 ENTER RET1\n", "8: a set-up only defines; KEY is for the session that follows"),
@@ -32,7 +32,7 @@ def faulty_set_ups():
         (RETURN + "TERMINAL T001 \n", "7: BadLine"),
         ("*\n" * (8 << 20), "THE SESSION IS FULL: A SCRIPT HAS AT MOST 16 MIB"),
     ):
-        expect("told", refused(text), f"setup.script: line {told}\n" if told[0].isdigit() else f"setup.script: {told}\n")
+        expect("reported", refused(text), f"setup.script: line {reported}\n" if reported[0].isdigit() else f"setup.script: {reported}\n")
     with socket.create_server(("127.0.0.1", 0)) as taken:
         assert "Address already in use" in refused(RETURN, options=["--port", str(taken.getsockname()[1])])
     assert "No such file" in refused(RETURN, options=["--program", "/nowhere/cicsedf"])
@@ -44,9 +44,9 @@ def refused_definitions():
     """They are reported with their lines, and the session goes on; the set-up's own terminals stay."""
     others = "TERMINAL X\r\n* TERMINAL Y\n\nTERMINAL X\nTRANSACTION NONE NONE\nCLOCK 101500 84060\n"
     with Session(RETURN, RETURN, others) as session:
-        told = {7: "PROGRAM RET1 REFUSED Duplicate", 12: "TRANSACTION RET1 REFUSED Duplicate",
+        reported = {7: "PROGRAM RET1 REFUSED Duplicate", 12: "TRANSACTION RET1 REFUSED Duplicate",
                 16: "TERMINAL X REFUSED Duplicate", 17: "TRANSACTION NONE REFUSED NoProgram"}
-        expect("told", session.told[:-1], [f"{session.setup}: line {line}: {text}" for line, text in told.items()])
+        expect("reported", session.reported[:-1], [f"{session.setup}: line {line}: {text}" for line, text in reported.items()])
         expect_page(session.terminal().enter("ret1"), {})
         expect_refusal(session, "IBM-3279-2-E", " ALL TERMINALS ARE TAKEN")
 

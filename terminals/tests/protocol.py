@@ -43,8 +43,8 @@ def terminals_of_other_kinds():
         for kind in (b"IBM-3277-2", b"IBM-3278-6", b"IBM-3279", b"VT100", b"", b"IBM-3279-2-E@", b"IBM-3279-2-E@T001 "):
             with connected(session) as connection:
                 connection.sendall(b"\xFF\xFB\x18\xFF\xFA\x18\x00" + kind + b"\xFF\xF0")
-                told = rest(connection).removeprefix(bytes.fromhex("FFFD18FFFA1801FFF0"))
-                expect(kind, told, b"This is a service for terminals of the types IBM-3278 and IBM-3279, models 2 to 5.\r\n")
+                reported = rest(connection).removeprefix(bytes.fromhex("FFFD18FFFA1801FFF0"))
+                expect(kind, reported, b"This is a service for terminals of the types IBM-3278 and IBM-3279, models 2 to 5.\r\n")
         for refusal in (b"\xFF\xFC\x18", b"\xFF\xFB\x18\xFF\xFE\x19", b"\xFF\xFC\x00"):
             with connected(session) as connection:
                 connection.sendall(refusal)

@@ -123,8 +123,8 @@ def codes_that_no_key_makes():
         for code in sorted(set(range(1, 256)) - {character.encode("cp037")[0] for character in CHARACTERS}):
             terminal.codes[terminal.cursor] = code
             terminal.modified.add(terminal.field(terminal.cursor))
-            told = CHANGED if code == 0x11 else f" A CHARACTER HAS NO CODE HERE: X'{code:02X}'"
-            expect_page(terminal.press().wait(), {1: "TALK", 24: told})
+            reported = CHANGED if code == 0x11 else f" A CHARACTER HAS NO CODE HERE: X'{code:02X}'"
+            expect_page(terminal.press().wait(), {1: "TALK", 24: reported})
             terminal.enter("", "PA3")
         expect("keys", [line for line in session.lines() if line.startswith("KEY")], ["KEY T001 ENTER TALK"])
 

@@ -40,13 +40,13 @@ def expect_page(terminal, page):
 
 
 class Session:
-    """The companion over a set-up. At its end it is told to end, and its session is replayed."""
+    """The companion over a set-up. At its end it is reported to end, and its session is replayed."""
 
     def __init__(self, *parts, options=(), is_whole=True, has_digest=True, ends_itself=False, status=0, largest=None):
         self.folder = tempfile.TemporaryDirectory()
         self.setup, self.script = f"{self.folder.name}/setup.script", f"{self.folder.name}/session.script"
         self.is_whole, self.has_digest, self.ends_itself, self.status = is_whole, has_digest, ends_itself, status
-        self.terminals, self.told = [], []
+        self.terminals, self.reported = [], []
         with open(self.setup, "wb") as file:
             file.write("".join(parts).encode())
         limit = f"ulimit -f {largest // 512}; " if largest else ""
@@ -59,13 +59,13 @@ class Session:
 
     def __enter__(self):
         for line in self.process.stdout:
-            self.told.append(line.rstrip("\n"))
+            self.reported.append(line.rstrip("\n"))
             found = re.fullmatch(r"Terminals may connect: c3270 127\.0\.0\.1:(\d+)\n", line)
             if found:
                 self.port = int(found[1])
                 self.process.stdout.readline()
                 return self
-        raise AssertionError(f"it doesn't listen: {self.told}, {self.process.stderr.read()}")
+        raise AssertionError(f"it doesn't listen: {self.reported}, {self.process.stderr.read()}")
 
     def __exit__(self, kind, fault, trace):
         try:
@@ -144,7 +144,7 @@ def rest(connection):
 
 
 def expect_refusal(session, kind, text):
-    """A terminal that isn't given is told why, once; any key closes."""
+    """A terminal that isn't given is reported why, once; any key closes."""
     late = RawTerminal(session.port, kind)
     expect_page(late.begin(), {24: text})
     late.socket.sendall(b"\xFF\xFB\x19")  # agreed to again
@@ -155,7 +155,7 @@ def expect_refusal(session, kind, text):
 
 
 def expect_end(terminal, text):
-    """The terminal is told why the session ends; any key closes."""
+    """The terminal is reported why the session ends; any key closes."""
     while terminal.rows()[23] != text:
         terminal.take_screen()
     expect("the end", rest(terminal.press().socket), b"")

@@ -10,7 +10,7 @@ from tests.stops import XEDF
 
 @test
 def sixteen_at_once():
-    """Sixteen converse at once, fifteen others don't finish their negotiation, and a seventeenth terminal is told so."""
+    """Sixteen converse at once, fifteen others don't finish their negotiation, and a seventeenth terminal is reported so."""
     with Session(TALK) as session:
         idle = [connected(session) for _ in range(15)]
         terminals = [session.terminal() for _ in range(16)]

@@ -56,9 +56,9 @@ def each_key_at_a_stop(make):
 def edf_is_begun_and_ended():
     with Session(RET1_IMAGE, TALK, PSEUDO) as session:
         first, second = session.terminal(), session.terminal()
-        for words, told in {"": "T001 IS ON", "on": "T001 IS ON ALREADY", "off": "T001 IS OFF",
+        for words, reported in {"": "T001 IS ON", "on": "T001 IS ON ALREADY", "off": "T001 IS OFF",
                             "t001 off": "T001 IS OFF ALREADY", "t002": "T002 IS ON"}.items():
-            expect_page(first.enter(f"cedf {words}"), {24: f" EDF AT {told}"})
+            expect_page(first.enter(f"cedf {words}"), {24: f" EDF AT {reported}"})
             first.enter("", "PA3")
         for words in ("t020", "t001 t002", "offf", "on off", "t002 on on"):
             expect_page(first.enter(f"cedf {words}"), {24: " CEDF, A TERMINAL OR NONE, ON OR OFF"})

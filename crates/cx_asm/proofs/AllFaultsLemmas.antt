@@ -18,33 +18,33 @@ take_one xs d i within = rw (add-one, take-suc xs i d within) (reverse-append (t
 so_many : (xs : List PlacedStatement) (i : ℕ) → i < length xs → length (reverse (take i xs)) ≡ i
 so_many xs i within = let le : i ≤ length xs = omega (arith, within) in length-reverse (take i xs) ∙ length-take-le i xs le
 
-pub bases_more : (told : Whole) (xs : List PlacedStatement) (s : PlacedStatement) (i : ℕ) (bases new : Bases) → i < length xs → s ≡ get_or xs i s
-    → bases ≡ bases_after_all told (reverse (take i xs)) → new ≡ bases_after told bases s
-    → new ≡ bases_after_all told (reverse (take (i + 1) xs))
-bases_more told xs s i bases new within is so_far e =
-    e ∙ ap (λ (b : Bases). bases_after told b s) so_far
-    ∙ ap (λ (x : PlacedStatement). bases_after_all told (x ∷ reverse (take i xs))) is
-    ∙ sym (ap (λ (l : List PlacedStatement). bases_after_all told l) (take_one xs s i within))
+pub bases_more : (whole : Whole) (xs : List PlacedStatement) (s : PlacedStatement) (i : ℕ) (bases new : Bases) → i < length xs → s ≡ get_or xs i s
+    → bases ≡ bases_after_all whole (reverse (take i xs)) → new ≡ bases_after whole bases s
+    → new ≡ bases_after_all whole (reverse (take (i + 1) xs))
+bases_more whole xs s i bases new within is so_far e =
+    e ∙ ap (λ (b : Bases). bases_after whole b s) so_far
+    ∙ ap (λ (x : PlacedStatement). bases_after_all whole (x ∷ reverse (take i xs))) is
+    ∙ sym (ap (λ (l : List PlacedStatement). bases_after_all whole l) (take_one xs s i within))
 
-pub faults_more : (told : Whole) (xs : List PlacedStatement) (s : PlacedStatement) (i : ℕ) (bases : Bases) (faults new : List LineFault) (fault : Option FaultKind)
+pub faults_more : (whole : Whole) (xs : List PlacedStatement) (s : PlacedStatement) (i : ℕ) (bases : Bases) (faults new : List LineFault) (fault : Option FaultKind)
     → i < length xs → s ≡ get_or xs i s
-    → bases ≡ bases_after_all told (reverse (take i xs)) → faults ≡ second_faults_after told (reverse (take i xs))
-    → fault ≡ second_fault told bases i s → new ≡ with_fault s.line fault faults
-    → new ≡ second_faults_after told (reverse (take (i + 1) xs))
-faults_more told xs s i bases faults new fault within is at so_far one e =
+    → bases ≡ bases_after_all whole (reverse (take i xs)) → faults ≡ second_faults_after whole (reverse (take i xs))
+    → fault ≡ second_fault whole bases i s → new ≡ with_fault s.line fault faults
+    → new ≡ second_faults_after whole (reverse (take (i + 1) xs))
+faults_more whole xs s i bases faults new fault within is at so_far one e =
     let before : List PlacedStatement = reverse (take i xs) in
     e ∙ ap (λ (l : List LineFault). with_fault s.line fault l) so_far
-    ∙ ap (λ (f : Option FaultKind). with_fault s.line f (second_faults_after told before))
-    (one ∙ ap (λ (b : Bases). second_fault told b i s) at ∙ ap (λ (n : ℕ). second_fault told (bases_after_all told before) n s) (sym (so_many xs i within)))
-    ∙ ap (λ (x : PlacedStatement). second_faults_after told (x ∷ before)) is
-    ∙ sym (ap (λ (l : List PlacedStatement). second_faults_after told l) (take_one xs s i within))
+    ∙ ap (λ (f : Option FaultKind). with_fault s.line f (second_faults_after whole before))
+    (one ∙ ap (λ (b : Bases). second_fault whole b i s) at ∙ ap (λ (n : ℕ). second_fault whole (bases_after_all whole before) n s) (sym (so_many xs i within)))
+    ∙ ap (λ (x : PlacedStatement). second_faults_after whole (x ∷ before)) is
+    ∙ sym (ap (λ (l : List PlacedStatement). second_faults_after whole l) (take_one xs s i within))
 
-pub first_more : (told : Whole) (xs : List PlacedStatement) (s : PlacedStatement) (i : ℕ) (bases : Bases) (first new : Option LineFault) (fault : Option FaultKind)
+pub first_more : (whole : Whole) (xs : List PlacedStatement) (s : PlacedStatement) (i : ℕ) (bases : Bases) (first new : Option LineFault) (fault : Option FaultKind)
     → i < length xs → s ≡ get_or xs i s
-    → bases ≡ bases_after_all told (reverse (take i xs)) → first ≡ slice_get (second_faults_after told (reverse (take i xs))) 0
-    → fault ≡ second_fault told bases i s → new ≡ first_fault_after s.line fault first
-    → new ≡ slice_get (second_faults_after told (reverse (take (i + 1) xs))) 0
-first_more told xs s i bases first new fault within is at so_far one e =
-    let before = second_faults_after told (reverse (take i xs)) in
+    → bases ≡ bases_after_all whole (reverse (take i xs)) → first ≡ slice_get (second_faults_after whole (reverse (take i xs))) 0
+    → fault ≡ second_fault whole bases i s → new ≡ first_fault_after s.line fault first
+    → new ≡ slice_get (second_faults_after whole (reverse (take (i + 1) xs))) 0
+first_more whole xs s i bases first new fault within is at so_far one e =
+    let before = second_faults_after whole (reverse (take i xs)) in
     e ∙ ap (λ (o : Option LineFault). first_fault_after s.line fault o) so_far ∙ sym (first_with_fault s.line fault before)
-    ∙ ap (λ (l : List LineFault). slice_get l 0) (faults_more told xs s i bases before (with_fault s.line fault before) fault within is at refl one refl)
+    ∙ ap (λ (l : List LineFault). slice_get l 0) (faults_more whole xs s i bases before (with_fault s.line fault before) fault within is at refl one refl)

@@ -4,7 +4,7 @@ use Rattle.std.proofs.Common.{◌≡◌, ◌≤◌, ℕ, None, List, length, ref
 use Rattle.cx_code.specs.declared.disassembly.Line.{Line}
 use Rattle.cx_asm_image.specs.Resolved.{AreApart}
 use Rattle.cx_asm_image.specs.Text.{text_of}
-use Rattle.cx_asm_pass1.specs.Locations.{known_of}
+use Rattle.cx_asm_pass1.specs.Locations.{final_state}
 use Rattle.cx_source.specs.declared.source.Source.{Source}
 use Rattle.cx_asm.specs.Assembly.{Assembles, AssemblyParts, assembly_of, made_of, section_of, size_of, standing_of}
 use Rattle.cx_asm.specs.Facts.Accepted.{accepted}
@@ -13,20 +13,20 @@ use Rattle.cx_asm.specs.declared.faults.AsmFault.{AsmFault}
 use Rattle.cx_asm.specs.declared.faults.AsmFault.TheVariants as fault
 
 -- ---- one answer
-told : (due one : Result AssemblyParts AsmFault) → Assembles due one → (one ≡ Err fault.Memory → ⊥) → due ≡ one
-told due (Ok made) e not = e
-told due (Err fault.Memory) e not = absurd (not refl)
-told due (Err (fault.UnknownOperation line)) e not = e
-told due (Err (fault.UndefinedSymbol line)) e not = e
-told due (Err (fault.DuplicateSymbol line)) e not = e
-told due (Err (fault.NoAddressability line)) e not = e
-told due (Err (fault.BadOperand line)) e not = e
-told due (Err (fault.ValueOutOfRange line)) e not = e
-told due (Err (fault.NotRelocatable line)) e not = e
-told due (Err (fault.TooLarge line)) e not = e
+same_answer : (due one : Result AssemblyParts AsmFault) → Assembles due one → (one ≡ Err fault.Memory → ⊥) → due ≡ one
+same_answer due (Ok made) e not = e
+same_answer due (Err fault.Memory) e not = absurd (not refl)
+same_answer due (Err (fault.UnknownOperation line)) e not = e
+same_answer due (Err (fault.UndefinedSymbol line)) e not = e
+same_answer due (Err (fault.DuplicateSymbol line)) e not = e
+same_answer due (Err (fault.NoAddressability line)) e not = e
+same_answer due (Err (fault.BadOperand line)) e not = e
+same_answer due (Err (fault.ValueOutOfRange line)) e not = e
+same_answer due (Err (fault.NotRelocatable line)) e not = e
+same_answer due (Err (fault.TooLarge line)) e not = e
 
 pub one_answer : (due one other : Result AssemblyParts AsmFault) → Assembles due one → Assembles due other → (one ≡ Err fault.Memory → ⊥) → (other ≡ Err fault.Memory → ⊥) → one ≡ other
-one_answer due one other e f one_told other_told = sym (told due one e one_told) ∙ told due other f other_told
+one_answer due one other e f one_reported other_reported = sym (same_answer due one e one_reported) ∙ same_answer due other f other_reported
 
 -- ---- its section
 pub record SectionStands (source : Source) (made : AssemblyParts) : Type 0 where
@@ -45,7 +45,7 @@ module _ (has_length : (resolved : List Line) (size : ℕ) → AreApart 0 resolv
         words = subst (λ n. WordsApart 0 (standing_of source).relocs n) (sym size) within.words;
       }
 
-  pub section_stands : ((source : Source) → (known_of source).fault ≡ None → size_of source ≤ 65536 → IsWithin 0 (standing_of source) (size_of source))
+  pub section_stands : ((source : Source) → (final_state source).fault ≡ None → size_of source ≤ 65536 → IsWithin 0 (standing_of source) (size_of source))
       → (source : Source) (made : AssemblyParts) → assembly_of source ≡ Ok made → SectionStands source made
   section_stands within source made e =
       let is = accepted source made e in

@@ -8,9 +8,9 @@ use Rattle.cx_asm_pass2.specs.Statements.{PlacedStatement}
 use Rattle.cx_asm_pass2.specs.Whole.{Whole}
 use Rattle.cx_asm.specs.Laws.SecondFirst.{faults_by_statement}
 
-pub second_is_first : (told : Whole) (statements : List PlacedStatement) → IsFirstOf (faults_by_statement told statements) (slice_get (second_faults_after told statements) 0)
-second_is_first told [] = tt
-second_is_first told (s ∷ before) =
-    let fault = second_fault told (bases_after_all told before) (length before) s in
-    subst (IsFirstOf (faults_by_statement told (s ∷ before))) (sym (first_with_fault s.line fault (second_faults_after told before)))
-    (one_more s.line fault (faults_by_statement told before) (slice_get (second_faults_after told before) 0) (second_is_first told before))
+pub second_is_first : (whole : Whole) (statements : List PlacedStatement) → IsFirstOf (faults_by_statement whole statements) (slice_get (second_faults_after whole statements) 0)
+second_is_first whole [] = tt
+second_is_first whole (s ∷ before) =
+    let fault = second_fault whole (bases_after_all whole before) (length before) s in
+    subst (IsFirstOf (faults_by_statement whole (s ∷ before))) (sym (first_with_fault s.line fault (second_faults_after whole before)))
+    (one_more s.line fault (faults_by_statement whole before) (slice_get (second_faults_after whole before) 0) (second_is_first whole before))

@@ -11,14 +11,14 @@ use Rattle.cx_asm.specs.Laws.SectionLines.{IsWithin, WordsApart}
 use Rattle.cx_asm.specs.Parts.Kept.{kept}
 use Rattle.cx_asm.specs.Resolving.{Standing, data_line, join_sections, line as line_of, relocated_offsets, space_line, standing_from}
 use Rattle.cx_source.specs.declared.source.Source.{Source}
-use Rattle.cx_asm_pass1.specs.Locations.{IsPlaced, known_of}
+use Rattle.cx_asm_pass1.specs.Locations.{IsPlaced, final_state}
 use Rattle.cx_asm_pass1.specs.declared.places.Places.{Places}
 use Rattle.cx_asm_operands.specs.Bases.{none_in_use}
 use Rattle.cx_asm_pass2.specs.Statements.{PlacedStatement, statements_of}
-use Rattle.cx_asm_pass2.specs.Whole.{whole_of, told_by}
+use Rattle.cx_asm_pass2.specs.Whole.{whole_of, whole_by}
 use Rattle.cx_asm.specs.Assembly.{size_of, standing_of}
 use Rattle.cx_asm.proofs.JoinLemmas.{joined_in_turn}
-use Rattle.cx_asm.proofs.TellingLemmas.{told_is}
+use Rattle.cx_asm.proofs.WholeLemmas.{whole_is}
 
 -- ---- the first of them
 apart_ends : (from : ℕ) (lines : List Line) (end : ℕ) → AreApart from lines end → from ≤ end
@@ -113,8 +113,8 @@ words_more from (word ∷ words) end most le apart = (apart.0, words_more (word 
 within_more : (one : Standing) (end most : ℕ) → end ≤ most → IsWithin 0 one end → IsWithin 0 one most
 within_more one end most le h = record { lines = apart_more 0 one.lines end most le h.lines; words = words_more 0 one.relocs end most le h.words }
 
-pub section_fits : (source : Source) (places : Places) (statements : List PlacedStatement) → IsPlaced (known_of source) places → statements ≡ statements_of source → size_of source ≤ 65536
-    → IsWithin 0 (standing_of source) (size_of source) → IsWithin 0 (standing_from (told_by places) statements none_in_use statements) 65536
+pub section_fits : (source : Source) (places : Places) (statements : List PlacedStatement) → IsPlaced (final_state source) places → statements ≡ statements_of source → size_of source ≤ 65536
+    → IsWithin 0 (standing_of source) (size_of source) → IsWithin 0 (standing_from (whole_by places) statements none_in_use statements) 65536
 unfolding standing_of
 section_fits source places statements placed e le h =
-    rw (told_is source places placed, e) (within_more (standing_from (whole_of source) (statements_of source) none_in_use (statements_of source)) (size_of source) 65536 le h)
+    rw (whole_is source places placed, e) (within_more (standing_from (whole_of source) (statements_of source) none_in_use (statements_of source)) (size_of source) 65536 le h)

@@ -44,30 +44,30 @@ copies_empty n [] e = copies_none n
 copies_empty n (b ∷ bytes) e = absurd (omega (arith, e))
 
 -- the literal of a number, and those after it
-pub pool_next : (told : Whole) (statements : List PlacedStatement) (pool : PlacedLiterals) (i : ℕ)
-    → pool_standing told statements (drop i pool)
-    ≡ join_sections (literal_standing told statements (slice_get pool i))
-    (pool_standing told statements (drop (i + 1) pool))
-pool_next told statements pool i = rw add-one (next pool i)
+pub pool_next : (whole : Whole) (statements : List PlacedStatement) (pool : PlacedLiterals) (i : ℕ)
+    → pool_standing whole statements (drop i pool)
+    ≡ join_sections (literal_standing whole statements (slice_get pool i))
+    (pool_standing whole statements (drop (i + 1) pool))
+pool_next whole statements pool i = rw add-one (next pool i)
   where
     next : (pool : PlacedLiterals) (i : ℕ)
-        → pool_standing told statements (drop i pool)
-        ≡ join_sections (literal_standing told statements (slice_get pool i))
-        (pool_standing told statements (drop (suc i) pool))
+        → pool_standing whole statements (drop i pool)
+        ≡ join_sections (literal_standing whole statements (slice_get pool i))
+        (pool_standing whole statements (drop (suc i) pool))
     next [] zero = refl
     next [] (suc i) = refl
     next (e ∷ pool) zero = refl
     next (e ∷ pool) (suc i) = next pool i
 
 -- an item, and those after it
-pub items_next : (told : Whole) (is_ds : Bool) (s : PlacedStatement) (items : List (List ℕ × ℕ)) (d : List ℕ × ℕ) (i : ℕ) → i < length items
-    → items_standing told is_ds s (drop i items) ≡ join_sections (item_standing told is_ds s (get_or items i d)) (items_standing told is_ds s (drop (i + 1) items))
-items_next told is_ds s items d i within = rw (add-one, drop-cons items i d within) refl
+pub items_next : (whole : Whole) (is_ds : Bool) (s : PlacedStatement) (items : List (List ℕ × ℕ)) (d : List ℕ × ℕ) (i : ℕ) → i < length items
+    → items_standing whole is_ds s (drop i items) ≡ join_sections (item_standing whole is_ds s (get_or items i d)) (items_standing whole is_ds s (drop (i + 1) items))
+items_next whole is_ds s items d i within = rw (add-one, drop-cons items i d within) refl
 
-pub standing_next : (told : Whole) (statements : List PlacedStatement) (bases : Bases) (xs : List PlacedStatement) (d : PlacedStatement) (i : ℕ) → i < length xs
-    → standing_from told statements bases (drop i xs)
-    ≡ join_sections (statement_standing told statements bases (get_or xs i d)) (standing_from told statements (bases_after told bases (get_or xs i d)) (drop (i + 1) xs))
-standing_next told statements bases xs d i within = rw (add-one, drop-cons xs i d within) refl
+pub standing_next : (whole : Whole) (statements : List PlacedStatement) (bases : Bases) (xs : List PlacedStatement) (d : PlacedStatement) (i : ℕ) → i < length xs
+    → standing_from whole statements bases (drop i xs)
+    ≡ join_sections (statement_standing whole statements bases (get_or xs i d)) (standing_from whole statements (bases_after whole bases (get_or xs i d)) (drop (i + 1) xs))
+standing_next whole statements bases xs d i within = rw (add-one, drop-cons xs i d within) refl
 
 -- one part more
 pub one_more : (old new part rest left all : Standing) → new ≡ join_sections old part → left ≡ join_sections part rest → join_sections old left ≡ all → join_sections new rest ≡ all

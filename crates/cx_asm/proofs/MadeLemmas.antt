@@ -19,7 +19,7 @@ use Rattle.cx_asm_expressions.specs.declared.faults.FaultKind.TheVariants.{BadOp
 use Rattle.cx_asm_expressions.specs.declared.kinds.ConstantKind.{ConstantKind}
 use Rattle.cx_asm_expressions.specs.declared.kinds.ConstantKind.TheVariants.{Character, Hexadecimal, Binary, Fullword, Halfword, Packed, Address, External, Doubleword}
 use Rattle.cx_asm_expressions.specs.declared.values.Value.{Value}
-use Rattle.cx_asm_operands.specs.Judging.{then_judge as judged_as}
+use Rattle.cx_asm_operands.specs.Checking.{then_check as judged_as}
 use Rattle.cx_asm_pass2.specs.Whole.{Whole, item_made}
 
 -- its bytes are no more than a size, which holds a word where it is relocated
@@ -209,7 +209,7 @@ unfolding made_of length_of
 made_fits find here control item m is e = body_fits find here control item.kind item.modifier item.value m is e
 
 -- one copy of an item
-pub item_fits : (told : Whole) (counter : Option Value) (text : List ℕ) (item : Constant) (m : CopyOfConstant) → constant_in false text ≡ Ok item → item_made told false counter text ≡ Ok m → MadeFits m (length_of item)
-item_fits told counter text item m e h =
-    made_fits told.find counter told.control item m (constant_modified false text item e)
-    (subst (λ r. judged_as (made_of told.find counter told.control) r ≡ Ok m) e h)
+pub item_fits : (whole : Whole) (counter : Option Value) (text : List ℕ) (item : Constant) (m : CopyOfConstant) → constant_in false text ≡ Ok item → item_made whole false counter text ≡ Ok m → MadeFits m (length_of item)
+item_fits whole counter text item m e h =
+    made_fits whole.find counter whole.control item m (constant_modified false text item e)
+    (subst (λ r. judged_as (made_of whole.find counter whole.control) r ≡ Ok m) e h)

@@ -12,27 +12,27 @@ use Rattle.cx_asm_pass2.specs.Statements.{PlacedStatement}
 use Rattle.cx_asm_pass2.specs.Whole.{Whole}
 use Rattle.cx_asm.specs.Resolving.{role_standing}
 
-pub by_directive : (told : Whole) (statements : List PlacedStatement) (bases : Bases) (s : PlacedStatement) (d : Directive)
-    → role_standing told statements bases s (directive_role d) ≡ role_standing told statements none_in_use s (directive_role d)
-by_directive told statements bases s directive.Csect = refl
-by_directive told statements bases s directive.Start = refl
-by_directive told statements bases s directive.Dsect = refl
-by_directive told statements bases s directive.Equ = refl
-by_directive told statements bases s directive.Ds = refl
-by_directive told statements bases s directive.Dc = refl
-by_directive told statements bases s directive.Ltorg = refl
-by_directive told statements bases s directive.Dfhregs = refl
-by_directive told statements bases s directive.Copy = refl
-by_directive told statements bases s directive.Using = refl
-by_directive told statements bases s directive.Drop = refl
-by_directive told statements bases s directive.End = refl
-by_directive told statements bases s directive.Title = refl
-by_directive told statements bases s directive.Print = refl
-by_directive told statements bases s directive.Eject = refl
-by_directive told statements bases s directive.Space = refl
+pub by_directive : (whole : Whole) (statements : List PlacedStatement) (bases : Bases) (s : PlacedStatement) (d : Directive)
+    → role_standing whole statements bases s (directive_role d) ≡ role_standing whole statements none_in_use s (directive_role d)
+by_directive whole statements bases s directive.Csect = refl
+by_directive whole statements bases s directive.Start = refl
+by_directive whole statements bases s directive.Dsect = refl
+by_directive whole statements bases s directive.Equ = refl
+by_directive whole statements bases s directive.Ds = refl
+by_directive whole statements bases s directive.Dc = refl
+by_directive whole statements bases s directive.Ltorg = refl
+by_directive whole statements bases s directive.Dfhregs = refl
+by_directive whole statements bases s directive.Copy = refl
+by_directive whole statements bases s directive.Using = refl
+by_directive whole statements bases s directive.Drop = refl
+by_directive whole statements bases s directive.End = refl
+by_directive whole statements bases s directive.Title = refl
+by_directive whole statements bases s directive.Print = refl
+by_directive whole statements bases s directive.Eject = refl
+by_directive whole statements bases s directive.Space = refl
 
 -- what a directive's fault is whatever the bases and the number, it is for these
-pub with_these : {E : Type 0} (told : Whole) (bases : Bases) (number : ℕ) (s : PlacedStatement) (o : Option Operation) (r : Result (Option FaultKind) E)
-    → IfOk r (λ fault. (b : Bases) → (n : ℕ) → WithUsing told b n s o fault) → IfOk r (λ fault. WithUsing told bases number s o fault)
-with_these told bases number s o (Ok fault) h = h bases number
-with_these told bases number s o (Err error) h = tt
+pub with_these : {E : Type 0} (whole : Whole) (bases : Bases) (number : ℕ) (s : PlacedStatement) (o : Option Operation) (r : Result (Option FaultKind) E)
+    → IfOk r (λ fault. (b : Bases) → (n : ℕ) → WithUsing whole b n s o fault) → IfOk r (λ fault. WithUsing whole bases number s o fault)
+with_these whole bases number s o (Ok fault) h = h bases number
+with_these whole bases number s o (Err error) h = tt

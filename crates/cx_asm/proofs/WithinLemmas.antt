@@ -89,8 +89,8 @@ constant_within at (Ok item) (Err fault) fits = within_nothing at (at + size_of 
 constant_within at (Err fault) (Ok made) fits = within_nothing at (at + 0) (omega arith)
 constant_within at (Err fault) (Err other) fits = within_nothing at (at + 0) (omega arith)
 
-data_within : (told : Whole) (counter : Option Value) (text : List ℕ) (at : ℕ) → IsWithin at (data_standing told counter text at) (at + literal_size text)
-data_within told counter text at = constant_within at (constant_in false text) (item_made told false counter text) (item_fits told counter text)
+data_within : (whole : Whole) (counter : Option Value) (text : List ℕ) (at : ℕ) → IsWithin at (data_standing whole counter text at) (at + literal_size text)
+data_within whole counter text at = constant_within at (constant_in false text) (item_made whole false counter text) (item_fits whole counter text)
 
 spaced : (is_none : Bool) (at size : ℕ) → AreApart at (cond is_none [] (line at (Space size) ∷ [])) (at + size)
 spaced true at size = omega arith
@@ -103,29 +103,29 @@ space_within : (at : ℕ) (item : Result Constant FaultKind) → IsWithin at (sp
 space_within at (Ok item) = record { lines = sized_within at (size_of item); words = omega arith }
 space_within at (Err fault) = within_nothing at (at + 0) (omega arith)
 
-item_within : (told : Whole) (is_ds : Bool) (s : PlacedStatement) (item : List ℕ × ℕ) → IsWithin item.1 (item_standing told is_ds s item) (item.1 + constant_size (constant_in is_ds item.0))
-item_within told true s item = space_within item.1 (constant_in true item.0)
-item_within told false s item = data_within told _ item.0 item.1
+item_within : (whole : Whole) (is_ds : Bool) (s : PlacedStatement) (item : List ℕ × ℕ) → IsWithin item.1 (item_standing whole is_ds s item) (item.1 + constant_size (constant_in is_ds item.0))
+item_within whole true s item = space_within item.1 (constant_in true item.0)
+item_within whole false s item = data_within whole _ item.0 item.1
 
-pub items_within : (told : Whole) (is_ds : Bool) (s : PlacedStatement) (parts : List (List ℕ)) (offsets : List ℕ) (from end : ℕ) → ItemsStand from (map (constant_in is_ds) parts) offsets end
-    → IsWithin from (items_standing told is_ds s (zip parts offsets)) end
-items_within told is_ds s [] [] from end stand = within_nothing from end (omega (arith, stand))
-items_within told is_ds s [] (at ∷ offsets) from end stand = absurd stand
-items_within told is_ds s (part ∷ parts) [] from end stand = absurd stand
-items_within told is_ds s (part ∷ parts) (at ∷ offsets) from end stand =
+pub items_within : (whole : Whole) (is_ds : Bool) (s : PlacedStatement) (parts : List (List ℕ)) (offsets : List ℕ) (from end : ℕ) → ItemsStand from (map (constant_in is_ds) parts) offsets end
+    → IsWithin from (items_standing whole is_ds s (zip parts offsets)) end
+items_within whole is_ds s [] [] from end stand = within_nothing from end (omega (arith, stand))
+items_within whole is_ds s [] (at ∷ offsets) from end stand = absurd stand
+items_within whole is_ds s (part ∷ parts) [] from end stand = absurd stand
+items_within whole is_ds s (part ∷ parts) (at ∷ offsets) from end stand =
     within_joined from (at + constant_size (constant_in is_ds part)) end _ _
-    (within_later from at _ _ stand.0 (item_within told is_ds s (part, at)))
-    (items_within told is_ds s parts offsets _ end stand.2)
+    (within_later from at _ _ stand.0 (item_within whole is_ds s (part, at)))
+    (items_within whole is_ds s parts offsets _ end stand.2)
 
 -- ---- literals
-pub pool_within : (told : Whole) (statements : List PlacedStatement) (pool : PlacedLiterals) (group from end : ℕ) → StandFrom group from pool end
-    → IsWithin from (pool_standing told statements pool) end
-pool_within told statements [] group from end stand = within_nothing from end (omega (arith, stand))
-pool_within told statements (e ∷ pool) group from end stand =
+pub pool_within : (whole : Whole) (statements : List PlacedStatement) (pool : PlacedLiterals) (group from end : ℕ) → StandFrom group from pool end
+    → IsWithin from (pool_standing whole statements pool) end
+pool_within whole statements [] group from end stand = within_nothing from end (omega (arith, stand))
+pool_within whole statements (e ∷ pool) group from end stand =
     within_joined from (from + literal_size e.0) end _ _
-    (subst (λ at. IsWithin at (data_standing told (counter_at statements e.1.user) e.0 e.1.offset) (at + literal_size e.0)) stand.0
-    (data_within told (counter_at statements e.1.user) e.0 e.1.offset))
-    (pool_within told statements pool _ (from + literal_size e.0) end stand.3)
+    (subst (λ at. IsWithin at (data_standing whole (counter_at statements e.1.user) e.0 e.1.offset) (at + literal_size e.0)) stand.0
+    (data_within whole (counter_at statements e.1.user) e.0 e.1.offset))
+    (pool_within whole statements pool _ (from + literal_size e.0) end stand.3)
 
 -- ---- instructions
 -- what is resolved is of its operation's row, and as long as it
@@ -150,17 +150,17 @@ instruction_line : (from at size : ℕ) (r : Result Made_instruction FaultKind) 
 instruction_line from at size (Ok made) le h = (le, omega (arith, h made refl))
 instruction_line from at size (Err fault) le h = omega (arith, le)
 
-module _ (resolves : Resolves) (spelled : Spelled) (told : Whole) (bases : Bases) (sixteen : length bases ≡ 16) where
+module _ (resolves : Resolves) (spelled : Spelled) (whole : Whole) (bases : Bases) (sixteen : length bases ≡ 16) where
   row_spelled : (s : PlacedStatement) (o : Operation) (size : ℕ) → role_of (Some o) ≡ Instruction size → (made : Made_instruction)
-      → instruction_or_fault o (instruction_context told bases s) s.stmt.operand ≡ Ok made → length (spelling made) ≡ size
+      → instruction_or_fault o (instruction_context whole bases s) s.stmt.operand ≡ Ok made → length (spelling made) ≡ size
   row_spelled s o size e made f =
-      let row = resolves o (instruction_context told bases s) s.stmt.operand made sixteen f in
+      let row = resolves o (instruction_context whole bases s) s.stmt.operand made sixteen f in
       spelled made row.1 ∙ row_size o made.op size row.0 e
 
   pub instruction_within : (s : PlacedStatement) (o : Option Operation) (size from : ℕ) → role_of o ≡ Instruction size → from ≤ s.place.offset
-      → IsWithin from (option_map_or (instruction_standing told bases s) o empty_section) (s.place.offset + size)
+      → IsWithin from (option_map_or (instruction_standing whole bases s) o empty_section) (s.place.offset + size)
   instruction_within s None size from e le = cc
   instruction_within s (Some o) size from e le = record {
-    lines = instruction_line from s.place.offset size (instruction_or_fault o (instruction_context told bases s) s.stmt.operand) le (row_spelled s o size e);
+    lines = instruction_line from s.place.offset size (instruction_or_fault o (instruction_context whole bases s) s.stmt.operand) le (row_spelled s o size e);
     words = omega (arith, le);
   }

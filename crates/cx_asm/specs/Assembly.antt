@@ -8,7 +8,7 @@ use Rattle.cx_asm_expressions.specs.declared.faults.FaultKind.{FaultKind}
 use Rattle.cx_asm_expressions.specs.declared.faults.FaultKind.TheVariants as kind
 use Rattle.cx_asm_pass1.specs.AllFaults.{place_faults}
 use Rattle.cx_asm_pass1.specs.PassState.{line_fault}
-use Rattle.cx_asm_pass1.specs.Locations.{control_section, known_of, storage_length}
+use Rattle.cx_asm_pass1.specs.Locations.{control_section, final_state, storage_length}
 use Rattle.cx_asm_pass1.specs.declared.place.LineFault.{LineFault}
 use Rattle.cx_asm_operands.specs.Bases.{none_in_use}
 use Rattle.cx_asm_operands.specs.Directives.{entry_in}
@@ -34,15 +34,15 @@ standing_of source = standing_from (whole_of source) (statements_of source) none
 
 -- how many bytes it has; 0 where there is none
 abbrev pub size_of : Source → ℕ
-size_of source = option_map_or (λ control. control.length) (control_section (known_of source)) 0
+size_of source = option_map_or (λ control. control.length) (control_section (final_state source)) 0
 
 -- the entry that the first END writes, or the section's start
 abbrev pub entry_by : Whole → PlacedStatement → ℕ
-entry_by told s = unwrap_or (result_ok (entry_in told.control (directive_context told none_in_use s) s.stmt.operand)) 0
+entry_by whole s = unwrap_or (result_ok (entry_in whole.control (directive_context whole none_in_use s) s.stmt.operand)) 0
 
 unfoldable pub section_of : Source → AssembledParts
 section_of source =
-    let stands = standing_of source in let storage = working_storage (storage_length (known_of source)) in
+    let stands = standing_of source in let storage = working_storage (storage_length (final_state source)) in
     let entry = option_map_or (entry_by (whole_of source)) (end_of (statements_of source)) 0 in
     assembled_parts stands.lines (size_of source) stands.relocs entry storage
 

@@ -28,14 +28,14 @@ object_length s role = 0
 
 -- Those in the control section are listed with their bytes, and the gaps between items as zeros.
 abbrev pub object_of : Whole → List ℕ → PlacedStatement → List ℕ
-object_of told text s =
-    if is_control s.place.section told.control then take (object_length s (role_in s.stmt)) (drop s.place.offset text) else []
+object_of whole text s =
+    if is_control s.place.section whole.control then take (object_length s (role_in s.stmt)) (drop s.place.offset text) else []
 
 -- the line of a line with this statement, if it has one
 abbrev pub line_with : Whole → List ℕ → ℕ → List ℕ → Option PlacedStatement → List ℕ
-line_with told text number written None = listing_line None [] number written
-line_with told text number written (Some s) =
-    listing_line (offset_shown s.place.offset (role_in s.stmt)) (object_of told text s) number written
+line_with whole text number written None = listing_line None [] number written
+line_with whole text number written (Some s) =
+    listing_line (offset_shown s.place.offset (role_in s.stmt)) (object_of whole text s) number written
 
 unfoldable pub item_listing : Whole → List ℕ → PlacedItem → List ℕ
-item_listing told text placed = line_with told text placed.item.line placed.item.text (stated_in placed)
+item_listing whole text placed = line_with whole text placed.item.line placed.item.text (stated_in placed)

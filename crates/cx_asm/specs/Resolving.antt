@@ -62,7 +62,7 @@ constant_standing at item made = empty_section
 
 -- an item of a DC, or a literal, at an offset
 abbrev pub data_standing : Whole → Option Value → List ℕ → ℕ → Standing
-data_standing told counter text at = constant_standing at (constant_in false text) (item_made told false counter text)
+data_standing whole counter text at = constant_standing at (constant_in false text) (item_made whole false counter text)
 
 abbrev pub space_standing : ℕ → Result Constant FaultKind → Standing
 space_standing at (Ok item) = standing (space_line at (size_of item)) []
@@ -70,13 +70,13 @@ space_standing at (Err fault) = empty_section
 
 -- an item of a DS or DC
 abbrev pub item_standing : Whole → Bool → PlacedStatement → List ℕ × ℕ → Standing
-item_standing told true s item = space_standing item.1 (constant_in true item.0)
-item_standing told false s item = data_standing told (location_counter s.place.section item.1 1) item.0 item.1
+item_standing whole true s item = space_standing item.1 (constant_in true item.0)
+item_standing whole false s item = data_standing whole (location_counter s.place.section item.1 1) item.0 item.1
 
 -- items, one after the other
 abbrev pub items_standing : Whole → Bool → PlacedStatement → List (List ℕ × ℕ) → Standing
-items_standing told is_ds s [] = empty_section
-items_standing told is_ds s (item ∷ items) = join_sections (item_standing told is_ds s item) (items_standing told is_ds s items)
+items_standing whole is_ds s [] = empty_section
+items_standing whole is_ds s (item ∷ items) = join_sections (item_standing whole is_ds s item) (items_standing whole is_ds s items)
 
 -- ---- literals
 -- In a literal the location counter is at the statement that uses it first.
@@ -84,35 +84,35 @@ abbrev pub counter_at : List PlacedStatement → ℕ → Option Value
 counter_at statements user = option_and_then counter_of (slice_get statements user)
 
 abbrev pub pool_standing : Whole → List PlacedStatement → PlacedLiterals → Standing
-pool_standing told statements [] = empty_section
-pool_standing told statements (e ∷ pool) =
-    join_sections (data_standing told (counter_at statements e.1.user) e.0 e.1.offset) (pool_standing told statements pool)
+pool_standing whole statements [] = empty_section
+pool_standing whole statements (e ∷ pool) =
+    join_sections (data_standing whole (counter_at statements e.1.user) e.0 e.1.offset) (pool_standing whole statements pool)
 
 -- ---- statements
 abbrev pub instruction_standing : Whole → Bases → PlacedStatement → Operation → Standing
-instruction_standing told bases s operation =
-    let made = result_ok (instruction_or_fault operation (instruction_context told bases s) s.stmt.operand) in
+instruction_standing whole bases s operation =
+    let made = result_ok (instruction_or_fault operation (instruction_context whole bases s) s.stmt.operand) in
     standing (option_map_or (λ instruction. line s.place.offset (Code instruction) ∷ []) made []) []
 
 abbrev pub role_standing : Whole → List PlacedStatement → Bases → PlacedStatement → Role → Standing
-role_standing told statements bases s (Machine size) =
-    option_map_or (instruction_standing told bases s) (operation_of s) empty_section
-role_standing told statements bases s (Storage is_ds) = items_standing told is_ds s (placed_items s)
-role_standing told statements bases s Pool = pool_standing told statements (pool_of told s)
-role_standing told statements bases s role = empty_section
+role_standing whole statements bases s (Machine size) =
+    option_map_or (instruction_standing whole bases s) (operation_of s) empty_section
+role_standing whole statements bases s (Storage is_ds) = items_standing whole is_ds s (placed_items s)
+role_standing whole statements bases s Pool = pool_standing whole statements (pool_of whole s)
+role_standing whole statements bases s role = empty_section
 
 -- what a statement makes, where these bases are in use: nothing outside the control section
 unfoldable pub statement_standing : Whole → List PlacedStatement → Bases → PlacedStatement → Standing
-statement_standing told statements bases s =
-    if is_control s.place.section told.control then role_standing told statements bases s (role_in s.stmt) else empty_section
+statement_standing whole statements bases s =
+    if is_control s.place.section whole.control then role_standing whole statements bases s (role_in s.stmt) else empty_section
 
 -- ---- the section
 -- the literals that no LTORG has placed are at its end
 abbrev pub last_pool : Whole → PlacedLiterals
-last_pool told = unwrap_or (slice_get told.pools (length told.pools - 1)) []
+last_pool whole = unwrap_or (slice_get whole.pools (length whole.pools - 1)) []
 
 -- what statements make from one on, and the last pool after them
 abbrev pub standing_from : Whole → List PlacedStatement → Bases → List PlacedStatement → Standing
-standing_from told statements bases [] = pool_standing told statements (last_pool told)
-standing_from told statements bases (s ∷ rest) =
-    join_sections (statement_standing told statements bases s) (standing_from told statements (bases_after told bases s) rest)
+standing_from whole statements bases [] = pool_standing whole statements (last_pool whole)
+standing_from whole statements bases (s ∷ rest) =
+    join_sections (statement_standing whole statements bases s) (standing_from whole statements (bases_after whole bases s) rest)

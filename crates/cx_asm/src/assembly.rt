@@ -5,8 +5,8 @@ ghost use Rattle.std.specs.Option.{option_map_or};
 ghost use Rattle.cx_source.specs.declared.source.Source.{Source};
 ghost use Rattle.cx_asm_image.specs.Assembled.{IsAssembled};
 ghost use Rattle.cx_asm_pass1.specs.AllFaults.{place_faults};
-ghost use Rattle.cx_asm_pass1.specs.Locations.{IsPlaced, known_of};
-ghost use Rattle.cx_asm_pass2.specs.Whole.{told_by};
+ghost use Rattle.cx_asm_pass1.specs.Locations.{IsPlaced, final_state};
+ghost use Rattle.cx_asm_pass2.specs.Whole.{whole_by};
 ghost use Rattle.cx_asm_pass2.specs.Statements.{end_of, placed_of, statements_of};
 ghost use Rattle.cx_asm.specs.Assembly.{Assembles, assembly_faults, assembly_of, end_line, entry_by, first_found, made_of, second_faults_of, section_of, size_faults, size_of, standing_of};
 
@@ -94,7 +94,7 @@ pub fn disassembly(alloc: Global, assembly: &Assembly) -> Result<Vec<Line>, Allo
 
 /// The size of the control section; 0 where there is none.
 fn size_of(places: &Places<'_>) -> u128
-    ensures { (source : Source) → IsPlaced (known_of source) places.now → result ≡ size_of source }
+    ensures { (source : Source) → IsPlaced (final_state source) places.now → result ≡ size_of source }
 {
     match places.control {
         Some(control) => control.length,
@@ -115,7 +115,8 @@ fn entry(
     places: &Places<'_>,
     statements: &[Statement<'_>],
 ) -> Result<u32, AllocError>
-    ensures { IfOk result (λ entry. entry ≡ option_map_or (entry_by (told_by places.now)) (end_of statements.now) 0) }
+    ensures { IfOk result
+        (λ entry. entry ≡ option_map_or (entry_by (whole_by places.now)) (end_of statements.now) 0) }
 {
     let Some(statement) = end_of(statements) else {
         return Ok(0);
@@ -142,7 +143,7 @@ fn end_line(source: &Source, statements: &[Statement<'_>]) -> usize
 }
 
 /// The section of a source whose statements are placed.
-#[tactic(auto, using(crate::proofs::TellingLemmas::told_is), unfolding(crate::specs::Assembly::section_of, crate::specs::Assembly::standing_of))]
+#[tactic(auto, using(crate::proofs::WholeLemmas::whole_is), unfolding(crate::specs::Assembly::section_of, crate::specs::Assembly::standing_of))]
 fn section_of(
     alloc: Global,
     source: &Source,
@@ -151,8 +152,8 @@ fn section_of(
     size: u32,
     standing: Standing,
 ) -> Result<Assembled, AllocError>
-    requires sound { (known_of source.now).fault ≡ None }
-    requires placed { IsPlaced (known_of source.now) places.now }
+    requires sound { (final_state source.now).fault ≡ None }
+    requires placed { IsPlaced (final_state source.now) places.now }
     requires statements { statements.now ≡ statements_of source.now }
     requires size { size ≡ size_of source.now }
     requires fits { size ≤ 65536 }
@@ -184,8 +185,8 @@ fn made_of(
     size: u32,
     standing: Standing,
 ) -> Result<Assembly, AllocError>
-    requires sound { (known_of source.now).fault ≡ None }
-    requires places { IsPlaced (known_of source.now) places.now }
+    requires sound { (final_state source.now).fault ≡ None }
+    requires places { IsPlaced (final_state source.now) places.now }
     requires placed { placed.now ≡ placed_of source.now }
     requires statements { statements.now ≡ statements_of source.now }
     requires size { size ≡ size_of source.now }
@@ -201,7 +202,7 @@ fn made_of(
 
 /// What the second pass over a source's statements finds; what they make is kept only where it fits in the largest
 /// text.
-#[tactic(auto, using(crate::proofs::TellingLemmas::told_is), unfolding(crate::specs::Assembly::second_faults_of, crate::specs::Assembly::standing_of))]
+#[tactic(auto, using(crate::proofs::WholeLemmas::whole_is), unfolding(crate::specs::Assembly::second_faults_of, crate::specs::Assembly::standing_of))]
 fn found_in(
     alloc: Global,
     source: &Source,
@@ -209,8 +210,8 @@ fn found_in(
     statements: &[Statement<'_>],
     fits: bool,
 ) -> Result<Found, AllocError>
-    requires sound { (known_of source.now).fault ≡ None }
-    requires placed { IsPlaced (known_of source.now) places.now }
+    requires sound { (final_state source.now).fault ≡ None }
+    requires placed { IsPlaced (final_state source.now) places.now }
     requires statements { statements.now ≡ statements_of source.now }
     requires fits { fits ≡ true → size_of source.now ≤ 65536 }
     ensures first { IfOk result (λ found. found.first ≡ slice_get (second_faults_of source.now) 0) }
@@ -221,14 +222,14 @@ fn found_in(
 }
 
 /// The assembly of a source whose statements are placed.
-#[tactic(auto, using(crate::proofs::TellingLemmas::second_refused, crate::proofs::TellingLemmas::large_refused, crate::proofs::TellingLemmas::made_answered))]
+#[tactic(auto, using(crate::proofs::WholeLemmas::second_refused, crate::proofs::WholeLemmas::large_refused, crate::proofs::WholeLemmas::made_answered))]
 fn assemble_placed(
     alloc: Global,
     source: &Source,
     places: &Places<'_>,
 ) -> Result<Assembly, AsmFault>
-    requires sound { (known_of source.now).fault ≡ None }
-    requires placed { IsPlaced (known_of source.now) places.now }
+    requires sound { (final_state source.now).fault ≡ None }
+    requires placed { IsPlaced (final_state source.now) places.now }
     ensures { Assembles (assembly_of source.now) result }
 {
     let placed = placed_lines(alloc, source, places.statements.as_slice())?;
@@ -260,7 +261,7 @@ fn assemble_placed(
 /// none of the second (operands and values). TooLarge comes only where there is no other fault, for a control section
 /// of more than 65,536 bytes. A source without a fault is assembled, or meets Memory, which comes only where an
 /// allocation failed.
-#[tactic(auto, using(crate::proofs::TellingLemmas::first_refused))]
+#[tactic(auto, using(crate::proofs::WholeLemmas::first_refused))]
 pub fn assemble(alloc: Global, source: &Source) -> Result<Assembly, AsmFault>
     ensures { Assembles (assembly_of source.now) result }
 {
@@ -283,13 +284,13 @@ fn size_faults(alloc: Global, size: u128, line: usize) -> Result<List<LineFault>
 }
 
 /// The faults of the second pass over a source whose statements are placed, or without one that of its size.
-#[tactic(auto, using(crate::proofs::TellingLemmas::told_is), unfolding(crate::specs::Assembly::second_faults_of))]
+#[tactic(auto, using(crate::proofs::WholeLemmas::whole_is), unfolding(crate::specs::Assembly::second_faults_of))]
 fn placed_faults(
     alloc: Global,
     source: &Source,
     places: &Places<'_>,
 ) -> Result<List<LineFault>, AllocError>
-    requires { IsPlaced (known_of source.now) places.now }
+    requires { IsPlaced (final_state source.now) places.now }
     ensures { let size = size_faults (size_of source.now) (end_line source.now) in
         IfOk result (λ faults. faults ≡ first_found (second_faults_of source.now) size) }
 {

@@ -6,7 +6,7 @@ ghost use Rattle.cx_asm_expressions.specs.Faults.{lowest};
 ghost use Rattle.cx_asm_expressions.specs.Items.{constant_in};
 ghost use Rattle.cx_asm_pools.specs.Pools.{PlacedLiterals};
 ghost use Rattle.cx_asm_pass2.specs.SecondFaults.{item_fault};
-ghost use Rattle.cx_asm_pass2.specs.Whole.{item_made, told_by};
+ghost use Rattle.cx_asm_pass2.specs.Whole.{item_made, whole_by};
 ghost use Rattle.cx_asm.specs.Laws.SectionLines.{IsWithin};
 ghost use Rattle.cx_asm.specs.Parts.Kept.{Fits, kept};
 ghost use Rattle.cx_asm.specs.Parts.Passing.{literal_standing};
@@ -50,11 +50,11 @@ fn push_constant(
     keeps: bool,
     standing: &mut Standing,
 ) -> Result<Option<FaultKind>, AllocError>
-    requires { Fits keeps standing.old (data_standing (told_by places.now) counter text.now at) }
-    ensures standing { let told = told_by places.now in
-        OnOk result (standing.new ≡ kept keeps standing.old (data_standing told counter text.now at)) }
-    ensures fault { let told = told_by places.now in
-        IfOk result (λ fault. fault ≡ result_err (item_made told false counter text.now)) }
+    requires { Fits keeps standing.old (data_standing (whole_by places.now) counter text.now at) }
+    ensures standing { let whole = whole_by places.now in
+        OnOk result (standing.new ≡ kept keeps standing.old (data_standing whole counter text.now at)) }
+    ensures fault { let whole = whole_by places.now in
+        IfOk result (λ fault. fault ≡ result_err (item_made whole false counter text.now)) }
 {
     match item_made(alloc, places, false, counter, text) {
         Ok(made) => {
@@ -88,11 +88,11 @@ fn push_item(
     keeps: bool,
     standing: &mut Standing,
 ) -> Result<Option<FaultKind>, AllocError>
-    requires { Fits keeps standing.old (item_standing (told_by places.now) is_ds statement.now item.now) }
-    ensures standing { let told = told_by places.now in
-        OnOk result (standing.new ≡ kept keeps standing.old (item_standing told is_ds statement.now item.now)) }
-    ensures fault { let told = told_by places.now in
-        IfOk result (λ fault. fault ≡ item_fault told is_ds statement.now item.now) }
+    requires { Fits keeps standing.old (item_standing (whole_by places.now) is_ds statement.now item.now) }
+    ensures standing { let whole = whole_by places.now in
+        OnOk result (standing.new ≡ kept keeps standing.old (item_standing whole is_ds statement.now item.now)) }
+    ensures fault { let whole = whole_by places.now in
+        IfOk result (λ fault. fault ≡ item_fault whole is_ds statement.now item.now) }
 {
     let at = item.offset();
     let counter = location_counter(statement.place().section, at, 1);
@@ -114,11 +114,11 @@ pub(crate) fn push_items(
     keeps: bool,
     standing: &mut Standing,
 ) -> Result<Option<FaultKind>, AllocError>
-    requires { Fits keeps standing.old (items_standing (told_by places.now) is_ds statement.now items.now) }
-    ensures standing { let told = told_by places.now in
-        OnOk result (standing.new ≡ kept keeps standing.old (items_standing told is_ds statement.now items.now)) }
-    ensures fault { let told = told_by places.now in
-        IfOk result (λ fault. fault ≡ lowest (map (item_fault told is_ds statement.now) items.now)) }
+    requires { Fits keeps standing.old (items_standing (whole_by places.now) is_ds statement.now items.now) }
+    ensures standing { let whole = whole_by places.now in
+        OnOk result (standing.new ≡ kept keeps standing.old (items_standing whole is_ds statement.now items.now)) }
+    ensures fault { let whole = whole_by places.now in
+        IfOk result (λ fault. fault ≡ lowest (map (item_fault whole is_ds statement.now) items.now)) }
 {
     let mut fault = None;
     for item in items {
@@ -146,9 +146,10 @@ fn push_literal(
     standing: &mut Standing,
 ) -> Result<(), AllocError>
     requires { let it = option_map (λ e. (e.0.now, e.1)) literal in
-        Fits keeps standing.old (literal_standing (told_by places.now) statements.now it) }
+        Fits keeps standing.old (literal_standing (whole_by places.now) statements.now it) }
     ensures { let it = option_map (λ e. (e.0.now, e.1)) literal.entry in
-        OnOk result (standing.new ≡ kept keeps standing.old (literal_standing (told_by places.now) statements.now it)) }
+        OnOk result
+        (standing.new ≡ kept keeps standing.old (literal_standing (whole_by places.now) statements.now it)) }
 {
     let Some((text, literal)) = literal else {
         return Ok(());
@@ -176,9 +177,9 @@ pub(crate) fn push_pool(
     keeps: bool,
     standing: &mut Standing,
 ) -> Result<(), AllocError>
-    requires { Fits keeps standing.old (pool_standing (told_by places.now) statements.now pool.now) }
-    ensures { let told = told_by places.now in
-        OnOk result (standing.new ≡ kept keeps standing.old (pool_standing told statements.now pool.now)) }
+    requires { Fits keeps standing.old (pool_standing (whole_by places.now) statements.now pool.now) }
+    ensures { let whole = whole_by places.now in
+        OnOk result (standing.new ≡ kept keeps standing.old (pool_standing whole statements.now pool.now)) }
 {
     for index in 0..pool.len() {
         push_literal(

@@ -4,7 +4,7 @@ ghost use Rattle.std.specs.Prelude.{◌≡◌, ◌+◌, IfOk, drop, map, take, N
 ghost use Rattle.cx_asm_pools.specs.Pools.{cap, literal_size};
 ghost use Rattle.cx_asm_pass1.specs.PassState.{role_in};
 ghost use Rattle.cx_asm_image.specs.Listing.{listing_line};
-ghost use Rattle.cx_asm_pass2.specs.Whole.{told_by};
+ghost use Rattle.cx_asm_pass2.specs.Whole.{whole_by};
 ghost use Rattle.cx_asm.specs.Listing.{end_after, line_with, item_listing, object_length, object_of, offset_shown};
 
 use crate::section::is_control;
@@ -91,7 +91,7 @@ fn object_of<'b>(
     text: &'b [u8],
     statement: &Statement<'_>,
 ) -> Result<&'b [u8], AllocError>
-    ensures { IfOk result (λ object. object.now ≡ object_of (told_by places.now) text.now statement.now) }
+    ensures { IfOk result (λ object. object.now ≡ object_of (whole_by places.now) text.now statement.now) }
 {
     if !is_control(statement.place().section, control_name(places)) {
         return Ok(&[]);
@@ -109,7 +109,8 @@ fn line_with(
     written: &[u8],
     statement: Option<Statement<'_>>,
 ) -> Result<Text, AllocError>
-    ensures { IfOk result (λ line. line ≡ line_with (told_by places.now) text.now number written.now statement.entry) }
+    ensures { IfOk result
+        (λ line. line ≡ line_with (whole_by places.now) text.now number written.now statement.entry) }
 {
     let Some(statement) = statement else {
         return listing_line(alloc, None, b"", number, written);
@@ -127,7 +128,7 @@ fn listed(
     text: &[u8],
     placed: &PlacedItem<'_>,
 ) -> Result<Text, AllocError>
-    ensures { IfOk result (λ line. line ≡ item_listing (told_by places.now) text.now placed.now) }
+    ensures { IfOk result (λ line. line ≡ item_listing (whole_by places.now) text.now placed.now) }
 {
     let item = placed.item();
     line_with(
@@ -147,7 +148,7 @@ pub(crate) fn listing_of(
     text: &[u8],
     placed: &[PlacedItem<'_>],
 ) -> Result<Vec<Text>, AllocError>
-    ensures { IfOk result (λ lines. lines.items ≡ map (item_listing (told_by places.now) text.now) placed.now) }
+    ensures { IfOk result (λ lines. lines.items ≡ map (item_listing (whole_by places.now) text.now) placed.now) }
 {
     let mut lines = Vec::with_capacity(alloc, placed.len())?;
     for line in placed {

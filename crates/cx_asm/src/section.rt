@@ -11,7 +11,7 @@ ghost use Rattle.cx_asm_pass1.specs.PassState.{is_control, role_in};
 ghost use Rattle.cx_asm_pass1.specs.Roles.{directive_role};
 ghost use Rattle.cx_asm_pass2.specs.SecondFaults.{bases_after, items_fault, literals_fault, operand_fault, second_fault, second_faults_after};
 ghost use Rattle.cx_asm_pass2.specs.Statements.{operation_of, placed_items};
-ghost use Rattle.cx_asm_pass2.specs.Whole.{instruction_context, pool_of, told_by};
+ghost use Rattle.cx_asm_pass2.specs.Whole.{instruction_context, pool_of, whole_by};
 ghost use Rattle.cx_asm.specs.Laws.SectionLines.{IsWithin};
 ghost use Rattle.cx_asm.specs.Parts.Kept.{Fits, kept};
 ghost use Rattle.cx_asm.specs.Parts.Passing.{WithUsing};
@@ -54,15 +54,15 @@ fn pass_instruction(
     keeps: bool,
     standing: &mut Standing,
 ) -> Result<Option<FaultKind>, AllocError>
-    requires { let told = told_by places.now in
-        Fits keeps standing.old (instruction_standing told bases.now statement.now operation) }
-    ensures standing { let told = told_by places.now in
-        let made = instruction_standing told bases.now statement.now operation in
+    requires { let whole = whole_by places.now in
+        Fits keeps standing.old (instruction_standing whole bases.now statement.now operation) }
+    ensures standing { let whole = whole_by places.now in
+        let made = instruction_standing whole bases.now statement.now operation in
         OnOk result (standing.new ≡ kept keeps standing.old made) }
-    ensures fault { let told = told_by places.now in
-        let made = instruction_or_fault operation (instruction_context told bases.now statement.now)
+    ensures fault { let whole = whole_by places.now in
+        let made = instruction_or_fault operation (instruction_context whole bases.now statement.now)
         statement.now.stmt.operand in
-        IfOk result (λ fault. fault ≡ lower (result_err made) (literals_fault told number statement.now)) }
+        IfOk result (λ fault. fault ≡ lower (result_err made) (literals_fault whole number statement.now)) }
 {
     let literals = literals_fault(alloc, places, number, statement)?;
     match instruction_of(alloc, places, bases, statement, operation) {
@@ -84,12 +84,12 @@ fn pass_storage(
     keeps: bool,
     standing: &mut Standing,
 ) -> Result<Option<FaultKind>, AllocError>
-    requires { let told = told_by places.now in
-        Fits keeps standing.old (items_standing told is_ds statement.now (placed_items statement.now)) }
-    ensures standing { let told = told_by places.now in
-        let made = items_standing told is_ds statement.now (placed_items statement.now) in
+    requires { let whole = whole_by places.now in
+        Fits keeps standing.old (items_standing whole is_ds statement.now (placed_items statement.now)) }
+    ensures standing { let whole = whole_by places.now in
+        let made = items_standing whole is_ds statement.now (placed_items statement.now) in
         OnOk result (standing.new ≡ kept keeps standing.old made) }
-    ensures fault { IfOk result (λ fault. fault ≡ items_fault (told_by places.now) is_ds statement.now) }
+    ensures fault { IfOk result (λ fault. fault ≡ items_fault (whole_by places.now) is_ds statement.now) }
 {
     let items = placed_items(alloc, statement)?;
     push_items(
@@ -113,10 +113,10 @@ fn push_closed_pool(
     keeps: bool,
     standing: &mut Standing,
 ) -> Result<(), AllocError>
-    requires { let told = told_by places.now in
-        Fits keeps standing.old (pool_standing told statements.now (pool_of told statement.now)) }
-    ensures { let told = told_by places.now in
-        let made = pool_standing told statements.now (pool_of told statement.now) in
+    requires { let whole = whole_by places.now in
+        Fits keeps standing.old (pool_standing whole statements.now (pool_of whole statement.now)) }
+    ensures { let whole = whole_by places.now in
+        let made = pool_standing whole statements.now (pool_of whole statement.now) in
         OnOk result (standing.new ≡ kept keeps standing.old made) }
 {
     match pool_of(places, statement) {
@@ -131,9 +131,9 @@ fn end_fault(
     places: &Places<'_>,
     statement: &Statement<'_>,
 ) -> Result<Option<FaultKind>, AllocError>
-    ensures { let told = told_by places.now in
+    ensures { let whole = whole_by places.now in
         let it = Some (operation.Directive directive.End) in
-        IfOk result (λ fault. fault ≡ operand_fault told none_in_use 0 statement.now it) }
+        IfOk result (λ fault. fault ≡ operand_fault whole none_in_use 0 statement.now it) }
 {
     match entry_of(alloc, places, statement) {
         Ok(_) => Ok(None),
@@ -153,14 +153,14 @@ fn pass_directive(
     keeps: bool,
     standing: &mut Standing,
 ) -> Result<Option<FaultKind>, AllocError>
-    requires { let told = told_by places.now in
-        let made = role_standing told statements.now none_in_use statement.now (directive_role directive) in
+    requires { let whole = whole_by places.now in
+        let made = role_standing whole statements.now none_in_use statement.now (directive_role directive) in
         Fits keeps standing.old made }
-    ensures standing { let told = told_by places.now in
-        let made = role_standing told statements.now none_in_use statement.now (directive_role directive) in
+    ensures standing { let whole = whole_by places.now in
+        let made = role_standing whole statements.now none_in_use statement.now (directive_role directive) in
         OnOk result (standing.new ≡ kept keeps standing.old made) }
-    ensures fault { let told = told_by places.now in let it = Some (operation.Directive directive) in
-        IfOk result (λ fault. (bases : Bases) → (number : ℕ) → WithUsing told bases number statement.now it fault) }
+    ensures fault { let whole = whole_by places.now in let it = Some (operation.Directive directive) in
+        IfOk result (λ fault. (bases : Bases) → (number : ℕ) → WithUsing whole bases number statement.now it fault) }
 {
     match directive {
         Directive::Dc => pass_storage(alloc, places, false, statement, keeps, standing),
@@ -188,14 +188,14 @@ fn pass_operands(
     keeps: bool,
     standing: &mut Standing,
 ) -> Result<Option<FaultKind>, AllocError>
-    requires { let told = told_by places.now in
-        let made = role_standing told statements.now bases.now statement.now (role_in statement.now.stmt) in
+    requires { let whole = whole_by places.now in
+        let made = role_standing whole statements.now bases.now statement.now (role_in statement.now.stmt) in
         Fits keeps standing.old made }
-    ensures standing { let told = told_by places.now in
-        let made = role_standing told statements.now bases.now statement.now (role_in statement.now.stmt) in
+    ensures standing { let whole = whole_by places.now in
+        let made = role_standing whole statements.now bases.now statement.now (role_in statement.now.stmt) in
         OnOk result (standing.new ≡ kept keeps standing.old made) }
-    ensures fault { let told = told_by places.now in
-        IfOk result (λ fault. WithUsing told bases.now number statement.now (operation_of statement.now) fault) }
+    ensures fault { let whole = whole_by places.now in
+        IfOk result (λ fault. WithUsing whole bases.now number statement.now (operation_of statement.now) fault) }
 {
     match statement.operation() {
         None => Ok(None),
@@ -225,13 +225,13 @@ fn pass_statement(
     keeps: bool,
     standing: &mut Standing,
 ) -> Result<Option<FaultKind>, AllocError>
-    requires { let told = told_by places.now in
-        Fits keeps standing.old (statement_standing told statements.now bases.now statement.now) }
-    ensures standing { let told = told_by places.now in
-        let made = statement_standing told statements.now bases.now statement.now in
+    requires { let whole = whole_by places.now in
+        Fits keeps standing.old (statement_standing whole statements.now bases.now statement.now) }
+    ensures standing { let whole = whole_by places.now in
+        let made = statement_standing whole statements.now bases.now statement.now in
         OnOk result (standing.new ≡ kept keeps standing.old made) }
-    ensures fault { let told = told_by places.now in
-        IfOk result (λ fault. WithUsing told bases.now number statement.now (operation_of statement.now) fault) }
+    ensures fault { let whole = whole_by places.now in
+        IfOk result (λ fault. WithUsing whole bases.now number statement.now (operation_of statement.now) fault) }
 {
     if is_control(statement.place().section, control_name(places)) {
         return pass_operands(
@@ -252,10 +252,10 @@ fn push_last_pool(
     keeps: bool,
     standing: &mut Standing,
 ) -> Result<(), AllocError>
-    requires { let told = told_by places.now in
-        Fits keeps standing.old (pool_standing told statements.now (last_pool told)) }
-    ensures { let told = told_by places.now in
-        OnOk result (standing.new ≡ kept keeps standing.old (pool_standing told statements.now (last_pool told))) }
+    requires { let whole = whole_by places.now in
+        Fits keeps standing.old (pool_standing whole statements.now (last_pool whole)) }
+    ensures { let whole = whole_by places.now in
+        OnOk result (standing.new ≡ kept keeps standing.old (pool_standing whole statements.now (last_pool whole))) }
 {
     match places.pools.as_slice().last() {
         Some(pool) => push_pool(alloc, places, statements, pool, keeps, standing),
@@ -276,13 +276,13 @@ fn judge(
     bases: &mut Bases,
     standing: &mut Standing,
 ) -> Result<Option<FaultKind>, AllocError>
-    requires { let told = told_by places.now in
-        Fits keeps standing.old (statement_standing told statements.now bases.old statement.now) }
-    ensures fault { let told = told_by places.now in
-        IfOk result (λ fault. fault ≡ second_fault told bases.old number statement.now) }
-    ensures bases { OnOk result (bases.new ≡ bases_after (told_by places.now) bases.old statement.now) }
-    ensures standing { let told = told_by places.now in
-        let made = statement_standing told statements.now bases.old statement.now in
+    requires { let whole = whole_by places.now in
+        Fits keeps standing.old (statement_standing whole statements.now bases.old statement.now) }
+    ensures fault { let whole = whole_by places.now in
+        IfOk result (λ fault. fault ≡ second_fault whole bases.old number statement.now) }
+    ensures bases { OnOk result (bases.new ≡ bases_after (whole_by places.now) bases.old statement.now) }
+    ensures standing { let whole = whole_by places.now in
+        let made = statement_standing whole statements.now bases.old statement.now in
         OnOk result (standing.new ≡ kept keeps standing.old made) }
 {
     let operands = pass_statement(
@@ -308,12 +308,12 @@ pub(crate) fn second_pass(
     statements: &[Statement<'_>],
     keeps: bool,
 ) -> Result<Found, AllocError>
-    requires { let told = told_by places.now in
-        keeps ≡ true → IsWithin 0 (standing_from told statements.now none_in_use statements.now) 65536 }
-    ensures first { let told = told_by places.now in
-        IfOk result (λ found. found.first ≡ slice_get (second_faults_after told (reverse statements.now)) 0) }
-    ensures standing { let told = told_by places.now in
-        let all = standing_from told statements.now none_in_use statements.now in
+    requires { let whole = whole_by places.now in
+        keeps ≡ true → IsWithin 0 (standing_from whole statements.now none_in_use statements.now) 65536 }
+    ensures first { let whole = whole_by places.now in
+        IfOk result (λ found. found.first ≡ slice_get (second_faults_after whole (reverse statements.now)) 0) }
+    ensures standing { let whole = whole_by places.now in
+        let all = standing_from whole statements.now none_in_use statements.now in
         IfOk result (λ found. keeps ≡ true → found.standing ≡ all) }
 {
     let mut standing = Standing::new(alloc);
@@ -342,7 +342,7 @@ pub(crate) fn second_faults(
     places: &Places<'_>,
     statements: &[Statement<'_>],
 ) -> Result<List<LineFault>, AllocError>
-    ensures { IfOk result (λ faults. faults ≡ second_faults_after (told_by places.now) (reverse statements.now)) }
+    ensures { IfOk result (λ faults. faults ≡ second_faults_after (whole_by places.now) (reverse statements.now)) }
 {
     let mut unkept = Standing::new(alloc);
     let mut bases = Bases::new();

@@ -75,18 +75,18 @@ same (suc k) continues n (line ∷ rest) e h =
     early zero n e h f = let last : n ≡ 10001 = omega (arith, e) in let no : Some (TooLong n) ≡ None = sym (past continues n line last) ∙ f in absurd (cc)
     early (suc k) n e h f = omega (arith, e)
 
-told : (some all : List (List ℕ)) (fault : Option SourceFault) → first_fault false 1 all ≡ fault → Same false 1 some all
+same_fault : (some all : List (List ℕ)) (fault : Option SourceFault) → first_fault false 1 all ≡ fault → Same false 1 some all
     → judged (first_fault false 1 some) (source_from (texts_up_to_end false some)) ≡ judged (first_fault false 1 all) (source_from (texts_up_to_end false all))
-told some all None e same =
+same_fault some all None e same =
     ap (λ o. judged o (source_from (texts_up_to_end false some))) same.0
     ∙ ap (λ texts. judged (first_fault false 1 all) (source_from texts)) (same.1 e)
-told some all (Some fault) e same =
+same_fault some all (Some fault) e same =
     ap (λ o. judged o (source_from (texts_up_to_end false some))) (same.0 ∙ e)
     ∙ sym (ap (λ o. judged o (source_from (texts_up_to_end false all))) e)
 
 source_kept : (all : List (List ℕ)) → source_in (take 10001 all) ≡ source_in all
 source_kept all =
-    source_is (take 10001 all) ∙ told (take 10001 all) all (first_fault false 1 all) refl (same 10001 false 1 all refl (omega arith)) ∙ sym (source_is all)
+    source_is (take 10001 all) ∙ same_fault (take 10001 all) all (first_fault false 1 all) refl (same 10001 false 1 all refl (omega arith)) ∙ sym (source_is all)
 
 pub prepared_kept : (listing disassembly : Bool) (all : List (List ℕ)) → prepared_of listing disassembly (take 10001 all) ≡ prepared_of listing disassembly all
 unfolding prepared_of

@@ -27,9 +27,9 @@ assembly_due listing disassembly due (asm.NotRelocatable n) h = ap (by_assembly 
 assembly_due listing disassembly due (asm.TooLarge n) h = ap (by_assembly listing disassembly) h
 assembly_due listing disassembly due asm.Memory h = tt
 
-pub assembly_told : (listing disassembly : Bool) (due : Result AssemblyParts AsmFault) (fault : AsmFault) (given : PrepareFault) → Assembles due (Err fault)
+pub assembly_reported : (listing disassembly : Bool) (due : Result AssemblyParts AsmFault) (fault : AsmFault) (given : PrepareFault) → Assembles due (Err fault)
     → given ≡ of_assembly fault → Prepares (by_assembly listing disassembly due) (Err given)
-assembly_told listing disassembly due fault given h e =
+assembly_reported listing disassembly due fault given h e =
     subst (λ (f : PrepareFault). Prepares (by_assembly listing disassembly due) (Err f)) (sym e) (assembly_due listing disassembly due fault h)
 
 translation_due : (listing disassembly : Bool) (due : Result Source TransFault) (fault : TransFault) → AnswersAs due (Err fault)
@@ -43,9 +43,9 @@ translation_due listing disassembly due (trans.TooManyConditions n) h = ap (by_t
 translation_due listing disassembly due (trans.BadArgument n) h = ap (by_translation listing disassembly) h
 translation_due listing disassembly due trans.Memory h = tt
 
-pub translation_told : (listing disassembly : Bool) (due : Result Source TransFault) (fault : TransFault) (given : PrepareFault) → AnswersAs due (Err fault)
+pub translation_reported : (listing disassembly : Bool) (due : Result Source TransFault) (fault : TransFault) (given : PrepareFault) → AnswersAs due (Err fault)
     → given ≡ of_translation fault → Prepares (by_translation listing disassembly due) (Err given)
-translation_told listing disassembly due fault given h e =
+translation_reported listing disassembly due fault given h e =
     subst (λ (f : PrepareFault). Prepares (by_translation listing disassembly due) (Err f)) (sym e) (translation_due listing disassembly due fault h)
 
 -- a source's fault is answered for what the reader makes of it
@@ -59,7 +59,7 @@ source_due listing disassembly due (source.TooLong n) h = ap (by_source listing 
 source_due listing disassembly due (source.NoEnd n) h = ap (by_source listing disassembly) h
 source_due listing disassembly due source.Memory h = tt
 
-pub source_told : (listing disassembly : Bool) (due : Result Source SourceFault) (fault : SourceFault) (given : PrepareFault) → ReadsAs due (Err fault)
+pub source_reported : (listing disassembly : Bool) (due : Result Source SourceFault) (fault : SourceFault) (given : PrepareFault) → ReadsAs due (Err fault)
     → given ≡ of_source fault → Prepares (by_source listing disassembly due) (Err given)
-source_told listing disassembly due fault given h e =
+source_reported listing disassembly due fault given h e =
     subst (λ (f : PrepareFault). Prepares (by_source listing disassembly due) (Err f)) (sym e) (source_due listing disassembly due fault h)

@@ -6,7 +6,8 @@ ghost use Rattle.cx_asm_build.specs.declared.faults.PrepareFault.TheVariants.{Me
 
 /// Lack of memory is no fault of a source.
 pub fn no_source_is_refused_for_memory()
-    ensures { (listing disassembly : Bool) (all : List (List ℕ)) → prepared_of listing disassembly all ≢ Err Memory }
+    ensures { (listing disassembly : Bool) (all : List (List ℕ))
+        → prepared_of listing disassembly all ≢ Err Memory }
 {}
 
 /// Lines after the 10,001st don't matter: a source that has not ended with the 10,000th is refused.

@@ -12,7 +12,7 @@ use Rattle.cx_asm_expressions.specs.declared.faults.FaultKind.{FaultKind}
 use Rattle.cx_asm_pass1.specs.Facts.Apart.{in_control}
 use Rattle.cx_asm_pass1.specs.Facts.Faults.{none_before}
 use Rattle.cx_asm_pass1.specs.Facts.StatementExtents.{lower_none}
-use Rattle.cx_asm_pass1.specs.PassState.{PassState, next_state, after_line, duplicate_in, fault_in, first_fault_after, given_in, is_control, literal_fault, name_fault, operation_fault, control_after, state_after, laid_in, line_fault, own_fault, parts_in, role_in, section_fault, name_in}
+use Rattle.cx_asm_pass1.specs.PassState.{PassState, next_state, after_line, duplicate_in, fault_in, first_fault_after, given_in, is_control, literal_fault, name_fault, operation_fault, control_after, state_after, extent_in, line_fault, own_fault, parts_in, role_in, section_fault, name_in}
 use Rattle.cx_asm_pass1.specs.declared.place.LineFault.{LineFault}
 use Rattle.cx_asm_pass1.specs.declared.roles.Role.{Role}
 use Rattle.cx_asm_pass1.specs.declared.roles.Role.TheVariants as role
@@ -55,25 +55,25 @@ none_first line fault (Some first) e = absurd (some_stays (line == first.line) (
     some_stays false both is e = cc
 
 -- its fault in the first pass, part by part
-pub section_sound : (stmt : Stmt) (known : PassState) → own_fault stmt known ≡ None → section_fault (role_in stmt) (name_in stmt) known.section known.control ≡ None
-section_sound stmt known e =
-    let operated = lower_none (operation_fault (role_in stmt)) (lowest (name_fault (role_in stmt) stmt.name ∷ section_fault (role_in stmt) (name_in stmt) known.section known.control
-    ∷ (laid_in stmt known).fault ∷ result_err (given_in stmt known) ∷ duplicate_in stmt known ∷ [])) e in
-    let titled = lower_none (name_fault (role_in stmt) stmt.name) (lowest (section_fault (role_in stmt) (name_in stmt) known.section known.control
-    ∷ (laid_in stmt known).fault ∷ result_err (given_in stmt known) ∷ duplicate_in stmt known ∷ [])) operated.1 in
-    (lower_none (section_fault (role_in stmt) (name_in stmt) known.section known.control)
-    (lowest ((laid_in stmt known).fault ∷ result_err (given_in stmt known) ∷ duplicate_in stmt known ∷ [])) titled.1).0
+pub section_sound : (stmt : Stmt) (state : PassState) → own_fault stmt state ≡ None → section_fault (role_in stmt) (name_in stmt) state.section state.control ≡ None
+section_sound stmt state e =
+    let operated = lower_none (operation_fault (role_in stmt)) (lowest (name_fault (role_in stmt) stmt.name ∷ section_fault (role_in stmt) (name_in stmt) state.section state.control
+    ∷ (extent_in stmt state).fault ∷ result_err (given_in stmt state) ∷ duplicate_in stmt state ∷ [])) e in
+    let titled = lower_none (name_fault (role_in stmt) stmt.name) (lowest (section_fault (role_in stmt) (name_in stmt) state.section state.control
+    ∷ (extent_in stmt state).fault ∷ result_err (given_in stmt state) ∷ duplicate_in stmt state ∷ [])) operated.1 in
+    (lower_none (section_fault (role_in stmt) (name_in stmt) state.section state.control)
+    (lowest ((extent_in stmt state).fault ∷ result_err (given_in stmt state) ∷ duplicate_in stmt state ∷ [])) titled.1).0
 
-pub own_sound : (line : ℕ) (stmt : Stmt) (known : PassState) → (next_state line stmt known).fault ≡ None → own_fault stmt known ≡ None
+pub own_sound : (line : ℕ) (stmt : Stmt) (state : PassState) → (next_state line stmt state).fault ≡ None → own_fault stmt state ≡ None
 unfolding next_state
-own_sound line stmt known e =
-    (lower_none (own_fault stmt known) (literal_fault (role_in stmt) (length known.places) (parts_in stmt) known.pool) (none_first line (fault_in stmt known) known.fault e).1).0
+own_sound line stmt state e =
+    (lower_none (own_fault stmt state) (literal_fault (role_in stmt) (length state.places) (parts_in stmt) state.pool) (none_first line (fault_in stmt state) state.fault e).1).0
 
 -- ---- the lines that follow leave the control section, and have no fault
-control_line : (line : ℕ) (stmt : Option Stmt) (known : PassState) (name : List ℕ) → known.control ≡ Some name → (after_line line stmt known).control ≡ Some name
+control_line : (line : ℕ) (stmt : Option Stmt) (state : PassState) (name : List ℕ) → state.control ≡ Some name → (after_line line stmt state).control ≡ Some name
 unfolding next_state
-control_line line None known name e = e
-control_line line (Some stmt) known name e = ap (control_after (role_in stmt) (name_in stmt)) e ∙ stays (role_in stmt)
+control_line line None state name e = e
+control_line line (Some stmt) state name e = ap (control_after (role_in stmt) (name_in stmt)) e ∙ stays (role_in stmt)
   where
     stays : (r : Role) → control_after r (name_in stmt) (Some name) ≡ Some name
     stays role.Control = refl
@@ -97,9 +97,9 @@ control_same more before (Some name) e =
     let same : (state_after before).control ≡ Some name = sym (in_control (Some name) (state_after before).control e) in
     ap (is_control (Some name)) (control_stays more before name same ∙ sym same) ∙ e
 
-fault_line : (line : ℕ) (stmt : Option Stmt) (known : PassState) → (after_line line stmt known).fault ≡ None → known.fault ≡ None
-fault_line line None known e = e
-fault_line line (Some s) known e = none_before line s known e
+fault_line : (line : ℕ) (stmt : Option Stmt) (state : PassState) → (after_line line stmt state).fault ≡ None → state.fault ≡ None
+fault_line line None state e = e
+fault_line line (Some s) state e = none_before line s state e
 
 pub fault_kept : (more before : List Item) → (state_after (more ++ before)).fault ≡ None → (state_after before).fault ≡ None
 fault_kept [] before e = e

@@ -12,7 +12,7 @@ use Rattle.cx_asm_expressions.specs.declared.values.Value.{Value}
 use Rattle.cx_asm_operands.specs.Addresses.{address, address_in as addressed_in, number_within, implied_address, nearest_address}
 use Rattle.cx_asm_operands.specs.Bases.{Bases}
 use Rattle.cx_asm_operands.specs.Context.{Context, number_at_most, register_in}
-use Rattle.cx_asm_operands.specs.Judging.{both_or_lower_fault, then_judge, made_of}
+use Rattle.cx_asm_operands.specs.Checking.{both_or_lower_fault, then_check, made_of}
 use Rattle.cx_asm_operands.specs.Laws.AddressLaws.{Holds, IsNearest}
 use Rattle.cx_asm_operands.specs.Storage.{Operand, too_many_subfields, explicit_address, index_in, indexed_by, indexed_in, operand_in}
 use Rattle.cx_asm_operands.specs.declared.addresses.Address.{Address}
@@ -30,7 +30,7 @@ both_ok {A} {B} (Ok one) (Err fault) a b e = absurd (cc)
 both_ok {A} {B} (Err fault) (Ok other) a b e = absurd (cc)
 both_ok {A} {B} (Err one) (Err other) a b e = absurd (cc)
 
-pub judged_ok : {A B : Type 0} (judge : A → Result B FaultKind) (of : Result A FaultKind) (b : B) → then_judge judge of ≡ Ok b → (a : A) × (of ≡ Ok a) × (judge a ≡ Ok b)
+pub judged_ok : {A B : Type 0} (judge : A → Result B FaultKind) (of : Result A FaultKind) (b : B) → then_check judge of ≡ Ok b → (a : A) × (of ≡ Ok a) × (judge a ≡ Ok b)
 judged_ok judge (Ok value) b e = (value, refl, e)
 judged_ok judge (Err fault) b e = absurd (cc)
 
@@ -94,18 +94,18 @@ record IsBy (sections : Sections) (regs : List ℕ) (c : Context) (place : Resul
 addressed_by : Nearest → (sections : Sections) (regs : List ℕ) (c : Context) (place : Result Value FaultKind) (subfields : List (List ℕ)) (x : ℕ) (at : Address)
     → indexed_by c place subfields ≡ Ok (x, at) → IsBy sections regs c place subfields x at
 addressed_by near sections regs c place [] x at e =
-    let parts = both_ok (Ok 0) (then_judge (implied_address c.bases) place) x at e in
+    let parts = both_ok (Ok 0) (then_check (implied_address c.bases) place) x at e in
     let v = judged_ok (implied_address c.bases) place at parts.1 in
     let none : x ≡ 0 = (let same = parts.0 in cc) in
     record { value = v.0; expression_value = v.1; by = (none, implied_is near sections regs c.bases (v.0).section (v.0).number at x v.2) }
 addressed_by near sections regs c place (index ∷ []) x at e =
-    let parts = both_ok (register_in c index) (then_judge (implied_address c.bases) place) x at e in
+    let parts = both_ok (register_in c index) (then_check (implied_address c.bases) place) x at e in
     let v = judged_ok (implied_address c.bases) place at parts.1 in
     record { value = v.0; expression_value = v.1; by = (parts.0, implied_is near sections regs c.bases (v.0).section (v.0).number at x v.2) }
 addressed_by near sections regs c place (index ∷ base ∷ []) x at e =
     let parts = both_ok (index_in c index) (explicit_address c place base) x at e in
-    let made = made_ok (λ v. address v.1 v.0) (both_or_lower_fault (then_judge (number_at_most 4095) place) (register_in c base)) at parts.1 in
-    let pair = both_ok (then_judge (number_at_most 4095) place) (register_in c base) (made.0).0 (made.0).1 made.1 in
+    let made = made_ok (λ v. address v.1 v.0) (both_or_lower_fault (then_check (number_at_most 4095) place) (register_in c base)) at parts.1 in
+    let pair = both_ok (then_check (number_at_most 4095) place) (register_in c base) (made.0).0 (made.0).1 made.1 in
     let v = judged_ok (number_at_most 4095) place (made.0).0 pair.0 in
     record {
       value = v.0;

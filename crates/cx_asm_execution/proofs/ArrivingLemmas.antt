@@ -2,10 +2,10 @@
 use Rattle.std.specs.Prelude.{codes, option_map, pos, reverse, slice_get}
 use Rattle.std.proofs.Common.{zero, suc, ◌≡◌, ◌≤◌, ◌<◌, ℕ, ◌+◌, ◌*◌, ◌^◌, ◌%◌, Some, None, Ok, List, [], ◌∷◌, ◌++◌, drop, length, take, sym, ◌∙◌, ap, subst, arith}
 use Rattle.std.proofs.lemmas.List.{append_assoc, map-append, reverse-append, reverse-reverse}
-use Rattle.cx_asm_arrival.specs.Arrives.{Arrives}
-use Rattle.cx_asm_arrival.specs.Laws.Entry.{MadeAreCounted, ReachesEntry}
-use Rattle.cx_asm_arrival.specs.Expansion.{Argument, Statement, block_bytes as statement_bytes, instructions_made as made_code, address_reached, words_of}
-use Rattle.cx_asm_arrival.specs.Stands.{AreAt, IsAddressed, IsClear, Stands, code_length}
+use Rattle.cx_asm_execution.specs.Arrives.{Arrives}
+use Rattle.cx_asm_execution.specs.Laws.Entry.{MadeAreCounted, ReachesEntry}
+use Rattle.cx_asm_execution.specs.Expansion.{Argument, Statement, block_bytes as statement_bytes, instructions_made as made_code, address_reached, words_of}
+use Rattle.cx_asm_execution.specs.Stands.{AreAt, IsAddressed, IsClear, Stands, code_length}
 use Rattle.cx_base_commands.specs.declared.commands.Command.{Command}
 use Rattle.cx_exec.specs.Machine.{Machine}
 use Rattle.cx_exec.specs.Step.{entry}
@@ -96,7 +96,7 @@ abbrev IsControl : Sections → Source → ℕ → Type 0
 IsControl sections source at = (name : List ℕ) (offset : ℕ) → (whole_of source).control ≡ Some name → sections.place name (pos offset) ≡ address_after at offset
 
 -- ---- the literals
-abbrev based : Address → Rattle.cx_asm_arrival.specs.Expansion.ImpliedAddress
+abbrev based : Address → Rattle.cx_asm_execution.specs.Expansion.ImpliedAddress
 based at = record { base = at.base; displacement = at.displacement }
 
 literal_at : (source : Source) (assembly : AssemblyParts) (c : Context) (bytes : List ℕ) (index : ℕ) (at : Address) (sections : Sections) (regs : List ℕ) (program : ℕ)
@@ -168,12 +168,12 @@ module _ (laws : Laws) (translated : Source) (assembly : AssemblyParts) (line : 
   -- ---- the first instruction's offset
   offset_even : case.code.at % 2 ≡ 0
   offset_even =
-      let told = whole_of translated in
+      let whole = whole_of translated in
       let bases = bases_in_use translated first in
       let own = load_of (block_of command words) in
-      let all : AreResolvedLines told bases (reverse first) case.code.at (made_item line own ∷ tail_of line command words) case.code.code =
-      subst (λ k. AreResolvedLines told bases (reverse first) case.code.at k case.code.code) (call_begins line command words) case.code.resolved in
-      let at = first_offset told bases (reverse first) case.code.at line own (first_of told bases (reverse first) case.code.at (made_item line own) (tail_of line command words) case.code.code all) in
+      let all : AreResolvedLines whole bases (reverse first) case.code.at (made_item line own ∷ tail_of line command words) case.code.code =
+      subst (λ k. AreResolvedLines whole bases (reverse first) case.code.at k case.code.code) (call_begins line command words) case.code.resolved in
+      let at = first_offset whole bases (reverse first) case.code.at line own (first_of whole bases (reverse first) case.code.at (made_item line own) (tail_of line command words) case.code.code all) in
       let place = offset_is own op.La (state_after (reverse first)) (la_role (codes "0," ++ block_of command words)) in
       ap (λ n. n % 2) (sym at ∙ place) ∙ even (next_in (state_after (reverse first)))
     where
@@ -316,22 +316,22 @@ after_two line one other rest before =
     sym (ap (λ k. k ++ before) (reverse-append (made_item line one ∷ made_item line other ∷ []) (lines line rest))
     ∙ append_assoc (reverse (lines line rest)) (made_item line other ∷ made_item line one ∷ []) before)
 
-each_addressed : OperandsAddress → (sections : Sections) (regs : List ℕ) (told : Whole) (bases : Bases) (line : ℕ) (before : List Item) (k : ℕ) (list : List (List ℕ)) (arguments : List Argument)
-    → AreArguments told bases line before k list arguments → (j : ℕ) (text : List ℕ) (a : Argument) → slice_get list j ≡ Some text → slice_get arguments j ≡ Some a
-    → IsAddressedBy sections regs (context_of told bases line (reverse (lines line (stores k (take j list))) ++ before) (load_of text)) text a.index (address a.base a.displacement)
+each_addressed : OperandsAddress → (sections : Sections) (regs : List ℕ) (whole : Whole) (bases : Bases) (line : ℕ) (before : List Item) (k : ℕ) (list : List (List ℕ)) (arguments : List Argument)
+    → AreArguments whole bases line before k list arguments → (j : ℕ) (text : List ℕ) (a : Argument) → slice_get list j ≡ Some text → slice_get arguments j ≡ Some a
+    → IsAddressedBy sections regs (context_of whole bases line (reverse (lines line (stores k (take j list))) ++ before) (load_of text)) text a.index (address a.base a.displacement)
 unfolding AreArguments
-each_addressed addresses sections regs told bases line before k [] arguments are j text a e f = absurd (cc)
-each_addressed addresses sections regs told bases line before k (t ∷ list) [] are j text a e f = absurd are
-each_addressed addresses sections regs told bases line before k (t ∷ list) (b ∷ arguments) are zero text a e f =
+each_addressed addresses sections regs whole bases line before k [] arguments are j text a e f = absurd (cc)
+each_addressed addresses sections regs whole bases line before k (t ∷ list) [] are j text a e f = absurd are
+each_addressed addresses sections regs whole bases line before k (t ∷ list) (b ∷ arguments) are zero text a e f =
     let one : t ≡ text = cc in
     let other : b ≡ a = cc in
-    subst (λ x. IsAddressedBy sections regs (context_of told bases line before (load_of text)) text x.index (address x.base x.displacement)) other
-    (subst (λ x. IsAddressedBy sections regs (context_of told bases line before (load_of x)) x b.index (address b.base b.displacement)) one
-    (addresses sections regs (context_of told bases line before (load_of t)) t b.index (address b.base b.displacement) are.0))
-each_addressed addresses sections regs told bases line before k (t ∷ list) (b ∷ arguments) are (suc j) text a e f =
-    subst (λ l. IsAddressedBy sections regs (context_of told bases line l (load_of text)) text a.index (address a.base a.displacement))
+    subst (λ x. IsAddressedBy sections regs (context_of whole bases line before (load_of text)) text x.index (address x.base x.displacement)) other
+    (subst (λ x. IsAddressedBy sections regs (context_of whole bases line before (load_of x)) x b.index (address b.base b.displacement)) one
+    (addresses sections regs (context_of whole bases line before (load_of t)) t b.index (address b.base b.displacement) are.0))
+each_addressed addresses sections regs whole bases line before k (t ∷ list) (b ∷ arguments) are (suc j) text a e f =
+    subst (λ l. IsAddressedBy sections regs (context_of whole bases line l (load_of text)) text a.index (address a.base a.displacement))
     (after_two line (load_of t) (store_of k) (stores (k + 1) (take j list)) before)
-    (each_addressed addresses sections regs told bases line (made_item line (store_of k) ∷ made_item line (load_of t) ∷ before) (k + 1) list arguments are.2 j text a e f)
+    (each_addressed addresses sections regs whole bases line (made_item line (store_of k) ∷ made_item line (load_of t) ∷ before) (k + 1) list arguments are.2 j text a e f)
 
 -- ---- the public relations
 is_resolved : (site : Site) (before : List Item) (at : ℕ) (s : Stmt) (i : Instruction) → IsResolvedLine (whole_of site.source) (bases_of site) before at (made_item site.line s) i
@@ -393,7 +393,7 @@ commands_arrive laws returns make source translated assembly item exec translate
     let first = site.first in
     let command = made.command in
     let words = site.words in
-    let told = whole_of translated in
+    let whole = whole_of translated in
     let bases = bases_in_use translated first in
     let two = lines line (call_statements command words) in
     let loads = lines line (pointer_loads command words) in
@@ -426,16 +426,16 @@ commands_arrive laws returns make source translated assembly item exec translate
           first = called.first;
           second = called.second;
           conditions = called.conditions;
-          resolved = are_resolved site (reverse first) all.code.at (call_of site) (made_code s) (subst (AreResolvedLines told bases (reverse first) all.code.at two) all.called.made all.here);
+          resolved = are_resolved site (reverse first) all.code.at (call_of site) (made_code s) (subst (AreResolvedLines whole bases (reverse first) all.code.at two) all.called.made all.here);
         };
         loads = all.loads;
         loaded = are_resolved site (lines_after site (call_of site)) (all.code.at + code_length (made_code s)) (pointer_loads command words) all.loads
-            (subst (λ n. AreResolvedLines told bases (lines_after site (call_of site)) (all.code.at + n) loads all.loads) counted all.loaded);
+            (subst (λ n. AreResolvedLines whole bases (lines_after site (call_of site)) (all.code.at + n) loads all.loads) counted all.loaded);
         front = all.code.front;
         back = all.code.back;
         stand = all.code.stand ∙ ap (λ k. all.code.front ++ code_lines all.code.at k ++ all.code.back) (all.split ∙ ap (λ k. k ++ all.loads) all.called.made);
         named = named_so translated exec.name line made.before (loads ++ made.after) command words assembly.section.resolved split (accepted translated assembly accepts).first code;
-        places = λ sections regs. each_addressed laws.addresses sections regs told bases line (reverse first) 0 (list_of command words) (words_of s) called.arguments;
+        places = λ sections regs. each_addressed laws.addresses sections regs whole bases line (reverse first) 0 (list_of command words) (words_of s) called.arguments;
         arrives = λ storage loaded program sections m fit done ready.
             arrives_so laws translated assembly line first command words s case storage loaded program sections m fit done ready;
         returns = λ earlier register pointer cut. comes_back returns translated assembly line first command words accepts all earlier register pointer cut counted;

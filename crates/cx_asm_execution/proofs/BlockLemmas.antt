@@ -39,8 +39,8 @@ use Rattle.cx_asm_pass1.specs.Facts.Faults.{none_before, sound_statement}
 use Rattle.cx_asm_pass1.specs.Facts.Kept.{value_kept}
 use Rattle.cx_asm_pass1.specs.Facts.StatementExtents.{capped_same}
 use Rattle.cx_asm_pass1.specs.Given.{duplicate}
-use Rattle.cx_asm_pass1.specs.PassState.{PassState, next_state, after_line, definitions_in, state_after, laid_in, length_of_section, parts_in, role_in}
-use Rattle.cx_asm_pass1.specs.Layout.{fault_beyond, extent_of, laid_at}
+use Rattle.cx_asm_pass1.specs.PassState.{PassState, next_state, after_line, definitions_in, state_after, extent_in, length_of_section, parts_in, role_in}
+use Rattle.cx_asm_pass1.specs.Layout.{fault_beyond, extent_of, extent_at}
 use Rattle.cx_asm_pass1.specs.declared.roles.Role.TheVariants.{Storage, Dummy}
 use Rattle.cx_translate.specs.Facts.Found.{eib_before, eib_section, line_of}
 use Rattle.cx_asm_execution.specs.FieldLayouts.{EibIsLaidOut, LaysOut}
@@ -127,7 +127,7 @@ unfolding symbol_name padded_name is_name is_letter name_code is_name_character 
 block_named = record { name = _; is = refl }
 
 -- ---- a field
-laid_bytes : (len at : ℕ) (extent : Option ℕ) → Fits len → at ≤ bound → extent_of (Storage true) (parts TopComma (bytes_text len)) extent at ≡ laid_at at (at ∷ []) (at + cap len) len (fault_beyond (at + cap len))
+laid_bytes : (len at : ℕ) (extent : Option ℕ) → Fits len → at ≤ bound → extent_of (Storage true) (parts TopComma (bytes_text len)) extent at ≡ extent_at at (at ∷ []) (at + cap len) len (fault_beyond (at + cap len))
 unfolding extent_of length_of
 laid_bytes len at extent fits within =
     rw (fits.part, fits.item, capped_same at within)
@@ -139,25 +139,25 @@ abbrev block : List ℕ
 block = block_named.name
 
 -- where a field of the block begins
-record Begun (known : PassState) (o : ℕ) : Type 0 where
-  section : known.section ≡ Some block
-  size : known.lengths block ≡ o
+record Begun (state : PassState) (o : ℕ) : Type 0 where
+  section : state.section ≡ Some block
+  size : state.lengths block ≡ o
 
-laid_field : (piece : EibPiece) (known : PassState) (o : ℕ) → Fits piece.len → o ≤ bound → Begun known o
-    → laid_in (field piece) known ≡ laid_at o (o ∷ []) (o + cap piece.len) piece.len (fault_beyond (o + cap piece.len))
-laid_field piece known o fits within begun =
+laid_field : (piece : EibPiece) (state : PassState) (o : ℕ) → Fits piece.len → o ≤ bound → Begun state o
+    → extent_in (field piece) state ≡ extent_at o (o ∷ []) (o + cap piece.len) piece.len (fault_beyond (o + cap piece.len))
+laid_field piece state o fits within begun =
     rw (role_ds (option_map_or (λ (f : EibField). (eib_field f).name) piece.field []) (bytes_text piece.len), begun.section, begun.size, capped_same o within) (laid_bytes piece.len o _ fits within)
 
 own_section : stands_in block (Some block) ≡ true
 own_section = is_name-laws.refl block
 
 -- the section goes on after it
-goes_on : (line : ℕ) (piece : EibPiece) (known : PassState) (o : ℕ) → Fits piece.len → o ≤ bound → piece.len ≤ bound → Begun known o → Begun (next_state line (field piece) known) (o + piece.len)
+goes_on : (line : ℕ) (piece : EibPiece) (state : PassState) (o : ℕ) → Fits piece.len → o ≤ bound → piece.len ≤ bound → Begun state o → Begun (next_state line (field piece) state) (o + piece.len)
 unfolding next_state
-goes_on line piece known o fits within small begun =
+goes_on line piece state o fits within small begun =
     record {
       section = rw (role_ds (option_map_or (λ (f : EibField). (eib_field f).name) piece.field []) (bytes_text piece.len)) begun.section;
-      size = rw (laid_field piece known o fits within begun, begun.section, own_section, capped_same piece.len small) refl;
+      size = rw (laid_field piece state o fits within begun, begun.section, own_section, capped_same piece.len small) refl;
     }
 
 pub none_known : (find : List ℕ → Option Value) (name : List ℕ) (value : Value) → duplicate find ((name, value) ∷ []) ≡ None → find name ≡ None
@@ -168,16 +168,16 @@ none_known find name value e = go (find name) e
     go (Some v) e = absurd (cc)
 
 -- and its name stands for its place
-field_stands : (line : ℕ) (f : EibField) (known : PassState) (o : ℕ) → Fits (eib_field f).len → o ≤ bound → o ≡ (eib_field f).offset → Begun known o
-    → (next_state line (field (record { field = Some f; len = (eib_field f).len })) known).fault ≡ None
-    → (next_state line (field (record { field = Some f; len = (eib_field f).len })) known).symbols (field_named f).name ≡ Some (field_value f)
+field_stands : (line : ℕ) (f : EibField) (state : PassState) (o : ℕ) → Fits (eib_field f).len → o ≤ bound → o ≡ (eib_field f).offset → Begun state o
+    → (next_state line (field (record { field = Some f; len = (eib_field f).len })) state).fault ≡ None
+    → (next_state line (field (record { field = Some f; len = (eib_field f).len })) state).symbols (field_named f).name ≡ Some (field_value f)
 unfolding next_state
-field_stands line f known o fits within place begun sound =
+field_stands line f state o fits within place begun sound =
     let piece : EibPiece = record { field = Some f; len = (eib_field f).len } in
-    let given : definitions_in (field piece) known None ≡ ((field_named f).name, field_value f) ∷ [] =
-    rw (laid_field piece known o fits within begun, role_ds (eib_field f).name (bytes_text piece.len), (field_named f).is, begun.section, block_named.is, capped_same o within, place) refl in
-    let unknown : known.symbols (field_named f).name ≡ None =
-    none_known known.symbols (field_named f).name (field_value f) (ap (duplicate known.symbols) (sym given) ∙ (sound_statement line (field piece) known sound).definitions) in
+    let given : definitions_in (field piece) state None ≡ ((field_named f).name, field_value f) ∷ [] =
+    rw (laid_field piece state o fits within begun, role_ds (eib_field f).name (bytes_text piece.len), (field_named f).is, begun.section, block_named.is, capped_same o within, place) refl in
+    let unknown : state.symbols (field_named f).name ≡ None =
+    none_known state.symbols (field_named f).name (field_value f) (ap (duplicate state.symbols) (sym given) ∙ (sound_statement line (field piece) state sound).definitions) in
     rw (given, unknown, is_name-laws.refl (field_named f).name) refl
 
 -- ---- one after the other
@@ -185,9 +185,9 @@ pub fault_kept : (more before : List Item) → (state_after (more ++ before)).fa
 fault_kept [] before e = e
 fault_kept (item ∷ more) before e = fault_kept more before (fault_line item.line item.stmt (state_after (more ++ before)) e)
   where
-    fault_line : (line : ℕ) (statement : Option Stmt) (known : PassState) → (after_line line statement known).fault ≡ None → known.fault ≡ None
-    fault_line line None known e = e
-    fault_line line (Some s) known e = none_before line s known e
+    fault_line : (line : ℕ) (statement : Option Stmt) (state : PassState) → (after_line line statement state).fault ≡ None → state.fault ≡ None
+    fault_line line None state e = e
+    fault_line line (Some s) state e = none_before line s state e
 
 pub reverse_cons : (x : Item) (xs : List Item) → reverse (x ∷ xs) ≡ reverse xs ++ x ∷ []
 reverse_cons x xs = reverse-append (x ∷ []) xs
@@ -273,17 +273,17 @@ laid_out find all Rsrce = named_field find Rsrce all.1.1.1.1.1.1.1.1.1.1.1.0
 laid_out find all Resp = named_field find Resp all.1.1.1.1.1.1.1.1.1.1.1.1.1.0
 
 -- ---- the block in a translated source
-begins : (line : ℕ) (known : PassState) → length_of_section block_name known.lengths ≡ 0 → Begun (next_state line (stmt (codes "DFHEIBLK") (codes "DSECT") []) known) 0
+begins : (line : ℕ) (state : PassState) → length_of_section block_name state.lengths ≡ 0 → Begun (next_state line (stmt (codes "DFHEIBLK") (codes "DSECT") []) state) 0
 unfolding next_state extent_of block_named
-begins line known empty =
-    let none : known.lengths block ≡ 0 = subst (λ n. length_of_section n known.lengths ≡ 0) block_named.is empty in
+begins line state empty =
+    let none : state.lengths block ≡ 0 = subst (λ n. length_of_section n state.lengths ≡ 0) block_named.is empty in
     record {
       section = rw (role_dsect (codes "DFHEIBLK") [], block_named.is) refl;
-      size = go known.section none;
+      size = go state.section none;
     }
   where
-    go : (section : Option (List ℕ)) → known.lengths block ≡ 0
-        → cond (stands_in block section) (extent_of (role_in (stmt (codes "DFHEIBLK") (codes "DSECT") [])) (parts_in (stmt (codes "DFHEIBLK") (codes "DSECT") [])) (pool_extent known.pool) (cap (length_of_section section known.lengths))).end (known.lengths block) ≡ 0
+    go : (section : Option (List ℕ)) → state.lengths block ≡ 0
+        → cond (stands_in block section) (extent_of (role_in (stmt (codes "DFHEIBLK") (codes "DSECT") [])) (parts_in (stmt (codes "DFHEIBLK") (codes "DSECT") [])) (pool_extent state.pool) (cap (length_of_section section state.lengths))).end (state.lengths block) ≡ 0
     go None none = none
     go (Some s) none = ⊎_elim
         (λ yes. rw (yes, role_dsect (codes "DFHEIBLK") []) (let same : s ≡ block = sym ((is_name-decides block s).0 yes) in rw (same, none) refl))
@@ -303,7 +303,7 @@ has_block before rest line =
       begins = refl;
       follow = tt;
       is = refl;
-      laid = λ sound empty. (laid_out _ (placed sound empty), ended empty);
+      extent = λ sound empty. (laid_out _ (placed sound empty), ended empty);
     }
   where
     first : Item

@@ -15,4 +15,4 @@ call_statements command words = stores 0 (list_of command words) ++ call (length
 
 -- a name stands for an offset in the control section, with the length of a halfword
 abbrev pub StandsFor : Whole → List ℕ → ℕ → Type 0
-StandsFor told name at = (symbol : List ℕ) → symbol_name name ≡ Some symbol → told.find symbol ≡ location_counter told.control at 2
+StandsFor whole name at = (symbol : List ℕ) → symbol_name name ≡ Some symbol → whole.find symbol ≡ location_counter whole.control at 2

@@ -35,9 +35,9 @@ use Rattle.cx_asm_pass1.specs.Facts.Faults.{none_before, sound_statement}
 use Rattle.cx_asm_pass1.specs.Facts.Kept.{value_kept}
 use Rattle.cx_asm_pass1.specs.Facts.StatementExtents.{capped_same, capped_within}
 use Rattle.cx_asm_pass1.specs.Given.{duplicate, location_counter, place_value}
-use Rattle.cx_asm_pass1.specs.PassState.{PassState, next_state, definitions_in, is_control, state_after, laid_in, length_after, length_of_section, name_in, next_in, role_in, section_after, section_fault}
-use Rattle.cx_asm_pass1.specs.Layout.{align, fault_beyond, extent_of, laid_at}
-use Rattle.cx_asm_pass1.specs.Locations.{known_of}
+use Rattle.cx_asm_pass1.specs.PassState.{PassState, next_state, definitions_in, is_control, state_after, extent_in, length_after, length_of_section, name_in, next_in, role_in, section_after, section_fault}
+use Rattle.cx_asm_pass1.specs.Layout.{align, fault_beyond, extent_of, extent_at}
+use Rattle.cx_asm_pass1.specs.Locations.{final_state}
 use Rattle.cx_asm_pass1.specs.declared.roles.Role.TheVariants as role
 use Rattle.cx_asm_operands.specs.Bases.{Bases}
 use Rattle.cx_asm_pass2.specs.Whole.{Whole, whole_of}
@@ -102,26 +102,26 @@ half_item = refl
 
 -- it takes nothing, on a boundary of two
 laid_half : (at : ℕ) (extent : Option ℕ)
-    → extent_of (role.Storage true) (parts TopComma (codes "0H")) extent at ≡ laid_at (align 2 (cap at)) (align 2 (cap at) ∷ []) (align 2 (cap at)) 2 (fault_beyond (align 2 (cap at)))
+    → extent_of (role.Storage true) (parts TopComma (codes "0H")) extent at ≡ extent_at (align 2 (cap at)) (align 2 (cap at) ∷ []) (align 2 (cap at)) 2 (fault_beyond (align 2 (cap at)))
 unfolding extent_of length_of_constant
 laid_half at extent =
     rw (half_part, half_item)
     (let nothing : align 2 (cap at) + 0 ≡ align 2 (cap at) = omega arith in
     rw nothing refl)
 
-ds_laid : (name : List ℕ) (known : PassState) → laid_in (ds name) known ≡ laid_at (align 2 (cap (next_in known))) (align 2 (cap (next_in known)) ∷ []) (align 2 (cap (next_in known))) 2 (fault_beyond (align 2 (cap (next_in known))))
-ds_laid name known = rw (role_ds name (codes "0H")) (laid_half (next_in known) (pool_extent known.pool))
+ds_extent : (name : List ℕ) (state : PassState) → extent_in (ds name) state ≡ extent_at (align 2 (cap (next_in state))) (align 2 (cap (next_in state)) ∷ []) (align 2 (cap (next_in state))) 2 (fault_beyond (align 2 (cap (next_in state))))
+ds_extent name state = rw (role_ds name (codes "0H")) (laid_half (next_in state) (pool_extent state.pool))
 
 -- where nothing is at fault its place is the next offset on a boundary of two
 ds_at : (line : ℕ) (name : List ℕ) (before : List Item) → (next_state line (ds name) (state_after before)).fault ≡ None
-    → laid_in (ds name) (state_after before) ≡ laid_at (align 2 (next_in (state_after before))) (align 2 (next_in (state_after before)) ∷ []) (align 2 (next_in (state_after before))) 2 (fault_beyond (align 2 (next_in (state_after before))))
+    → extent_in (ds name) (state_after before) ≡ extent_at (align 2 (next_in (state_after before))) (align 2 (next_in (state_after before)) ∷ []) (align 2 (next_in (state_after before))) 2 (fault_beyond (align 2 (next_in (state_after before))))
 ds_at line name before sound =
     let at = next_in (state_after before) in
-    let small : (laid_in (ds name) (state_after before)).end ≤ bound = statement_within before line (ds name) sound in
-    let end : align 2 (cap at) ≤ bound = subst (λ l. l.end ≤ bound) (ds_laid name (state_after before)) small in
+    let small : (extent_in (ds name) (state_after before)).end ≤ bound = statement_within before line (ds name) sound in
+    let end : align 2 (cap at) ≤ bound = subst (λ l. l.end ≤ bound) (ds_extent name (state_after before)) small in
     let low : cap at ≤ bound = below (cap at) end in
-    subst (λ n. laid_in (ds name) (state_after before) ≡ laid_at (align 2 n) (align 2 n ∷ []) (align 2 n) 2 (fault_beyond (align 2 n)))
-    (capped_same at (capped_within at low)) (ds_laid name (state_after before))
+    subst (λ n. extent_in (ds name) (state_after before) ≡ extent_at (align 2 n) (align 2 n ∷ []) (align 2 n) 2 (fault_beyond (align 2 n)))
+    (capped_same at (capped_within at low)) (ds_extent name (state_after before))
   where
     below : (n : ℕ) → align 2 n ≤ bound → n ≤ bound
     below n le = omega (arith, le)
@@ -131,25 +131,25 @@ name_value : (line : ℕ) (name symbol : List ℕ) (before : List Item) → symb
     → (next_state line (ds name) (state_after before)).symbols symbol ≡ Some (place_value (state_after before).section (align 2 (next_in (state_after before))) 2)
 unfolding next_state
 name_value line name symbol before named sound =
-    let known = state_after before in
-    let value = place_value known.section (align 2 (next_in known)) 2 in
-    let given : definitions_in (ds name) known None ≡ (symbol, value) ∷ [] = rw (ds_at line name before sound, role_ds name (codes "0H"), named) refl in
-    let unknown : known.symbols symbol ≡ None =
-    none_known known.symbols symbol value (ap (duplicate known.symbols) (sym given) ∙ (sound_statement line (ds name) known sound).definitions) in
+    let state = state_after before in
+    let value = place_value state.section (align 2 (next_in state)) 2 in
+    let given : definitions_in (ds name) state None ≡ (symbol, value) ∷ [] = rw (ds_at line name before sound, role_ds name (codes "0H"), named) refl in
+    let unknown : state.symbols symbol ≡ None =
+    none_known state.symbols symbol value (ap (duplicate state.symbols) (sym given) ∙ (sound_statement line (ds name) state sound).definitions) in
     rw (given, unknown, is_name-laws.refl symbol) refl
 
-stands_within : (line : ℕ) (stmt : Stmt) (op : Op) (known : PassState) → role_in stmt ≡ role.Instruction (length_of op) → (next_state line stmt known).fault ≡ None
-    → is_control known.section known.control ≡ true
-stands_within line stmt op known is sound = go (is_control known.section known.control) (subst (λ r. section_fault r (name_in stmt) known.section known.control ≡ None) is (section_sound stmt known (own_sound line stmt known sound)))
+stands_within : (line : ℕ) (stmt : Stmt) (op : Op) (state : PassState) → role_in stmt ≡ role.Instruction (length_of op) → (next_state line stmt state).fault ≡ None
+    → is_control state.section state.control ≡ true
+stands_within line stmt op state is sound = go (is_control state.section state.control) (subst (λ r. section_fault r (name_in stmt) state.section state.control ≡ None) is (section_sound stmt state (own_sound line stmt state sound)))
   where
     go : (b : Bool) → cond b None (Some BadOperand) ≡ None → b ≡ true
     go true e = refl
     go false e = absurd (cc)
 
 -- DS 0H stays in its section
-same_section : (line : ℕ) (name : List ℕ) (known : PassState) → (next_state line (ds name) known).section ≡ known.section
+same_section : (line : ℕ) (name : List ℕ) (state : PassState) → (next_state line (ds name) state).section ≡ state.section
 unfolding next_state
-same_section line name known = ap (λ r. section_after r (name_in (ds name)) known.section) (role_ds name (codes "0H"))
+same_section line name state = ap (λ r. section_after r (name_in (ds name)) state.section) (role_ds name (codes "0H"))
 
 aligned_even : (n : ℕ) → align 2 (align 2 n) ≡ align 2 n
 aligned_even n = omega arith
@@ -159,13 +159,13 @@ next_after : (line : ℕ) (name : List ℕ) (before : List Item) (section : List
     → align 2 (next_in (next_state line (ds name) (state_after before))) ≡ align 2 (next_in (state_after before))
 unfolding next_state
 next_after line name before section e sound =
-    let known = state_after before in
-    let end = (laid_in (ds name) known).end in
-    let lengths = length_after known.section end known.lengths in
-    let same : length_of_section (section_after (role_in (ds name)) (name_in (ds name)) known.section) lengths ≡ end =
-    ap (λ r. length_of_section (section_after r (name_in (ds name)) known.section) lengths) (role_ds name (codes "0H")) ∙ ap (λ s. length_of_section s lengths) e ∙ section_ends known end section e in
-    let place : end ≡ align 2 (next_in known) = ap (λ l. l.end) (ds_at line name before sound) in
-    ap (λ n. align 2 (cap n)) same ∙ ap (align 2) (capped_same end (statement_within before line (ds name) sound) ∙ place) ∙ aligned_even (next_in known)
+    let state = state_after before in
+    let end = (extent_in (ds name) state).end in
+    let lengths = length_after state.section end state.lengths in
+    let same : length_of_section (section_after (role_in (ds name)) (name_in (ds name)) state.section) lengths ≡ end =
+    ap (λ r. length_of_section (section_after r (name_in (ds name)) state.section) lengths) (role_ds name (codes "0H")) ∙ ap (λ s. length_of_section s lengths) e ∙ section_ends state end section e in
+    let place : end ≡ align 2 (next_in state) = ap (λ l. l.end) (ds_at line name before sound) in
+    ap (λ n. align 2 (cap n)) same ∙ ap (align 2) (capped_same end (statement_within before line (ds name) sound) ∙ place) ∙ aligned_even (next_in state)
 
 -- ---- a name before an instruction
 abbrev Placed : List Item → List ℕ → ℕ → Type 0
@@ -173,15 +173,15 @@ Placed items symbol at = (state_after items).symbols symbol ≡ location_counter
 
 name_stands : (line : ℕ) (name symbol : List ℕ) (more before : List Item) (s : Stmt) (op : Op) → symbol_name name ≡ Some symbol → role_in s ≡ role.Instruction (length_of op)
     → (state_after (more ++ (made_item line s ∷ made_item line (ds name) ∷ before))).fault ≡ None
-    → Placed (more ++ (made_item line s ∷ made_item line (ds name) ∷ before)) symbol (laid_in s (state_after (made_item line (ds name) ∷ before))).offset
+    → Placed (more ++ (made_item line s ∷ made_item line (ds name) ∷ before)) symbol (extent_in s (state_after (made_item line (ds name) ∷ before))).offset
 unfolding made_item
-name_stands line name symbol more before s op named is sound = go known.section refl
+name_stands line name symbol more before s op named is sound = go state.section refl
   where
-    known : PassState
-    known = state_after before
+    state : PassState
+    state = state_after before
 
     after : PassState
-    after = next_state line (ds name) known
+    after = next_state line (ds name) state
 
     last : (next_state line s after).fault ≡ None
     last = fault_kept more (made_item line s ∷ made_item line (ds name) ∷ before) sound
@@ -195,46 +195,46 @@ name_stands line name symbol more before s op named is sound = go known.section 
     all : List Item
     all = more ++ (made_item line s ∷ made_item line (ds name) ∷ before)
 
-    value : (state_after all).symbols symbol ≡ Some (place_value known.section (align 2 (next_in known)) 2)
+    value : (state_after all).symbols symbol ≡ Some (place_value state.section (align 2 (next_in state)) 2)
     value =
-        value_kept more (made_item line s ∷ made_item line (ds name) ∷ before) symbol (place_value known.section (align 2 (next_in known)) 2)
-        (value_kept (made_item line s ∷ []) (made_item line (ds name) ∷ before) symbol (place_value known.section (align 2 (next_in known)) 2) (name_value line name symbol before named first))
+        value_kept more (made_item line s ∷ made_item line (ds name) ∷ before) symbol (place_value state.section (align 2 (next_in state)) 2)
+        (value_kept (made_item line s ∷ []) (made_item line (ds name) ∷ before) symbol (place_value state.section (align 2 (next_in state)) 2) (name_value line name symbol before named first))
 
-    go : (section : Option (List ℕ)) → known.section ≡ section → Placed all symbol (laid_in s after).offset
+    go : (section : Option (List ℕ)) → state.section ≡ section → Placed all symbol (extent_in s after).offset
     go None e =
-        let none : after.section ≡ None = same_section line name known ∙ e in
+        let none : after.section ≡ None = same_section line name state ∙ e in
         let no : is_control None after.control ≡ true = subst (λ k. is_control k after.control ≡ true) none within in
         absurd (cc)
     go (Some section) e =
-        let there : after.section ≡ Some section = same_section line name known ∙ e in
+        let there : after.section ≡ Some section = same_section line name state ∙ e in
         let same : is_control after.section (state_after all).control ≡ true =
         control_same more (made_item line s ∷ made_item line (ds name) ∷ before) after.section (control_same (made_item line s ∷ []) (made_item line (ds name) ∷ before) after.section within) in
         let kept : (state_after all).control ≡ Some section = sym (in_control after.section (state_after all).control same) ∙ there in
-        let at : (laid_in s after).offset ≡ align 2 (next_in known) = offset_is s op after is ∙ next_after line name before section e first in
-        value ∙ ap (λ k. Some (place_value k (align 2 (next_in known)) 2)) e ∙ sym (ap (λ k. location_counter k (laid_in s after).offset 2) kept ∙ ap (λ n. Some (place_value (Some section) n 2)) at)
+        let at : (extent_in s after).offset ≡ align 2 (next_in state) = offset_is s op after is ∙ next_after line name before section e first in
+        value ∙ ap (λ k. Some (place_value k (align 2 (next_in state)) 2)) e ∙ sym (ap (λ k. location_counter k (extent_in s after).offset 2) kept ∙ ap (λ n. Some (place_value (Some section) n 2)) at)
 
 -- ---- a call's first instruction
-pub record HasFirst (told : Whole) (bases : Bases) (before : List Item) (at : ℕ) (item : Item) : Type 0 where
+pub record HasFirst (whole : Whole) (bases : Bases) (before : List Item) (at : ℕ) (item : Item) : Type 0 where
   pub instruction : Instruction
-  pub resolved : IsResolved told bases before at item instruction
+  pub resolved : IsResolved whole bases before at item instruction
 
-pub first_of : (told : Whole) (bases : Bases) (before : List Item) (at : ℕ) (item : Item) (items : List Item) (code : List Instruction)
-    → AreResolved told bases before at (item ∷ items) code → HasFirst told bases before at item
+pub first_of : (whole : Whole) (bases : Bases) (before : List Item) (at : ℕ) (item : Item) (items : List Item) (code : List Instruction)
+    → AreResolved whole bases before at (item ∷ items) code → HasFirst whole bases before at item
 unfolding AreResolved
-first_of told bases before at item items [] r = absurd r
-first_of told bases before at item items (i ∷ code) r = record { instruction = i; resolved = r.0 }
+first_of whole bases before at item items [] r = absurd r
+first_of whole bases before at item items (i ∷ code) r = record { instruction = i; resolved = r.0 }
 
 pub la_role : (operand : List ℕ) → role_in (stmt [] (codes "LA") operand) ≡ role.Instruction (length_of op.La)
 unfolding operation_named operations ops row_of
 la_role operand = refl
 
-pub first_offset : (told : Whole) (bases : Bases) (before : List Item) (at line : ℕ) (s : Stmt) → HasFirst told bases before at (made_item line s)
-    → (laid_in s (state_after before)).offset ≡ at
+pub first_offset : (whole : Whole) (bases : Bases) (before : List Item) (at line : ℕ) (s : Stmt) → HasFirst whole bases before at (made_item line s)
+    → (extent_in s (state_after before)).offset ≡ at
 unfolding made_item
-first_offset told bases before at line s h =
+first_offset whole bases before at line s h =
     let r = h.resolved in
     let same : s ≡ r.statement = (let found : Some s ≡ Some r.statement = r.begins in cc) in
-    ap (λ k. (laid_in k (state_after before)).offset) same ∙ r.place
+    ap (λ k. (extent_in k (state_after before)).offset) same ∙ r.place
 
 turned : (before rest : List Item) (one other : Item) → reverse (before ++ (one ∷ []) ++ (other ∷ rest)) ≡ reverse rest ++ (other ∷ one ∷ reverse before)
 turned before rest one other =
@@ -254,7 +254,7 @@ has_label c cs = (let some : (length (c ∷ cs) == 0) ≡ false = grind (arith, 
 
 -- a statement's name
 pub named_so : (source : Source) (name : List ℕ) (line : ℕ) (before after : List Item) (command : Command) (words : List Word) (lines_of : List Line)
-    → source.items ≡ before ++ lines line (label name) ++ lines line (call_statements command words) ++ after → (known_of source).fault ≡ None
+    → source.items ≡ before ++ lines line (label name) ++ lines line (call_statements command words) ++ after → (final_state source).fault ≡ None
     → (code : StandInCode source (before ++ lines line (label name)) (lines line (call_statements command words)) lines_of) → StandsFor (whole_of source) name code.at
 unfolding symbol_name is_name is_letter
 named_so source [] line before after command words lines_of is sound code = λ symbol named. absurd (cc)
@@ -272,13 +272,13 @@ named_so source (c ∷ cs) line before after command words lines_of is sound cod
     first_of (whole_of source) bases (one ∷ reverse before) code.at other tail code.code
     (subst (λ k. AreResolved (whole_of source) bases (one ∷ reverse before) code.at k code.code) (call_begins line command words)
     (subst (λ k. AreResolved (whole_of source) bases k code.at (lines line (call_statements command words)) code.code) turn code.resolved)) in
-    let at : (laid_in s (state_after (one ∷ reverse before))).offset ≡ code.at = first_offset (whole_of source) bases (one ∷ reverse before) code.at line s first in
+    let at : (extent_in s (state_after (one ∷ reverse before))).offset ≡ code.at = first_offset (whole_of source) bases (one ∷ reverse before) code.at line s first in
     let split : source.items ≡ before ++ (one ∷ []) ++ (other ∷ (tail ++ after)) =
     is ∙ ap (λ k. before ++ k ++ lines line (call_statements command words) ++ after) labelled ∙ ap (λ k. before ++ (one ∷ []) ++ k ++ after) (call_begins line command words) ∙ append_assoc (before ++ (one ∷ [])) (other ∷ tail) after in
     let all : reverse source.items ≡ reverse (tail ++ after) ++ (other ∷ one ∷ reverse before) = ap (λ k. reverse k) split ∙ turned before (tail ++ after) one other in
-    let placed : Placed (reverse (tail ++ after) ++ (other ∷ one ∷ reverse before)) symbol (laid_in s (state_after (one ∷ reverse before))).offset =
+    let placed : Placed (reverse (tail ++ after) ++ (other ∷ one ∷ reverse before)) symbol (extent_in s (state_after (one ∷ reverse before))).offset =
     name_stands line name symbol (reverse (tail ++ after)) (reverse before) s op.La named (la_role (codes "0," ++ block_of command words)) (subst (λ k. (state_after k).fault ≡ None) all sound) in
-    subst (λ n. Placed (reverse source.items) symbol n) at (subst (λ k. Placed k symbol (laid_in s (state_after (one ∷ reverse before))).offset) (sym all) placed)
+    subst (λ n. Placed (reverse source.items) symbol n) at (subst (λ k. Placed k symbol (extent_in s (state_after (one ∷ reverse before))).offset) (sym all) placed)
 
 -- ---- the statements made, in three parts
 pub made_split : (line : ℕ) (name : List ℕ) (command : Command) (words : List Word)

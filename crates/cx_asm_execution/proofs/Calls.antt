@@ -1,5 +1,5 @@
 -- The instructions that call a command (Application Programmer's Reference Manual, SC33-0077, the expansion of a
--- command; GC33-4010, "Machine Instructions"; the mark of the list's last word is this project's own).
+-- command; GC33-4010, "Machine Instructions"; the mark of the list's last word is this product's own).
 use Rattle.std.specs.Prelude.{◌≡◌, ℕ, false, Ok, List, [], ◌∷◌, ◌++◌, codes}
 use Rattle.cx_code.specs.declared.table.Op.{Op}
 use Rattle.cx_code.specs.declared.table.Op.TheVariants as op
@@ -29,14 +29,14 @@ abbrev pub mark_of : ℕ → Stmt
 mark_of k = stmt [] (codes "OI") (word_of_list k ++ codes ",X'80'")
 
 -- OI of 80 with word k's first byte, and the branch after it.
-pub record IsCall (told : Whole) (bases : Bases) (line : ℕ) (before : List Item) (k : ℕ) (code : List Instruction) : Type 0 where
+pub record IsCall (whole : Whole) (bases : Bases) (line : ℕ) (before : List Item) (k : ℕ) (code : List Instruction) : Type 0 where
   pub mark : Instruction
   pub branch : List Instruction
   pub is : code ≡ mark ∷ branch
-  pub marks : HasByte op.Oi 0x80 (context_of told bases line before (mark_of k)) (word_of_list k) mark
-  pub calls : IsBranch told bases line (made_item line (mark_of k) ∷ before) branch
+  pub marks : HasByte op.Oi 0x80 (context_of whole bases line before (mark_of k)) (word_of_list k) mark
+  pub calls : IsBranch whole bases line (made_item line (mark_of k) ∷ before) branch
 
 -- The statements made to call a command, resolved, are these.
 abbrev pub MarkIsResolved : Type 0
-MarkIsResolved = (told : Whole) (bases : Bases) (line at k : ℕ) (before : List Item) (code : List Instruction)
-    → AreResolved told bases before at (lines line (call k)) code → IsCall told bases line before k code
+MarkIsResolved = (whole : Whole) (bases : Bases) (line at k : ℕ) (before : List Item) (code : List Instruction)
+    → AreResolved whole bases before at (lines line (call k)) code → IsCall whole bases line before k code

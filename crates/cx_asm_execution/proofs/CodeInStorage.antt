@@ -1,6 +1,6 @@
 -- Where instructions of the code are in storage (this product's own).
 use Rattle.std.specs.Prelude.{◌≡◌, Ok, List}
-use Rattle.cx_asm_arrival.specs.Stands.{AreAt}
+use Rattle.cx_asm_execution.specs.Stands.{AreAt}
 use Rattle.cx_load.specs.Fault.{IsFit}
 use Rattle.cx_load.specs.Program.{IsLoaded}
 use Rattle.cx_load.specs.declared.program.Loaded.{Loaded}

@@ -3,7 +3,7 @@ use Rattle.std.specs.Prelude.{reverse}
 use Rattle.std.proofs.Common.{◌≡◌, ℕ, ◌+◌, true, Some, Ok, List, [], ◌∷◌, ◌++◌, length, refl, sym, ◌∙◌, subst}
 use Rattle.std.specs.List.{AllByRecursion}
 use Rattle.std.proofs.lemmas.List.{append_assoc}
-use Rattle.cx_asm_arrival.specs.Stands.{AreAt}
+use Rattle.cx_asm_execution.specs.Stands.{AreAt}
 use Rattle.cx_code.specs.declared.disassembly.Line.{Line}
 use Rattle.cx_code.specs.Spelling.{Instruction, IsWellFormed, spelling}
 use Rattle.cx_code.specs.Table.{length_of}
@@ -28,9 +28,9 @@ use Rattle.cx_asm_execution.proofs.Resolved.{AreResolved, bases_from, bases_in_u
 use Rattle.cx_asm_execution.proofs.LoadedLemmas.{along_twice}
 
 -- ---- sixteen bases
-from_sixteen : (told : Whole) (bases : Bases) (ss : List PlacedStatement) → length bases ≡ 16 → length (bases_from told bases ss) ≡ 16
-from_sixteen told bases [] e = e
-from_sixteen told bases (s ∷ ss) e = from_sixteen told (bases_after told bases s) ss (after_sixteen told bases s e)
+from_sixteen : (whole : Whole) (bases : Bases) (ss : List PlacedStatement) → length bases ≡ 16 → length (bases_from whole bases ss) ≡ 16
+from_sixteen whole bases [] e = e
+from_sixteen whole bases (s ∷ ss) e = from_sixteen whole (bases_after whole bases s) ss (after_sixteen whole bases s e)
 
 pub in_use_sixteen : (source : Source) (first : List Item) → length (bases_in_use source first) ≡ 16
 in_use_sixteen source first = from_sixteen (whole_of source) none_in_use (statements_of (record { items = first })) refl
@@ -49,17 +49,17 @@ AreLoaded after at relocs lines = AllByRecursion (λ l. IsUnraised relocs l → 
 abbrev AreClear : List ℕ → List Line → Type 0
 AreClear relocs lines = AllByRecursion (λ l. is_code l.what ≡ true → IsUnraised relocs l) lines
 
-all_at : Forms → Sizes → (told : Whole) (bases : Bases) (sixteen : length bases ≡ 16) (before items : List Item) (code : List Instruction) (at place : ℕ) (back : List Line) (after : Storage) (relocs : List ℕ)
-    → AreResolved told bases before at items code → AreLoaded after place relocs (code_lines at code ++ back) → AreClear relocs (code_lines at code ++ back) → AreAt after (address_after place at) code
+all_at : Forms → Sizes → (whole : Whole) (bases : Bases) (sixteen : length bases ≡ 16) (before items : List Item) (code : List Instruction) (at place : ℕ) (back : List Line) (after : Storage) (relocs : List ℕ)
+    → AreResolved whole bases before at items code → AreLoaded after place relocs (code_lines at code ++ back) → AreClear relocs (code_lines at code ++ back) → AreAt after (address_after place at) code
 unfolding AreResolved AreAt code_lines
-all_at forms sizes told bases sixteen before [] [] at place back after relocs r loaded clear = tt
-all_at forms sizes told bases sixteen before [] (i ∷ code) at place back after relocs r loaded clear = absurd r
-all_at forms sizes told bases sixteen before (item ∷ items) [] at place back after relocs r loaded clear = absurd r
-all_at forms sizes told bases sixteen before (item ∷ items) (i ∷ code) at place back after relocs r loaded clear =
+all_at forms sizes whole bases sixteen before [] [] at place back after relocs r loaded clear = tt
+all_at forms sizes whole bases sixteen before [] (i ∷ code) at place back after relocs r loaded clear = absurd r
+all_at forms sizes whole bases sixteen before (item ∷ items) [] at place back after relocs r loaded clear = absurd r
+all_at forms sizes whole bases sixteen before (item ∷ items) (i ∷ code) at place back after relocs r loaded clear =
     let one = r.0 in
     let formed : IsWellFormed i = (forms one.operation _ one.statement.operand i sixteen one.resolves).1 in
     let stands : span after (address_after place at) (length (spelling i)) ≡ Some (spelling i) = loaded.0 (clear.0 refl) in
-    let rest = all_at forms sizes told bases sixteen (item ∷ before) items code (at + length_of i.op) place back after relocs r.1 loaded.1 clear.1 in (
+    let rest = all_at forms sizes whole bases sixteen (item ∷ before) items code (at + length_of i.op) place back after relocs r.1 loaded.1 clear.1 in (
       formed,
       subst (λ n. span after (address_after place at) n ≡ Some (spelling i)) (sizes i formed) stands,
       subst (λ n. AreAt after n code) (sym (along_twice place at (length_of i.op))) rest,

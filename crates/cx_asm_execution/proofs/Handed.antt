@@ -1,6 +1,6 @@
 -- The literals that a command's call needs: the block, whose address is the first word of the list, and the entry's
 -- address (Application Programmer's Reference Manual, SC33-0077, the expansion of a command; the block and the entry
--- are this project's own).
+-- are this product's own).
 use Rattle.std.specs.Prelude.{◌≡◌, ℕ, Ok, Some, None, List, [], ◌∷◌, ◌++◌, codes, length, reverse}
 use Rattle.cx_base_commands.specs.declared.commands.Command.{Command}
 use Rattle.cx_load.specs.Fault.{IsFit}

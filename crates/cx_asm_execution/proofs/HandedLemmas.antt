@@ -32,7 +32,7 @@ use Rattle.cx_asm_pass1.specs.PassState.{role_in}
 use Rattle.cx_translate.specs.declared.words.Word.{Word}
 use Rattle.cx_translate.specs.Facts.Found.{listed_by, with_option}
 use Rattle.cx_translate.specs.Call.{block_bytes, hex_pair, listed_of, text_in}
-use Rattle.cx_translate.specs.PendingStatements.{condition_called}
+use Rattle.cx_translate.specs.DueArguments.{condition_called}
 use Rattle.cx_translate.specs.Expansion.{made_item}
 use Rattle.cx_translate.specs.Refusals.{fault_in, first_byte, is_given, second_byte}
 use Rattle.cx_asm_operands.specs.Forms.{literal_in}
@@ -147,9 +147,9 @@ block_stands legal stand source assembly bases number line before later command 
     (block_is_last bytes small) (hex_has_bytes (whole_of source) bytes small (block_some command words)) (block_some command words) resolves
 
 -- ---- the entry
-entry_has_bytes : (told : Whole) → HasBytes told (codes "V(DFHEI1)") (0 ∷ 0 ∷ 8 ∷ 0 ∷ [])
+entry_has_bytes : (whole : Whole) → HasBytes whole (codes "V(DFHEI1)") (0 ∷ 0 ∷ 8 ∷ 0 ∷ [])
 unfolding made_of constant_in kind_of digit within_after depth_after is_length_attribute
-entry_has_bytes told =
+entry_has_bytes whole =
     record { constant = constant 1 External None (Some (codes "DFHEI1")); written = refl; once = 0 ∷ 0 ∷ 8 ∷ 0 ∷ []; everywhere = λ counter. refl; all = refl }
 
 entry_is_last : literal_in (codes "15,=V(DFHEI1)") ≡ Some (codes "=V(DFHEI1)")

@@ -33,8 +33,8 @@ use Rattle.cx_asm_pools.specs.Pools.{cap, pool_extent}
 use Rattle.cx_asm_pass1.specs.Facts.Faults.{sound_statement}
 use Rattle.cx_asm_pass1.specs.Facts.Kept.{value_kept}
 use Rattle.cx_asm_pass1.specs.Given.{duplicate}
-use Rattle.cx_asm_pass1.specs.PassState.{PassState, next_state, after_line, definitions_in, state_after, laid_in, length_of_section, parts_in, role_in}
-use Rattle.cx_asm_pass1.specs.Layout.{extent_of, laid_at}
+use Rattle.cx_asm_pass1.specs.PassState.{PassState, next_state, after_line, definitions_in, state_after, extent_in, length_of_section, parts_in, role_in}
+use Rattle.cx_asm_pass1.specs.Layout.{extent_of, extent_at}
 use Rattle.cx_asm_pass1.specs.declared.roles.Role.TheVariants.{Storage, Dummy}
 use Rattle.cx_translate.specs.Expansion.{made_item, stmt}
 use Rattle.cx_translate.specs.Sections.{begins_section, begins_storage, place_after, continuation_count, is_end, lines, insert_items, storage_fields, with_bases, with_eib, with_storage}
@@ -56,21 +56,21 @@ Stands find f = option_and_then find (symbol_name (eistg_field f).name)
 
 -- ---- texts
 record Fits (operand : List ℕ) (f : EistgField) : Type 0 where
-  laid : (extent : Option ℕ) → extent_of (Storage true) (parts TopComma operand) extent (eistg_field f).offset
-      ≡ laid_at (eistg_field f).offset ((eistg_field f).offset ∷ []) ((eistg_field f).offset + (eistg_field f).len) 4 None
+  extent : (extent : Option ℕ) → extent_of (Storage true) (parts TopComma operand) extent (eistg_field f).offset
+      ≡ extent_at (eistg_field f).offset ((eistg_field f).offset ∷ []) ((eistg_field f).offset + (eistg_field f).len) 4 None
   place : cap (eistg_field f).offset ≡ (eistg_field f).offset
 
 eipl_fits : Fits (codes "18F") Eipl
 unfolding constant_in kind_of digit within_after extent_of length_of
-eipl_fits = record { laid = λ extent. refl; place = refl }
+eipl_fits = record { extent = λ extent. refl; place = refl }
 
 eitp_fits : Fits (codes "F") Eitp
 unfolding constant_in kind_of digit within_after extent_of length_of
-eitp_fits = record { laid = λ extent. refl; place = refl }
+eitp_fits = record { extent = λ extent. refl; place = refl }
 
 eicap_fits : Fits (codes "A") Eicap
 unfolding constant_in kind_of digit within_after extent_of length_of
-eicap_fits = record { laid = λ extent. refl; place = refl }
+eicap_fits = record { extent = λ extent. refl; place = refl }
 
 field_named : (f : EistgField) → Named (eistg_field f).name
 unfolding symbol_name padded_name is_name is_letter name_code is_name_character code_of table is_written_in_names
@@ -89,37 +89,37 @@ own_section : stands_in storage (Some storage) ≡ true
 own_section = is_name-laws.refl storage
 
 -- ---- a field
-record Begun (known : PassState) (o : ℕ) : Type 0 where
-  section : known.section ≡ Some storage
-  size : known.lengths storage ≡ o
+record Begun (state : PassState) (o : ℕ) : Type 0 where
+  section : state.section ≡ Some storage
+  size : state.lengths storage ≡ o
 
 abbrev field_stmt : EistgField → List ℕ → Stmt
 field_stmt f operand = stmt (eistg_field f).name (codes "DS") operand
 
-laid_field : (f : EistgField) (operand : List ℕ) (known : PassState) → Fits operand f → Begun known (eistg_field f).offset
-    → laid_in (field_stmt f operand) known ≡ laid_at (eistg_field f).offset ((eistg_field f).offset ∷ []) ((eistg_field f).offset + (eistg_field f).len) 4 None
-laid_field f operand known fits begun = rw (role_ds (eistg_field f).name operand, begun.section, begun.size, fits.place) (fits.laid _)
+laid_field : (f : EistgField) (operand : List ℕ) (state : PassState) → Fits operand f → Begun state (eistg_field f).offset
+    → extent_in (field_stmt f operand) state ≡ extent_at (eistg_field f).offset ((eistg_field f).offset ∷ []) ((eistg_field f).offset + (eistg_field f).len) 4 None
+laid_field f operand state fits begun = rw (role_ds (eistg_field f).name operand, begun.section, begun.size, fits.place) (fits.extent _)
 
-goes_on : (line : ℕ) (f : EistgField) (operand : List ℕ) (known : PassState) → Fits operand f → Begun known (eistg_field f).offset
-    → Begun (next_state line (field_stmt f operand) known) ((eistg_field f).offset + (eistg_field f).len)
+goes_on : (line : ℕ) (f : EistgField) (operand : List ℕ) (state : PassState) → Fits operand f → Begun state (eistg_field f).offset
+    → Begun (next_state line (field_stmt f operand) state) ((eistg_field f).offset + (eistg_field f).len)
 unfolding next_state
-goes_on line f operand known fits begun =
+goes_on line f operand state fits begun =
     record {
       section = rw (role_ds (eistg_field f).name operand) begun.section;
-      size = rw (laid_field f operand known fits begun, begun.section, own_section) refl;
+      size = rw (laid_field f operand state fits begun, begun.section, own_section) refl;
     }
 
 abbrev field_place : EistgField → Value
 field_place f = record { section = Some storage; number = pos (eistg_field f).offset; length = 4 }
 
-field_known : (line : ℕ) (f : EistgField) (operand : List ℕ) (known : PassState) → Fits operand f → Begun known (eistg_field f).offset
-    → (next_state line (field_stmt f operand) known).fault ≡ None → (next_state line (field_stmt f operand) known).symbols (field_named f).name ≡ Some (field_place f)
+field_known : (line : ℕ) (f : EistgField) (operand : List ℕ) (state : PassState) → Fits operand f → Begun state (eistg_field f).offset
+    → (next_state line (field_stmt f operand) state).fault ≡ None → (next_state line (field_stmt f operand) state).symbols (field_named f).name ≡ Some (field_place f)
 unfolding next_state
-field_known line f operand known fits begun sound =
-    let given : definitions_in (field_stmt f operand) known None ≡ ((field_named f).name, field_place f) ∷ [] =
-    rw (laid_field f operand known fits begun, role_ds (eistg_field f).name operand, (field_named f).is, begun.section, fits.place) refl in
-    let unknown : known.symbols (field_named f).name ≡ None =
-    none_known known.symbols (field_named f).name (field_place f) (ap (duplicate known.symbols) (sym given) ∙ (sound_statement line (field_stmt f operand) known sound).definitions) in
+field_known line f operand state fits begun sound =
+    let given : definitions_in (field_stmt f operand) state None ≡ ((field_named f).name, field_place f) ∷ [] =
+    rw (laid_field f operand state fits begun, role_ds (eistg_field f).name operand, (field_named f).is, begun.section, fits.place) refl in
+    let unknown : state.symbols (field_named f).name ≡ None =
+    none_known state.symbols (field_named f).name (field_place f) (ap (duplicate state.symbols) (sym given) ∙ (sound_statement line (field_stmt f operand) state sound).definitions) in
     rw (given, unknown, is_name-laws.refl (field_named f).name) refl
 
 field_stands : (line : ℕ) (f : EistgField) (operand : List ℕ) (before more : List Item) → Fits operand f → Begun (state_after before) (eistg_field f).offset
@@ -127,8 +127,8 @@ field_stands : (line : ℕ) (f : EistgField) (operand : List ℕ) (before more :
     → Stands (state_after (more ++ (made_item line (field_stmt f operand) ∷ before))).symbols f
 unfolding made_item
 field_stands line f operand before more fits begun sound =
-    let known = field_known line f operand (state_after before) fits begun (fault_kept more (made_item line (field_stmt f operand) ∷ before) sound) in
-    let kept = value_kept more (made_item line (field_stmt f operand) ∷ before) (field_named f).name (field_place f) known in
+    let state = field_known line f operand (state_after before) fits begun (fault_kept more (made_item line (field_stmt f operand) ∷ before) sound) in
+    let kept = value_kept more (made_item line (field_stmt f operand) ∷ before) (field_named f).name (field_place f) state in
     rw ((field_named f).is, storage_named.is) kept
 
 next : (line : ℕ) (f : EistgField) (operand : List ℕ) (before : List Item) → Fits operand f → Begun (state_after before) (eistg_field f).offset
@@ -168,18 +168,18 @@ head_stands line before more begun sound =
     }
 
 -- ---- the section
-begins_there : (line : ℕ) (s : Stmt) (known : PassState) → s.name ≡ codes "DFHEISTG" → s.operation ≡ codes "DSECT" → known.lengths storage ≡ 0
-    → Begun (next_state line s known) 0
+begins_there : (line : ℕ) (s : Stmt) (state : PassState) → s.name ≡ codes "DFHEISTG" → s.operation ≡ codes "DSECT" → state.lengths storage ≡ 0
+    → Begun (next_state line s state) 0
 unfolding next_state extent_of
-begins_there line s known named dsect none =
+begins_there line s state named dsect none =
     let role : role_in s ≡ Dummy = subst (λ k. role_in (stmt s.name k s.operand) ≡ Dummy) (sym dsect) (role_dsect s.name s.operand) in
     record {
       section = rw (role, named, storage_named.is) refl;
-      size = rw role (go known.section none);
+      size = rw role (go state.section none);
     }
   where
-    go : (section : Option (List ℕ)) → known.lengths storage ≡ 0
-        → cond (stands_in storage section) (extent_of Dummy (parts_in s) (pool_extent known.pool) (cap (length_of_section section known.lengths))).end (known.lengths storage) ≡ 0
+    go : (section : Option (List ℕ)) → state.lengths storage ≡ 0
+        → cond (stands_in storage section) (extent_of Dummy (parts_in s) (pool_extent state.pool) (cap (length_of_section section state.lengths))).end (state.lengths storage) ≡ 0
     go None none = none
     go (Some other) none = ⊎_elim
         (λ yes. rw yes (let same : other ≡ storage = sym ((is_name-decides storage other).0 yes) in rw (same, none) refl))
@@ -220,7 +220,7 @@ has_head before first more line rest begins none =
       begins = begins;
       follow = none;
       is = refl;
-      laid =
+      extent =
           λ sound empty.
           let begun = still more (first ∷ reverse before) none (dsect_begins first (reverse before) begins (subst (λ n. length_of_section n (state_after (reverse before)).lengths ≡ 0) storage_named.is empty)) in
           let head = head_stands line (reverse more ++ (first ∷ reverse before)) (reverse rest) begun (subst (λ k. (state_after k).fault ≡ None) turned sound) in (

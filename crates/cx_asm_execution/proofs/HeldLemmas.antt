@@ -12,7 +12,7 @@ use Rattle.cx_asm_expressions.specs.Kinds.{integer_bytes, is_below, row_of}
 use Rattle.cx_asm_expressions.specs.declared.faults.FaultKind.{FaultKind}
 use Rattle.cx_asm_expressions.specs.declared.faults.FaultKind.TheVariants.{NotRelocatable, ValueOutOfRange}
 use Rattle.cx_asm_expressions.specs.Weights.{stands_in}
-use Rattle.cx_asm_operands.specs.Judging.{then_judge}
+use Rattle.cx_asm_operands.specs.Checking.{then_check}
 use Rattle.cx_asm_expressions.specs.declared.kinds.ConstantKind.{ConstantKind}
 use Rattle.cx_asm_expressions.specs.declared.kinds.ConstantKind.TheVariants.{Address}
 use Rattle.cx_asm_expressions.specs.declared.values.Value.{Value}
@@ -107,13 +107,13 @@ body_four find here control kind modifier (Some body) =
     unless_four (lowest (map (λ value. (row_of kind).fault value (value_length kind modifier value)) values))
     (flat_map (λ value. (row_of kind).bytes value (value_length kind modifier value)) values)
 
-judged_four : (find : List ℕ → Option Value) (here : Option Value) (control : Option (List ℕ)) (item : Result Constant FaultKind) → HasFour (then_judge (made_of find here control) item)
+judged_four : (find : List ℕ → Option Value) (here : Option Value) (control : Option (List ℕ)) (item : Result Constant FaultKind) → HasFour (then_check (made_of find here control) item)
 unfolding made_of
 judged_four find here control (Ok item) = body_four find here control item.kind item.modifier item.value
 judged_four find here control (Err fault) = tt
 
-item_four : (told : Whole) (is_ds : Bool) (at : Option Value) (text : List ℕ) → HasFour (item_made told is_ds at text)
-item_four told is_ds at text = judged_four told.find at told.control (constant_in is_ds text)
+item_four : (whole : Whole) (is_ds : Bool) (at : Option Value) (text : List ℕ) → HasFour (item_made whole is_ds at text)
+item_four whole is_ds at text = judged_four whole.find at whole.control (constant_in is_ds text)
 
 -- ---- its words are among its bytes
 data_words : (first : ℕ) (total : List ℕ) (at n : ℕ) → first ≤ at → at + 4 * n ≤ first + length total → HaveWords (words_at at n) (data_line first total)
@@ -136,52 +136,52 @@ constant_held at (Ok item) (Ok m) four = go m.is_relocated refl
 constant_held at (Ok item) (Err fault) four = tt
 constant_held at (Err fault) m four = tt
 
-pub data_held : (told : Whole) (counter : Option Value) (text : List ℕ) (at : ℕ) → IsHeld (data_standing told counter text at)
-data_held told counter text at = constant_held at (constant_in false text) (item_made told false counter text) (item_four told false counter text)
+pub data_held : (whole : Whole) (counter : Option Value) (text : List ℕ) (at : ℕ) → IsHeld (data_standing whole counter text at)
+data_held whole counter text at = constant_held at (constant_in false text) (item_made whole false counter text) (item_four whole false counter text)
 
 space_held : (at : ℕ) (item : Result Constant FaultKind) → IsHeld (space_standing at item)
 space_held at (Ok item) = tt
 space_held at (Err fault) = tt
 
-item_held : (told : Whole) (is_ds : Bool) (s : PlacedStatement) (item : List ℕ × ℕ) → IsHeld (item_standing told is_ds s item)
-item_held told true s item = space_held item.1 (constant_in true item.0)
-item_held told false s item = data_held told (location_counter s.place.section item.1 1) item.0 item.1
+item_held : (whole : Whole) (is_ds : Bool) (s : PlacedStatement) (item : List ℕ × ℕ) → IsHeld (item_standing whole is_ds s item)
+item_held whole true s item = space_held item.1 (constant_in true item.0)
+item_held whole false s item = data_held whole (location_counter s.place.section item.1 1) item.0 item.1
 
-items_held : (told : Whole) (is_ds : Bool) (s : PlacedStatement) (items : List (List ℕ × ℕ)) → IsHeld (items_standing told is_ds s items)
-items_held told is_ds s [] = tt
-items_held told is_ds s (item ∷ items) =
-    joined_held (item_standing told is_ds s item) (items_standing told is_ds s items) (item_held told is_ds s item) (items_held told is_ds s items)
+items_held : (whole : Whole) (is_ds : Bool) (s : PlacedStatement) (items : List (List ℕ × ℕ)) → IsHeld (items_standing whole is_ds s items)
+items_held whole is_ds s [] = tt
+items_held whole is_ds s (item ∷ items) =
+    joined_held (item_standing whole is_ds s item) (items_standing whole is_ds s items) (item_held whole is_ds s item) (items_held whole is_ds s items)
 
-pub pool_held : (told : Whole) (all : List PlacedStatement) (pool : PlacedLiterals) → IsHeld (pool_standing told all pool)
-pool_held told all [] = tt
-pool_held told all (e ∷ pool) =
-    joined_held (data_standing told (counter_at all e.1.user) e.0 e.1.offset) (pool_standing told all pool) (data_held told (counter_at all e.1.user) e.0 e.1.offset) (pool_held told all pool)
+pub pool_held : (whole : Whole) (all : List PlacedStatement) (pool : PlacedLiterals) → IsHeld (pool_standing whole all pool)
+pool_held whole all [] = tt
+pool_held whole all (e ∷ pool) =
+    joined_held (data_standing whole (counter_at all e.1.user) e.0 e.1.offset) (pool_standing whole all pool) (data_held whole (counter_at all e.1.user) e.0 e.1.offset) (pool_held whole all pool)
 
-instruction_held : (told : Whole) (bases : Bases) (s : PlacedStatement) (o : Option Operation) → IsHeld (option_map_or (instruction_standing told bases s) o empty_section)
-instruction_held told bases s None = tt
-instruction_held told bases s (Some o) = tt
+instruction_held : (whole : Whole) (bases : Bases) (s : PlacedStatement) (o : Option Operation) → IsHeld (option_map_or (instruction_standing whole bases s) o empty_section)
+instruction_held whole bases s None = tt
+instruction_held whole bases s (Some o) = tt
 
-role_held : (told : Whole) (all : List PlacedStatement) (bases : Bases) (s : PlacedStatement) (r : Role) → IsHeld (role_standing told all bases s r)
-role_held told all bases s (role.Instruction size) = instruction_held told bases s (operation_of s)
-role_held told all bases s (role.Storage is_ds) = items_held told is_ds s (placed_items s)
-role_held told all bases s role.Pool = pool_held told all (pool_of told s)
-role_held told all bases s role.Unknown = tt
-role_held told all bases s role.Control = tt
-role_held told all bases s role.Dummy = tt
-role_held told all bases s role.Equate = tt
-role_held told all bases s role.Registers = tt
-role_held told all bases s role.Member = tt
-role_held told all bases s role.Nothing = tt
+role_held : (whole : Whole) (all : List PlacedStatement) (bases : Bases) (s : PlacedStatement) (r : Role) → IsHeld (role_standing whole all bases s r)
+role_held whole all bases s (role.Instruction size) = instruction_held whole bases s (operation_of s)
+role_held whole all bases s (role.Storage is_ds) = items_held whole is_ds s (placed_items s)
+role_held whole all bases s role.Pool = pool_held whole all (pool_of whole s)
+role_held whole all bases s role.Unknown = tt
+role_held whole all bases s role.Control = tt
+role_held whole all bases s role.Dummy = tt
+role_held whole all bases s role.Equate = tt
+role_held whole all bases s role.Registers = tt
+role_held whole all bases s role.Member = tt
+role_held whole all bases s role.Nothing = tt
 
-pub statement_held : (told : Whole) (all : List PlacedStatement) (bases : Bases) (s : PlacedStatement) → IsHeld (statement_standing told all bases s)
+pub statement_held : (whole : Whole) (all : List PlacedStatement) (bases : Bases) (s : PlacedStatement) → IsHeld (statement_standing whole all bases s)
 unfolding statement_standing
-statement_held told all bases s = go (is_control s.place.section told.control)
+statement_held whole all bases s = go (is_control s.place.section whole.control)
   where
-    go : (b : Bool) → IsHeld (cond b (role_standing told all bases s (role_in s.stmt)) empty_section)
-    go true = role_held told all bases s (role_in s.stmt)
+    go : (b : Bool) → IsHeld (cond b (role_standing whole all bases s (role_in s.stmt)) empty_section)
+    go true = role_held whole all bases s (role_in s.stmt)
     go false = tt
 
-pub all_held : (told : Whole) (all : List PlacedStatement) (bases : Bases) (ss : List PlacedStatement) → IsHeld (standing_from told all bases ss)
-all_held told all bases [] = pool_held told all (last_pool told)
-all_held told all bases (s ∷ ss) =
-    joined_held (statement_standing told all bases s) (standing_from told all (bases_after told bases s) ss) (statement_held told all bases s) (all_held told all (bases_after told bases s) ss)
+pub all_held : (whole : Whole) (all : List PlacedStatement) (bases : Bases) (ss : List PlacedStatement) → IsHeld (standing_from whole all bases ss)
+all_held whole all bases [] = pool_held whole all (last_pool whole)
+all_held whole all bases (s ∷ ss) =
+    joined_held (statement_standing whole all bases s) (standing_from whole all (bases_after whole bases s) ss) (statement_held whole all bases s) (all_held whole all (bases_after whole bases s) ss)

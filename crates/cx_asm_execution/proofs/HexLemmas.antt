@@ -9,7 +9,7 @@ use Rattle.std.proofs.lemmas.List.{append_assoc, append-nil}
 use Rattle.cx_source.specs.Marks.{depth_after, is_length_attribute, parts_from, within_after}
 use Rattle.cx_source.specs.declared.marks.Delimiter.TheVariants.{TopComma}
 use Rattle.cx_asm_expressions.specs.Bytes.{copy_of_constant, made_of}
-use Rattle.cx_asm_expressions.specs.Digits.{digit, is_digit, worth_of}
+use Rattle.cx_asm_expressions.specs.Digits.{digit, is_digit, digit_value}
 use Rattle.cx_asm_expressions.specs.Items.{constant, constant_in, value_in}
 use Rattle.cx_asm_expressions.specs.Kinds.{digit_from_right, half_bytes, kind_of}
 use Rattle.cx_asm_expressions.specs.Texts.{before_apostrophe, is_doubled}
@@ -51,13 +51,13 @@ hex_length [] = omega arith
 hex_length (b ∷ bytes) = (let more = hex_length bytes in omega (arith, more))
 
 -- ---- half bytes
-digit_at : (front : List ℕ) (glyph : ℕ) (after : List ℕ) (j : ℕ) → j ≡ length after → digit_from_right (front ++ glyph ∷ after) j ≡ worth_of glyph
+digit_at : (front : List ℕ) (glyph : ℕ) (after : List ℕ) (j : ℕ) → j ≡ length after → digit_from_right (front ++ glyph ∷ after) j ≡ digit_value glyph
 digit_at front glyph after j e =
     let all = length_joined front (glyph ∷ after) in
     let at : length (front ++ glyph ∷ after) - 1 - j ≡ length front = omega (arith, all, e) in
     let fits : j < length (front ++ glyph ∷ after) = omega (arith, all, e) in
     let less : nat_lt j (length (front ++ glyph ∷ after)) ≡ true = grind (arith, nat_tests, fits) in
-    rw (less, at) (ap worth_of (get_or-append_seam front glyph after 0))
+    rw (less, at) (ap digit_value (get_or-append_seam front glyph after 0))
 
 half_bytes_are : (front bytes : List ℕ) → AreBytes bytes → half_bytes Hexadecimal (front ++ flat_map hex_pair bytes) (length bytes) ≡ bytes
 half_bytes_are front [] h = refl
@@ -73,8 +73,8 @@ half_bytes_are front (b ∷ bytes) h =
     let again : (front ++ (one ∷ [])) ++ (two ∷ rest) ≡ front ++ (one ∷ two ∷ rest) = append_assoc front (one ∷ []) (two ∷ rest) in
     let second : digit_from_right (front ++ one ∷ two ∷ rest) (r * 2) ≡ b % 16 =
     ap (λ k. digit_from_right k (r * 2)) (sym again) ∙ digit_at (front ++ (one ∷ [])) two rest (r * 2) (omega (arith, many)) ∙ rw (glyph_digit (b % 16) (omega arith)) refl in
-    let whole : (front ++ (one ∷ two ∷ [])) ++ rest ≡ front ++ (one ∷ two ∷ rest) = append_assoc front (one ∷ two ∷ []) rest in
-    let more : half_bytes Hexadecimal (front ++ one ∷ two ∷ rest) r ≡ bytes = ap (λ k. half_bytes Hexadecimal k r) (sym whole) ∙ half_bytes_are (front ++ (one ∷ two ∷ [])) bytes h.1 in
+    let entire : (front ++ (one ∷ two ∷ [])) ++ rest ≡ front ++ (one ∷ two ∷ rest) = append_assoc front (one ∷ two ∷ []) rest in
+    let more : half_bytes Hexadecimal (front ++ one ∷ two ∷ rest) r ≡ bytes = ap (λ k. half_bytes Hexadecimal k r) (sym entire) ∙ half_bytes_are (front ++ (one ∷ two ∷ [])) bytes h.1 in
     let sum : b / 16 * 16 + b % 16 ≡ b = omega arith in
     rw (first, second, more) (ap (λ k. k ∷ bytes) sum)
 
@@ -100,10 +100,10 @@ constant_is : (hex : List ℕ) → ArePlain hex → 0 < length hex → constant_
 unfolding constant_in kind_of digit
 constant_is hex plain some = rw (value_is hex plain some) refl
 
-made_is : (told : Whole) (counter : Option Value) (bytes : List ℕ) → AreBytes bytes → 0 < length bytes
-    → item_made told false counter (88 ∷ 39 ∷ (flat_map hex_pair bytes ++ 39 ∷ [])) ≡ Ok (copy_of_constant bytes false)
+made_is : (whole : Whole) (counter : Option Value) (bytes : List ℕ) → AreBytes bytes → 0 < length bytes
+    → item_made whole false counter (88 ∷ 39 ∷ (flat_map hex_pair bytes ++ 39 ∷ [])) ≡ Ok (copy_of_constant bytes false)
 unfolding made_of
-made_is told counter bytes h some =
+made_is whole counter bytes h some =
     let hex = flat_map hex_pair bytes in
     let many = hex_length bytes in
     let filled : (length hex == 0) ≡ false = grind (arith, nat_tests, many, some) in
@@ -111,15 +111,15 @@ made_is told counter bytes h some =
     rw (constant_is hex (hex_plain bytes h) (omega (arith, many, some)), filled, hex_digits bytes h, half, half_bytes_are [] bytes h)
     (ap (λ k. Ok (copy_of_constant k false)) (append-nil bytes))
 
-pub hex_has_bytes : (told : Whole) (bytes : List ℕ) → AreBytes bytes → 0 < length bytes → HasBytes told (88 ∷ 39 ∷ (flat_map hex_pair bytes ++ 39 ∷ [])) bytes
-hex_has_bytes told bytes h some =
+pub hex_has_bytes : (whole : Whole) (bytes : List ℕ) → AreBytes bytes → 0 < length bytes → HasBytes whole (88 ∷ 39 ∷ (flat_map hex_pair bytes ++ 39 ∷ [])) bytes
+hex_has_bytes whole bytes h some =
     let hex = flat_map hex_pair bytes in
     let many = hex_length bytes in
     record {
       constant = constant 1 Hexadecimal None (Some hex);
       written = constant_is hex (hex_plain bytes h) (omega (arith, many, some));
       once = bytes;
-      everywhere = λ counter. made_is told counter bytes h some;
+      everywhere = λ counter. made_is whole counter bytes h some;
       all = append-nil bytes;
     }
 

@@ -1,8 +1,8 @@
 -- An accepted statement's block is that of a legal call.
 use Rattle.std.specs.Prelude.{◌≤◌, IsTrue, MatchBool, count_by, if◌then◌else◌}
 use Rattle.std.proofs.Common.{◌≡◌, ℕ, ◌+◌, Bool, true, false, None, List, [], ◌∷◌, length, refl, arith}
-use Rattle.cx_asm_arrival.specs.Expansion.{Statement, block_bytes as statement_bytes, words_of}
-use Rattle.cx_asm_arrival.specs.Stands.{IsLegal}
+use Rattle.cx_asm_execution.specs.Expansion.{Statement, block_bytes as statement_bytes, words_of}
+use Rattle.cx_asm_execution.specs.Stands.{IsLegal}
 use Rattle.cx_region_call.specs.Call.{has_label, has_resp}
 use Rattle.cx_base_commands.specs.Arguments.{arguments_in}
 use Rattle.cx_base_commands.specs.Commands.{row_of}
@@ -50,12 +50,12 @@ counted_so : Accepts → (line : ℕ) (command : Command) (cics named words : Li
 unfolding words_read
 counted_so known line command cics named words accepted = (let all = known.read line command cics named words accepted in omega (arith, all))
 
-pub legal_so : Accepts → (told : Whole) (bases : Bases) (line : ℕ) (before : List Item) (command : Command) (cics named words : List Word) (s : Statement)
-    → fault_in line command cics named words ≡ None → IsStatementOf told bases line before command words s → IsLegal s
-legal_so known told bases line before command cics named words s accepted is =
+pub legal_so : Accepts → (whole : Whole) (bases : Bases) (line : ℕ) (before : List Item) (command : Command) (cics named words : List Word) (s : Statement)
+    → fault_in line command cics named words ≡ None → IsStatementOf whole bases line before command words s → IsLegal s
+legal_so known whole bases line before command cics named words s accepted is =
     let listed = listed_so known line command cics named words accepted (lists_conditions command) refl in
     let count = counted_so known line command cics named words accepted in
-    let same = same_count told bases line before 0 (list_of command words) (words_of s) is.arguments in
+    let same = same_count whole bases line before 0 (list_of command words) (words_of s) is.arguments in
     record {
       options = rw (is.for_command, is.first, is.second) (known.bytes line command cics named words accepted);
       conditions = rw (is.for_command, is.first, is.conditions) listed;
@@ -63,17 +63,17 @@ legal_so known told bases line before command cics named words s accepted is =
     }
 
 -- ---- the block's bytes
-pub same_bytes : (told : Whole) (bases : Bases) (line : ℕ) (before : List Item) (command : Command) (words : List Word) (s : Statement) → IsStatementOf told bases line before command words s
+pub same_bytes : (whole : Whole) (bases : Bases) (line : ℕ) (before : List Item) (command : Command) (words : List Word) (s : Statement) → IsStatementOf whole bases line before command words s
     → statement_bytes s ≡ block_bytes command words
 unfolding statement_bytes block_bytes
-same_bytes told bases line before command words s is =
+same_bytes whole bases line before command words s is =
     rw (is.for_command, is.first, is.second, is.conditions) refl
 
 -- ---- how many words
-pub same_words : Accepts → (told : Whole) (bases : Bases) (line : ℕ) (before : List Item) (command : Command) (cics named words : List Word) (s : Statement)
-    → fault_in line command cics named words ≡ None → IsStatementOf told bases line before command words s
+pub same_words : Accepts → (whole : Whole) (bases : Bases) (line : ℕ) (before : List Item) (command : Command) (cics named words : List Word) (s : Statement)
+    → fault_in line command cics named words ≡ None → IsStatementOf whole bases line before command words s
     → (length (list_of command words) ≡ length (words_of s)) × (length (words_of s) ≤ 18)
-same_words known told bases line before command cics named words s accepted is =
-    let same = same_count told bases line before 0 (list_of command words) (words_of s) is.arguments in
+same_words known whole bases line before command cics named words s accepted is =
+    let same = same_count whole bases line before 0 (list_of command words) (words_of s) is.arguments in
     let room = known.room line command cics named words accepted in
     (omega (arith, same), omega (arith, same, room))

@@ -1,3 +1,15 @@
+pub mod SpanLemmas
+pub mod Ready
+pub mod StepLemmas
+pub mod ArrivalWordLemmas
+pub mod InstructionLemmas
+pub mod ArrivalStoreLemmas
+pub mod BranchLemmas
+pub mod ListLemmas
+pub mod ArrivalLemmas
+pub mod TimeLemmas
+pub mod ArrivalMadeLemmas
+pub mod LoadLemmas
 pub mod Together
 pub mod Resolved
 pub mod InStorage

@@ -25,15 +25,15 @@ use Rattle.cx_asm_pools.specs.declared.closed.Literal.{Literal}
 use Rattle.cx_asm_pass1.specs.Facts.Apart.{in_control}
 use Rattle.cx_asm_pass1.specs.Facts.StatementExtents.{capped_same}
 use Rattle.cx_asm_pass1.specs.Given.{location_counter, place_value}
-use Rattle.cx_asm_pass1.specs.PassState.{PassState, next_state, after_line, is_control, state_after, laid_in, name_in, place_in, pools_after, role_in, section_fault}
-use Rattle.cx_asm_pass1.specs.Locations.{last_pool_extent, known_of}
+use Rattle.cx_asm_pass1.specs.PassState.{PassState, next_state, after_line, is_control, state_after, extent_in, name_in, place_in, pools_after, role_in, section_fault}
+use Rattle.cx_asm_pass1.specs.Locations.{last_pool_extent, final_state}
 use Rattle.cx_asm_pass1.specs.declared.roles.Role.{Role}
 use Rattle.cx_asm_pass1.specs.declared.roles.Role.TheVariants as role
 use Rattle.cx_asm_operands.specs.Bases.{Bases, none_in_use}
 use Rattle.cx_asm_operands.specs.Addresses.{implied_address}
 use Rattle.cx_asm_operands.specs.Context.{Context}
 use Rattle.cx_asm_operands.specs.Forms.{literal_in}
-use Rattle.cx_asm_operands.specs.Judging.{both_or_lower_fault, then_judge}
+use Rattle.cx_asm_operands.specs.Checking.{both_or_lower_fault, then_check}
 use Rattle.cx_asm_operands.specs.Storage.{indexed_in, operand, operand_in}
 use Rattle.cx_asm_operands.specs.declared.addresses.Address.{Address}
 use Rattle.cx_asm_image.specs.Resolved.{AreApart, end_of}
@@ -115,31 +115,31 @@ own_unraised front mine back size [] apart words = tt
 own_unraised front mine back size (r ∷ relocs) apart words = (beside 0 front mine back size r apart words.0, own_unraised front mine back size relocs apart words.1)
 
 -- ---- a literal of a pool
-constant_own : (told : Whole) (counter : Option Value) (text : List ℕ) (at byte : ℕ) (bytes : List ℕ) → HasBytes told text (byte ∷ bytes)
-    → HasOwn (data_standing told counter text at) (line at (Data (byte ∷ bytes)))
-constant_own told counter text at byte bytes is =
-    let same : standing (data_line at (byte ∷ bytes)) [] ≡ data_standing told counter text at =
+constant_own : (whole : Whole) (counter : Option Value) (text : List ℕ) (at byte : ℕ) (bytes : List ℕ) → HasBytes whole text (byte ∷ bytes)
+    → HasOwn (data_standing whole counter text at) (line at (Data (byte ∷ bytes)))
+constant_own whole counter text at byte bytes is =
+    let same : standing (data_line at (byte ∷ bytes)) [] ≡ data_standing whole counter text at =
     rw (is.everywhere counter, is.written) (ap (λ k. standing (data_line at k) []) (sym is.all)) in
     subst (λ s. HasOwn s (line at (Data (byte ∷ bytes)))) same (record { front = []; back = []; is = refl; words = tt })
 
-pool_own : (told : Whole) (all : List PlacedStatement) (pool : PlacedLiterals) (text : List ℕ) (literal : Literal) (byte : ℕ) (bytes : List ℕ) → HasBytes told text (byte ∷ bytes)
-    → lookup (bytes_eq text) pool ≡ Some literal → HasOwn (pool_standing told all pool) (line literal.offset (Data (byte ∷ bytes)))
-pool_own told all [] text literal byte bytes is e = absurd (cc)
-pool_own told all (e ∷ pool) text literal byte bytes is found = go (bytes_eq text e.0) refl (λ more. pool_own told all pool text literal byte bytes is more) found
+pool_own : (whole : Whole) (all : List PlacedStatement) (pool : PlacedLiterals) (text : List ℕ) (literal : Literal) (byte : ℕ) (bytes : List ℕ) → HasBytes whole text (byte ∷ bytes)
+    → lookup (bytes_eq text) pool ≡ Some literal → HasOwn (pool_standing whole all pool) (line literal.offset (Data (byte ∷ bytes)))
+pool_own whole all [] text literal byte bytes is e = absurd (cc)
+pool_own whole all (e ∷ pool) text literal byte bytes is found = go (bytes_eq text e.0) refl (λ more. pool_own whole all pool text literal byte bytes is more) found
   where
-    go : (b : Bool) → bytes_eq text e.0 ≡ b → (lookup (bytes_eq text) pool ≡ Some literal → HasOwn (pool_standing told all pool) (line literal.offset (Data (byte ∷ bytes)))) → cond b (Some e.1) (lookup (bytes_eq text) pool) ≡ Some literal
-        → HasOwn (pool_standing told all (e ∷ pool)) (line literal.offset (Data (byte ∷ bytes)))
+    go : (b : Bool) → bytes_eq text e.0 ≡ b → (lookup (bytes_eq text) pool ≡ Some literal → HasOwn (pool_standing whole all pool) (line literal.offset (Data (byte ∷ bytes)))) → cond b (Some e.1) (lookup (bytes_eq text) pool) ≡ Some literal
+        → HasOwn (pool_standing whole all (e ∷ pool)) (line literal.offset (Data (byte ∷ bytes)))
     go true same more found =
         let own : text ≡ e.0 = (bytes_eq-Decides text e.0).0 same in
         let place : e.1 ≡ literal = cc in
-        own_left (data_standing told (counter_at all e.1.user) e.0 e.1.offset) (pool_standing told all pool) (line literal.offset (Data (byte ∷ bytes)))
-        (subst (λ l. HasOwn (data_standing told (counter_at all e.1.user) e.0 e.1.offset) (line l.offset (Data (byte ∷ bytes)))) place
-        (subst (λ t. HasOwn (data_standing told (counter_at all e.1.user) t e.1.offset) (line e.1.offset (Data (byte ∷ bytes)))) own
-        (constant_own told (counter_at all e.1.user) text e.1.offset byte bytes is)))
-        (pool_held told all pool)
+        own_left (data_standing whole (counter_at all e.1.user) e.0 e.1.offset) (pool_standing whole all pool) (line literal.offset (Data (byte ∷ bytes)))
+        (subst (λ l. HasOwn (data_standing whole (counter_at all e.1.user) e.0 e.1.offset) (line l.offset (Data (byte ∷ bytes)))) place
+        (subst (λ t. HasOwn (data_standing whole (counter_at all e.1.user) t e.1.offset) (line e.1.offset (Data (byte ∷ bytes)))) own
+        (constant_own whole (counter_at all e.1.user) text e.1.offset byte bytes is)))
+        (pool_held whole all pool)
     go false same more found =
-        own_right (data_standing told (counter_at all e.1.user) e.0 e.1.offset) (pool_standing told all pool) (line literal.offset (Data (byte ∷ bytes)))
-        (data_held told (counter_at all e.1.user) e.0 e.1.offset) (more found)
+        own_right (data_standing whole (counter_at all e.1.user) e.0 e.1.offset) (pool_standing whole all pool) (line literal.offset (Data (byte ∷ bytes)))
+        (data_held whole (counter_at all e.1.user) e.0 e.1.offset) (more found)
 
 -- ---- statements in the control section
 unless_control : (b : Bool) → cond b None (Some BadOperand) ≡ None → b ≡ true
@@ -165,9 +165,9 @@ pool_within r name section control is e = unless_control (is_control section con
 own_section : (line : ℕ) (s : Stmt) (before more : List Item) (item : Item) → item.line ≡ line → item.stmt ≡ Some s → (state_after (more ++ (item ∷ before))).fault ≡ None
     → section_fault (role_in s) (name_in s) (state_after before).section (state_after before).control ≡ None
 own_section line s before more item numbered begins sound =
-    let known = state_after before in
-    let here : (after_line item.line item.stmt known).fault ≡ None = fault_kept more (item ∷ before) sound in
-    section_sound s known (own_sound item.line s known (subst (λ o. (after_line item.line o known).fault ≡ None) begins here))
+    let state = state_after before in
+    let here : (after_line item.line item.stmt state).fault ≡ None = fault_kept more (item ∷ before) sound in
+    section_sound s state (own_sound item.line s state (subst (λ o. (after_line item.line o state).fault ≡ None) begins here))
 
 -- ---- the statement that has a closed pool
 only_pools : (r : Role) (offset : ℕ) (pool : OpenLiterals) (pools : List PlacedLiterals) → (r ≡ role.Pool) ⊎ (pools_after r offset pool pools ≡ pools)
@@ -183,39 +183,39 @@ only_pools role.Member offset pool pools = inr refl
 only_pools role.Nothing offset pool pools = inr refl
 
 -- where a statement makes the number of pools greater than one that it wasn't greater than, it closes that one
-record Closes (s : Stmt) (known : PassState) (p : ℕ) : Type 0 where
+record Closes (s : Stmt) (state : PassState) (p : ℕ) : Type 0 where
   role : role_in s ≡ role.Pool
-  number : length known.pools ≡ p
+  number : length state.pools ≡ p
 
-closes : (line : ℕ) (s : Stmt) (known : PassState) (p : ℕ) → length known.pools ≤ p → p < length (next_state line s known).pools → Closes s known p
+closes : (line : ℕ) (s : Stmt) (state : PassState) (p : ℕ) → length state.pools ≤ p → p < length (next_state line s state).pools → Closes s state p
 unfolding next_state
-closes line s known p low high = go (only_pools (role_in s) (laid_in s known).offset known.pool known.pools)
+closes line s state p low high = go (only_pools (role_in s) (extent_in s state).offset state.pool state.pools)
   where
-    go : (role_in s ≡ role.Pool) ⊎ (pools_after (role_in s) (laid_in s known).offset known.pool known.pools ≡ known.pools) → Closes s known p
+    go : (role_in s ≡ role.Pool) ⊎ (pools_after (role_in s) (extent_in s state).offset state.pool state.pools ≡ state.pools) → Closes s state p
     go (inl is) =
-        let more : p < length (known.pools ++ closed_pool (cap (laid_in s known).offset) known.pool ∷ []) =
-        subst (λ r. p < length (pools_after r (laid_in s known).offset known.pool known.pools)) is high in
-        let one = length_joined known.pools (closed_pool (cap (laid_in s known).offset) known.pool ∷ []) in
+        let more : p < length (state.pools ++ closed_pool (cap (extent_in s state).offset) state.pool ∷ []) =
+        subst (λ r. p < length (pools_after r (extent_in s state).offset state.pool state.pools)) is high in
+        let one = length_joined state.pools (closed_pool (cap (extent_in s state).offset) state.pool ∷ []) in
         record { role = is; number = omega (arith, more, one, low) }
-    go (inr same) = absurd ((let more : p < length known.pools = subst (λ k. p < length k) same high in omega (arith, more, low)))
+    go (inr same) = absurd ((let more : p < length state.pools = subst (λ k. p < length k) same high in omega (arith, more, low)))
 
-pool_statement : (told : Whole) (all : List PlacedStatement) (bases : Bases) (s : PlacedStatement) (mine : Line) → is_control s.place.section told.control ≡ true → role_in s.stmt ≡ role.Pool
-    → HasOwn (pool_standing told all (pool_of told s)) mine → HasOwn (statement_standing told all bases s) mine
+pool_statement : (whole : Whole) (all : List PlacedStatement) (bases : Bases) (s : PlacedStatement) (mine : Line) → is_control s.place.section whole.control ≡ true → role_in s.stmt ≡ role.Pool
+    → HasOwn (pool_standing whole all (pool_of whole s)) mine → HasOwn (statement_standing whole all bases s) mine
 unfolding statement_standing
-pool_statement told all bases s mine within is own = rw (within, is) own
+pool_statement whole all bases s mine within is own = rw (within, is) own
 
 -- each pool that is closed among lines is in what their statements make
-in_statements : (told : Whole) (all : List PlacedStatement) (p : ℕ) (mine : Line) → ((s : PlacedStatement) → s.place.pool ≡ p → HasOwn (pool_standing told all (pool_of told s)) mine)
+in_statements : (whole : Whole) (all : List PlacedStatement) (p : ℕ) (mine : Line) → ((s : PlacedStatement) → s.place.pool ≡ p → HasOwn (pool_standing whole all (pool_of whole s)) mine)
     → (bases : Bases) (items before more : List Item) → (state_after (more ++ (reverse items ++ before))).fault ≡ None
-    → told.control ≡ (state_after (more ++ (reverse items ++ before))).control
+    → whole.control ≡ (state_after (more ++ (reverse items ++ before))).control
     → length (state_after before).pools ≤ p → p < length (state_after (reverse items ++ before)).pools
-    → HasOwn (standing_from told all bases (statements_from before items)) mine
-in_statements told all p mine own bases [] before more sound control low high = absurd (omega (arith, low, high))
-in_statements told all p mine own bases (item ∷ items) before more sound control low high =
-    go item.stmt refl (λ bases' low'. in_statements told all p mine own bases' items (item ∷ before) more sound' control' low' high')
+    → HasOwn (standing_from whole all bases (statements_from before items)) mine
+in_statements whole all p mine own bases [] before more sound control low high = absurd (omega (arith, low, high))
+in_statements whole all p mine own bases (item ∷ items) before more sound control low high =
+    go item.stmt refl (λ bases' low'. in_statements whole all p mine own bases' items (item ∷ before) more sound' control' low' high')
   where
-    known : PassState
-    known = state_after before
+    state : PassState
+    state = state_after before
 
     step : more ++ (reverse (item ∷ items) ++ before) ≡ more ++ (reverse items ++ (item ∷ before))
     step = ap (λ k. more ++ k) (reverse_step item items before)
@@ -223,8 +223,8 @@ in_statements told all p mine own bases (item ∷ items) before more sound contr
     sound' : (state_after (more ++ (reverse items ++ (item ∷ before)))).fault ≡ None
     sound' = subst (λ k. (state_after k).fault ≡ None) step sound
 
-    control' : told.control ≡ (state_after (more ++ (reverse items ++ (item ∷ before)))).control
-    control' = subst (λ k. told.control ≡ (state_after k).control) step control
+    control' : whole.control ≡ (state_after (more ++ (reverse items ++ (item ∷ before)))).control
+    control' = subst (λ k. whole.control ≡ (state_after k).control) step control
 
     high' : p < length (state_after (reverse items ++ (item ∷ before))).pools
     high' = subst (λ k. p < length (state_after k).pools) (reverse_step item items before) high
@@ -232,68 +232,68 @@ in_statements told all p mine own bases (item ∷ items) before more sound contr
     joined_lines : (more ++ reverse items) ++ (item ∷ before) ≡ more ++ (reverse items ++ (item ∷ before))
     joined_lines = append_assoc more (reverse items) (item ∷ before)
 
-    by_count : (s : Stmt) → item.stmt ≡ Some s → ((bases' : Bases) → length (state_after (item ∷ before)).pools ≤ p → HasOwn (standing_from told all bases' (statements_from (item ∷ before) items)) mine)
+    by_count : (s : Stmt) → item.stmt ≡ Some s → ((bases' : Bases) → length (state_after (item ∷ before)).pools ≤ p → HasOwn (standing_from whole all bases' (statements_from (item ∷ before) items)) mine)
         → ((length (state_after (item ∷ before)).pools ≤ p) ⊎ (p < length (state_after (item ∷ before)).pools))
-        → HasOwn (standing_from told all bases (placed_statement item.line s (place_in s known) ∷ statements_from (item ∷ before) items)) mine
+        → HasOwn (standing_from whole all bases (placed_statement item.line s (place_in s state) ∷ statements_from (item ∷ before) items)) mine
     by_count s begins rest (inl le) =
-        let here = placed_statement item.line s (place_in s known) in
-        own_right (statement_standing told all bases here) (standing_from told all (bases_after told bases here) (statements_from (item ∷ before) items)) mine
-        (statement_held told all bases here) (rest (bases_after told bases here) le)
+        let here = placed_statement item.line s (place_in s state) in
+        own_right (statement_standing whole all bases here) (standing_from whole all (bases_after whole bases here) (statements_from (item ∷ before) items)) mine
+        (statement_held whole all bases here) (rest (bases_after whole bases here) le)
     by_count s begins rest (inr gt) =
-        let here = placed_statement item.line s (place_in s known) in
-        let after_is : state_after (item ∷ before) ≡ next_state item.line s known = ap (λ o. after_line item.line o known) begins in
-        let closed = closes item.line s known p low (subst (λ k. p < length k.pools) after_is gt) in
+        let here = placed_statement item.line s (place_in s state) in
+        let after_is : state_after (item ∷ before) ≡ next_state item.line s state = ap (λ o. after_line item.line o state) begins in
+        let closed = closes item.line s state p low (subst (λ k. p < length k.pools) after_is gt) in
         let fault = own_section item.line s before (more ++ reverse items) item refl begins (subst (λ k. (state_after k).fault ≡ None) (sym joined_lines) sound') in
-        let within : is_control known.section known.control ≡ true = pool_within (role_in s) (name_in s) known.section known.control closed.role fault in
-        let there : is_control known.section told.control ≡ true =
-        ap (is_control known.section) (control' ∙ ap (λ k. (state_after k).control) (sym joined_lines ∙ sym (append_assoc (more ++ reverse items) (item ∷ []) before)))
-        ∙ control_same ((more ++ reverse items) ++ (item ∷ [])) before known.section within in
-        own_left (statement_standing told all bases here) (standing_from told all (bases_after told bases here) (statements_from (item ∷ before) items)) mine
-        (pool_statement told all bases here mine there closed.role (own here closed.number))
-        (all_held told all (bases_after told bases here) (statements_from (item ∷ before) items))
+        let within : is_control state.section state.control ≡ true = pool_within (role_in s) (name_in s) state.section state.control closed.role fault in
+        let there : is_control state.section whole.control ≡ true =
+        ap (is_control state.section) (control' ∙ ap (λ k. (state_after k).control) (sym joined_lines ∙ sym (append_assoc (more ++ reverse items) (item ∷ []) before)))
+        ∙ control_same ((more ++ reverse items) ++ (item ∷ [])) before state.section within in
+        own_left (statement_standing whole all bases here) (standing_from whole all (bases_after whole bases here) (statements_from (item ∷ before) items)) mine
+        (pool_statement whole all bases here mine there closed.role (own here closed.number))
+        (all_held whole all (bases_after whole bases here) (statements_from (item ∷ before) items))
 
-    go : (o : Option Stmt) → item.stmt ≡ o → ((bases' : Bases) → length (state_after (item ∷ before)).pools ≤ p → HasOwn (standing_from told all bases' (statements_from (item ∷ before) items)) mine)
-        → HasOwn (standing_from told all bases (statements_from before (item ∷ items))) mine
+    go : (o : Option Stmt) → item.stmt ≡ o → ((bases' : Bases) → length (state_after (item ∷ before)).pools ≤ p → HasOwn (standing_from whole all bases' (statements_from (item ∷ before) items)) mine)
+        → HasOwn (standing_from whole all bases (statements_from before (item ∷ items))) mine
     go None begins rest =
         let heads : statements_from before (item ∷ items) ≡ statements_from (item ∷ before) items =
-        ap (λ o. cons_option (option_and_then (λ stmt. option_map (placed_statement item.line stmt) (place_for o known)) o) (statements_from (item ∷ before) items)) begins in
-        let same : state_after (item ∷ before) ≡ known = ap (λ o. after_line item.line o known) begins in
-        subst (λ k. HasOwn (standing_from told all bases k) mine) (sym heads) (rest bases (subst (λ k. length k.pools ≤ p) (sym same) low))
+        ap (λ o. cons_option (option_and_then (λ stmt. option_map (placed_statement item.line stmt) (place_for o state)) o) (statements_from (item ∷ before) items)) begins in
+        let same : state_after (item ∷ before) ≡ state = ap (λ o. after_line item.line o state) begins in
+        subst (λ k. HasOwn (standing_from whole all bases k) mine) (sym heads) (rest bases (subst (λ k. length k.pools ≤ p) (sym same) low))
     go (Some s) begins rest =
-        let heads : statements_from before (item ∷ items) ≡ placed_statement item.line s (place_in s known) ∷ statements_from (item ∷ before) items =
-        ap (λ o. cons_option (option_and_then (λ stmt. option_map (placed_statement item.line stmt) (place_for o known)) o) (statements_from (item ∷ before) items)) begins in
-        subst (λ k. HasOwn (standing_from told all bases k) mine) (sym heads) (by_count s begins rest (choose (length (state_after (item ∷ before)).pools) p))
+        let heads : statements_from before (item ∷ items) ≡ placed_statement item.line s (place_in s state) ∷ statements_from (item ∷ before) items =
+        ap (λ o. cons_option (option_and_then (λ stmt. option_map (placed_statement item.line stmt) (place_for o state)) o) (statements_from (item ∷ before) items)) begins in
+        subst (λ k. HasOwn (standing_from whole all bases k) mine) (sym heads) (by_count s begins rest (choose (length (state_after (item ∷ before)).pools) p))
       where
         choose : (a b : ℕ) → (a ≤ b) ⊎ (b < a)
         choose a b = ⊎_elim (λ yes. inl yes.1) (λ no. inr no.1) (leb_tells a b)
 
 -- and the last one comes after them
-at_end : (told : Whole) (all : List PlacedStatement) (mine : Line) → HasOwn (pool_standing told all (last_pool told)) mine → (bases : Bases) (ss : List PlacedStatement)
-    → HasOwn (standing_from told all bases ss) mine
-at_end told all mine own bases [] = own
-at_end told all mine own bases (s ∷ ss) =
-    own_right (statement_standing told all bases s) (standing_from told all (bases_after told bases s) ss) mine (statement_held told all bases s)
-    (at_end told all mine own (bases_after told bases s) ss)
+at_end : (whole : Whole) (all : List PlacedStatement) (mine : Line) → HasOwn (pool_standing whole all (last_pool whole)) mine → (bases : Bases) (ss : List PlacedStatement)
+    → HasOwn (standing_from whole all bases ss) mine
+at_end whole all mine own bases [] = own
+at_end whole all mine own bases (s ∷ ss) =
+    own_right (statement_standing whole all bases s) (standing_from whole all (bases_after whole bases s) ss) mine (statement_held whole all bases s)
+    (at_end whole all mine own (bases_after whole bases s) ss)
 
 -- ---- the literal that a statement has
-record IsFound (told : Whole) (s : PlacedStatement) (text : List ℕ) (value : Value) : Type 0 where
+record IsFound (whole : Whole) (s : PlacedStatement) (text : List ℕ) (value : Value) : Type 0 where
   literal : Literal
-  there : lookup (bytes_eq text) (pool_of told s) ≡ Some literal
+  there : lookup (bytes_eq text) (pool_of whole s) ≡ Some literal
   name : List ℕ
   section : s.place.section ≡ Some name
   is : place_value (Some name) literal.offset (item_length (constant_in false text)) ≡ value
 
-found : (told : Whole) (s : PlacedStatement) (text : List ℕ) (value : Value) → literal_in s.stmt.operand ≡ Some (codes "=" ++ text) → literal_of told s ≡ Some value → IsFound told s text value
-found told s text value last e =
-    go (lookup (bytes_eq text) (pool_of told s)) refl (subst (λ o. option_and_then (literal_place told s) (option_and_then literal_text o) ≡ Some value) last e)
+found : (whole : Whole) (s : PlacedStatement) (text : List ℕ) (value : Value) → literal_in s.stmt.operand ≡ Some (codes "=" ++ text) → literal_of whole s ≡ Some value → IsFound whole s text value
+found whole s text value last e =
+    go (lookup (bytes_eq text) (pool_of whole s)) refl (subst (λ o. option_and_then (literal_place whole s) (option_and_then literal_text o) ≡ Some value) last e)
   where
-    in_section : (literal : Literal) (o : Option (List ℕ)) → lookup (bytes_eq text) (pool_of told s) ≡ Some literal → s.place.section ≡ o
-        → location_counter o literal.offset (item_length (constant_in false text)) ≡ Some value → IsFound told s text value
+    in_section : (literal : Literal) (o : Option (List ℕ)) → lookup (bytes_eq text) (pool_of whole s) ≡ Some literal → s.place.section ≡ o
+        → location_counter o literal.offset (item_length (constant_in false text)) ≡ Some value → IsFound whole s text value
     in_section literal None there is e = absurd (cc)
     in_section literal (Some name) there is e = record { literal = literal; there = there; name = name; section = is; is = cc }
 
-    go : (o : Option Literal) → lookup (bytes_eq text) (pool_of told s) ≡ o
-        → option_and_then (λ (l : Literal). location_counter s.place.section l.offset (item_length (constant_in false text))) o ≡ Some value → IsFound told s text value
+    go : (o : Option Literal) → lookup (bytes_eq text) (pool_of whole s) ≡ o
+        → option_and_then (λ (l : Literal). location_counter s.place.section l.offset (item_length (constant_in false text))) o ≡ Some value → IsFound whole s text value
     go None there e = absurd (cc)
     go (Some literal) there e = in_section literal s.place.section there refl e
 
@@ -307,17 +307,17 @@ within_pools pools p text literal e = ⊎_elim
     no_literal : lookup (bytes_eq text) [] ≡ Some literal → ⊥
     no_literal e = cc
 
-literal_own : (source : Source) (p : ℕ) (text : List ℕ) (literal : Literal) (byte : ℕ) (bytes : List ℕ) → (known_of source).fault ≡ None
+literal_own : (source : Source) (p : ℕ) (text : List ℕ) (literal : Literal) (byte : ℕ) (bytes : List ℕ) → (final_state source).fault ≡ None
     → HasBytes (whole_of source) text (byte ∷ bytes) → lookup (bytes_eq text) (unwrap_or (slice_get (whole_of source).pools p) []) ≡ Some literal
     → HasOwn (standing_of source) (line literal.offset (Data (byte ∷ bytes)))
 unfolding standing_of
-literal_own source p text literal byte bytes sound is there = ⊎_elim (λ yes. last yes.1) (λ no. closed no.1) (leb_tells (length known.pools) p)
+literal_own source p text literal byte bytes sound is there = ⊎_elim (λ yes. last yes.1) (λ no. closed no.1) (leb_tells (length state.pools) p)
   where
-    known : PassState
-    known = known_of source
+    state : PassState
+    state = final_state source
 
-    told : Whole
-    told = whole_of source
+    whole : Whole
+    whole = whole_of source
 
     all : List PlacedStatement
     all = statements_of source
@@ -325,23 +325,23 @@ literal_own source p text literal byte bytes sound is there = ⊎_elim (λ yes. 
     mine : Line
     mine = line literal.offset (Data (byte ∷ bytes))
 
-    one : length told.pools ≡ length known.pools + 1
-    one = length_joined known.pools (closed_pool (cap (last_pool_extent known).offset) known.pool ∷ [])
+    one : length whole.pools ≡ length state.pools + 1
+    one = length_joined state.pools (closed_pool (cap (last_pool_extent state).offset) state.pool ∷ [])
 
     turned : reverse source.items ++ [] ≡ reverse source.items
     turned = append-nil (reverse source.items)
 
-    last : length known.pools ≤ p → HasOwn (standing_from told all none_in_use all) mine
+    last : length state.pools ≤ p → HasOwn (standing_from whole all none_in_use all) mine
     last le =
-        let less = within_pools told.pools p text literal there in
-        let same : p ≡ length told.pools - 1 = omega (arith, le, less, one) in
-        at_end told all mine (pool_own told all (last_pool told) text literal byte bytes is (subst (λ k. lookup (bytes_eq text) (unwrap_or (slice_get told.pools k) []) ≡ Some literal) same there)) none_in_use all
+        let less = within_pools whole.pools p text literal there in
+        let same : p ≡ length whole.pools - 1 = omega (arith, le, less, one) in
+        at_end whole all mine (pool_own whole all (last_pool whole) text literal byte bytes is (subst (λ k. lookup (bytes_eq text) (unwrap_or (slice_get whole.pools k) []) ≡ Some literal) same there)) none_in_use all
 
-    closed : p < length known.pools → HasOwn (standing_from told all none_in_use all) mine
+    closed : p < length state.pools → HasOwn (standing_from whole all none_in_use all) mine
     closed less =
-        subst (λ k. HasOwn (standing_from told all none_in_use k) mine) (sym (statements_are source))
-        (in_statements told all p mine
-        (λ s e. pool_own told all (pool_of told s) text literal byte bytes is (subst (λ k. lookup (bytes_eq text) (unwrap_or (slice_get told.pools k) []) ≡ Some literal) (sym e) there))
+        subst (λ k. HasOwn (standing_from whole all none_in_use k) mine) (sym (statements_are source))
+        (in_statements whole all p mine
+        (λ s e. pool_own whole all (pool_of whole s) text literal byte bytes is (subst (λ k. lookup (bytes_eq text) (unwrap_or (slice_get whole.pools k) []) ≡ Some literal) (sym e) there))
         none_in_use source.items [] []
         (subst (λ k. (state_after k).fault ≡ None) (sym turned) sound)
         (ap (λ k. (state_after k).control) (sym turned))
@@ -364,7 +364,7 @@ is_literal_so : (c : Context) (text : List ℕ) (index : ℕ) (address : Address
 unfolding indexed_in operand_in
 is_literal_so c text index address e = go c.literal refl e
   where
-    go : (o : Option Value) → c.literal ≡ o → both_or_lower_fault (Ok 0) (then_judge (implied_address c.bases) (ok_or o BadOperand)) ≡ Ok (index, address) → IsLiteral c text index address
+    go : (o : Option Value) → c.literal ≡ o → both_or_lower_fault (Ok 0) (then_check (implied_address c.bases) (ok_or o BadOperand)) ≡ Ok (index, address) → IsLiteral c text index address
     go None is e = absurd (cc)
     go (Some value) is e =
         let parts = both_ok (Ok 0) (implied_address c.bases value) index address e in
@@ -383,14 +383,14 @@ stands_so : Knows → (source : Source) (assembly : AssemblyParts) (bases : Base
     → StandsInSection source assembly (context_of (whole_of source) bases number before s) (byte ∷ bytes) index address
 unfolding section_of
 stands_so knows source assembly bases number before s text byte bytes index address e has last is resolves =
-    let told = whole_of source in
-    let known = state_after before in
-    let c = context_of told bases number before s in
+    let whole = whole_of source in
+    let state = state_after before in
+    let c = context_of whole bases number before s in
     let ok = accepted source assembly e in
     let literal = is_literal_so c text index address resolves in
-    let f = found told (placed_statement number s (place_in s known)) text literal.value last literal.is in
+    let f = found whole (placed_statement number s (place_in s state)) text literal.value last literal.is in
     let mine = line f.literal.offset (Data (byte ∷ bytes)) in
-    let own = literal_own source (length known.pools) text f.literal byte bytes ok.first is f.there in
+    let own = literal_own source (length state.pools) text f.literal byte bytes ok.first is f.there in
     let resolved : assembly.section.resolved ≡ own.front ++ mine ∷ own.back = ap (λ k. k.section.resolved) (sym ok.made) ∙ own.is in
     let words : HaveWords assembly.section.image.relocs (own.front ++ own.back) = subst (λ k. HaveWords k.section.image.relocs (own.front ++ own.back)) ok.made own.words in
     let apart : AreApart 0 (own.front ++ mine ∷ own.back) (length assembly.section.image.text) =
@@ -402,14 +402,14 @@ stands_so knows source assembly bases number before s text byte bytes index addr
     ∙ reverse_step has.item has.after before in
     let sound : (state_after (reverse has.after ++ (has.item ∷ before))).fault ≡ None = subst (λ k. (state_after k).fault ≡ None) turned ok.first in
     let fault = own_section number s before (reverse has.after) has.item has.numbered has.begins sound in
-    let within = instruction_within (role_in s) (name_in s) known.section known.control has.role fault in
-    let there : is_control known.section told.control ≡ true =
-    ap (is_control known.section) (ap (λ k. (state_after k).control) (turned ∙ sym (append_assoc (reverse has.after) (has.item ∷ []) before)))
-    ∙ control_same (reverse has.after ++ (has.item ∷ [])) before known.section within in
+    let within = instruction_within (role_in s) (name_in s) state.section state.control has.role fault in
+    let there : is_control state.section whole.control ≡ true =
+    ap (is_control state.section) (ap (λ k. (state_after k).control) (turned ∙ sym (append_assoc (reverse has.after) (has.item ∷ []) before)))
+    ∙ control_same (reverse has.after ++ (has.item ∷ [])) before state.section within in
     record {
       none = literal.none;
       section = f.name;
-      control = sym (in_control known.section told.control there) ∙ f.section;
+      control = sym (in_control state.section whole.control there) ∙ f.section;
       offset = f.literal.offset;
       lies = lies_at knows.addresses c (codes "=" ++ text) f.name (pos f.literal.offset) 0 address (ok_or c.literal BadOperand) (literal_written c text)
           (λ value expression_value.

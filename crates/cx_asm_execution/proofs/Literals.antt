@@ -1,5 +1,5 @@
 -- Where the literals of instructions are in an assembly (OS/VS-DOS/VSE-VM/370 Assembler Language, GC33-4010,
--- "Literals", "Literal Pool"; that they are resolved lines is this project's own).
+-- "Literals", "Literal Pool"; that they are resolved lines is this product's own).
 use Rattle.std.specs.Prelude.{◌≡◌, ℕ, pos, ◌<◌, true, false, Ok, Option, Some, List, ◌∷◌, ◌++◌, length, reverse, codes}
 use Rattle.std.specs.List.{repeat}
 use Rattle.cx_code.specs.declared.disassembly.Line.{Line}
@@ -26,11 +26,11 @@ use Rattle.cx_asm_execution.proofs.Words.{LiesAfter}
 
 -- A literal's text, after its equals sign, and the bytes of all its copies: at each place the same ones, and no word
 -- that loading raises.
-pub record HasBytes (told : Whole) (text bytes : List ℕ) : Type 0 where
+pub record HasBytes (whole : Whole) (text bytes : List ℕ) : Type 0 where
   pub constant : Constant
   pub written : constant_in false text ≡ Ok constant
   pub once : List ℕ
-  pub everywhere : (counter : Option Value) → item_made told false counter text ≡ Ok (copy_of_constant once false)
+  pub everywhere : (counter : Option Value) → item_made whole false counter text ≡ Ok (copy_of_constant once false)
   pub all : repeat constant.duplication once ≡ bytes
 
 -- An instruction's statement on a line of a source; `before` are the lines before it, the latest first.

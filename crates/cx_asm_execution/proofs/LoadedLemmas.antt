@@ -86,6 +86,6 @@ every known storage after parts loaded (line ∷ lines) from is fit done stand a
 
 pub all_loaded : Known → LinesAreLoaded
 all_loaded known storage after parts loaded is fit done =
-    let told : IsTextOf parts.resolved (length parts.image.text) parts.image.text =
+    let text_is : IsTextOf parts.resolved (length parts.image.text) parts.image.text =
     subst (IsTextOf parts.resolved (length parts.image.text)) (sym is.text) (known.text parts.resolved (length parts.image.text) is.apart) in
-    every known storage after parts loaded parts.resolved 0 is fit done told.stand is.apart
+    every known storage after parts loaded parts.resolved 0 is fit done text_is.stand is.apart

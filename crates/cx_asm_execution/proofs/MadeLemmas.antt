@@ -4,7 +4,7 @@ use Rattle.std.specs.Option.{ok_or, option_map_or}
 use Rattle.std.proofs.Common.{◌≡◌, ℕ, ◌+◌, ◌*◌, true, false, ◌==◌, Some, Ok, Err, List, [], ◌∷◌, ◌++◌, drop, length, refl, sym, ◌∙◌, ap, subst, arith}
 use Rattle.std.proofs.lemmas.Bool.Decides.{nat_tests}
 use Rattle.std.proofs.lemmas.List.{append_assoc, map-append, reverse-append}
-use Rattle.cx_asm_arrival.specs.Expansion.{Argument, Statement, branch as made_branch, instructions_made as made_code, stores as made_stores, words_of}
+use Rattle.cx_asm_execution.specs.Expansion.{Argument, Statement, branch as made_branch, instructions_made as made_code, stores as made_stores, words_of}
 use Rattle.cx_code.specs.Spelling.{Instruction, instruction}
 use Rattle.cx_code.specs.Table.{length_of}
 use Rattle.cx_code.specs.declared.table.Op.TheVariants as op
@@ -23,7 +23,7 @@ use Rattle.cx_translate.specs.Sections.{lines}
 use Rattle.cx_asm_operands.specs.Addresses.{implied_address}
 use Rattle.cx_asm_operands.specs.Bases.{Bases}
 use Rattle.cx_asm_operands.specs.Context.{Context, expression_value}
-use Rattle.cx_asm_operands.specs.Judging.{then_judge}
+use Rattle.cx_asm_operands.specs.Checking.{then_check}
 use Rattle.cx_asm_operands.specs.Storage.{indexed_by, indexed_in, is_literal, operand, operand_in, Operand}
 use Rattle.cx_asm_operands.specs.declared.addresses.Address.{Address}
 use Rattle.cx_asm_pass2.specs.Whole.{Whole}
@@ -36,21 +36,21 @@ use Rattle.cx_asm_execution.proofs.PlainLemmas.{ArePlain, decimal_plain}
 use Rattle.cx_asm_execution.proofs.WordLemmas.{no_parenthesis}
 
 -- ---- lines in two parts
-record Splits (told : Whole) (bases : Bases) (before : List Item) (at : ℕ) (xs ys : List Item) (code : List Instruction) : Type 0 where
+record Splits (whole : Whole) (bases : Bases) (before : List Item) (at : ℕ) (xs ys : List Item) (code : List Instruction) : Type 0 where
   one : List Instruction
   two : List Instruction
   is : code ≡ one ++ two
   end : ℕ
-  front : AreResolved told bases before at xs one
-  back : AreResolved told bases (reverse xs ++ before) end ys two
+  front : AreResolved whole bases before at xs one
+  back : AreResolved whole bases (reverse xs ++ before) end ys two
 
-resolved_split : (told : Whole) (bases : Bases) (before : List Item) (at : ℕ) (xs ys : List Item) (code : List Instruction) → AreResolved told bases before at (xs ++ ys) code
-    → Splits told bases before at xs ys code
+resolved_split : (whole : Whole) (bases : Bases) (before : List Item) (at : ℕ) (xs ys : List Item) (code : List Instruction) → AreResolved whole bases before at (xs ++ ys) code
+    → Splits whole bases before at xs ys code
 unfolding AreResolved
-resolved_split told bases before at [] ys code r = record { one = []; two = code; is = refl; end = at; front = tt; back = r }
-resolved_split told bases before at (x ∷ xs) ys [] r = absurd r
-resolved_split told bases before at (x ∷ xs) ys (i ∷ code) r =
-    let more = resolved_split told bases (x ∷ before) (at + length_of i.op) xs ys code r.1 in
+resolved_split whole bases before at [] ys code r = record { one = []; two = code; is = refl; end = at; front = tt; back = r }
+resolved_split whole bases before at (x ∷ xs) ys [] r = absurd r
+resolved_split whole bases before at (x ∷ xs) ys (i ∷ code) r =
+    let more = resolved_split whole bases (x ∷ before) (at + length_of i.op) xs ys code r.1 in
     let turn : reverse xs ++ (x ∷ before) ≡ reverse (x ∷ xs) ++ before = sym (ap (λ k. k ++ before) (reverse-append (x ∷ []) xs) ∙ append_assoc (reverse xs) (x ∷ []) before) in
     record {
       one = i ∷ more.one;
@@ -58,7 +58,7 @@ resolved_split told bases before at (x ∷ xs) ys (i ∷ code) r =
       is = ap (λ k. i ∷ k) more.is;
       end = more.end;
       front = (r.0, more.front);
-      back = subst (λ k. AreResolved told bases k more.end ys more.two) turn more.back;
+      back = subst (λ k. AreResolved whole bases k more.end ys more.two) turn more.back;
     }
 
 -- ---- operands without an index
@@ -67,7 +67,7 @@ alone : (c : Context) (text : List ℕ) (place : Result Value FaultKind) (x : �
 unfolding indexed_in
 alone c text place x address is e =
     let found : indexed_by c place [] ≡ Ok (x, address) = subst (λ o. option_map_or (λ (o : Operand). indexed_by c o.place o.subfields) o (Err BadOperand) ≡ Ok (x, address)) is e in
-    let parts = both_ok (Ok 0) (then_judge (implied_address c.bases) place) x address found in
+    let parts = both_ok (Ok 0) (then_check (implied_address c.bases) place) x address found in
     let same = parts.0 in
     cc
 
@@ -94,23 +94,23 @@ word_index c k x address e =
 abbrev argument : ℕ → Address → Address → Argument
 argument index at word = record { index = index; base = at.base; displacement = at.displacement; word = record { base = word.base; displacement = word.displacement } }
 
-record HaveArguments (told : Whole) (bases : Bases) (line : ℕ) (before : List Item) (k : ℕ) (list : List (List ℕ)) (code : List Instruction) : Type 0 where
+record HaveArguments (whole : Whole) (bases : Bases) (line : ℕ) (before : List Item) (k : ℕ) (list : List (List ℕ)) (code : List Instruction) : Type 0 where
   arguments : List Argument
-  are : AreArguments told bases line before k list arguments
+  are : AreArguments whole bases line before k list arguments
   is : code ≡ made_stores arguments
 
-have_arguments : (told : Whole) (bases : Bases) (line : ℕ) (before : List Item) (k : ℕ) (list : List (List ℕ)) (code : List Instruction) → AreStores told bases line before k list code
-    → HaveArguments told bases line before k list code
+have_arguments : (whole : Whole) (bases : Bases) (line : ℕ) (before : List Item) (k : ℕ) (list : List (List ℕ)) (code : List Instruction) → AreStores whole bases line before k list code
+    → HaveArguments whole bases line before k list code
 unfolding AreStores AreArguments
-have_arguments told bases line before k [] [] r = record { arguments = []; are = tt; is = refl }
-have_arguments told bases line before k [] (i ∷ code) r = absurd r
-have_arguments told bases line before k (text ∷ list) [] r = absurd r
-have_arguments told bases line before k (text ∷ list) (i ∷ []) r = absurd r
-have_arguments told bases line before k (text ∷ list) (i ∷ j ∷ code) r =
+have_arguments whole bases line before k [] [] r = record { arguments = []; are = tt; is = refl }
+have_arguments whole bases line before k [] (i ∷ code) r = absurd r
+have_arguments whole bases line before k (text ∷ list) [] r = absurd r
+have_arguments whole bases line before k (text ∷ list) (i ∷ []) r = absurd r
+have_arguments whole bases line before k (text ∷ list) (i ∷ j ∷ code) r =
     let load = r.0 in
     let store = r.1 in
-    let zero = word_index (context_of told bases line (made_item line (load_of text) ∷ before) (store_of k)) k store.index store.address store.operand in
-    let more = have_arguments told bases line (made_item line (store_of k) ∷ made_item line (load_of text) ∷ before) (k + 1) list code r.2 in
+    let zero = word_index (context_of whole bases line (made_item line (load_of text) ∷ before) (store_of k)) k store.index store.address store.operand in
+    let more = have_arguments whole bases line (made_item line (store_of k) ∷ made_item line (load_of text) ∷ before) (k + 1) list code r.2 in
     record {
       arguments = argument load.index load.address store.address ∷ more.arguments;
       are = (load.operand, store.operand ∙ ap (λ n. Ok (n, store.address)) zero, more.are);
@@ -128,49 +128,49 @@ pub list_begins : (command : Command) (words : List Word) → list_of command wo
 unfolding list_of
 list_begins command words = refl
 
-record HaveWords (told : Whole) (bases : Bases) (line : ℕ) (before : List Item) (list : List (List ℕ)) (code : List Instruction) : Type 0 where
+record HaveWords (whole : Whole) (bases : Bases) (line : ℕ) (before : List Item) (list : List (List ℕ)) (code : List Instruction) : Type 0 where
   block : Address
   head : Address
   arguments : List Argument
-  are : AreArguments told bases line before 0 list (argument 0 block head ∷ arguments)
+  are : AreArguments whole bases line before 0 list (argument 0 block head ∷ arguments)
   is : code ≡ made_stores (argument 0 block head ∷ arguments)
 
-have_words : (told : Whole) (bases : Bases) (line : ℕ) (before : List Item) (text : List ℕ) (list : List (List ℕ)) (code : List Instruction) → is_literal text ≡ true
-    → AreStores told bases line before 0 (text ∷ list) code → HaveWords told bases line before (text ∷ list) code
+have_words : (whole : Whole) (bases : Bases) (line : ℕ) (before : List Item) (text : List ℕ) (list : List (List ℕ)) (code : List Instruction) → is_literal text ≡ true
+    → AreStores whole bases line before 0 (text ∷ list) code → HaveWords whole bases line before (text ∷ list) code
 unfolding AreArguments
-have_words told bases line before text list code literal r =
-    let all = have_arguments told bases line before 0 (text ∷ list) code r in
+have_words whole bases line before text list code literal r =
+    let all = have_arguments whole bases line before 0 (text ∷ list) code r in
     go all.arguments all.are all.is
   where
-    go : (arguments : List Argument) → AreArguments told bases line before 0 (text ∷ list) arguments → code ≡ made_stores arguments → HaveWords told bases line before (text ∷ list) code
+    go : (arguments : List Argument) → AreArguments whole bases line before 0 (text ∷ list) arguments → code ≡ made_stores arguments → HaveWords whole bases line before (text ∷ list) code
     go [] are is = absurd are
     go (a ∷ arguments) are is =
-        let zero : a.index ≡ 0 = literal_index (context_of told bases line before (load_of text)) text a.index (record { base = a.base; displacement = a.displacement }) literal are.0 in
+        let zero : a.index ≡ 0 = literal_index (context_of whole bases line before (load_of text)) text a.index (record { base = a.base; displacement = a.displacement }) literal are.0 in
         let same : a ≡ record a { index = 0 } = ap (λ n. record a { index = n }) zero in
         record {
           block = record { base = a.base; displacement = a.displacement };
           head = record { base = a.word.base; displacement = a.word.displacement };
           arguments = arguments;
-          are = subst (λ k. AreArguments told bases line before 0 (text ∷ list) (k ∷ arguments)) same are;
+          are = subst (λ k. AreArguments whole bases line before 0 (text ∷ list) (k ∷ arguments)) same are;
           is = is ∙ ap (λ k. made_stores (k ∷ arguments)) same;
         }
 
 -- ---- the call
 pub calls_made : StoresAreResolved → MarkIsResolved → CallsAreMade
 unfolding made_code
-calls_made stored marked told bases line at before command words code r =
+calls_made stored marked whole bases line at before command words code r =
     let list = list_of command words in
     let n = last_word command words in
-    let split = resolved_split told bases before at (lines line (stores 0 list)) (lines line (call n)) code
-    (subst (λ k. AreResolved told bases before at k code) (map-append (made_item line) (stores 0 list) (call n)) r) in
-    let front : AreStores told bases line before 0 (block_literal (block_bytes command words) ∷ rest_of command words) split.one =
-    subst (λ k. AreStores told bases line before 0 k split.one) (list_begins command words) (stored told bases line at 0 before list split.one split.front) in
-    let made = have_words told bases line before (block_literal (block_bytes command words)) (rest_of command words) split.one refl front in
-    let back = marked told bases line split.end n (after_stores line before command words) split.two split.back in
+    let split = resolved_split whole bases before at (lines line (stores 0 list)) (lines line (call n)) code
+    (subst (λ k. AreResolved whole bases before at k code) (map-append (made_item line) (stores 0 list) (call n)) r) in
+    let front : AreStores whole bases line before 0 (block_literal (block_bytes command words) ∷ rest_of command words) split.one =
+    subst (λ k. AreStores whole bases line before 0 k split.one) (list_begins command words) (stored whole bases line at 0 before list split.one split.front) in
+    let made = have_words whole bases line before (block_literal (block_bytes command words)) (rest_of command words) split.one refl front in
+    let back = marked whole bases line split.end n (after_stores line before command words) split.two split.back in
     let last = back.marks in
     let end = back.calls in
-    let listed = list_index (context_of told bases line (after_mark line before command words) list_of_1) end.loads.index end.loads.address end.loads.operand in
-    let entered = literal_index (context_of told bases line (after_list line before command words) entry_in_15) (codes "=V(DFHEI1)") end.takes.index end.takes.address refl end.takes.operand in
+    let listed = list_index (context_of whole bases line (after_mark line before command words) list_of_1) end.loads.index end.loads.address end.loads.operand in
+    let entered = literal_index (context_of whole bases line (after_list line before command words) entry_in_15) (codes "=V(DFHEI1)") end.takes.index end.takes.address refl end.takes.operand in
     let s : Statement = record {
       command = command;
       first = first_byte command words;
@@ -196,7 +196,7 @@ calls_made stored marked told bases line at before command words code r =
         first = refl;
         second = refl;
         conditions = refl;
-        arguments = subst (λ k. AreArguments told bases line before 0 k (words_of s)) (sym (list_begins command words)) made.are;
+        arguments = subst (λ k. AreArguments whole bases line before 0 k (words_of s)) (sym (list_begins command words)) made.are;
         last = last.operand;
         list = end.loads.operand ∙ ap (λ n. Ok (n, end.loads.address)) listed;
         entry = end.takes.operand ∙ ap (λ n. Ok (n, end.takes.address)) entered;

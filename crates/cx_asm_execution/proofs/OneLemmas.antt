@@ -1,7 +1,7 @@
 -- A statement is determined by where its made statements are and what they are made of.
 use Rattle.std.proofs.Common.{◌≡◌, ℕ, ◌+◌, Some, Ok, List, [], ◌∷◌, ◌++◌, refl, sym, ◌∙◌, ap}
 use Rattle.std.specs.Prelude.{Option, Result}
-use Rattle.cx_asm_arrival.specs.Expansion.{Argument, ImpliedAddress, Statement, instructions_made, stores, words_of}
+use Rattle.cx_asm_execution.specs.Expansion.{Argument, ImpliedAddress, Statement, instructions_made, stores, words_of}
 use Rattle.cx_code.specs.declared.instruction.Fields.{Fields}
 use Rattle.cx_code.specs.declared.instruction.Fields.TheVariants.{Rx, Si}
 use Rattle.cx_code.specs.declared.table.Op.{Op}

@@ -3,8 +3,8 @@ use Rattle.std.specs.Prelude.{ℤ, slice_index, ◌≢◌}
 use Rattle.std.proofs.Common.{map, ◌≡◌, ◌≤◌, ℕ, suc, ◌+◌, ◌*◌, false, ◌==◌, List, [], ◌∷◌, length, refl, sym, ◌∙◌, ap, arith}
 use Rattle.std.specs.List.{AllByRecursion, enumerate_from}
 use Rattle.std.proofs.lemmas.Bool.Decides.{nat_tests}
-use Rattle.cx_asm_arrival.specs.Expansion.{Argument, ImpliedAddress, address_reached}
-use Rattle.cx_asm_arrival.specs.Stands.{IsWord}
+use Rattle.cx_asm_execution.specs.Expansion.{Argument, ImpliedAddress, address_reached}
+use Rattle.cx_asm_execution.specs.Stands.{IsWord}
 use Rattle.cx_exec.specs.Machine.{effective}
 use Rattle.cx_source.specs.declared.source.Item.{Item}
 use Rattle.cx_storage.specs.Address.{address_in, address_after}
@@ -49,27 +49,27 @@ HaveWords regs list k arguments = AllByRecursion (λ e. IsWord regs list e.0 e.1
 word_again : (place k : ℕ) → address_after place (4 * k) ≡ address_after (address_after place 0) (4 * k)
 word_again place k = omega arith
 
-pub have_words : WordsLie → (sections : Sections) (regs : List ℕ) (told : Whole) (bases : Bases) (line : ℕ) (before : List Item) (k : ℕ) (list : List (List ℕ)) (arguments : List Argument)
-    → (section : List ℕ) (offset : ℤ) → HasList told.find section offset → k + length list ≤ 18
-    → AreArguments told bases line before k list arguments → AreBased sections regs bases arguments
+pub have_words : WordsLie → (sections : Sections) (regs : List ℕ) (whole : Whole) (bases : Bases) (line : ℕ) (before : List Item) (k : ℕ) (list : List (List ℕ)) (arguments : List Argument)
+    → (section : List ℕ) (offset : ℤ) → HasList whole.find section offset → k + length list ≤ 18
+    → AreArguments whole bases line before k list arguments → AreBased sections regs bases arguments
     → HaveWords regs (address_after (sections.place section offset) 0) k arguments
 unfolding AreArguments
-have_words lie sections regs told bases line before k [] [] section offset has room are based = tt
-have_words lie sections regs told bases line before k [] (a ∷ arguments) section offset has room are based = absurd are
-have_words lie sections regs told bases line before k (text ∷ list) [] section offset has room are based = absurd are
-have_words lie sections regs told bases line before k (text ∷ list) (a ∷ arguments) section offset has room are based =
-    let own = context_of told bases line (made_item line (load_of text) ∷ before) (store_of k) in
+have_words lie sections regs whole bases line before k [] [] section offset has room are based = tt
+have_words lie sections regs whole bases line before k [] (a ∷ arguments) section offset has room are based = absurd are
+have_words lie sections regs whole bases line before k (text ∷ list) [] section offset has room are based = absurd are
+have_words lie sections regs whole bases line before k (text ∷ list) (a ∷ arguments) section offset has room are based =
+    let own = context_of whole bases line (made_item line (load_of text) ∷ before) (store_of k) in
     let at = address a.word.base a.word.displacement in
     let lies = ((lie own section offset k (omega (arith, room)) has).indexed 0 at are.1).1 in
-    let rest = have_words lie sections regs told bases line (made_item line (store_of k) ∷ made_item line (load_of text) ∷ before) (k + 1) list arguments section offset has (omega (arith, room)) are.2 based.1 in
+    let rest = have_words lie sections regs whole bases line (made_item line (store_of k) ∷ made_item line (load_of text) ∷ before) (k + 1) list arguments section offset has (omega (arith, room)) are.2 based.1 in
     ((based.0.0, lies_at own section offset (4 * k) at sections regs lies based.0 ∙ word_again (sections.place section offset) k), rest)
 
 -- as many arguments as words
-pub same_count : (told : Whole) (bases : Bases) (line : ℕ) (before : List Item) (k : ℕ) (list : List (List ℕ)) (arguments : List Argument) → AreArguments told bases line before k list arguments
+pub same_count : (whole : Whole) (bases : Bases) (line : ℕ) (before : List Item) (k : ℕ) (list : List (List ℕ)) (arguments : List Argument) → AreArguments whole bases line before k list arguments
     → length list ≡ length arguments
 unfolding AreArguments
-same_count told bases line before k [] [] are = refl
-same_count told bases line before k [] (a ∷ arguments) are = absurd are
-same_count told bases line before k (text ∷ list) [] are = absurd are
-same_count told bases line before k (text ∷ list) (a ∷ arguments) are =
-    ap suc (same_count told bases line (made_item line (store_of k) ∷ made_item line (load_of text) ∷ before) (k + 1) list arguments are.2)
+same_count whole bases line before k [] [] are = refl
+same_count whole bases line before k [] (a ∷ arguments) are = absurd are
+same_count whole bases line before k (text ∷ list) [] are = absurd are
+same_count whole bases line before k (text ∷ list) (a ∷ arguments) are =
+    ap suc (same_count whole bases line (made_item line (store_of k) ∷ made_item line (load_of text) ∷ before) (k + 1) list arguments are.2)

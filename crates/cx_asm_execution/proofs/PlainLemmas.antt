@@ -1,7 +1,7 @@
 -- Texts without a mark: digits, letters.
 use Rattle.std.specs.Prelude.{decimal, nat_lt, ◌&&◌}
 use Rattle.std.proofs.Common.{◌≡◌, ◌≤◌, ◌<◌, ℕ, zero, suc, ◌/◌, ◌%◌, ◌^◌, Bool, true, false, cond, ◌==◌, Some, List, [], ◌∷◌, ◌++◌, length, map, refl, sym, ◌∙◌, ap, arith}
-use Rattle.std.specs.Char.{digit_value}
+use Rattle.std.specs.Char.{digit_value as glyph_value}
 use Rattle.std.specs.Fmt.{digits, digit_glyph, digits_onto}
 use Rattle.std.specs.Int.Digits.{number_from_digits}
 use Rattle.std.specs.List.{AllByRecursion, list_all}
@@ -13,7 +13,7 @@ use Rattle.std.proofs.lemmas.List.{append_assoc, append-nil}
 use Rattle.cx_source.specs.Marks.{depth_after, is_mark, lies_outside, outside_from, parts_from, scan_after, within_after}
 use Rattle.cx_source.specs.declared.marks.Delimiter.TheVariants.{TopComma}
 use Rattle.cx_source.specs.declared.marks.Scan.{Scan}
-use Rattle.cx_asm_expressions.specs.Digits.{digit, is_digit, number_in, worth_of}
+use Rattle.cx_asm_expressions.specs.Digits.{digit, is_digit, number_in, digit_value}
 use Rattle.cx_asm_expressions.specs.Terms.{is_sign, part_of, parts_from as signed_parts_from}
 use Rattle.cx_asm_expressions.specs.declared.terms.Sign.{Sign}
 use Rattle.cx_asm_expressions.specs.declared.terms.Sign.TheVariants.{Plus, Minus}
@@ -94,16 +94,16 @@ unfolding digits
 decimal_plain n = onto_plain 64 n [] tt
 
 -- ---- and their number
-digit_same : (c : ℕ) → digit_value c < 10 → digit c ≡ Some (digit_value c)
+digit_same : (c : ℕ) → glyph_value c < 10 → digit c ≡ Some (glyph_value c)
 unfolding digit
 digit_same c h = grind (arith, nat_tests)
 
-all_digits : (text : List ℕ) → AllDigits 10 text → (list_all (is_digit 10) text ≡ true) × (map worth_of text ≡ map digit_value text)
+all_digits : (text : List ℕ) → AllDigits 10 text → (list_all (is_digit 10) text ≡ true) × (map digit_value text ≡ map glyph_value text)
 all_digits [] h = (refl, refl)
 all_digits (c ∷ text) h =
     let more = all_digits text h.1 in
     let same = digit_same c h.0 in
-    let small : nat_lt (digit_value c) 10 ≡ true = grind (arith, nat_tests, h.0) in
+    let small : nat_lt (glyph_value c) 10 ≡ true = grind (arith, nat_tests, h.0) in
     (rw (same, small, more.0) refl, rw (same, more.1) refl)
 
 pub record IsRead (n : ℕ) (text : List ℕ) : Type 0 where

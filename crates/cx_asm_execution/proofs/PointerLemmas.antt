@@ -4,7 +4,7 @@ use Rattle.std.proofs.Common.{◌≡◌, ℕ, ◌+◌, List, [], ◌∷◌, ◌+
 use Rattle.std.proofs.lemmas.Grind.{reverse_onto}
 use Rattle.std.proofs.lemmas.List.{append_assoc}
 use Rattle.std.proofs.lemmas.List.Sums.{sum_by-cons}
-use Rattle.cx_asm_arrival.specs.Stands.{code_length}
+use Rattle.cx_asm_execution.specs.Stands.{code_length}
 use Rattle.cx_code.specs.declared.instruction.Fields.{Fields}
 use Rattle.cx_code.specs.declared.instruction.Fields.TheVariants.{Rx}
 use Rattle.cx_code.specs.declared.table.Op.TheVariants as op
@@ -18,7 +18,7 @@ use Rattle.cx_translate.specs.Sections.{lines}
 use Rattle.cx_asm_operands.specs.Bases.{Bases}
 use Rattle.cx_asm_operands.specs.Context.{Context, register_in}
 use Rattle.cx_asm_operands.specs.Forms.{fields_in, form_of_op, operands_of, instruction_or_fault}
-use Rattle.cx_asm_operands.specs.Judging.{both_or_lower_fault}
+use Rattle.cx_asm_operands.specs.Checking.{both_or_lower_fault}
 use Rattle.cx_asm_operands.specs.Storage.{indexed_in}
 use Rattle.cx_asm_operands.specs.declared.addresses.Address.{Address}
 use Rattle.cx_code.specs.declared.table.Format.TheVariants as format
@@ -48,22 +48,22 @@ all_are [] more a b = b
 all_are (item ∷ items) more a b = (a.0, all_are items more a.1 b)
 
 -- ---- instructions of lines and of more lines
-pub record Parted (told : Whole) (bases : Bases) (before : List Item) (at : ℕ) (items more : List Item) (code : List Instruction) : Type 0 where
+pub record Parted (whole : Whole) (bases : Bases) (before : List Item) (at : ℕ) (items more : List Item) (code : List Instruction) : Type 0 where
   pub first : List Instruction
   pub rest : List Instruction
   pub is : code ≡ first ++ rest
-  pub here : AreResolved told bases before at items first
-  pub after : AreResolved told bases (reverse items ++ before) (at + code_length first) more rest
+  pub here : AreResolved whole bases before at items first
+  pub after : AreResolved whole bases (reverse items ++ before) (at + code_length first) more rest
 
-pub parted : (told : Whole) (bases : Bases) (before : List Item) (at : ℕ) (items more : List Item) (code : List Instruction) → AreResolved told bases before at (items ++ more) code
-    → Parted told bases before at items more code
+pub parted : (whole : Whole) (bases : Bases) (before : List Item) (at : ℕ) (items more : List Item) (code : List Instruction) → AreResolved whole bases before at (items ++ more) code
+    → Parted whole bases before at items more code
 unfolding AreResolved
-parted told bases before at [] more code r =
+parted whole bases before at [] more code r =
     let same : at + 0 ≡ at = omega arith in
-    record { first = []; rest = code; is = refl; here = tt; after = subst (λ n. AreResolved told bases before n more code) (sym same) r }
-parted told bases before at (item ∷ items) more [] r = absurd r
-parted told bases before at (item ∷ items) more (i ∷ code) r =
-    let p = parted told bases (item ∷ before) (at + length_of i.op) items more code r.1 in
+    record { first = []; rest = code; is = refl; here = tt; after = subst (λ n. AreResolved whole bases before n more code) (sym same) r }
+parted whole bases before at (item ∷ items) more [] r = absurd r
+parted whole bases before at (item ∷ items) more (i ∷ code) r =
+    let p = parted whole bases (item ∷ before) (at + length_of i.op) items more code r.1 in
     let sum : code_length (i ∷ p.first) ≡ length_of i.op + code_length p.first = sum_by-cons (λ (x : Instruction). length_of x.op) i p.first in
     let place : at + length_of i.op + code_length p.first ≡ at + code_length (i ∷ p.first) = omega (arith, sum) in
     let lines_so : reverse items ++ (item ∷ before) ≡ reverse (item ∷ items) ++ before =
@@ -73,8 +73,8 @@ parted told bases before at (item ∷ items) more (i ∷ code) r =
       rest = p.rest;
       is = ap (λ (l : List Instruction). i ∷ l) p.is;
       here = (r.0, p.here);
-      after = subst (λ l. AreResolved told bases l (at + code_length (i ∷ p.first)) more p.rest) lines_so
-          (subst (λ n. AreResolved told bases (reverse items ++ (item ∷ before)) n more p.rest) place p.after);
+      after = subst (λ l. AreResolved whole bases l (at + code_length (i ∷ p.first)) more p.rest) lines_so
+          (subst (λ n. AreResolved whole bases (reverse items ++ (item ∷ before)) n more p.rest) place p.after);
     }
 
 -- ---- where they are
@@ -115,8 +115,8 @@ load_fields c register fields made e is =
 
 pub loads_are_resolved : LoadsAreResolved
 unfolding instruction_or_fault
-loads_are_resolved told bases line at before register made cut r =
-    let c = context_of told bases line before (load register) in
-    let e = resolved_so told bases line at before (load register) op.L made l_named r in
+loads_are_resolved whole bases line at before register made cut r =
+    let c = context_of whole bases line before (load register) in
+    let e = resolved_so whole bases line at before (load register) op.L made l_named r in
     let is = made_ok (instruction op.L) (fields_in (form_of_op op.L) c (operands_of (register ++ codes ",DFHEITP"))) made e in
     load_fields c register is.0 made (sym (ap (λ k. fields_in k c (register ∷ codes "DFHEITP" ∷ [])) l_indexed) ∙ sym (ap (fields_in (form_of_op op.L) c) cut) ∙ is.1) is.2

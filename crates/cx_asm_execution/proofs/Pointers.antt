@@ -1,6 +1,6 @@
 -- The loads of pointers after a call.
 use Rattle.std.specs.Prelude.{◌≡◌, ℕ, ◌+◌, Ok, List, [], ◌∷◌, ◌++◌, codes, map, reverse}
-use Rattle.cx_asm_arrival.specs.Stands.{code_length}
+use Rattle.cx_asm_execution.specs.Stands.{code_length}
 use Rattle.cx_code.specs.declared.table.Op.TheVariants as op
 use Rattle.cx_code.specs.Spelling.{Instruction}
 use Rattle.cx_base_commands.specs.declared.commands.Command.{Command}
@@ -47,6 +47,6 @@ pub record IsPointerLoad (c : Context) (register : List ℕ) (made : Instruction
 
 -- So is each load whose register is an operand by itself.
 abbrev pub LoadsAreResolved : Type 0
-LoadsAreResolved = (told : Whole) (bases : Bases) (line at : ℕ) (before : List Item) (register : List ℕ) (made : Instruction)
-    → operands_of (register ++ codes ",DFHEITP") ≡ register ∷ codes "DFHEITP" ∷ [] → IsResolved told bases before at (made_item line (load register)) made
-    → IsPointerLoad (context_of told bases line before (load register)) register made
+LoadsAreResolved = (whole : Whole) (bases : Bases) (line at : ℕ) (before : List Item) (register : List ℕ) (made : Instruction)
+    → operands_of (register ++ codes ",DFHEITP") ≡ register ∷ codes "DFHEITP" ∷ [] → IsResolved whole bases before at (made_item line (load register)) made
+    → IsPointerLoad (context_of whole bases line before (load register)) register made

@@ -25,7 +25,7 @@ abbrev pub placed_item : Item → Option Place → PlacedItem
 placed_item item place = record { item = item; place = place }
 
 abbrev pub place_for : Option Stmt → PassState → Option Place
-place_for stmt known = option_map (λ s. place_in s known) stmt
+place_for stmt state = option_map (λ s. place_in s state) stmt
 
 -- an instruction's statement begins on a line
 abbrev pub is_instruction_role : Role → Bool
@@ -46,28 +46,28 @@ statements_from before items = filter_map stated_in (placed_from before items)
 
 -- the bases in use after statements, and after the first lines of a source
 abbrev pub bases_from : Whole → Bases → List PlacedStatement → Bases
-bases_from told bases statements = fold (bases_after told) bases statements
+bases_from whole bases statements = fold (bases_after whole) bases statements
 
 abbrev pub bases_in_use : Source → List Item → Bases
 bases_in_use source first = bases_from (whole_of source) none_in_use (statements_of (record { items = first }))
 
 -- The statement of a line, which is at an offset, is resolved to an instruction by these bases.
-pub record IsResolved (told : Whole) (bases : Bases) (before : List Item) (at : ℕ) (item : Item) (instruction : Instruction) : Type 0 where
+pub record IsResolved (whole : Whole) (bases : Bases) (before : List Item) (at : ℕ) (item : Item) (instruction : Instruction) : Type 0 where
   pub statement : Stmt
   pub begins : item.stmt ≡ Some statement
   pub place : (place_in statement (state_after before)).offset ≡ at
   pub operation : Operation
   pub named : operation_named statement.operation ≡ Some operation
-  pub resolves : instruction_or_fault operation (instruction_context told bases (placed_statement item.line statement (place_in statement (state_after before)))) statement.operand
+  pub resolves : instruction_or_fault operation (instruction_context whole bases (placed_statement item.line statement (place_in statement (state_after before)))) statement.operand
       ≡ Ok instruction
 
 -- So are the statements of lines, each right after the one before it.
 unfoldable pub AreResolved : Whole → Bases → List Item → ℕ → List Item → List Instruction → Type 0
-AreResolved told bases before at [] [] = Unit {0}
-AreResolved told bases before at [] (i ∷ code) = ⊥
-AreResolved told bases before at (item ∷ items) [] = ⊥
-AreResolved told bases before at (item ∷ items) (i ∷ code) =
-    IsResolved told bases before at item i × AreResolved told bases (item ∷ before) (at + length_of i.op) items code
+AreResolved whole bases before at [] [] = Unit {0}
+AreResolved whole bases before at [] (i ∷ code) = ⊥
+AreResolved whole bases before at (item ∷ items) [] = ⊥
+AreResolved whole bases before at (item ∷ items) (i ∷ code) =
+    IsResolved whole bases before at item i × AreResolved whole bases (item ∷ before) (at + length_of i.op) items code
 
 -- Lines of a source after its first ones: their statements' instructions are resolved lines one right after the other.
 pub record StandInCode (source : Source) (first items : List Item) (lines : List Line) : Type 0 where

@@ -4,9 +4,9 @@ use Rattle.std.proofs.Common.{◌≡◌, ◌≤◌, ◌<◌, ℕ, ◌+◌, ◌^�
 use Rattle.std.specs.Option.{option_map_or, option_to_list}
 use Rattle.std.proofs.lemmas.List.{append_assoc}
 use Rattle.std.proofs.lemmas.List.Sums.{sum_by-cons}
-use Rattle.cx_asm_arrival.specs.Laws.Pointers.{LoadsGiveWords}
-use Rattle.cx_asm_arrival.specs.Expansion.{Argument, Statement, argument_address, instructions_made as made_code, words_of}
-use Rattle.cx_asm_arrival.specs.Stands.{AreAt, IsMachine, code_length}
+use Rattle.cx_asm_execution.specs.Laws.Pointers.{LoadsGiveWords}
+use Rattle.cx_asm_execution.specs.Expansion.{Argument, Statement, argument_address, instructions_made as made_code, words_of}
+use Rattle.cx_asm_execution.specs.Stands.{AreAt, IsMachine, code_length}
 use Rattle.cx_code.specs.declared.disassembly.What.TheVariants.{Code}
 use Rattle.cx_code.specs.declared.instruction.Fields.TheVariants.{Rx}
 use Rattle.cx_code.specs.declared.table.Op.TheVariants as op
@@ -37,7 +37,7 @@ use Rattle.cx_storage.specs.Storage.{Storage}
 use Rattle.cx_storage.specs.Word.{word_at}
 use Rattle.cx_asm_expressions.specs.Expressions.{value_of, sum_of_terms}
 use Rattle.cx_asm_expressions.specs.Terms.{read_term, term_of, terms_of}
-use Rattle.cx_asm_expressions.specs.Worth.{term_worth}
+use Rattle.cx_asm_expressions.specs.TermValues.{term_value}
 use Rattle.cx_asm_expressions.specs.declared.faults.FaultKind.{FaultKind}
 use Rattle.cx_asm_expressions.specs.declared.faults.FaultKind.TheVariants.{BadOperand, ValueOutOfRange}
 use Rattle.cx_asm_expressions.specs.declared.terms.Sign.TheVariants.{Plus}
@@ -52,7 +52,7 @@ use Rattle.cx_asm_operands.specs.Addresses.{address, address_in as addressed_in,
 use Rattle.cx_asm_operands.specs.Bases.{Bases}
 use Rattle.cx_asm_operands.specs.Context.{Context, context, expression_value}
 use Rattle.cx_asm_operands.specs.Forms.{operands_of}
-use Rattle.cx_asm_operands.specs.Judging.{both_or_lower_fault, then_judge}
+use Rattle.cx_asm_operands.specs.Checking.{both_or_lower_fault, then_check}
 use Rattle.cx_asm_operands.specs.Storage.{indexed_in, operand, operand_in, Operand, indexed_by}
 use Rattle.cx_asm_operands.specs.declared.addresses.Address.{Address}
 use Rattle.cx_asm_pass2.specs.Whole.{Whole, whole_of}
@@ -81,23 +81,23 @@ one_term : terms_of (codes "DFHEITP") ≡ Some (term_of Plus Symbol (codes "DFHE
 unfolding terms_of within_after depth_after read_term is_name is_letter is_name_character
 one_term = refl
 
--- it is worth the same everywhere
-same_worth : (find : List ℕ → Option Value) (here there : Option Value) → value_of find here (codes "DFHEITP") ≡ value_of find there (codes "DFHEITP")
-unfolding value_of term_worth
-same_worth find here there = ap (sum_of_terms find here) one_term ∙ sym (ap (sum_of_terms find there) one_term)
+-- it has the same value everywhere
+same_value : (find : List ℕ → Option Value) (here there : Option Value) → value_of find here (codes "DFHEITP") ≡ value_of find there (codes "DFHEITP")
+unfolding value_of term_value
+same_value find here there = ap (sum_of_terms find here) one_term ∙ sym (ap (sum_of_terms find there) one_term)
 
 alone : (c : Context) → operand_in true c (codes "DFHEITP") ≡ Some (operand (expression_value c (codes "DFHEITP")) [])
 unfolding operand_in within_after depth_after
 alone c = refl
 
-implied : (c : Context) → indexed_in c (codes "DFHEITP") ≡ both_or_lower_fault (Ok 0) (then_judge (implied_address c.bases) (expression_value c (codes "DFHEITP")))
+implied : (c : Context) → indexed_in c (codes "DFHEITP") ≡ both_or_lower_fault (Ok 0) (then_check (implied_address c.bases) (expression_value c (codes "DFHEITP")))
 unfolding indexed_in
 implied c = ap (λ o. option_map_or (λ (o : Operand). indexed_by c o.place o.subfields) o (Err BadOperand)) (alone c)
 
 same_operand : (find : List ℕ → Option Value) (bases : Bases) (here there one other : Option Value)
     → indexed_in (context find here bases one) (codes "DFHEITP") ≡ indexed_in (context find there bases other) (codes "DFHEITP")
 same_operand find bases here there one other =
-    implied (context find here bases one) ∙ ap (λ w. both_or_lower_fault (Ok 0) (then_judge (implied_address bases) w)) (same_worth find here there) ∙ sym (implied (context find there bases other))
+    implied (context find here bases one) ∙ ap (λ w. both_or_lower_fault (Ok 0) (then_check (implied_address bases) w)) (same_value find here there) ∙ sym (implied (context find there bases other))
 
 -- ---- one address
 one_address : Nearest → (sections : Sections) (regs later : List ℕ) (bases : Bases) (section : Option (List ℕ)) (number : ℤ) (at : Address) → addressed_in bases section number ≡ Ok at
@@ -118,17 +118,17 @@ record HaveOnePlace (bases : Bases) (x y : ℕ) (handed taken : Address) : Type 
       → effective regs x handed.base handed.displacement ≡ effective later y taken.base taken.displacement
 
 -- what is handed over for a pointer and what its load takes
-pointers_have_one_place : Nearest → (told : Whole) (bases : Bases) (line : ℕ) (before after : List Item) (register : List ℕ) (x y : ℕ) (handed taken : Address)
-    → indexed_in (context_of told bases line before (load_of (operand_of Pointer register))) (operand_of Pointer register) ≡ Ok (x, handed)
-    → indexed_in (context_of told bases line after (load register)) (codes "DFHEITP") ≡ Ok (y, taken) → HaveOnePlace bases x y handed taken
+pointers_have_one_place : Nearest → (whole : Whole) (bases : Bases) (line : ℕ) (before after : List Item) (register : List ℕ) (x y : ℕ) (handed taken : Address)
+    → indexed_in (context_of whole bases line before (load_of (operand_of Pointer register))) (operand_of Pointer register) ≡ Ok (x, handed)
+    → indexed_in (context_of whole bases line after (load register)) (codes "DFHEITP") ≡ Ok (y, taken) → HaveOnePlace bases x y handed taken
 unfolding operand_of
-pointers_have_one_place near told bases line before after register x y handed taken one other =
-    let c = context_of told bases line before (load_of (codes "DFHEITP")) in
-    let d = context_of told bases line after (load register) in
-    let found : ◌≡◌ {A = Result (ℕ × Address) FaultKind} (Ok (x, handed)) (Ok (y, taken)) = sym one ∙ same_operand told.find bases c.here d.here c.literal d.literal ∙ other in
+pointers_have_one_place near whole bases line before after register x y handed taken one other =
+    let c = context_of whole bases line before (load_of (codes "DFHEITP")) in
+    let d = context_of whole bases line after (load register) in
+    let found : ◌≡◌ {A = Result (ℕ × Address) FaultKind} (Ok (x, handed)) (Ok (y, taken)) = sym one ∙ same_operand whole.find bases c.here d.here c.literal d.literal ∙ other in
     let pair : ◌≡◌ {A = ℕ × Address} (x, handed) (y, taken) = cc in
     let same : handed ≡ taken = ap (λ (p : ℕ × Address). p.1) pair in
-    let parts = both_ok (Ok 0) (then_judge (implied_address bases) (expression_value c (codes "DFHEITP"))) x handed (sym (implied c) ∙ one) in
+    let parts = both_ok (Ok 0) (then_check (implied_address bases) (expression_value c (codes "DFHEITP"))) x handed (sym (implied c) ∙ one) in
     let none : x ≡ 0 = (let zero = parts.0 in cc) in
     let none_either : y ≡ 0 = ap (λ (p : ℕ × Address). p.0) (sym pair) ∙ none in
     let v = judged_ok (implied_address bases) (expression_value c (codes "DFHEITP")) handed parts.1 in
@@ -144,26 +144,26 @@ pointers_have_one_place near told bases line before after register x y handed ta
     }
 
 -- ---- the argument that is handed over
-given_so : (option : CommandOption) (words : List Word) (register : List ℕ) → option.mark ≡ Pointer → argument_of words (option_name option.name) ≡ Some register
-    → (operand_by option.mark (argument_of words (option_name option.name)) ≡ codes "DFHEITP" ∷ [])
-    × (pointer_by option.mark (argument_of words (option_name option.name)) ≡ register ∷ [])
+given_so : (option : CommandOption) (words : List Word) (register : List ℕ) → option.kind ≡ Pointer → argument_of words (option_name option.name) ≡ Some register
+    → (operand_by option.kind (argument_of words (option_name option.name)) ≡ codes "DFHEITP" ∷ [])
+    × (pointer_by option.kind (argument_of words (option_name option.name)) ≡ register ∷ [])
 unfolding operand_of
 given_so option words register marked given = rw (marked, given) (refl, refl)
 
-handed_split : (before : List CommandOption) (option : CommandOption) (after : List CommandOption) (words : List Word) (register : List ℕ) → option.mark ≡ Pointer
+handed_split : (before : List CommandOption) (option : CommandOption) (after : List CommandOption) (words : List Word) (register : List ℕ) → option.kind ≡ Pointer
     → argument_of words (option_name option.name) ≡ Some register
     → arguments_handed (before ++ option ∷ after) words ≡ arguments_handed before words ++ codes "DFHEITP" ∷ arguments_handed after words
 handed_split [] option after words register marked given = ap (λ k. k ++ arguments_handed after words) (given_so option words register marked given).0
 handed_split (o ∷ before) option after words register marked given =
-    let own = operand_by o.mark (argument_of words (option_name o.name)) in
+    let own = operand_by o.kind (argument_of words (option_name o.name)) in
     ap (λ k. own ++ k) (handed_split before option after words register marked given)
     ∙ sym (append_assoc own (arguments_handed before words) (codes "DFHEITP" ∷ arguments_handed after words))
 
-pointers_split : (before : List CommandOption) (option : CommandOption) (after : List CommandOption) (words : List Word) (register : List ℕ) → option.mark ≡ Pointer
+pointers_split : (before : List CommandOption) (option : CommandOption) (after : List CommandOption) (words : List Word) (register : List ℕ) → option.kind ≡ Pointer
     → argument_of words (option_name option.name) ≡ Some register → pointers_of (before ++ option ∷ after) words ≡ pointers_of before words ++ register ∷ pointers_of after words
 pointers_split [] option after words register marked given = ap (λ k. k ++ pointers_of after words) (given_so option words register marked given).1
 pointers_split (o ∷ before) option after words register marked given =
-    let own = pointer_by o.mark (argument_of words (option_name o.name)) in
+    let own = pointer_by o.kind (argument_of words (option_name o.name)) in
     ap (λ k. own ++ k) (pointers_split before option after words register marked given) ∙ sym (append_assoc own (pointers_of before words) (register ∷ pointers_of after words))
 
 -- the list after its first word
@@ -187,27 +187,27 @@ list_split command words before register p =
     }
 
 -- an argument of a text, at its place among the arguments
-record HasArgument (told : Whole) (bases : Bases) (line : ℕ) (text : List ℕ) (arguments : List Argument) (k : ℕ) : Type 0 where
+record HasArgument (whole : Whole) (bases : Bases) (line : ℕ) (text : List ℕ) (arguments : List Argument) (k : ℕ) : Type 0 where
   argument : Argument
   at : slice_get arguments k ≡ Some argument
   before : List Item
-  resolves : ResolvesTo told bases line before (load_of text) text argument.index argument.base argument.displacement
+  resolves : ResolvesTo whole bases line before (load_of text) text argument.index argument.base argument.displacement
 
-has_argument : (told : Whole) (bases : Bases) (line : ℕ) (before : List Item) (k : ℕ) (front : List (List ℕ)) (text : List ℕ) (back : List (List ℕ)) (arguments : List Argument)
-    → AreArguments told bases line before k (front ++ text ∷ back) arguments → HasArgument told bases line text arguments (length front)
+has_argument : (whole : Whole) (bases : Bases) (line : ℕ) (before : List Item) (k : ℕ) (front : List (List ℕ)) (text : List ℕ) (back : List (List ℕ)) (arguments : List Argument)
+    → AreArguments whole bases line before k (front ++ text ∷ back) arguments → HasArgument whole bases line text arguments (length front)
 unfolding AreArguments
-has_argument told bases line before k [] text back [] are = absurd are
-has_argument told bases line before k [] text back (a ∷ arguments) are = record { argument = a; at = refl; before = before; resolves = are.0 }
-has_argument told bases line before k (other ∷ front) text back [] are = absurd are
-has_argument told bases line before k (other ∷ front) text back (a ∷ arguments) are =
-    let rest = has_argument told bases line (made_item line (store_of k) ∷ made_item line (load_of other) ∷ before) (k + 1) front text back arguments are.2 in
+has_argument whole bases line before k [] text back [] are = absurd are
+has_argument whole bases line before k [] text back (a ∷ arguments) are = record { argument = a; at = refl; before = before; resolves = are.0 }
+has_argument whole bases line before k (other ∷ front) text back [] are = absurd are
+has_argument whole bases line before k (other ∷ front) text back (a ∷ arguments) are =
+    let rest = has_argument whole bases line (made_item line (store_of k) ∷ made_item line (load_of other) ∷ before) (k + 1) front text back arguments are.2 in
     record { argument = rest.argument; at = rest.at; before = rest.before; resolves = rest.resolves }
 
-after_block : (told : Whole) (bases : Bases) (line : ℕ) (before : List Item) (block : List ℕ) (list : List (List ℕ)) (s : Statement)
-    → AreArguments told bases line before 0 (block ∷ list) (words_of s)
-    → AreArguments told bases line (made_item line (store_of 0) ∷ made_item line (load_of block) ∷ before) 1 list s.arguments
+after_block : (whole : Whole) (bases : Bases) (line : ℕ) (before : List Item) (block : List ℕ) (list : List (List ℕ)) (s : Statement)
+    → AreArguments whole bases line before 0 (block ∷ list) (words_of s)
+    → AreArguments whole bases line (made_item line (store_of 0) ∷ made_item line (load_of block) ∷ before) 1 list s.arguments
 unfolding AreArguments
-after_block told bases line before block list s are = are.2
+after_block whole bases line before block list s are = are.2
 
 -- ---- the load
 load_length : (register base displacement : ℕ) → code_length (instruction op.L (Rx register 0 base displacement) ∷ []) ≡ 4
@@ -218,17 +218,17 @@ l_role : (operand : List ℕ) → role_in (stmt [] (codes "L") operand) ≡ role
 unfolding operation_named operations ops row_of
 l_role operand = refl
 
-record Begins (told : Whole) (bases : Bases) (before : List Item) (at : ℕ) (item : Item) (code : List Instruction) : Type 0 where
+record Begins (whole : Whole) (bases : Bases) (before : List Item) (at : ℕ) (item : Item) (code : List Instruction) : Type 0 where
   load : Instruction
   rest : List Instruction
   is : code ≡ load ∷ rest
-  resolved : IsResolved told bases before at item load
+  resolved : IsResolved whole bases before at item load
 
-begins : (told : Whole) (bases : Bases) (before : List Item) (at : ℕ) (item : Item) (items : List Item) (code : List Instruction) → AreResolved told bases before at (item ∷ items) code
-    → Begins told bases before at item code
+begins : (whole : Whole) (bases : Bases) (before : List Item) (at : ℕ) (item : Item) (items : List Item) (code : List Instruction) → AreResolved whole bases before at (item ∷ items) code
+    → Begins whole bases before at item code
 unfolding AreResolved
-begins told bases before at item items [] r = absurd r
-begins told bases before at item items (i ∷ code) r = record { load = i; rest = code; is = refl; resolved = r.0 }
+begins whole bases before at item items [] r = absurd r
+begins whole bases before at item items (i ∷ code) r = record { load = i; rest = code; is = refl; resolved = r.0 }
 
 -- ---- code after code
 at_after : (s : Storage) (a : ℕ) (front code : List Instruction) → a < 2 ^ 24 → AreAt s a (front ++ code) → AreAt s (address_after a (code_length front)) code
@@ -301,8 +301,8 @@ pub record Laws : Type 0 where
 module _ (laws : Laws) (source : Source) (assembly : AssemblyParts) (line : ℕ) (first : List Item) (command : Command) (words : List Word) (accepts : assembly_of source ≡ Ok assembly)
     (all : LoadsPointers source assembly line first command words) (before : List CommandOption) (register : List ℕ) (p : IsPointer command words before register)
     (cut : operands_of (register ++ codes ",DFHEITP") ≡ register ∷ codes "DFHEITP" ∷ []) where
-  abbrev told : Whole
-  told = whole_of source
+  abbrev whole : Whole
+  whole = whole_of source
 
   abbrev bases : Bases
   bases = bases_in_use source first
@@ -311,15 +311,15 @@ module _ (laws : Laws) (source : Source) (assembly : AssemblyParts) (line : ℕ)
   s = all.called.statement
 
   -- the argument
-  handed : HasArgument told bases line (codes "DFHEITP") s.arguments (length (arguments_handed before words))
+  handed : HasArgument whole bases line (codes "DFHEITP") s.arguments (length (arguments_handed before words))
   handed =
       let after = list_split command words before register p in
-      let whole : AreArguments told bases line (reverse first) 0 (block_of command words ∷ rest_of command words) (words_of s) =
-      subst (λ k. AreArguments told bases line (reverse first) 0 k (words_of s)) (list_begins command words) all.called.is.arguments in
+      let entire : AreArguments whole bases line (reverse first) 0 (block_of command words ∷ rest_of command words) (words_of s) =
+      subst (λ k. AreArguments whole bases line (reverse first) 0 k (words_of s)) (list_begins command words) all.called.is.arguments in
       let lines_so = made_item line (store_of 0) ∷ made_item line (load_of (block_of command words)) ∷ reverse first in
-      let rest = after_block told bases line (reverse first) (block_of command words) (rest_of command words) s whole in
-      has_argument told bases line lines_so 1 (arguments_handed before words) (codes "DFHEITP") after.rest s.arguments
-      (subst (λ k. AreArguments told bases line lines_so 1 k s.arguments) after.is rest)
+      let rest = after_block whole bases line (reverse first) (block_of command words) (rest_of command words) s entire in
+      has_argument whole bases line lines_so 1 (arguments_handed before words) (codes "DFHEITP") after.rest s.arguments
+      (subst (λ k. AreArguments whole bases line lines_so 1 k s.arguments) after.is rest)
 
   -- its load, right after the call
   abbrev after_call : List Item
@@ -338,23 +338,23 @@ module _ (laws : Laws) (source : Source) (assembly : AssemblyParts) (line : ℕ)
   abbrev place : ℕ
   place = all.code.at + code_length all.calls
 
-  one : Begins told bases after_call place own all.loads
+  one : Begins whole bases after_call place own all.loads
   one =
-      begins told bases after_call place own (lines line (map load (pointers_of p.after words))) all.loads
-      (subst (λ k. AreResolved told bases after_call place k all.loads) loads_begin all.loaded)
+      begins whole bases after_call place own (lines line (map load (pointers_of p.after words))) all.loads
+      (subst (λ k. AreResolved whole bases after_call place k all.loads) loads_begin all.loaded)
 
   code_so : all.code.code ≡ all.calls ++ one.load ∷ one.rest
   code_so = all.split ∙ ap (λ k. all.calls ++ k) one.is
 
   -- what it is resolved to
-  loads : IsPointerLoad (context_of told bases line after_call (load register)) register one.load
+  loads : IsPointerLoad (context_of whole bases line after_call (load register)) register one.load
   unfolding own
-  loads = laws.resolved told bases line place after_call register one.load cut one.resolved
+  loads = laws.resolved whole bases line place after_call register one.load cut one.resolved
 
   one_place : HaveOnePlace bases handed.argument.index loads.takes.index (address handed.argument.base handed.argument.displacement) loads.takes.address
   unfolding operand_of
   one_place =
-      pointers_have_one_place laws.nearest told bases line handed.before after_call register handed.argument.index loads.takes.index
+      pointers_have_one_place laws.nearest whole bases line handed.before after_call register handed.argument.index loads.takes.index
       (address handed.argument.base handed.argument.displacement) loads.takes.address handed.resolves loads.takes.operand
 
   load_is : one.load ≡ instruction op.L (Rx loads.number 0 handed.argument.base handed.argument.displacement)
@@ -365,11 +365,11 @@ module _ (laws : Laws) (source : Source) (assembly : AssemblyParts) (line : ℕ)
   place_even : place % 2 ≡ 0
   unfolding own
   place_even =
-      let known = state_after after_call in
-      let there : HasFirst told bases after_call place (made_item line (load register)) = record { instruction = one.load; resolved = one.resolved } in
-      let at = first_offset told bases after_call place line (load register) there in
-      let offset = offset_is (load register) op.L known (l_role (register ++ codes ",DFHEITP")) in
-      ap (λ n. n % 2) (sym at ∙ offset) ∙ even (next_in known)
+      let state = state_after after_call in
+      let there : HasFirst whole bases after_call place (made_item line (load register)) = record { instruction = one.load; resolved = one.resolved } in
+      let at = first_offset whole bases after_call place line (load register) there in
+      let offset = offset_is (load register) op.L state (l_role (register ++ codes ",DFHEITP")) in
+      ap (λ n. n % 2) (sym at ∙ offset) ∙ even (next_in state)
     where
       even : (n : ℕ) → align 2 n % 2 ≡ 0
       even n = omega arith

@@ -30,10 +30,10 @@ use Rattle.cx_asm_pass1.specs.Roles.{directive_role, role_of}
 use Rattle.cx_asm_pass1.specs.AllFaults.{with_fault}
 use Rattle.cx_asm_pass1.specs.Facts.Apart.{statement_stands, statement_within, section_ends}
 use Rattle.cx_asm_pass1.specs.Facts.StatementExtents.{capped_same, lower_none}
-use Rattle.cx_asm_pass1.specs.PassState.{PassState, next_state, after_line, is_control, section_after, length_after, length_of_section, state_after, laid_in, line_fault, next_in, parts_in, place_in, role_in, section_fault, name_in}
+use Rattle.cx_asm_pass1.specs.PassState.{PassState, next_state, after_line, is_control, section_after, length_after, length_of_section, state_after, extent_in, line_fault, next_in, parts_in, place_in, role_in, section_fault, name_in}
 use Rattle.cx_asm_pass1.specs.Layout.{align, extent_of}
 use Rattle.cx_asm_pass1.specs.Laws.Apart.{Stands, section_length}
-use Rattle.cx_asm_pass1.specs.Locations.{known_of}
+use Rattle.cx_asm_pass1.specs.Locations.{final_state}
 use Rattle.cx_asm_pools.specs.Pools.{cap}
 use Rattle.cx_asm_pass1.specs.declared.place.LineFault.{LineFault}
 use Rattle.cx_asm_pass1.specs.declared.roles.Role.TheVariants as role
@@ -41,7 +41,7 @@ use Rattle.cx_asm_operands.specs.Bases.{Bases, none_in_use}
 use Rattle.cx_asm_operands.specs.Directives.{bases_in}
 use Rattle.cx_asm_operands.specs.Forms.{fields_in, form_of, operands_of, instruction_or_fault}
 use Rattle.cx_asm_operands.specs.Context.{Context}
-use Rattle.cx_asm_operands.specs.Judging.{made_of as fields_made}
+use Rattle.cx_asm_operands.specs.Checking.{made_of as fields_made}
 use Rattle.cx_asm_operands.specs.declared.forms.Form.{Form}
 use Rattle.cx_code.specs.declared.instruction.Fields.{Fields}
 use Rattle.cx_asm_pass2.specs.Statements.{PlacedStatement, operation_of, placed_statement, stated_in, statements_of}
@@ -70,8 +70,8 @@ statements_joined xs ys before =
 
 -- ---- no fault of the second pass
 NoFault : Whole → Bases → ℕ → List PlacedStatement → Type 0
-NoFault told bases number [] = ⊤
-NoFault told bases number (s ∷ statements) = (second_fault told bases number s ≡ None) × NoFault told (bases_after told bases s) (suc number) statements
+NoFault whole bases number [] = ⊤
+NoFault whole bases number (s ∷ statements) = (second_fault whole bases number s ≡ None) × NoFault whole (bases_after whole bases s) (suc number) statements
 
 none_with : (line : ℕ) (fault : Option FaultKind) (faults : List LineFault) → with_fault line fault faults ≡ [] → (faults ≡ []) × (fault ≡ None)
 none_with line None faults e = (e, refl)
@@ -82,44 +82,44 @@ none_with line (Some kind) (first ∷ more) e = absurd (go (line == first.line) 
     go true f = cc
     go false f = cc
 
-judged_kept : (told : Whole) (ss before : List PlacedStatement) → second_faults_after told (reverse ss ++ before) ≡ []
-    → (second_faults_after told before ≡ []) × NoFault told (bases_after_all told before) (length before) ss
+judged_kept : (whole : Whole) (ss before : List PlacedStatement) → second_faults_after whole (reverse ss ++ before) ≡ []
+    → (second_faults_after whole before ≡ []) × NoFault whole (bases_after_all whole before) (length before) ss
 unfolding NoFault
-judged_kept told [] before e = (e, tt)
-judged_kept told (s ∷ ss) before e =
-    let more = judged_kept told ss (s ∷ before) (subst (λ k. second_faults_after told k ≡ []) (reverse_step s ss before) e) in
-    let here = none_with s.line (second_fault told (bases_after_all told before) (length before) s) (second_faults_after told before) more.0 in
+judged_kept whole [] before e = (e, tt)
+judged_kept whole (s ∷ ss) before e =
+    let more = judged_kept whole ss (s ∷ before) (subst (λ k. second_faults_after whole k ≡ []) (reverse_step s ss before) e) in
+    let here = none_with s.line (second_fault whole (bases_after_all whole before) (length before) s) (second_faults_after whole before) more.0 in
     (here.0, (here.1, more.1))
 
-no_fault_after : (told : Whole) (xs ys : List PlacedStatement) (bases : Bases) (number : ℕ) → NoFault told bases number (xs ++ ys) → (n : ℕ) × NoFault told (bases_from told bases xs) n ys
+no_fault_after : (whole : Whole) (xs ys : List PlacedStatement) (bases : Bases) (number : ℕ) → NoFault whole bases number (xs ++ ys) → (n : ℕ) × NoFault whole (bases_from whole bases xs) n ys
 unfolding NoFault
-no_fault_after told [] ys bases number e = (number, e)
-no_fault_after told (x ∷ xs) ys bases number e = no_fault_after told xs ys (bases_after told bases x) (suc number) e.1
+no_fault_after whole [] ys bases number e = (number, e)
+no_fault_after whole (x ∷ xs) ys bases number e = no_fault_after whole xs ys (bases_after whole bases x) (suc number) e.1
 
-no_fault_in : (told : Whole) (xs ys : List PlacedStatement) (bases : Bases) (number : ℕ) → NoFault told bases number (xs ++ ys) → NoFault told bases number xs
+no_fault_in : (whole : Whole) (xs ys : List PlacedStatement) (bases : Bases) (number : ℕ) → NoFault whole bases number (xs ++ ys) → NoFault whole bases number xs
 unfolding NoFault
-no_fault_in told [] ys bases number e = tt
-no_fault_in told (x ∷ xs) ys bases number e = (e.0, no_fault_in told xs ys (bases_after told bases x) (suc number) e.1)
+no_fault_in whole [] ys bases number e = tt
+no_fault_in whole (x ∷ xs) ys bases number e = (e.0, no_fault_in whole xs ys (bases_after whole bases x) (suc number) e.1)
 
 -- ---- what statements make
 made_from : Whole → List PlacedStatement → Bases → List PlacedStatement → List Line
-made_from told all bases [] = []
-made_from told all bases (s ∷ ss) = (statement_standing told all bases s).lines ++ made_from told all (bases_after told bases s) ss
+made_from whole all bases [] = []
+made_from whole all bases (s ∷ ss) = (statement_standing whole all bases s).lines ++ made_from whole all (bases_after whole bases s) ss
 
-standing_joined : (told : Whole) (all : List PlacedStatement) (bases : Bases) (xs ys : List PlacedStatement)
-    → (standing_from told all bases (xs ++ ys)).lines ≡ made_from told all bases xs ++ (standing_from told all (bases_from told bases xs) ys).lines
+standing_joined : (whole : Whole) (all : List PlacedStatement) (bases : Bases) (xs ys : List PlacedStatement)
+    → (standing_from whole all bases (xs ++ ys)).lines ≡ made_from whole all bases xs ++ (standing_from whole all (bases_from whole bases xs) ys).lines
 unfolding made_from
-standing_joined told all bases [] ys = refl
-standing_joined told all bases (x ∷ xs) ys =
-    ap (λ k. (statement_standing told all bases x).lines ++ k) (standing_joined told all (bases_after told bases x) xs ys)
-    ∙ sym (append_assoc (statement_standing told all bases x).lines (made_from told all (bases_after told bases x) xs) (standing_from told all (bases_from told (bases_after told bases x) xs) ys).lines)
+standing_joined whole all bases [] ys = refl
+standing_joined whole all bases (x ∷ xs) ys =
+    ap (λ k. (statement_standing whole all bases x).lines ++ k) (standing_joined whole all (bases_after whole bases x) xs ys)
+    ∙ sym (append_assoc (statement_standing whole all bases x).lines (made_from whole all (bases_after whole bases x) xs) (standing_from whole all (bases_from whole (bases_after whole bases x) xs) ys).lines)
 
-made_joined : (told : Whole) (all : List PlacedStatement) (bases : Bases) (xs ys : List PlacedStatement) → made_from told all bases (xs ++ ys) ≡ made_from told all bases xs ++ made_from told all (bases_from told bases xs) ys
+made_joined : (whole : Whole) (all : List PlacedStatement) (bases : Bases) (xs ys : List PlacedStatement) → made_from whole all bases (xs ++ ys) ≡ made_from whole all bases xs ++ made_from whole all (bases_from whole bases xs) ys
 unfolding made_from
-made_joined told all bases [] ys = refl
-made_joined told all bases (x ∷ xs) ys =
-    ap (λ k. (statement_standing told all bases x).lines ++ k) (made_joined told all (bases_after told bases x) xs ys)
-    ∙ sym (append_assoc (statement_standing told all bases x).lines (made_from told all (bases_after told bases x) xs) (made_from told all (bases_from told (bases_after told bases x) xs) ys))
+made_joined whole all bases [] ys = refl
+made_joined whole all bases (x ∷ xs) ys =
+    ap (λ k. (statement_standing whole all bases x).lines ++ k) (made_joined whole all (bases_after whole bases x) xs ys)
+    ∙ sym (append_assoc (statement_standing whole all bases x).lines (made_from whole all (bases_after whole bases x) xs) (made_from whole all (bases_from whole (bases_after whole bases x) xs) ys))
 
 -- ---- an accepted source
 abbrev pub Short : Type 0
@@ -132,7 +132,7 @@ abbrev pub Apart : Type 0
 Apart = (source : Source) (made : AssemblyParts) → assembly_of source ≡ Ok made → AreApart 0 made.section.resolved (length made.section.image.text)
 
 pub record IsAccepted (source : Source) (assembly : AssemblyParts) : Type 0 where
-  pub first : (known_of source).fault ≡ None
+  pub first : (final_state source).fault ≡ None
   pub second : second_faults_of source ≡ []
   pub made : made_of source ≡ assembly
 
@@ -176,14 +176,14 @@ record HasRow (o : Operation) : Type 0 where
   row : base_row o ≡ Some op
   role : role_of (Some o) ≡ role.Instruction (length_of op)
   bases : (c : Context) (operand : List ℕ) → bases_in o c operand ≡ Ok c.bases
-  fault : (told : Whole) (bases : Bases) (number : ℕ) (s : PlacedStatement) → operand_fault told bases number s (Some o)
-      ≡ lower (result_err (instruction_or_fault o (instruction_context told bases s) s.stmt.operand)) (literals_fault told number s)
+  fault : (whole : Whole) (bases : Bases) (number : ℕ) (s : PlacedStatement) → operand_fault whole bases number s (Some o)
+      ≡ lower (result_err (instruction_or_fault o (instruction_context whole bases s) s.stmt.operand)) (literals_fault whole number s)
 
 has_row : (o : Operation) → is_instruction_role (role_of (Some o)) ≡ true → HasRow o
 unfolding bases_in
-has_row (operation.Machine op) e = record { op = op; row = refl; role = refl; bases = λ c operand. refl; fault = λ told bases number s. refl }
-has_row (operation.Branch b) e = record { op = Bc; row = refl; role = refl; bases = λ c operand. refl; fault = λ told bases number s. refl }
-has_row (operation.RegisterBranch b) e = record { op = Bcr; row = refl; role = refl; bases = λ c operand. refl; fault = λ told bases number s. refl }
+has_row (operation.Machine op) e = record { op = op; row = refl; role = refl; bases = λ c operand. refl; fault = λ whole bases number s. refl }
+has_row (operation.Branch b) e = record { op = Bc; row = refl; role = refl; bases = λ c operand. refl; fault = λ whole bases number s. refl }
+has_row (operation.RegisterBranch b) e = record { op = Bcr; row = refl; role = refl; bases = λ c operand. refl; fault = λ whole bases number s. refl }
 has_row (operation.Directive d) e = (let no = no_directive d in absurd (cc))
 
 record Makes (o : Operation) (c : Context) (operand : List ℕ) (op : Op) : Type 0 where
@@ -246,118 +246,118 @@ controls section control size name e = go (is_control section control) e
 
 -- where it is, and where the next one is
 record IsPlaced (before : List Item) (line : ℕ) (stmt : Stmt) (size : ℕ) : Type 0 where
-  offset : (laid_in stmt (state_after before)).offset ≡ align 2 (next_in (state_after before))
+  offset : (extent_in stmt (state_after before)).offset ≡ align 2 (next_in (state_after before))
   within : is_control (state_after before).section (state_after before).control ≡ true
   next : align 2 (next_in (next_state line stmt (state_after before))) ≡ align 2 (next_in (state_after before)) + size
 
-section_end : (known : PassState) (end : ℕ) (section : Option (List ℕ)) → known.section ≡ section → is_control section known.control ≡ true
-    → length_of_section section (length_after known.section end known.lengths) ≡ end
-section_end known end None e is = absurd (cc)
-section_end known end (Some name) e is = section_ends known end name e
+section_end : (state : PassState) (end : ℕ) (section : Option (List ℕ)) → state.section ≡ section → is_control section state.control ≡ true
+    → length_of_section section (length_after state.section end state.lengths) ≡ end
+section_end state end None e is = absurd (cc)
+section_end state end (Some name) e is = section_ends state end name e
 
 aligned_even : (n : ℕ) → n % 2 ≡ 0 → align 2 n ≡ n
 aligned_even n e = (let same : (n + (2 - 1)) / 2 * 2 ≡ n = omega (arith, e) in same)
 
-pub offset_is : (stmt : Stmt) (op : Op) (known : PassState) → role_in stmt ≡ role.Instruction (length_of op) → (laid_in stmt known).offset ≡ align 2 (next_in known)
+pub offset_is : (stmt : Stmt) (op : Op) (state : PassState) → role_in stmt ≡ role.Instruction (length_of op) → (extent_in stmt state).offset ≡ align 2 (next_in state)
 unfolding extent_of
-offset_is stmt op known is = rw is refl
+offset_is stmt op state is = rw is refl
 
-next_is : (line : ℕ) (stmt : Stmt) (op : Op) (known : PassState) → role_in stmt ≡ role.Instruction (length_of op) → is_control known.section known.control ≡ true → (laid_in stmt known).end ≤ bound
-    → next_in (next_state line stmt known) ≡ (laid_in stmt known).end
+next_is : (line : ℕ) (stmt : Stmt) (op : Op) (state : PassState) → role_in stmt ≡ role.Instruction (length_of op) → is_control state.section state.control ≡ true → (extent_in stmt state).end ≤ bound
+    → next_in (next_state line stmt state) ≡ (extent_in stmt state).end
 unfolding next_state
-next_is line stmt op known is within small =
-    let same : length_of_section (section_after (role_in stmt) (name_in stmt) known.section) (length_after known.section (laid_in stmt known).end known.lengths) ≡ (laid_in stmt known).end =
-    ap (λ r. length_of_section (section_after r (name_in stmt) known.section) (length_after known.section (laid_in stmt known).end known.lengths)) is
-    ∙ section_end known (laid_in stmt known).end known.section refl within in
-    ap cap same ∙ capped_same (laid_in stmt known).end small
+next_is line stmt op state is within small =
+    let same : length_of_section (section_after (role_in stmt) (name_in stmt) state.section) (length_after state.section (extent_in stmt state).end state.lengths) ≡ (extent_in stmt state).end =
+    ap (λ r. length_of_section (section_after r (name_in stmt) state.section) (length_after state.section (extent_in stmt state).end state.lengths)) is
+    ∙ section_end state (extent_in stmt state).end state.section refl within in
+    ap cap same ∙ capped_same (extent_in stmt state).end small
 
 is_placed : (before : List Item) (line : ℕ) (stmt : Stmt) (op : Op) → role_in stmt ≡ role.Instruction (length_of op) → (next_state line stmt (state_after before)).fault ≡ None
     → IsPlaced before line stmt (length_of op)
 is_placed before line stmt op is sound =
-    let known = state_after before in
-    let within : is_control known.section known.control ≡ true =
-    controls known.section known.control (length_of op) (name_in stmt)
-    (subst (λ r. section_fault r (name_in stmt) known.section known.control ≡ None) is (section_sound stmt known (own_sound line stmt known sound))) in
-    let stands : Stands (role.Instruction (length_of op)) (parts_in stmt) known.pool (section_length known) (laid_in stmt known) =
-    subst (λ r. Stands r (parts_in stmt) known.pool (section_length known) (laid_in stmt known)) is (statement_stands before line stmt sound) in
-    let small : (laid_in stmt known).end ≤ bound = statement_within before line stmt sound in
-    let offset : (laid_in stmt known).offset ≡ align 2 (next_in known) = offset_is stmt op known is in
+    let state = state_after before in
+    let within : is_control state.section state.control ≡ true =
+    controls state.section state.control (length_of op) (name_in stmt)
+    (subst (λ r. section_fault r (name_in stmt) state.section state.control ≡ None) is (section_sound stmt state (own_sound line stmt state sound))) in
+    let stands : Stands (role.Instruction (length_of op)) (parts_in stmt) state.pool (section_length state) (extent_in stmt state) =
+    subst (λ r. Stands r (parts_in stmt) state.pool (section_length state) (extent_in stmt state)) is (statement_stands before line stmt sound) in
+    let small : (extent_in stmt state).end ≤ bound = statement_within before line stmt sound in
+    let offset : (extent_in stmt state).offset ≡ align 2 (next_in state) = offset_is stmt op state is in
     let even : length_of op % 2 ≡ 0 = even_format (format_of op) in
-    let end_even : (laid_in stmt known).end % 2 ≡ 0 = (let at = stands.1 in let ends = stands.2 in omega (arith, even, at, ends)) in
-    let next : next_in (next_state line stmt known) ≡ (laid_in stmt known).end = next_is line stmt op known is within small in
+    let end_even : (extent_in stmt state).end % 2 ≡ 0 = (let at = stands.1 in let ends = stands.2 in omega (arith, even, at, ends)) in
+    let next : next_in (next_state line stmt state) ≡ (extent_in stmt state).end = next_is line stmt op state is within small in
     record {
       offset = offset;
       within = within;
-      next = rw next (aligned_even (laid_in stmt known).end end_even ∙ (let ends = stands.2 in omega (arith, ends, offset)));
+      next = rw next (aligned_even (extent_in stmt state).end end_even ∙ (let ends = stands.2 in omega (arith, ends, offset)));
     }
 
 -- ---- lines with nothing but instructions on them
-record IsCode (told : Whole) (all : List PlacedStatement) (bases : Bases) (before items : List Item) : Type 0 where
+record IsCode (whole : Whole) (all : List PlacedStatement) (bases : Bases) (before items : List Item) : Type 0 where
   code : List Instruction
-  resolved : AreResolved told bases before (align 2 (next_in (state_after before))) items code
-  lines : made_from told all bases (statements_from before items) ≡ code_lines (align 2 (next_in (state_after before))) code
+  resolved : AreResolved whole bases before (align 2 (next_in (state_after before))) items code
+  lines : made_from whole all bases (statements_from before items) ≡ code_lines (align 2 (next_in (state_after before))) code
 
-one_line : (told : Whole) (all : List PlacedStatement) (bases : Bases) (s : PlacedStatement) (o : Operation) (i : Instruction) (size : ℕ) → is_control s.place.section told.control ≡ true → role_in s.stmt ≡ role.Instruction size
-    → operation_of s ≡ Some o → instruction_or_fault o (instruction_context told bases s) s.stmt.operand ≡ Ok i → (statement_standing told all bases s).lines ≡ line s.place.offset (Code i) ∷ []
+one_line : (whole : Whole) (all : List PlacedStatement) (bases : Bases) (s : PlacedStatement) (o : Operation) (i : Instruction) (size : ℕ) → is_control s.place.section whole.control ≡ true → role_in s.stmt ≡ role.Instruction size
+    → operation_of s ≡ Some o → instruction_or_fault o (instruction_context whole bases s) s.stmt.operand ≡ Ok i → (statement_standing whole all bases s).lines ≡ line s.place.offset (Code i) ∷ []
 unfolding statement_standing
-one_line told all bases s o i size within is named made = rw (within, is, named, made) refl
+one_line whole all bases s o i size within is named made = rw (within, is, named, made) refl
 
-sound_operand : (told : Whole) (bases : Bases) (number : ℕ) (s : PlacedStatement) (o : Operation) → HasRow o → operation_of s ≡ Some o → second_fault told bases number s ≡ None
-    → result_err (instruction_or_fault o (instruction_context told bases s) s.stmt.operand) ≡ None
+sound_operand : (whole : Whole) (bases : Bases) (number : ℕ) (s : PlacedStatement) (o : Operation) → HasRow o → operation_of s ≡ Some o → second_fault whole bases number s ≡ None
+    → result_err (instruction_or_fault o (instruction_context whole bases s) s.stmt.operand) ≡ None
 unfolding second_fault
-sound_operand told bases number s o row named e =
-    let own = sym (row.fault told bases number s) ∙ ap (operand_fault told bases number s) (sym named) ∙ e in
-    (lower_none (result_err (instruction_or_fault o (instruction_context told bases s) s.stmt.operand)) (literals_fault told number s) own).0
+sound_operand whole bases number s o row named e =
+    let own = sym (row.fault whole bases number s) ∙ ap (operand_fault whole bases number s) (sym named) ∙ e in
+    (lower_none (result_err (instruction_or_fault o (instruction_context whole bases s) s.stmt.operand)) (literals_fault whole number s) own).0
 
-same_bases : (told : Whole) (bases : Bases) (s : PlacedStatement) (o : Operation) → HasRow o → operation_of s ≡ Some o → bases_after told bases s ≡ bases
+same_bases : (whole : Whole) (bases : Bases) (s : PlacedStatement) (o : Operation) → HasRow o → operation_of s ≡ Some o → bases_after whole bases s ≡ bases
 unfolding bases_after
-same_bases told bases s o row named =
-    let c = directive_context told bases s in
+same_bases whole bases s o row named =
+    let c = directive_context whole bases s in
     ap (λ k. option_map_or (λ it. unwrap_or (result_ok (bases_in it c s.stmt.operand)) bases) k bases) named
     ∙ ap (λ r. unwrap_or (result_ok r) bases) (row.bases c s.stmt.operand)
 
-all_code : (told : Whole) (all : List PlacedStatement) (bases : Bases) (number : ℕ) (before items more : List Item) → AllByRecursion (λ item. is_instruction item.stmt ≡ true) items
-    → (state_after (more ++ (reverse items ++ before))).fault ≡ None → told.control ≡ (state_after (more ++ (reverse items ++ before))).control
-    → NoFault told bases number (statements_from before items) → IsCode told all bases before items
+all_code : (whole : Whole) (all : List PlacedStatement) (bases : Bases) (number : ℕ) (before items more : List Item) → AllByRecursion (λ item. is_instruction item.stmt ≡ true) items
+    → (state_after (more ++ (reverse items ++ before))).fault ≡ None → whole.control ≡ (state_after (more ++ (reverse items ++ before))).control
+    → NoFault whole bases number (statements_from before items) → IsCode whole all bases before items
 unfolding AreResolved code_lines made_from NoFault
-all_code told all bases number before [] more are sound control faults = record { code = []; resolved = tt; lines = refl }
-all_code told all bases number before (item ∷ items) more are sound control faults =
-    let known = state_after before in
+all_code whole all bases number before [] more are sound control faults = record { code = []; resolved = tt; lines = refl }
+all_code whole all bases number before (item ∷ items) more are sound control faults =
+    let state = state_after before in
     let b = begins_so item are.0 in
-    let s = placed_statement item.line b.stmt (place_in b.stmt known) in
+    let s = placed_statement item.line b.stmt (place_in b.stmt state) in
     let heads : statements_from before (item ∷ items) ≡ s ∷ statements_from (item ∷ before) items =
-    ap (λ o. cons_option (option_and_then (λ stmt. option_map (placed_statement item.line stmt) (place_for o known)) o) (statements_from (item ∷ before) items)) b.begins in
+    ap (λ o. cons_option (option_and_then (λ stmt. option_map (placed_statement item.line stmt) (place_for o state)) o) (statements_from (item ∷ before) items)) b.begins in
     let step : more ++ (reverse (item ∷ items) ++ before) ≡ more ++ (reverse items ++ (item ∷ before)) = ap (λ k. more ++ k) (reverse_step item items before) in
     let sound' : (state_after (more ++ (reverse items ++ (item ∷ before)))).fault ≡ None = subst (λ k. (state_after k).fault ≡ None) step sound in
-    let control' : told.control ≡ (state_after (more ++ (reverse items ++ (item ∷ before)))).control = subst (λ k. told.control ≡ (state_after k).control) step control in
-    let after_is : state_after (item ∷ before) ≡ next_state item.line b.stmt known = ap (λ o. after_line item.line o known) b.begins in
-    let here : (next_state item.line b.stmt known).fault ≡ None =
+    let control' : whole.control ≡ (state_after (more ++ (reverse items ++ (item ∷ before)))).control = subst (λ k. whole.control ≡ (state_after k).control) step control in
+    let after_is : state_after (item ∷ before) ≡ next_state item.line b.stmt state = ap (λ o. after_line item.line o state) b.begins in
+    let here : (next_state item.line b.stmt state).fault ≡ None =
     subst (λ k. k.fault ≡ None) after_is (fault_kept (reverse items) (item ∷ before) (fault_kept more (reverse items ++ (item ∷ before)) sound')) in
     let op = (b.row).op in
     let role_is : role_in b.stmt ≡ role.Instruction (length_of op) = ap role_of b.named ∙ (b.row).role in
     let placed = is_placed before item.line b.stmt op role_is here in
-    let faults' : NoFault told bases number (s ∷ statements_from (item ∷ before) items) = subst (NoFault told bases number) heads faults in
-    let made = makes b.operation (instruction_context told bases s) b.stmt.operand op (b.row).row (sound_operand told bases number s b.operation b.row b.named faults'.0) in
-    let same = same_bases told bases s b.operation b.row b.named in
-    let within : is_control known.section told.control ≡ true =
-    ap (is_control known.section) (control ∙ ap (λ k. (state_after k).control) (sym (append_assoc more (reverse (item ∷ items)) before)))
-    ∙ control_same (more ++ reverse (item ∷ items)) before known.section placed.within in
-    let own : (statement_standing told all bases s).lines ≡ line s.place.offset (Code made.made) ∷ [] =
-    one_line told all bases s b.operation made.made (length_of op) within role_is b.named made.is in
-    let rest = all_code told all bases (suc number) (item ∷ before) items more are.1 sound' control' (subst (λ k. NoFault told k (suc number) (statements_from (item ∷ before) items)) same faults'.1) in
-    let at = align 2 (next_in known) in
+    let faults' : NoFault whole bases number (s ∷ statements_from (item ∷ before) items) = subst (NoFault whole bases number) heads faults in
+    let made = makes b.operation (instruction_context whole bases s) b.stmt.operand op (b.row).row (sound_operand whole bases number s b.operation b.row b.named faults'.0) in
+    let same = same_bases whole bases s b.operation b.row b.named in
+    let within : is_control state.section whole.control ≡ true =
+    ap (is_control state.section) (control ∙ ap (λ k. (state_after k).control) (sym (append_assoc more (reverse (item ∷ items)) before)))
+    ∙ control_same (more ++ reverse (item ∷ items)) before state.section placed.within in
+    let own : (statement_standing whole all bases s).lines ≡ line s.place.offset (Code made.made) ∷ [] =
+    one_line whole all bases s b.operation made.made (length_of op) within role_is b.named made.is in
+    let rest = all_code whole all bases (suc number) (item ∷ before) items more are.1 sound' control' (subst (λ k. NoFault whole k (suc number) (statements_from (item ∷ before) items)) same faults'.1) in
+    let at = align 2 (next_in state) in
     let next : align 2 (next_in (state_after (item ∷ before))) ≡ at + length_of made.made.op =
     ap (λ k. align 2 (next_in k)) after_is ∙ placed.next ∙ ap (λ k. at + length_of k) (sym made.of) in
     record {
       code = made.made ∷ rest.code;
       resolved = (
         record { statement = b.stmt; begins = b.begins; place = placed.offset; operation = b.operation; named = b.named; resolves = made.is },
-        subst (λ n. AreResolved told bases (item ∷ before) n items rest.code) next rest.resolved,
+        subst (λ n. AreResolved whole bases (item ∷ before) n items rest.code) next rest.resolved,
       );
       lines =
-          ap (made_from told all bases) heads ∙ ap (λ k. k ++ made_from told all (bases_after told bases s) (statements_from (item ∷ before) items)) own
-          ∙ ap (λ k. line k (Code made.made) ∷ made_from told all (bases_after told bases s) (statements_from (item ∷ before) items)) placed.offset
-          ∙ ap (λ k. line at (Code made.made) ∷ made_from told all k (statements_from (item ∷ before) items)) same
+          ap (made_from whole all bases) heads ∙ ap (λ k. k ++ made_from whole all (bases_after whole bases s) (statements_from (item ∷ before) items)) own
+          ∙ ap (λ k. line k (Code made.made) ∷ made_from whole all (bases_after whole bases s) (statements_from (item ∷ before) items)) placed.offset
+          ∙ ap (λ k. line at (Code made.made) ∷ made_from whole all k (statements_from (item ∷ before) items)) same
           ∙ ap (λ k. line at (Code made.made) ∷ k) rest.lines
           ∙ ap (λ k. line at (Code made.made) ∷ code_lines k rest.code) next;
     }
@@ -366,7 +366,7 @@ pub instructions_stand : InstructionsStand
 unfolding section_of standing_of second_faults_of
 instructions_stand source assembly first items after e is are =
     let ok = accepted source assembly e in
-    let told = whole_of source in
+    let whole = whole_of source in
     let all = statements_of source in
     let before = reverse first in
     let front = statements_from [] first in
@@ -378,19 +378,19 @@ instructions_stand source assembly first items after e is are =
     let turned : reverse source.items ≡ reverse after ++ (reverse items ++ before) =
     ap (λ k. reverse k) is ∙ reverse-append (first ++ items) after ∙ ap (λ k. reverse after ++ k) (reverse-append first items) in
     let sound : (state_after (reverse after ++ (reverse items ++ before))).fault ≡ None = subst (λ k. (state_after k).fault ≡ None) turned ok.first in
-    let control : told.control ≡ (state_after (reverse after ++ (reverse items ++ before))).control = ap (λ k. (state_after k).control) turned in
-    let judged = judged_kept told all [] (subst (λ k. second_faults_after told k ≡ []) (sym (append-nil (reverse all))) ok.second) in
-    let none : NoFault told none_in_use 0 ((front ++ own) ++ rest) = subst (NoFault told none_in_use 0) split judged.1 in
-    let faults = no_fault_after told front own none_in_use 0 (no_fault_in told (front ++ own) rest none_in_use 0 none) in
-    let code = all_code told all (bases_from told none_in_use front) faults.0 before items (reverse after) are sound control faults.1 in
-    let same : bases_from told none_in_use front ≡ bases_in_use source first = ap (bases_from told none_in_use) (sym (statements_are (record { items = first }))) in
+    let control : whole.control ≡ (state_after (reverse after ++ (reverse items ++ before))).control = ap (λ k. (state_after k).control) turned in
+    let judged = judged_kept whole all [] (subst (λ k. second_faults_after whole k ≡ []) (sym (append-nil (reverse all))) ok.second) in
+    let none : NoFault whole none_in_use 0 ((front ++ own) ++ rest) = subst (NoFault whole none_in_use 0) split judged.1 in
+    let faults = no_fault_after whole front own none_in_use 0 (no_fault_in whole (front ++ own) rest none_in_use 0 none) in
+    let code = all_code whole all (bases_from whole none_in_use front) faults.0 before items (reverse after) are sound control faults.1 in
+    let same : bases_from whole none_in_use front ≡ bases_in_use source first = ap (bases_from whole none_in_use) (sym (statements_are (record { items = first }))) in
     record {
       at = align 2 (next_in (state_after before));
       code = code.code;
-      resolved = subst (λ b. AreResolved told b before (align 2 (next_in (state_after before))) items code.code) same code.resolved;
-      front = made_from told all none_in_use front;
-      back = (standing_from told all (bases_from told none_in_use (front ++ own)) rest).lines;
+      resolved = subst (λ b. AreResolved whole b before (align 2 (next_in (state_after before))) items code.code) same code.resolved;
+      front = made_from whole all none_in_use front;
+      back = (standing_from whole all (bases_from whole none_in_use (front ++ own)) rest).lines;
       stand =
-          ap (λ k. k.section.resolved) (sym ok.made) ∙ ap (λ k. (standing_from told all none_in_use k).lines) split ∙ standing_joined told all none_in_use (front ++ own) rest
-          ∙ ap (λ k. k ++ (standing_from told all (bases_from told none_in_use (front ++ own)) rest).lines) (made_joined told all none_in_use front own ∙ ap (λ k. made_from told all none_in_use front ++ k) code.lines);
+          ap (λ k. k.section.resolved) (sym ok.made) ∙ ap (λ k. (standing_from whole all none_in_use k).lines) split ∙ standing_joined whole all none_in_use (front ++ own) rest
+          ∙ ap (λ k. k ++ (standing_from whole all (bases_from whole none_in_use (front ++ own)) rest).lines) (made_joined whole all none_in_use front own ∙ ap (λ k. made_from whole all none_in_use front ++ k) code.lines);
     }

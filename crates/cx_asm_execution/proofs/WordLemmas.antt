@@ -1,4 +1,4 @@
--- What the words of the argument list are worth, as expressions.
+-- The values of the words of the argument list, as expressions.
 use Rattle.std.specs.Prelude.{codes, decimal, nat_le, pos, unsigned_abs, ◌&&◌, Err, ℤ, ◌+ℤ◌, option_and_then, option_map}
 use Rattle.std.specs.Option.{ok_or, option_map_or}
 use Rattle.std.specs.Result.{result_err, result_ok}
@@ -20,7 +20,7 @@ use Rattle.cx_asm_expressions.specs.Names.{is_same}
 use Rattle.cx_asm_expressions.specs.Symbols.{absolute}
 use Rattle.cx_asm_expressions.specs.Terms.{parts_of, part_of, read_term, term_of, terms_of}
 use Rattle.cx_asm_expressions.specs.Weights.{relocation}
-use Rattle.cx_asm_expressions.specs.Worth.{greatest, look_up, number_worth, term_worth}
+use Rattle.cx_asm_expressions.specs.TermValues.{greatest, look_up, number_value, term_value}
 use Rattle.cx_asm_expressions.specs.declared.faults.FaultKind.{FaultKind}
 use Rattle.cx_asm_expressions.specs.declared.faults.FaultKind.TheVariants.{BadOperand, UndefinedSymbol, ValueOutOfRange}
 use Rattle.cx_asm_expressions.specs.declared.expressions.Signed.{Signed}
@@ -32,7 +32,7 @@ use Rattle.cx_storage.specs.Address.{address_after}
 use Rattle.cx_asm_operands.specs.Addresses.{address as at_register, address_in, number_within, implied_address}
 use Rattle.cx_asm_operands.specs.Bases.{Bases}
 use Rattle.cx_asm_operands.specs.Context.{Context, expression_value}
-use Rattle.cx_asm_operands.specs.Judging.{both_or_lower_fault, then_judge}
+use Rattle.cx_asm_operands.specs.Checking.{both_or_lower_fault, then_check}
 use Rattle.cx_asm_operands.specs.Storage.{indexed_by, indexed_in, operand, operand_in, plain_in, Operand, address_by_subfields}
 use Rattle.cx_asm_operands.specs.declared.addresses.Address.{Address}
 use Rattle.cx_asm_execution.specs.Arguments.{IsAddressedBy, IsPlaceOf}
@@ -94,15 +94,15 @@ signed sign value = record { sign = sign; value = value }
 abbrev at : List ℕ → ℤ → ℕ → Value
 at section number length = record { section = Some section; number = number; length = length }
 
-symbol_worth : (find : List ℕ → Option Value) (here : Option Value) (value : Value) → look_up find (codes "DFHEIPL") ≡ Some value
-    → term_worth find here (term_of Plus Symbol (codes "DFHEIPL")) ≡ Ok value
-unfolding term_worth
-symbol_worth find here value is = ap (λ k. ok_or k UndefinedSymbol) is
+symbol_value : (find : List ℕ → Option Value) (here : Option Value) (value : Value) → look_up find (codes "DFHEIPL") ≡ Some value
+    → term_value find here (term_of Plus Symbol (codes "DFHEIPL")) ≡ Ok value
+unfolding term_value
+symbol_value find here value is = ap (λ k. ok_or k UndefinedSymbol) is
 
-decimal_worth : (find : List ℕ → Option Value) (here : Option Value) (text : List ℕ) (n : ℕ) → number_in 10 text ≡ n
-    → term_worth find here (term_of Plus Decimal text) ≡ number_worth greatest n
-unfolding term_worth
-decimal_worth find here text n is = ap (number_worth greatest) is
+decimal_value : (find : List ℕ → Option Value) (here : Option Value) (text : List ℕ) (n : ℕ) → number_in 10 text ≡ n
+    → term_value find here (term_of Plus Decimal text) ≡ number_value greatest n
+unfolding term_value
+decimal_value find here text n is = ap (number_value greatest) is
 
 within_is : (number sum : ℤ) → within_bound number ≡ Some sum → number ≡ sum
 within_is number sum e = go (nat_le (unsigned_abs number) bound) e
@@ -168,23 +168,23 @@ two_sum section number length n value e =
         go (Some first) is e = then first (within_bound (first +ℤ pos n)) is refl e
 
 -- ---- the expressions
-pub list_worth : (find : List ℕ → Option Value) (here : Option Value) (section : List ℕ) (number : ℤ) (length : ℕ) (value : Value)
+pub list_value : (find : List ℕ → Option Value) (here : Option Value) (section : List ℕ) (number : ℤ) (length : ℕ) (value : Value)
     → look_up find (codes "DFHEIPL") ≡ Some (at section number length) → value_of find here (codes "DFHEIPL") ≡ Ok value → IsAt section number value
 unfolding value_of
-list_worth find here section number length value known e =
+list_value find here section number length value known e =
     let terms : sum_of_terms find here (Some (term_of Plus Symbol (codes "DFHEIPL") ∷ [])) ≡ Ok value = subst (λ k. sum_of_terms find here k ≡ Ok value) one_term e in
-    let found = symbol_worth find here (at section number length) known in
+    let found = symbol_value find here (at section number length) known in
     one_sum section number length value (rw found at terms)
 
-word_worth : (find : List ℕ → Option Value) (here : Option Value) (section : List ℕ) (number : ℤ) (length n : ℕ) (value : Value)
+word_value : (find : List ℕ → Option Value) (here : Option Value) (section : List ℕ) (number : ℤ) (length n : ℕ) (value : Value)
     → look_up find (codes "DFHEIPL") ≡ Some (at section number length) → n < 2 ^ 64 → value_of find here (codes "DFHEIPL+" ++ decimal n) ≡ Ok value → IsAt section (number +ℤ pos n) value
 unfolding value_of
-word_worth find here section number length n value known small e =
+word_value find here section number length n value known small e =
     let read = decimal_read n small in
     let terms : sum_of_terms find here (Some (term_of Plus Symbol (codes "DFHEIPL") ∷ term_of Plus Decimal (decimal n) ∷ [])) ≡ Ok value =
     subst (λ k. sum_of_terms find here k ≡ Ok value) (terms_are (decimal n) (decimal_plain n) read.all read.some) e in
-    let first = symbol_worth find here (at section number length) known in
-    let second = decimal_worth find here (decimal n) n read.number in
+    let first = symbol_value find here (at section number length) known in
+    let second = decimal_value find here (decimal n) n read.number in
     go (nat_le n greatest) (rw (first, second) at terms)
   where
     go : (b : Bool) → option_map_or Err (lower None (lower (result_err (cond b (Ok (absolute (pos n))) (Err ValueOutOfRange))) None))
@@ -216,32 +216,32 @@ word_alone c text plain takes =
 
 -- ---- base and displacement
 implied : (c : Context) (text : List ℕ) (x : ℕ) (address : Address) → IsAlone c text → indexed_in c text ≡ Ok (x, address)
-    → (x ≡ 0) × (then_judge (implied_address c.bases) (expression_value c text) ≡ Ok address)
+    → (x ≡ 0) × (then_check (implied_address c.bases) (expression_value c text) ≡ Ok address)
 unfolding IsAlone indexed_in
 implied c text x address alone e =
     let found : indexed_by c (expression_value c text) [] ≡ Ok (x, address) = subst (λ o. option_map_or (λ (o : Operand). indexed_by c o.place o.subfields) o (Err BadOperand) ≡ Ok (x, address)) (alone true) e in
-    let parts = both_ok (Ok 0) (then_judge (implied_address c.bases) (expression_value c text)) x address found in
+    let parts = both_ok (Ok 0) (then_check (implied_address c.bases) (expression_value c text)) x address found in
     ((let same = parts.0 in cc), parts.1)
 
 implied_plain : (c : Context) (text : List ℕ) (address : Address) → IsAlone c text → plain_in false c text ≡ Ok address
-    → then_judge (implied_address c.bases) (expression_value c text) ≡ Ok address
+    → then_check (implied_address c.bases) (expression_value c text) ≡ Ok address
 unfolding IsAlone plain_in
 implied_plain c text address alone e = subst (λ o. option_map_or (λ (o : Operand). address_by_subfields c o.place o.subfields) o (Err BadOperand) ≡ Ok address) (alone false) e
 
-indexed_again : (c : Context) (text : List ℕ) (address : Address) → IsAlone c text → then_judge (implied_address c.bases) (expression_value c text) ≡ Ok address → indexed_in c text ≡ Ok (0, address)
+indexed_again : (c : Context) (text : List ℕ) (address : Address) → IsAlone c text → then_check (implied_address c.bases) (expression_value c text) ≡ Ok address → indexed_in c text ≡ Ok (0, address)
 unfolding IsAlone indexed_in
 indexed_again c text address alone e = ap (λ o. option_map_or (λ (o : Operand). indexed_by c o.place o.subfields) o (Err BadOperand)) (alone true) ∙ ap (λ a. both_or_lower_fault (Ok 0) a) e
 
--- of an operand without parentheses, by what it is worth
+-- of an operand without parentheses, by its value
 pub lies_at : OperandsAddress → (c : Context) (text section : List ℕ) (offset : ℤ) (n : ℕ) (address : Address) (place : Result Value FaultKind)
     → operand_in true c text ≡ Some (operand place []) → ((value : Value) → place ≡ Ok value → IsAt section (offset +ℤ pos n) value)
     → indexed_in c text ≡ Ok (0, address) → LiesAfter c section offset n address
-lies_at addresses c text section offset n address place written worths e sections regs holds =
+lies_at addresses c text section offset n address place written valued e sections regs holds =
     let a = addresses sections regs c text 0 address e in
     let own : operand place [] ≡ a.operand = (let found : Some (operand place []) ≡ Some a.operand = sym written ∙ a.is in cc) in
     let found : place ≡ Ok a.value = ap (λ o. o.place) own ∙ a.expression_value in
     let by : IsAddressedBy sections regs c a.value [] 0 address = subst (λ l. IsAddressedBy sections regs c a.value l 0 address) (ap (λ o. o.subfields) (sym own)) a.by in
-    let at = worths a.value found in
+    let at = valued a.value found in
     let there : IsPlaceOf sections regs c.bases (Some section) (offset +ℤ pos n) 0 address =
     subst (λ v. IsPlaceOf sections regs c.bases (Some section) v 0 address) at.number
     (subst (λ s. IsPlaceOf sections regs c.bases s a.value.number 0 address) at.section by.1) in
@@ -251,29 +251,29 @@ lies_at addresses c text section offset n address place written worths e section
     modulo p n = omega arith
 
 lies : OperandsAddress → (c : Context) (text section : List ℕ) (offset : ℤ) (n : ℕ) (address : Address) → IsAlone c text
-    → ((value : Value) → expression_value c text ≡ Ok value → IsAt section (offset +ℤ pos n) value) → then_judge (implied_address c.bases) (expression_value c text) ≡ Ok address
+    → ((value : Value) → expression_value c text ≡ Ok value → IsAt section (offset +ℤ pos n) value) → then_check (implied_address c.bases) (expression_value c text) ≡ Ok address
     → LiesAfter c section offset n address
 unfolding IsAlone
-lies addresses c text section offset n address alone worths e =
-    lies_at addresses c text section offset n address (expression_value c text) (alone true) worths (indexed_again c text address alone e)
+lies addresses c text section offset n address alone valued e =
+    lies_at addresses c text section offset n address (expression_value c text) (alone true) valued (indexed_again c text address alone e)
 
 both_lie : OperandsAddress → (c : Context) (text section : List ℕ) (offset : ℤ) (n : ℕ) → IsAlone c text
     → ((value : Value) → expression_value c text ≡ Ok value → IsAt section (offset +ℤ pos n) value) → LieAfter c section offset n text
-both_lie addresses c text section offset n alone worths =
+both_lie addresses c text section offset n alone valued =
     record {
-      indexed = λ x address e. (let i = implied c text x address alone e in (i.0, lies addresses c text section offset n address alone worths i.1));
-      plain = λ address e. lies addresses c text section offset n address alone worths (implied_plain c text address alone e);
+      indexed = λ x address e. (let i = implied c text x address alone e in (i.0, lies addresses c text section offset n address alone valued i.1));
+      plain = λ address e. lies addresses c text section offset n address alone valued (implied_plain c text address alone e);
     }
 
 pub list_lies : OperandsAddress → ListLies
 list_lies addresses c section offset has =
     both_lie addresses c (codes "DFHEIPL") section offset 0 (list_alone c) (λ value e.
-    (let at = list_worth c.find c.here section offset has.length value has.known e in record { section = at.section; number = at.number ∙ sym (+ℤ_idr offset) }))
+    (let at = list_value c.find c.here section offset has.length value has.known e in record { section = at.section; number = at.number ∙ sym (+ℤ_idr offset) }))
 
 pub words_lie : OperandsAddress → WordsLie
 words_lie addresses c section offset k small has =
     both_lie addresses c (word_of_list k) section offset (4 * k) (word_alone c (decimal (4 * k)) (decimal_plain (4 * k)))
-    (λ value e. word_worth c.find c.here section offset has.length (4 * k) value has.known (omega (arith, small)) e)
+    (λ value e. word_value c.find c.here section offset has.length (4 * k) value has.known (omega (arith, small)) e)
 
 -- ---- a list that has a base
 absolute_sum : (number : ℤ) (length : ℕ) (value : Value) → sum_of_values (record { sign = Plus; value = record { section = None; number = number; length = length } } ∷ []) ≡ Ok value → value.section ≡ None
@@ -290,10 +290,10 @@ symbol_sum : (find : List ℕ → Option Value) (here : Option Value) (v value :
 unfolding value_of
 symbol_sum find here v value known e =
     let terms : sum_of_terms find here (Some (term_of Plus Symbol (codes "DFHEIPL") ∷ [])) ≡ Ok value = subst (λ k. sum_of_terms find here k ≡ Ok value) one_term e in
-    let found = symbol_worth find here v known in rw found at terms
+    let found = symbol_value find here v known in rw found at terms
 
 unknown_symbol : (find : List ℕ → Option Value) (here : Option Value) (value : Value) → look_up find (codes "DFHEIPL") ≡ None → value_of find here (codes "DFHEIPL") ≡ Ok value → ⊥
-unfolding value_of term_worth
+unfolding value_of term_value
 unknown_symbol find here value none e =
     let terms : sum_of_terms find here (Some (term_of Plus Symbol (codes "DFHEIPL") ∷ [])) ≡ Ok value = subst (λ k. sum_of_terms find here k ≡ Ok value) one_term e in
     let bad = rw none at terms in absurd (cc)
@@ -308,7 +308,7 @@ base_0 bases value address none e = go (number_within 4095 value.number) (subst 
 pub list_placed : ListIsPlaced
 list_placed c x address e based = go (look_up c.find (codes "DFHEIPL")) refl
   where
-    implies : then_judge (implied_address c.bases) (expression_value c (codes "DFHEIPL")) ≡ Ok address
+    implies : then_check (implied_address c.bases) (expression_value c (codes "DFHEIPL")) ≡ Ok address
     implies = (implied c (codes "DFHEIPL") x address (list_alone c) e).1
 
     by_section : (v : Value) (o : Option (List ℕ)) → look_up c.find (codes "DFHEIPL") ≡ Some v → v.section ≡ o → HasSomeList c.find
@@ -318,19 +318,19 @@ list_placed c x address e based = go (look_up c.find (codes "DFHEIPL")) refl
           offset = v.number;
           is = record { length = v.length; known = known ∙ ap (λ s. Some (record { section = s; number = v.number; length = v.length })) is };
         }
-    by_section v None known is = absurd (based (by_worth (expression_value c (codes "DFHEIPL")) refl implies))
+    by_section v None known is = absurd (based (by_value (expression_value c (codes "DFHEIPL")) refl implies))
       where
-        by_worth : (r : Result Value FaultKind) → expression_value c (codes "DFHEIPL") ≡ r → then_judge (implied_address c.bases) r ≡ Ok address → address.base ≡ 0
-        by_worth (Err fault) worths e = absurd (cc)
-        by_worth (Ok value) worths e =
-            let sum = symbol_sum c.find c.here v value known worths in
+        by_value : (r : Result Value FaultKind) → expression_value c (codes "DFHEIPL") ≡ r → then_check (implied_address c.bases) r ≡ Ok address → address.base ≡ 0
+        by_value (Err fault) valued e = absurd (cc)
+        by_value (Ok value) valued e =
+            let sum = symbol_sum c.find c.here v value known valued in
             base_0 c.bases value address
             (absolute_sum v.number v.length value (subst (λ s. sum_of_values (record { sign = Plus; value = record { section = s; number = v.number; length = v.length } } ∷ []) ≡ Ok value) is sum)) e
 
     go : (o : Option Value) → look_up c.find (codes "DFHEIPL") ≡ o → HasSomeList c.find
     go (Some v) known = by_section v v.section known refl
-    go None none = absurd (by_worth (expression_value c (codes "DFHEIPL")) refl implies)
+    go None none = absurd (by_value (expression_value c (codes "DFHEIPL")) refl implies)
       where
-        by_worth : (r : Result Value FaultKind) → expression_value c (codes "DFHEIPL") ≡ r → then_judge (implied_address c.bases) r ≡ Ok address → ⊥
-        by_worth (Err fault) worths e = cc
-        by_worth (Ok value) worths e = unknown_symbol c.find c.here value none worths
+        by_value : (r : Result Value FaultKind) → expression_value c (codes "DFHEIPL") ≡ r → then_check (implied_address c.bases) r ≡ Ok address → ⊥
+        by_value (Err fault) valued e = cc
+        by_value (Ok value) valued e = unknown_symbol c.find c.here value none valued

@@ -1,9 +1,9 @@
 -- Where the words of a command's argument list lie (Application Programmer's Reference Manual, SC33-0077, the expansion
--- of a command; GC33-4010, "Addressing"; the argument list is this project's own).
+-- of a command; GC33-4010, "Addressing"; the argument list is this product's own).
 use Rattle.std.specs.Prelude.{◌≡◌, ◌≢◌, ℕ, ℤ, ◌*◌, ◌<◌, false, Ok, Option, Some, List, codes}
 use Rattle.cx_storage.specs.Address.{address_after}
 use Rattle.cx_exec.specs.Machine.{effective}
-use Rattle.cx_asm_expressions.specs.Worth.{look_up}
+use Rattle.cx_asm_expressions.specs.TermValues.{look_up}
 use Rattle.cx_asm_expressions.specs.declared.values.Value.{Value}
 use Rattle.cx_asm_operands.specs.Context.{Context}
 use Rattle.cx_asm_operands.specs.Storage.{indexed_in, plain_in}

@@ -4,9 +4,9 @@
 -- own).
 use Rattle.std.specs.Prelude.{◌≡◌, ◌≢◌, ℕ, pos, ◌+◌, ◌<◌, true, Ok, Some, List, [], ◌∷◌, ◌++◌, codes, is_some, length, map, slice_get, slice_set, take}
 use Rattle.std.specs.List.{AllByRecursion, Contains}
-use Rattle.cx_asm_arrival.specs.Arrives.{Arrives}
-use Rattle.cx_asm_arrival.specs.Expansion.{Argument, ImpliedAddress, Statement, argument_address, block_bytes, instructions_made as made_code, address_reached, words_of}
-use Rattle.cx_asm_arrival.specs.Stands.{IsApart, IsMachine, code_length, list_length}
+use Rattle.cx_asm_execution.specs.Arrives.{Arrives}
+use Rattle.cx_asm_execution.specs.Expansion.{Argument, ImpliedAddress, Statement, argument_address, block_bytes, instructions_made as made_code, address_reached, words_of}
+use Rattle.cx_asm_execution.specs.Stands.{IsApart, IsMachine, code_length, list_length}
 use Rattle.cx_code.specs.declared.disassembly.Line.{Line}
 use Rattle.cx_code.specs.Spelling.{Instruction}
 use Rattle.cx_base_commands.specs.declared.commands.Command.{Command}
@@ -84,7 +84,7 @@ pub record IsPointer (command : Command) (words : List Word) (earlier : List Com
   pub option : CommandOption
   pub after : List CommandOption
   pub is : (row_of command).options ≡ earlier ++ option ∷ after
-  pub marked : option.mark ≡ Pointer
+  pub marked : option.kind ≡ Pointer
   pub given : argument_of words (option_name option.name) ≡ Some register
 
 -- Of a pointer that a statement hands over: its argument, after those of the options before it, and the number of the

@@ -1,5 +1,5 @@
 -- Where the assembler places the fields of the EXEC interface block and of the head of DFHEISTG (Application
--- Programmer's Reference Manual, SC33-0077, "EXEC Interface Block"; the layouts are this project's own).
+-- Programmer's Reference Manual, SC33-0077, "EXEC Interface Block"; the layouts are this product's own).
 use Rattle.std.specs.Prelude.{◌≡◌, ℕ, pos, ◌⊎◌, ◌&&◌, Ok, Option, Some, None, option_and_then, List, ◌∷◌, ◌++◌, codes, map, reverse, true}
 use Rattle.std.specs.List.{AllByRecursion, list_any}
 use Rattle.cx_base_commands.specs.Eib.{eib_field, eib_len, eib_pieces}
@@ -30,7 +30,7 @@ pub record LaysOut {F : Type 0} (name : List ℕ) (made : List Stmt) (field : F 
   pub begins : (has_name name first.stmt && has_operation (codes "DSECT") first.stmt) ≡ true
   pub follow : AllByRecursion (λ item. item.stmt ≡ None) more
   pub is : items ≡ before ++ (first ∷ more ++ lines line made) ++ after
-  pub laid : (state_after (reverse items)).fault ≡ None → Ends (symbol_name name) before 0
+  pub extent : (state_after (reverse items)).fault ≡ None → Ends (symbol_name name) before 0
       → ((f : F) → option_and_then (state_after (reverse items)).symbols (symbol_name (field f).name)
       ≡ Some (record { section = symbol_name name; number = pos (field f).offset; length = length f }))
       × Ends (symbol_name name) (before ++ (first ∷ more ++ lines line made)) end

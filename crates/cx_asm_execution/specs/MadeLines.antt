@@ -1,6 +1,6 @@
 -- The statements made of an EXEC statement: which they are, what they are resolved to, and where they are in an
 -- assembly (OS/VS-DOS/VSE-VM/370 Assembler Language, GC33-4010, "Location Counter Reference", "USING -- Use Base
--- Address Register"; that they are resolved lines is this project's own).
+-- Address Register"; that they are resolved lines is this product's own).
 use Rattle.std.specs.Prelude.{◌≡◌, ℕ, ◌+◌, ◌-◌, Ok, Some, None, option_map, List, [], ◌∷◌, ◌++◌, drop, fold, length, reverse}
 use Rattle.cx_code.specs.declared.disassembly.Line.{Line}
 use Rattle.cx_code.specs.declared.disassembly.What.TheVariants.{Code}

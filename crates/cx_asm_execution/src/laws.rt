@@ -1,9 +1,52 @@
-//! What holds of a translated source that was assembled.
-ghost use Rattle.std.specs.Prelude.{◌≡◌, ℕ};
-ghost use Rattle.cx_asm_arrival.specs.Expansion.{Statement};
+//! What the instructions made of an EXEC statement come to, and what holds of a translated source that was assembled.
 ghost use Rattle.cx_asm_execution.specs.Arrival.{CommandsArrive, IsStatement};
+ghost use Rattle.cx_asm_execution.specs.Expansion.{Statement};
 ghost use Rattle.cx_asm_execution.specs.FieldLayouts.{EibIsLaidOut, HeadIsLaidOut};
+ghost use Rattle.cx_asm_execution.specs.Laws.Entry.{ArrivalsDecide, ArrivesInTime, MadeAreCounted, ReachesEntry};
+ghost use Rattle.cx_asm_execution.specs.Laws.Pointers.{LoadsGiveWords};
 ghost use Rattle.cx_asm_execution.specs.MadeLines.{Site};
+ghost use Rattle.std.specs.Prelude.{◌≡◌, ℕ};
+
+/// The instructions made of an EXEC statement, where they are in storage at the next address, lead to the entry, with
+/// the argument list that is read as the statement's command with the addresses that its arguments had at the first
+/// instruction.
+pub fn reaches_entry()
+    ensures { ReachesEntry }
+{
+    cx_code::laws::every_spelling();
+    cx_exec::laws::spelled_is_fetched();
+    cx_exec::laws::runs_join();
+    cx_storage::laws::sound_kept();
+    cx_storage::laws::word_after_write();
+    cx_region_call::laws::call_is_read();
+}
+
+/// A run with any limit that the instructions made fit in, two for each word of the list and four, ends at the entry.
+pub fn arrives_in_time()
+    ensures { ArrivesInTime }
+{}
+
+/// The machine that has arrived is determined by the machine before.
+pub fn arrivals_decide()
+    ensures { ArrivalsDecide }
+{
+    cx_exec_laws::laws::runs_decide();
+}
+
+/// Two instructions are made for each word of the list, and four; all except the last have four bytes, the last has
+/// two.
+pub fn made_are_counted()
+    ensures { MadeAreCounted }
+{}
+
+/// L at the next address, as it is after a call for each pointer, gives its register the word that its operand
+/// addresses. All else is as before.
+pub fn loads_give_words()
+    ensures { LoadsGiveWords }
+{
+    cx_code::laws::every_spelling();
+    cx_exec::laws::spelled_is_fetched();
+}
 
 /// The assembler places each field of DFHEIBLK at the offset, and with the length, at which the region writes it, and
 /// the block is as long as the region's.
@@ -52,9 +95,9 @@ pub fn commands_arrive()
     cx_load::laws::relocation();
     cx_asm_operands::laws::an_implied_address_is_nearest();
     cx_asm_operands::laws::what_is_resolved_is_well_formed();
-    cx_asm_image::laws::the_text_is_told_by_its_bytes();
+    cx_asm_image::laws::the_text_is_decided_by_its_bytes();
     cx_asm::laws::an_assembly_stands_apart();
-    cx_asm_arrival::laws::made_are_counted();
-    cx_asm_arrival::laws::reaches_entry();
-    cx_asm_arrival::laws::loads_give_words();
+    crate::laws::made_are_counted();
+    crate::laws::reaches_entry();
+    crate::laws::loads_give_words();
 }

@@ -11,17 +11,17 @@ use Rattle.std.proofs.lemmas.Bool.Decides.{nat_tests}
 use Rattle.cx_ebcdic.specs.Characters.{code_of, table}
 use Rattle.cx_ebcdic.specs.Facts.Lookup.{find_meets}
 use Rattle.cx_asm_expressions.specs.Texts.{code, character_number, characters}
-use Rattle.cx_asm_expressions.specs.Digits.{digit, is_digit, worth_of, is_number, number_in}
+use Rattle.cx_asm_expressions.specs.Digits.{digit, is_digit, digit_value, is_number, number_in}
 
 both : (a b : Bool) → (a && b) ≡ true → (a ≡ true) × (b ≡ true)
 both true b e = (refl, e)
 both false b e = cc
 
-below : (base : ℕ) (found : Option ℕ) → option_map_or (λ worth. nat_lt worth base) found false ≡ true → unwrap_or found 0 < base
+below : (base : ℕ) (found : Option ℕ) → option_map_or (λ value. nat_lt value base) found false ≡ true → unwrap_or found 0 < base
 below base None e = cc
-below base (Some worth) e = grind (arith, nat_tests)
+below base (Some value) e = grind (arith, nat_tests)
 
-all_below : (base : ℕ) (text : List ℕ) → list_all (is_digit base) text ≡ true → AllBelowBase base (map worth_of text)
+all_below : (base : ℕ) (text : List ℕ) → list_all (is_digit base) text ≡ true → AllBelowBase base (map digit_value text)
 all_below base [] e = tt
 all_below base (c ∷ text) e =
     let parts = both (is_digit base c) (list_all (is_digit base) text) e in
@@ -30,8 +30,8 @@ all_below base (c ∷ text) e =
 pub digits_fit : (base : ℕ) (text : List ℕ) → is_number base text ≡ true → number_in base text < base ^ length text
 digits_fit base text e =
     let parts = both (not (length text == 0)) (list_all (is_digit base) text) e in
-    let fits : number_from_digits base (map worth_of text) < base ^ length (map worth_of text) = number_lt base (map worth_of text) (all_below base text parts.1) in
-    let same : length (map worth_of text) ≡ length text = simp length-map in
+    let fits : number_from_digits base (map digit_value text) < base ^ length (map digit_value text) = number_lt base (map digit_value text) (all_below base text parts.1) in
+    let same : length (map digit_value text) ≡ length text = simp length-map in
     subst (λ n. number_in base text < base ^ n) same fits
 
 -- a code is a byte, and so is what stands for a character without one

@@ -4,7 +4,7 @@ use Rattle.std.specs.List.{list_all}
 use Rattle.std.specs.Option.{option_map_or}
 use Rattle.std.specs.Int.Digits.{number_from_digits}
 
--- what a digit is worth: 0 to 9, A to F
+-- the value of a digit: 0 to 9, A to F
 unfoldable pub digit : ℕ → Option ℕ
 digit c =
     if nat_le 48 c && nat_le c 57 then Some (c - 48)
@@ -12,18 +12,18 @@ digit c =
 
 -- a digit of a base
 abbrev pub is_digit : ℕ → ℕ → Bool
-is_digit base c = option_map_or (λ worth. nat_lt worth base) (digit c) false
+is_digit base c = option_map_or (λ value. nat_lt value base) (digit c) false
 
 -- one digit of a base or more, and nothing else
 abbrev pub is_number : ℕ → List ℕ → Bool
 is_number base text = not (length text == 0) && list_all (is_digit base) text
 
-abbrev pub worth_of : ℕ → ℕ
-worth_of c = unwrap_or (digit c) 0
+abbrev pub digit_value : ℕ → ℕ
+digit_value c = unwrap_or (digit c) 0
 
 -- the number that digits of a base write
 abbrev pub number_in : ℕ → List ℕ → ℕ
-number_in base text = number_from_digits base (map worth_of text)
+number_in base text = number_from_digits base (map digit_value text)
 
 -- No number goes beyond this one (own): what does is out of range.
 abbrev pub bound : ℕ

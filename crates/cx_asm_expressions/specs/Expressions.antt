@@ -1,4 +1,4 @@
--- What an expression is worth, or what is wrong with it (GC33-4010, "Expressions").
+-- The value of an expression, or what is wrong with it (GC33-4010, "Expressions").
 use Rattle.std.specs.Prelude.{◌≡◌, ℕ, ℤ, pos, nat_le, unsigned_abs, if◌then◌else◌, Option, Some, None, Result, Ok, Err, List, [], ◌∷◌, map, slice_get, option_map, option_and_then}
 use Rattle.std.specs.List.{filter_map}
 use Rattle.std.specs.Option.{option_map_or}
@@ -6,7 +6,7 @@ use Rattle.std.specs.Result.{result_ok, result_err}
 use Rattle.cx_asm_expressions.specs.Faults.{lowest}
 use Rattle.cx_asm_expressions.specs.Digits.{bound}
 use Rattle.cx_asm_expressions.specs.Terms.{Term, terms_of}
-use Rattle.cx_asm_expressions.specs.Worth.{term_worth}
+use Rattle.cx_asm_expressions.specs.TermValues.{term_value}
 use Rattle.cx_asm_expressions.specs.Weights.{relocation, with_sign}
 use Rattle.cx_asm_expressions.specs.declared.values.Value.{Value}
 use Rattle.cx_asm_expressions.specs.declared.expressions.Signed.{Signed}
@@ -17,12 +17,12 @@ use Rattle.cx_asm_expressions.specs.declared.faults.TermFault.TheVariants.{Refus
 
 -- the lowest fault of the terms
 abbrev pub lowest_fault : (List ℕ → Option Value) → Option Value → List Term → Option FaultKind
-lowest_fault find here terms = lowest (map (λ term. result_err (term_worth find here term)) terms)
+lowest_fault find here terms = lowest (map (λ term. result_err (term_value find here term)) terms)
 
--- what a term is worth, with its sign
-abbrev pub signed_worth : (List ℕ → Option Value) → Option Value → Term → Option Signed
-signed_worth find here term =
-    option_map (λ (value : Value). record { sign = term.sign; value = value }) (result_ok (term_worth find here term))
+-- the value of a term, with its sign
+abbrev pub signed_value : (List ℕ → Option Value) → Option Value → Term → Option Signed
+signed_value find here term =
+    option_map (λ (value : Value). record { sign = term.sign; value = value }) (result_ok (term_value find here term))
 
 -- None beyond the bound
 abbrev pub within_bound : ℤ → Option ℤ
@@ -46,9 +46,9 @@ sum_of_values values =
 
 abbrev pub sum_of_terms : (List ℕ → Option Value) → Option Value → Option (List Term) → Result Value FaultKind
 sum_of_terms find here None = Err BadOperand
-sum_of_terms find here (Some terms) = option_map_or Err (lowest_fault find here terms) (sum_of_values (filter_map (signed_worth find here) terms))
+sum_of_terms find here (Some terms) = option_map_or Err (lowest_fault find here terms) (sum_of_values (filter_map (signed_value find here) terms))
 
--- What an expression is worth, where `find` knows the symbols and `here` is where the location counter is. A text that
+-- The value of an expression, where `find` knows the symbols and `here` is where the location counter is. A text that
 -- is no expression is BadOperand alone; else the lowest of its terms' faults; then a sum out of bounds; then one that
 -- is neither absolute nor a place.
 unfoldable pub value_of : (List ℕ → Option Value) → Option Value → List ℕ → Result Value FaultKind

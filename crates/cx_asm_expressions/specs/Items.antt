@@ -8,7 +8,7 @@ use Rattle.cx_source.specs.Marks.{first_mark}
 use Rattle.cx_source.specs.declared.marks.Delimiter.TheVariants.{Closing}
 use Rattle.cx_asm_expressions.specs.Digits.{at_most, is_digit, number_in}
 use Rattle.cx_asm_expressions.specs.Texts.{before_apostrophe}
-use Rattle.cx_asm_expressions.specs.Worth.{greatest}
+use Rattle.cx_asm_expressions.specs.TermValues.{greatest}
 use Rattle.cx_asm_expressions.specs.Kinds.{kind_of, row_of}
 use Rattle.cx_asm_expressions.specs.Fields.{fields}
 use Rattle.cx_asm_expressions.specs.declared.kinds.ConstantKind.{ConstantKind}

@@ -5,7 +5,7 @@ use Rattle.std.specs.Option.{option_map_or, option_or}
 use Rattle.std.specs.Str.{byte, bytes_eq}
 use Rattle.std.specs.Int.{w128}
 use Rattle.byteorder.specs.Endian.{big_bytes, low_bytes}
-use Rattle.cx_asm_expressions.specs.Digits.{at_most, bound, is_number, number_in, worth_of}
+use Rattle.cx_asm_expressions.specs.Digits.{at_most, bound, is_number, number_in, digit_value}
 use Rattle.cx_asm_expressions.specs.Fields.{fields, is_decimal, without_sign}
 use Rattle.cx_asm_expressions.specs.Texts.{characters, code, has_codes, is_doubled, is_paired}
 use Rattle.cx_asm_expressions.specs.declared.faults.FaultKind.{FaultKind}
@@ -17,7 +17,7 @@ use Rattle.cx_asm_expressions.specs.declared.kinds.Style.TheVariants.{Text, Valu
 
 -- ---- half bytes, counted from the right; those that aren't written are zero
 abbrev pub digit_from_right : List ℕ → ℕ → ℕ
-digit_from_right digits j = if nat_lt j (length digits) then worth_of (slice_index digits (length digits - 1 - j)) else 0
+digit_from_right digits j = if nat_lt j (length digits) then digit_value (slice_index digits (length digits - 1 - j)) else 0
 
 abbrev pub bit_from_right : List ℕ → ℕ → ℕ
 bit_from_right digits j = if nat_lt j (length digits) && slice_index digits (length digits - 1 - j) == byte "1" then 1 else 0

@@ -4,7 +4,7 @@ pub mod Names
 pub mod Symbols
 pub mod Texts
 pub mod Terms
-pub mod Worth
+pub mod TermValues
 pub mod Weights
 pub mod Expressions
 pub mod Fields

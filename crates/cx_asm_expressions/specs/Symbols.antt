@@ -1,4 +1,4 @@
--- What symbols, terms and expressions are worth, and the table of symbols (GC33-4010, "Symbols" and "Symbol Table").
+-- The values of symbols, terms and expressions, and the table of symbols (GC33-4010, "Symbols" and "Symbol Table").
 use Rattle.std.specs.Prelude.{◌≡◌, ℕ, ℤ, if◌then◌else◌, Option, Some, None, List}
 use Rattle.std.specs.Map.{lookup}
 use Rattle.cx_asm_expressions.specs.Names.{is_same}
@@ -8,11 +8,11 @@ use Rattle.cx_asm_expressions.specs.declared.values.Value.{Value}
 abbrev pub absolute : ℤ → Value
 absolute number = record { section = None; number = number; length = 1 }
 
--- the symbols, each with what it is worth
+-- the symbols, each with its value
 abbrev pub Symbols : Type 0
 Symbols = List (List ℕ × Value)
 
--- what the symbol of a name is worth
+-- the value of the symbol of a name
 abbrev pub find_in : Symbols → List ℕ → Option Value
 find_in symbols name = lookup (is_same name) symbols
 

@@ -3,7 +3,7 @@
 ghost use Rattle.std.specs.Prelude.{◌≡◌, ◌≤◌, ◌<◌, ◌-◌, ◌*◌, ◌^◌, IfOk, None, Some, if◌then◌else◌, map};
 ghost use Rattle.std.specs.List.{flat_map};
 ghost use Rattle.std.specs.Option.{option_copied};
-ghost use Rattle.cx_asm_expressions.specs.Digits.{worth_of};
+ghost use Rattle.cx_asm_expressions.specs.Digits.{digit_value};
 ghost use Rattle.cx_asm_expressions.specs.Faults.{lowest};
 ghost use Rattle.cx_asm_expressions.specs.Symbols.{find_in};
 ghost use Rattle.cx_asm_expressions.specs.Expressions.{Answers};
@@ -111,26 +111,26 @@ fn character_bytes(alloc: Global, n: usize, body: &[u8]) -> Result<Vec<u8>, Allo
     Ok(found)
 }
 
-/// What a digit is worth, counted from the right; 0 where none is written.
+/// The value of a digit, counted from the right; 0 where none is written.
 fn digit_from_right(digits: &[u8], j: u128) -> u8
     ensures value { result ≡ digit_from_right digits.now j }
     ensures bound { result < 16 }
 {
     if j < digits.len() as u128 {
         let place = digits.len() - 1 - j as usize;
-        worth(digits[place])
+        digit_value(digits[place])
     } else {
         0
     }
 }
 
-/// What a digit is worth; 0 where it is none.
-fn worth(c: u8) -> u8
-    ensures value { result ≡ worth_of c }
+/// The value of a digit; 0 where it is none.
+fn digit_value(c: u8) -> u8
+    ensures value { result ≡ digit_value c }
     ensures bound { result < 16 }
 {
     match digit(c) {
-        Some(worth) => worth,
+        Some(value) => value,
         None => 0,
     }
 }

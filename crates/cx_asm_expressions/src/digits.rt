@@ -7,11 +7,11 @@ ghost use Rattle.cx_asm_expressions.specs.Digits.{at_most, bound, digit, is_digi
 /// No number goes beyond this one: what does is out of range.
 pub(crate) const BOUND: u128 = 1_267_650_600_228_229_401_496_703_205_376;
 
-/// What a digit is worth: 0 to 9, A to F.
+/// The value of a digit: 0 to 9, A to F.
 #[tactic(auto, unfolding(crate::specs::Digits::digit))]
 pub(crate) fn digit(c: u8) -> Option<u8>
     ensures value { result ≡ digit c }
-    ensures bound { IfSome result (λ worth. worth < 16) }
+    ensures bound { IfSome result (λ value. value < 16) }
 {
     match c {
         b'0'..=b'9' => Some(c - b'0'),
@@ -25,7 +25,7 @@ pub(crate) fn is_digit(c: u8, base: u8) -> bool
     ensures { result ≡ is_digit base c }
 {
     match digit(c) {
-        Some(worth) => worth < base,
+        Some(value) => value < base,
         None => false,
     }
 }

@@ -1,10 +1,10 @@
-//! What an expression is worth.
+//! The value of an expression.
 
 ghost use Rattle.std.specs.Prelude.{◌≡◌, pos, slice_get, IfOk};
 ghost use Rattle.std.specs.List.{filter_map};
 ghost use Rattle.std.specs.Option.{option_copied, option_map_or};
 ghost use Rattle.cx_asm_expressions.specs.Symbols.{find_in};
-ghost use Rattle.cx_asm_expressions.specs.Expressions.{Answers, lowest_fault, signed_worth, sum_from, sum_of_values, value_of, within_bound};
+ghost use Rattle.cx_asm_expressions.specs.Expressions.{Answers, lowest_fault, signed_value, sum_from, sum_of_values, value_of, within_bound};
 ghost use Rattle.cx_asm_expressions.specs.Weights.{with_sign};
 ghost use Rattle.cx_asm_expressions.specs.declared.expressions.Signed.{Signed as SignedTerm};
 
@@ -17,12 +17,12 @@ use crate::weights::relocation;
 use cx_ebcdic::Name8;
 use std::alloc::{AllocError, Global};
 
-/// What a term is worth, with the sign before it.
+/// The value of a term, with the sign before it.
 #[derive(Clone, Copy, Debug, PartialEq, Eq)]
 pub struct Signed {
     /// The sign.
     pub sign: Sign,
-    /// What the term is worth.
+    /// The value of the term.
     pub value: Value,
 }
 
@@ -42,7 +42,7 @@ fn lowest_fault(
     fault
 }
 
-/// What the terms are worth, each with its sign.
+/// The values of the terms, each with its sign.
 #[tactic(auto, using(crate::proofs::FaultLemmas::put_one))]
 fn values_of(
     alloc: Global,
@@ -51,11 +51,11 @@ fn values_of(
     here: Option<&Value>,
 ) -> Result<Vec<Signed>, AllocError>
     ensures { IfOk result (λ values. values.items
-        ≡ filter_map (signed_worth (find_in symbols.now) (option_copied here.entry)) terms.now) }
+        ≡ filter_map (signed_value (find_in symbols.now) (option_copied here.entry)) terms.now) }
 {
     let mut values = Vec::new(alloc);
     for term in terms {
-        term.put_worth(symbols, here, &mut values)?;
+        term.put_value(symbols, here, &mut values)?;
     }
     Ok(values)
 }
@@ -115,7 +115,7 @@ fn summed(alloc: Global, values: &[Signed]) -> Result<Value, TermFault>
     })
 }
 
-/// What an expression is worth: a sum of terms, absolute or a place in one section, with the length attribute of its
+/// The value of an expression: a sum of terms, absolute or a place in one section, with the length attribute of its
 /// leftmost term (GC33-4010, "Expressions"). `here` is where the location counter is, if anywhere.
 ///
 /// A text that is no expression is BadOperand alone. Else the lowest fault of its terms is answered, if one has any;

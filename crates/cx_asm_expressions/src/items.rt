@@ -11,8 +11,8 @@ use crate::digits::{is_digit, number};
 use crate::faults::FaultKind;
 use crate::fields::are_decimals;
 use crate::kinds::{ConstantKind, Style};
+use crate::term_values::GREATEST;
 use crate::texts::{APOSTROPHE, closed, is_doubled, is_paired};
-use crate::worth::GREATEST;
 use cx_source::{Delimiter, first_mark};
 use std::marker::Model;
 

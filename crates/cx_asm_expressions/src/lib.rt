@@ -1,4 +1,4 @@
-//! What an assembler operand is worth: terms, expressions and constants.
+//! The value of an assembler operand: terms, expressions and constants.
 #![tactic(auto)]
 
 mod bytes;
@@ -11,11 +11,11 @@ mod kinds;
 pub mod laws;
 mod lengths;
 mod symbols;
+mod term_values;
 mod terms;
 mod texts;
 mod values;
 mod weights;
-mod worth;
 
 pub use bytes::ConstantBytes;
 pub use expressions::{Signed, value_of};

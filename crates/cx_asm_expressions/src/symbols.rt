@@ -28,7 +28,7 @@ pub fn symbol_name(text: &[u8]) -> Option<Name8>
     Name8::from_text(name)
 }
 
-/// The symbols of a source, each with what it is worth (GC33-4010, "Symbol Table").
+/// The symbols of a source, each with its value (GC33-4010, "Symbol Table").
 #[derive(Drop)]
 pub struct SymbolTable {
     symbols: IndexMap<Name8, Value>,
@@ -52,7 +52,7 @@ impl SymbolTable {
         }
     }
 
-    /// What the symbol of a name is worth; None where there is no such symbol. It takes no memory.
+    /// The value of the symbol of a name; None where there is no such symbol. It takes no memory.
     pub fn get(&self, name: Name8) -> Option<Value>
         ensures { result ≡ find_in self.now name }
     {

@@ -1,11 +1,11 @@
-//! What symbols, terms and expressions are worth.
+//! The values of symbols, terms and expressions.
 
 ghost use Rattle.std.specs.Prelude.{◌≡◌};
 ghost use Rattle.cx_asm_expressions.specs.Symbols.{absolute as absolute_value};
 
 use cx_ebcdic::Name8;
 
-/// What a symbol, a term or an expression is worth: an absolute number, or an offset in a section; with its length
+/// The value of a symbol, a term or an expression: an absolute number, or an offset in a section; with its length
 /// attribute (GC33-4010, "Symbols").
 #[derive(Clone, Copy, Debug, PartialEq, Eq)]
 pub struct Value {

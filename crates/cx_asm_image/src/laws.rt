@@ -14,7 +14,8 @@ ghost use Rattle.cx_asm_image.specs.Text.{text_of};
 /// Lines that don't overlap in a section ascend: each ends at or before the place of every later one, and in the
 /// section.
 pub fn lines_ascend()
-    ensures ascend { (all : List Line) (size i j : ℕ) (any : Line) → AreApart 0 all size → i < j → j < length all
+    ensures ascend { (all : List Line) (size i j : ℕ) (any : Line) → AreApart 0 all size → i < j
+        → j < length all
         → end_of (get_or all i any) ≤ (get_or all j any).at }
     ensures within { (all : List Line) (size i : ℕ) (any : Line) → AreApart 0 all size → i < length all
         → end_of (get_or all i any) ≤ size }
@@ -22,7 +23,7 @@ pub fn lines_ascend()
 
 /// The text of lines that don't overlap has the section's size, each line's bytes are at its place, and every byte that
 /// no line covers is zero; and no other text is so.
-pub fn the_text_is_told_by_its_bytes()
+pub fn the_text_is_decided_by_its_bytes()
     ensures is { (all : List Line) (size : ℕ) → AreApart 0 all size → IsTextOf all size (text_of all size) }
     ensures decides { (resolved : List Line) (size : ℕ) (one other : List ℕ) → IsTextOf resolved size one
         → IsTextOf resolved size other → one ≡ other }
@@ -47,7 +48,8 @@ pub fn lines_come_back()
 /// Sections of one text and the same spans have the same resolved lines.
 #[tactic(auto, using(crate::proofs::LawLemmas::one_section))]
 pub fn text_and_spans_decide()
-    ensures { (one other : AssembledParts) → IsAssembled one → IsAssembled other → one.image.text ≡ other.image.text
+    ensures { (one other : AssembledParts) → IsAssembled one → IsAssembled other
+        → one.image.text ≡ other.image.text
         → one.spans ≡ other.spans → one.resolved ≡ other.resolved }
 {}
 

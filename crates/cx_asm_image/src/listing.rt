@@ -34,11 +34,11 @@ fn push_object(alloc: Global, line: &mut Vec<u8>, object: &[u8]) -> Result<(), A
 }
 
 /// A digit of a number as a character.
-fn digit(number: usize, worth: usize) -> u8
-    requires { 0 < worth }
-    ensures { result ≡ 48 + number / worth % 10 }
+fn digit(number: usize, weight: usize) -> u8
+    requires { 0 < weight }
+    ensures { result ≡ 48 + number / weight % 10 }
 {
-    b'0' + (number / worth % 10) as u8
+    b'0' + (number / weight % 10) as u8
 }
 
 /// The last 5 digits of a number, zeros before it.

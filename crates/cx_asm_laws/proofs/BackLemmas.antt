@@ -15,7 +15,7 @@ use Rattle.cx_asm_expressions.specs.declared.faults.FaultKind.{FaultKind}
 use Rattle.cx_asm_pools.specs.Pools.{PlacedLiterals}
 use Rattle.cx_asm_pass1.specs.Given.{location_counter}
 use Rattle.cx_asm_pass1.specs.PassState.{is_control, role_in}
-use Rattle.cx_asm_pass1.specs.Locations.{known_of}
+use Rattle.cx_asm_pass1.specs.Locations.{final_state}
 use Rattle.cx_asm_pass1.specs.declared.roles.Role.{Role}
 use Rattle.cx_asm_pass1.specs.declared.roles.Role.TheVariants.{Unknown, Instruction, Control, Dummy, Equate, Storage, Pool, Registers, Member, Nothing}
 use Rattle.cx_asm_operations.specs.Operations.{base_row}
@@ -62,37 +62,37 @@ space_sound : (at : ℕ) (item : Result Constant FaultKind) → AreWellFormed (s
 space_sound at (Ok item) = spaced_sound (constant_size item == 0) at (constant_size item)
 space_sound at (Err fault) = tt
 
-item_sound : (told : Whole) (is_ds : Bool) (s : PlacedStatement) (item : List ℕ × ℕ) → AreWellFormed (item_standing told is_ds s item).lines
-item_sound told true s item = space_sound item.1 (constant_in true item.0)
-item_sound told false s item = constant_sound item.1 (constant_in false item.0) (item_made told false (location_counter s.place.section item.1 1) item.0)
+item_sound : (whole : Whole) (is_ds : Bool) (s : PlacedStatement) (item : List ℕ × ℕ) → AreWellFormed (item_standing whole is_ds s item).lines
+item_sound whole true s item = space_sound item.1 (constant_in true item.0)
+item_sound whole false s item = constant_sound item.1 (constant_in false item.0) (item_made whole false (location_counter s.place.section item.1 1) item.0)
 
-items_sound : (told : Whole) (is_ds : Bool) (s : PlacedStatement) (items : List (List ℕ × ℕ)) → AreWellFormed (items_standing told is_ds s items).lines
-items_sound told is_ds s [] = tt
-items_sound told is_ds s (item ∷ items) =
-    joined_sound (item_standing told is_ds s item).lines (items_standing told is_ds s items).lines (item_sound told is_ds s item) (items_sound told is_ds s items)
+items_sound : (whole : Whole) (is_ds : Bool) (s : PlacedStatement) (items : List (List ℕ × ℕ)) → AreWellFormed (items_standing whole is_ds s items).lines
+items_sound whole is_ds s [] = tt
+items_sound whole is_ds s (item ∷ items) =
+    joined_sound (item_standing whole is_ds s item).lines (items_standing whole is_ds s items).lines (item_sound whole is_ds s item) (items_sound whole is_ds s items)
 
-pool_sound : (told : Whole) (statements : List PlacedStatement) (pool : PlacedLiterals) → AreWellFormed (pool_standing told statements pool).lines
-pool_sound told statements [] = tt
-pool_sound told statements (e ∷ pool) =
-    joined_sound (data_standing told (counter_at statements e.1.user) e.0 e.1.offset).lines (pool_standing told statements pool).lines
-    (constant_sound e.1.offset (constant_in false e.0) (item_made told false (counter_at statements e.1.user) e.0)) (pool_sound told statements pool)
+pool_sound : (whole : Whole) (statements : List PlacedStatement) (pool : PlacedLiterals) → AreWellFormed (pool_standing whole statements pool).lines
+pool_sound whole statements [] = tt
+pool_sound whole statements (e ∷ pool) =
+    joined_sound (data_standing whole (counter_at statements e.1.user) e.0 e.1.offset).lines (pool_standing whole statements pool).lines
+    (constant_sound e.1.offset (constant_in false e.0) (item_made whole false (counter_at statements e.1.user) e.0)) (pool_sound whole statements pool)
 
-module _ (resolves : Resolves) (told : Whole) (statements : List PlacedStatement) where
+module _ (resolves : Resolves) (whole : Whole) (statements : List PlacedStatement) where
   instruction_sound : (at : ℕ) (result : Result Made_instruction FaultKind) → ((made : Made_instruction) → result ≡ Ok made → IsWellFormed made)
       → AreWellFormed (option_map_or (λ made. line at (Code made) ∷ []) (result_ok result) [])
   instruction_sound at (Ok made) h = (h made refl, tt)
   instruction_sound at (Err fault) h = tt
 
-  operation_sound : (bases : Bases) → length bases ≡ 16 → (s : PlacedStatement) (o : Option Operation) → AreWellFormed (option_map_or (instruction_standing told bases s) o empty_section).lines
+  operation_sound : (bases : Bases) → length bases ≡ 16 → (s : PlacedStatement) (o : Option Operation) → AreWellFormed (option_map_or (instruction_standing whole bases s) o empty_section).lines
   operation_sound bases sixteen s None = tt
   operation_sound bases sixteen s (Some o) =
-      instruction_sound s.place.offset (instruction_or_fault o (instruction_context told bases s) s.stmt.operand)
-      (λ made e. (resolves o (instruction_context told bases s) s.stmt.operand made sixteen e).1)
+      instruction_sound s.place.offset (instruction_or_fault o (instruction_context whole bases s) s.stmt.operand)
+      (λ made e. (resolves o (instruction_context whole bases s) s.stmt.operand made sixteen e).1)
 
-  role_sound : (bases : Bases) → length bases ≡ 16 → (s : PlacedStatement) (role : Role) → AreWellFormed (role_standing told statements bases s role).lines
+  role_sound : (bases : Bases) → length bases ≡ 16 → (s : PlacedStatement) (role : Role) → AreWellFormed (role_standing whole statements bases s role).lines
   role_sound bases sixteen s (Instruction size) = operation_sound bases sixteen s (operation_of s)
-  role_sound bases sixteen s (Storage is_ds) = items_sound told is_ds s (placed_items s)
-  role_sound bases sixteen s Pool = pool_sound told statements (pool_of told s)
+  role_sound bases sixteen s (Storage is_ds) = items_sound whole is_ds s (placed_items s)
+  role_sound bases sixteen s Pool = pool_sound whole statements (pool_of whole s)
   role_sound bases sixteen s Unknown = tt
   role_sound bases sixteen s Control = tt
   role_sound bases sixteen s Dummy = tt
@@ -101,19 +101,19 @@ module _ (resolves : Resolves) (told : Whole) (statements : List PlacedStatement
   role_sound bases sixteen s Member = tt
   role_sound bases sixteen s Nothing = tt
 
-  statement_sound : (bases : Bases) → length bases ≡ 16 → (s : PlacedStatement) → AreWellFormed (statement_standing told statements bases s).lines
+  statement_sound : (bases : Bases) → length bases ≡ 16 → (s : PlacedStatement) → AreWellFormed (statement_standing whole statements bases s).lines
   unfolding statement_standing
-  statement_sound bases sixteen s = within (is_control s.place.section told.control)
+  statement_sound bases sixteen s = within (is_control s.place.section whole.control)
     where
-      within : (is : Bool) → AreWellFormed (cond is (role_standing told statements bases s (role_in s.stmt)) empty_section).lines
+      within : (is : Bool) → AreWellFormed (cond is (role_standing whole statements bases s (role_in s.stmt)) empty_section).lines
       within true = role_sound bases sixteen s (role_in s.stmt)
       within false = tt
 
-  from_sound : (bases : Bases) → length bases ≡ 16 → (rest : List PlacedStatement) → AreWellFormed (standing_from told statements bases rest).lines
-  from_sound bases sixteen [] = pool_sound told statements (last_pool told)
+  from_sound : (bases : Bases) → length bases ≡ 16 → (rest : List PlacedStatement) → AreWellFormed (standing_from whole statements bases rest).lines
+  from_sound bases sixteen [] = pool_sound whole statements (last_pool whole)
   from_sound bases sixteen (s ∷ rest) =
-      joined_sound (statement_standing told statements bases s).lines (standing_from told statements (bases_after told bases s) rest).lines
-      (statement_sound bases sixteen s) (from_sound (bases_after told bases s) (after_sixteen told bases s sixteen) rest)
+      joined_sound (statement_standing whole statements bases s).lines (standing_from whole statements (bases_after whole bases s) rest).lines
+      (statement_sound bases sixteen s) (from_sound (bases_after whole bases s) (after_sixteen whole bases s sixteen) rest)
 
 source_sound : Resolves → (source : Source) → AreWellFormed (standing_of source).lines
 unfolding standing_of
@@ -124,7 +124,7 @@ pub resolved_is : (source : Source) (made : AssemblyParts) → assembly_of sourc
 unfolding section_of
 resolved_is source made e = subst (λ (m : AssemblyParts). (standing_of source).lines ≡ m.section.resolved) (accepted source made e).made_is refl
 
-pub comes_back : ((source : Source) → (known_of source).fault ≡ None → size_of source ≤ 65536 → IsWithin 0 (standing_of source) (size_of source))
+pub comes_back : ((source : Source) → (final_state source).fault ≡ None → size_of source ≤ 65536 → IsWithin 0 (standing_of source) (size_of source))
     → ((resolved : List Line) (size : ℕ) → AreApart 0 resolved size → AreWellFormed resolved → lines (text_of resolved size) (map span_of resolved) ≡ resolved)
     → Resolves → ComesBack
 unfolding section_of

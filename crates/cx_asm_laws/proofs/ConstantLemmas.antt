@@ -68,21 +68,21 @@ spaced_among resolved at size true h = tt
 spaced_among resolved at size false h = (h _ (here _), tt)
 
 -- ---- items
-made_written : (told : Whole) (is_ds : Bool) (counter : Option Value) (text : List ℕ) (fault : FaultKind) → constant_in is_ds text ≡ Err fault
-    → item_made told is_ds counter text ≡ Err fault
-made_written told is_ds counter text fault e = rw e refl
+made_written : (whole : Whole) (is_ds : Bool) (counter : Option Value) (text : List ℕ) (fault : FaultKind) → constant_in is_ds text ≡ Err fault
+    → item_made whole is_ds counter text ≡ Err fault
+made_written whole is_ds counter text fault e = rw e refl
 
 no_value : (one : Result CopyOfConstant FaultKind) (fault : FaultKind) → one ≡ Err fault → result_err one ≡ None → ⊥
 no_value (Ok made) fault e f = cc
 no_value (Err other) fault e f = cc
 
-record HasNoFault (told : Whole) (s : PlacedStatement) : Type 0 where
+record HasNoFault (whole : Whole) (s : PlacedStatement) : Type 0 where
   bases : Bases
   number : ℕ
-  none : second_fault told bases number s ≡ None
+  none : second_fault whole bases number s ≡ None
 
-module _ (told : Whole) (resolved : List Line) where
-  space_stands : (counter : Option Value) (item : List ℕ × ℕ) → result_err (item_made told true counter item.0) ≡ None
+module _ (whole : Whole) (resolved : List Line) where
+  space_stands : (counter : Option Value) (item : List ℕ × ℕ) → result_err (item_made whole true counter item.0) ≡ None
       → Has resolved (space_standing item.1 (constant_in true item.0)).lines → IsSpace resolved item
   space_stands counter item sound h = go (constant_in true item.0) refl h
     where
@@ -92,14 +92,14 @@ module _ (told : Whole) (resolved : List Line) where
         written = e;
         stands = spaced_among resolved item.1 (constant_size constant) (constant_size constant == 0) h;
       }
-      go (Err fault) e h = absurd (no_value (item_made told true counter item.0) fault (made_written told true counter item.0 fault e) sound)
+      go (Err fault) e h = absurd (no_value (item_made whole true counter item.0) fault (made_written whole true counter item.0 fault e) sound)
 
-  data_stands : (counter : Option Value) (item : List ℕ × ℕ) → result_err (item_made told false counter item.0) ≡ None
-      → Has resolved (data_standing told counter item.0 item.1).lines → IsData told resolved counter item
-  data_stands counter item sound h = go (constant_in false item.0) (item_made told false counter item.0) refl refl sound h
+  data_stands : (counter : Option Value) (item : List ℕ × ℕ) → result_err (item_made whole false counter item.0) ≡ None
+      → Has resolved (data_standing whole counter item.0 item.1).lines → IsData whole resolved counter item
+  data_stands counter item sound h = go (constant_in false item.0) (item_made whole false counter item.0) refl refl sound h
     where
-      go : (found : Result Constant FaultKind) (made : Result CopyOfConstant FaultKind) → constant_in false item.0 ≡ found → item_made told false counter item.0 ≡ made
-          → result_err made ≡ None → Has resolved (constant_standing item.1 found made).lines → IsData told resolved counter item
+      go : (found : Result Constant FaultKind) (made : Result CopyOfConstant FaultKind) → constant_in false item.0 ≡ found → item_made whole false counter item.0 ≡ made
+          → result_err made ≡ None → Has resolved (constant_standing item.1 found made).lines → IsData whole resolved counter item
       go (Ok constant) (Ok made) e f sound h = record {
         constant = constant;
         written = e;
@@ -107,37 +107,37 @@ module _ (told : Whole) (resolved : List Line) where
         value = f;
         stands = data_among resolved item.1 (repeat constant.duplication made.bytes) h;
       }
-      go (Err fault) (Ok made) e f sound h = absurd (no_value (item_made told false counter item.0) fault (made_written told false counter item.0 fault e) (ap result_err f))
+      go (Err fault) (Ok made) e f sound h = absurd (no_value (item_made whole false counter item.0) fault (made_written whole false counter item.0 fault e) (ap result_err f))
       go found (Err fault) e f sound h = absurd (no_value (Err fault) fault refl sound)
 
-  item_stands : (is_ds : Bool) (s : PlacedStatement) (item : List ℕ × ℕ) → item_fault told is_ds s item ≡ None → Has resolved (item_standing told is_ds s item).lines
-      → ItemStands told resolved is_ds s item
+  item_stands : (is_ds : Bool) (s : PlacedStatement) (item : List ℕ × ℕ) → item_fault whole is_ds s item ≡ None → Has resolved (item_standing whole is_ds s item).lines
+      → ItemStands whole resolved is_ds s item
   item_stands true s item sound h = space_stands (location_counter s.place.section item.1 1) item sound h
   item_stands false s item sound h = data_stands (location_counter s.place.section item.1 1) item sound h
 
-  items_stand : (is_ds : Bool) (s : PlacedStatement) (items : List (List ℕ × ℕ)) → lowest (map (item_fault told is_ds s) items) ≡ None
-      → Has resolved (items_standing told is_ds s items).lines → AllByRecursion (ItemStands told resolved is_ds s) items
+  items_stand : (is_ds : Bool) (s : PlacedStatement) (items : List (List ℕ × ℕ)) → lowest (map (item_fault whole is_ds s) items) ≡ None
+      → Has resolved (items_standing whole is_ds s items).lines → AllByRecursion (ItemStands whole resolved is_ds s) items
   items_stand is_ds s [] sound h = tt
   items_stand is_ds s (item ∷ items) sound h =
-      let both = lower_none (item_fault told is_ds s item) (lowest (map (item_fault told is_ds s) items)) sound in (
-        item_stands is_ds s item both.0 (has_left resolved (item_standing told is_ds s item).lines (items_standing told is_ds s items).lines h),
-        items_stand is_ds s items both.1 (has_right resolved (item_standing told is_ds s item).lines (items_standing told is_ds s items).lines h),
+      let both = lower_none (item_fault whole is_ds s item) (lowest (map (item_fault whole is_ds s) items)) sound in (
+        item_stands is_ds s item both.0 (has_left resolved (item_standing whole is_ds s item).lines (items_standing whole is_ds s items).lines h),
+        items_stand is_ds s items both.1 (has_right resolved (item_standing whole is_ds s item).lines (items_standing whole is_ds s items).lines h),
       )
 
   -- ---- literals
-  pool_stands : (statements : List PlacedStatement) (pool : PlacedLiterals) → Has resolved (pool_standing told statements pool).lines → PoolStands told statements resolved pool
+  pool_stands : (statements : List PlacedStatement) (pool : PlacedLiterals) → Has resolved (pool_standing whole statements pool).lines → PoolStands whole statements resolved pool
   pool_stands statements [] h = tt
   pool_stands statements (e ∷ pool) h = (
     λ constant once written value.
-        let there = has_left resolved (data_standing told (counter_at statements e.1.user) e.0 e.1.offset).lines (pool_standing told statements pool).lines h in
+        let there = has_left resolved (data_standing whole (counter_at statements e.1.user) e.0 e.1.offset).lines (pool_standing whole statements pool).lines h in
         data_among resolved e.1.offset (repeat constant.duplication once.bytes)
-        (has_same resolved (data_standing told (counter_at statements e.1.user) e.0 e.1.offset).lines (data_line e.1.offset (repeat constant.duplication once.bytes)) (rw (value, written) refl) there),
-    pool_stands statements pool (has_right resolved (data_standing told (counter_at statements e.1.user) e.0 e.1.offset).lines (pool_standing told statements pool).lines h),
+        (has_same resolved (data_standing whole (counter_at statements e.1.user) e.0 e.1.offset).lines (data_line e.1.offset (repeat constant.duplication once.bytes)) (rw (value, written) refl) there),
+    pool_stands statements pool (has_right resolved (data_standing whole (counter_at statements e.1.user) e.0 e.1.offset).lines (pool_standing whole statements pool).lines h),
   )
 
   -- ---- a statement
   directive_items : (bases : Bases) (number : ℕ) (s : PlacedStatement) (d : Directive) (is_ds : Bool) → role_of (Some (operation.Directive d)) ≡ Storage is_ds
-      → operand_fault told bases number s (Some (operation.Directive d)) ≡ None → items_fault told is_ds s ≡ None
+      → operand_fault whole bases number s (Some (operation.Directive d)) ≡ None → items_fault whole is_ds s ≡ None
   directive_items bases number s directive.Dc true e f = absurd (cc)
   directive_items bases number s directive.Dc false e f = f
   directive_items bases number s directive.Ds true e f = f
@@ -158,22 +158,22 @@ module _ (told : Whole) (resolved : List Line) where
   directive_items bases number s directive.Space is_ds e f = absurd (cc)
 
   operation_items : (bases : Bases) (number : ℕ) (s : PlacedStatement) (o : Option Operation) (is_ds : Bool) → role_of o ≡ Storage is_ds
-      → operand_fault told bases number s o ≡ None → items_fault told is_ds s ≡ None
+      → operand_fault whole bases number s o ≡ None → items_fault whole is_ds s ≡ None
   operation_items bases number s None is_ds e f = absurd (cc)
   operation_items bases number s (Some (operation.Machine op)) is_ds e f = absurd (cc)
   operation_items bases number s (Some (operation.Branch branch)) is_ds e f = absurd (cc)
   operation_items bases number s (Some (operation.RegisterBranch branch)) is_ds e f = absurd (cc)
   operation_items bases number s (Some (operation.Directive d)) is_ds e f = directive_items bases number s d is_ds e f
 
-  no_operand_fault : (bases : Bases) (number : ℕ) (s : PlacedStatement) → second_fault told bases number s ≡ None → operand_fault told bases number s (operation_of s) ≡ None
+  no_operand_fault : (bases : Bases) (number : ℕ) (s : PlacedStatement) → second_fault whole bases number s ≡ None → operand_fault whole bases number s (operation_of s) ≡ None
   unfolding second_fault
   no_operand_fault bases number s e = e
 
-  role_stands : (statements : List PlacedStatement) (bases : Bases) (s : PlacedStatement) (role : Role) → role_in s.stmt ≡ role → HasNoFault told s
-      → Has resolved (role_standing told statements bases s role).lines → RoleStands told statements resolved s role
+  role_stands : (statements : List PlacedStatement) (bases : Bases) (s : PlacedStatement) (role : Role) → role_in s.stmt ≡ role → HasNoFault whole s
+      → Has resolved (role_standing whole statements bases s role).lines → RoleStands whole statements resolved s role
   role_stands statements bases s (Storage is_ds) e sound h =
       items_stand is_ds s (placed_items s) (operation_items sound.bases sound.number s (operation_of s) is_ds e (no_operand_fault sound.bases sound.number s sound.none)) h
-  role_stands statements bases s Pool e sound h = pool_stands statements (pool_of told s) h
+  role_stands statements bases s Pool e sound h = pool_stands statements (pool_of whole s) h
   role_stands statements bases s (Instruction size) e sound h = tt
   role_stands statements bases s Unknown e sound h = tt
   role_stands statements bases s Control e sound h = tt
@@ -183,45 +183,45 @@ module _ (told : Whole) (resolved : List Line) where
   role_stands statements bases s Member e sound h = tt
   role_stands statements bases s Nothing e sound h = tt
 
-  statement_stands : (statements : List PlacedStatement) (bases : Bases) (s : PlacedStatement) → HasNoFault told s → Has resolved (statement_standing told statements bases s).lines
-      → StatementStands told statements resolved s
+  statement_stands : (statements : List PlacedStatement) (bases : Bases) (s : PlacedStatement) → HasNoFault whole s → Has resolved (statement_standing whole statements bases s).lines
+      → StatementStands whole statements resolved s
   unfolding statement_standing
   statement_stands statements bases s sound h within =
       role_stands statements bases s (role_in s.stmt) refl sound
-      (subst (λ is. Has resolved (cond is (role_standing told statements bases s (role_in s.stmt)) empty_section).lines) within h)
+      (subst (λ is. Has resolved (cond is (role_standing whole statements bases s (role_in s.stmt)) empty_section).lines) within h)
 
   -- ---- all of them
-  all_stand : (statements : List PlacedStatement) (bases : Bases) (rest : List PlacedStatement) → AllByRecursion (HasNoFault told) rest → Has resolved (standing_from told statements bases rest).lines
-      → AllByRecursion (StatementStands told statements resolved) rest
+  all_stand : (statements : List PlacedStatement) (bases : Bases) (rest : List PlacedStatement) → AllByRecursion (HasNoFault whole) rest → Has resolved (standing_from whole statements bases rest).lines
+      → AllByRecursion (StatementStands whole statements resolved) rest
   all_stand statements bases [] sound h = tt
   all_stand statements bases (s ∷ rest) sound h = (
     statement_stands statements bases s sound.0
-        (has_left resolved (statement_standing told statements bases s).lines (standing_from told statements (bases_after told bases s) rest).lines h),
-    all_stand statements (bases_after told bases s) rest sound.1
-        (has_right resolved (statement_standing told statements bases s).lines (standing_from told statements (bases_after told bases s) rest).lines h),
+        (has_left resolved (statement_standing whole statements bases s).lines (standing_from whole statements (bases_after whole bases s) rest).lines h),
+    all_stand statements (bases_after whole bases s) rest sound.1
+        (has_right resolved (statement_standing whole statements bases s).lines (standing_from whole statements (bases_after whole bases s) rest).lines h),
   )
 
-  last_stands : (statements : List PlacedStatement) (bases : Bases) (rest : List PlacedStatement) → Has resolved (standing_from told statements bases rest).lines
-      → PoolStands told statements resolved (last_pool told)
-  last_stands statements bases [] h = pool_stands statements (last_pool told) h
+  last_stands : (statements : List PlacedStatement) (bases : Bases) (rest : List PlacedStatement) → Has resolved (standing_from whole statements bases rest).lines
+      → PoolStands whole statements resolved (last_pool whole)
+  last_stands statements bases [] h = pool_stands statements (last_pool whole) h
   last_stands statements bases (s ∷ rest) h =
-      last_stands statements (bases_after told bases s) rest
-      (has_right resolved (statement_standing told statements bases s).lines (standing_from told statements (bases_after told bases s) rest).lines h)
+      last_stands statements (bases_after whole bases s) rest
+      (has_right resolved (statement_standing whole statements bases s).lines (standing_from whole statements (bases_after whole bases s) rest).lines h)
 
   -- ---- none of them has a fault
-  each_sound : (after : List PlacedStatement) → AreSound (faults_by_statement told after) → AllByRecursion (HasNoFault told) after
+  each_sound : (after : List PlacedStatement) → AreSound (faults_by_statement whole after) → AllByRecursion (HasNoFault whole) after
   each_sound [] h = tt
-  each_sound (s ∷ before) h = (record { bases = bases_after_all told before; number = length before; none = h.0 }, each_sound before h.1)
+  each_sound (s ∷ before) h = (record { bases = bases_after_all whole before; number = length before; none = h.0 }, each_sound before h.1)
 
-  onto : (some : List PlacedStatement) (more : List PlacedStatement) → AllByRecursion (HasNoFault told) some → AllByRecursion (HasNoFault told) more → AllByRecursion (HasNoFault told) (some ++ more)
+  onto : (some : List PlacedStatement) (more : List PlacedStatement) → AllByRecursion (HasNoFault whole) some → AllByRecursion (HasNoFault whole) more → AllByRecursion (HasNoFault whole) (some ++ more)
   onto [] more h k = k
   onto (s ∷ some) more h k = (h.0, onto some more h.1 k)
 
-  turned : (some : List PlacedStatement) → AllByRecursion (HasNoFault told) some → AllByRecursion (HasNoFault told) (reverse some)
+  turned : (some : List PlacedStatement) → AllByRecursion (HasNoFault whole) some → AllByRecursion (HasNoFault whole) (reverse some)
   turned [] h = tt
-  turned (s ∷ some) h = subst (AllByRecursion (HasNoFault told)) (sym (reverse_onto some s [])) (onto (reverse some) (s ∷ []) (turned some h.1) (h.0, tt))
+  turned (s ∷ some) h = subst (AllByRecursion (HasNoFault whole)) (sym (reverse_onto some s [])) (onto (reverse some) (s ∷ []) (turned some h.1) (h.0, tt))
 
-no_faults : ((told : Whole) (statements : List PlacedStatement) → IsFirstOf (faults_by_statement told statements) (slice_get (second_faults_after told statements) 0))
+no_faults : ((whole : Whole) (statements : List PlacedStatement) → IsFirstOf (faults_by_statement whole statements) (slice_get (second_faults_after whole statements) 0))
     → (source : Source) → second_faults_of source ≡ [] → AreSound (faults_by_statement (whole_of source) (reverse (statements_of source)))
 unfolding second_faults_of
 no_faults first source e =
@@ -230,16 +230,16 @@ no_faults first source e =
 standing_stands : (source : Source) → AreSound (faults_by_statement (whole_of source) (reverse (statements_of source))) → ConstantsStand source (standing_of source).lines
 unfolding standing_of Has
 standing_stands source sound =
-    let told = whole_of source in
-    let resolved = (standing_from told (statements_of source) none_in_use (statements_of source)).lines in
-    let back = turned told resolved (reverse (statements_of source)) (each_sound told resolved (reverse (statements_of source)) sound) in
+    let whole = whole_of source in
+    let resolved = (standing_from whole (statements_of source) none_in_use (statements_of source)).lines in
+    let back = turned whole resolved (reverse (statements_of source)) (each_sound whole resolved (reverse (statements_of source)) sound) in
     record {
       statements =
-          all_stand told resolved (statements_of source) none_in_use (statements_of source)
-          (subst (AllByRecursion (HasNoFault told)) (reverse-reverse (statements_of source)) back) (λ l k. k);
-      last = last_stands told resolved (statements_of source) none_in_use (statements_of source) (λ l k. k);
+          all_stand whole resolved (statements_of source) none_in_use (statements_of source)
+          (subst (AllByRecursion (HasNoFault whole)) (reverse-reverse (statements_of source)) back) (λ l k. k);
+      last = last_stands whole resolved (statements_of source) none_in_use (statements_of source) (λ l k. k);
     }
 
-pub constants_stand : ((told : Whole) (statements : List PlacedStatement) → IsFirstOf (faults_by_statement told statements) (slice_get (second_faults_after told statements) 0)) → AcceptedStand
+pub constants_stand : ((whole : Whole) (statements : List PlacedStatement) → IsFirstOf (faults_by_statement whole statements) (slice_get (second_faults_after whole statements) 0)) → AcceptedStand
 constants_stand first source made e =
     subst (ConstantsStand source) (resolved_is source made e) (standing_stands source (no_faults first source (accepted source made e).second))

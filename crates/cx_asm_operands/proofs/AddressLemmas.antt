@@ -7,7 +7,7 @@ use Rattle.std.proofs.lemmas.Bool.Decides.{nat_tests}
 use Rattle.cx_asm_expressions.specs.declared.values.Value.{Value}
 use Rattle.cx_asm_expressions.specs.declared.faults.FaultKind.{FaultKind}
 use Rattle.cx_asm_expressions.specs.declared.faults.FaultKind.TheVariants.{NoAddressability, BadOperand, ValueOutOfRange}
-use Rattle.cx_asm_operands.specs.Judging.{both_or_lower_fault, then_judge, made_of}
+use Rattle.cx_asm_operands.specs.Checking.{both_or_lower_fault, then_check, made_of}
 use Rattle.cx_asm_operands.specs.Bases.{Bases}
 use Rattle.cx_asm_operands.specs.declared.bases.Base.{Base}
 use Rattle.cx_asm_operands.specs.Addresses.{address, number_within, address_by_base, nearer, nearest_address, address_in, implied_address}
@@ -88,11 +88,11 @@ address_in_fits bases None number a sixteen e = absolute_fits number a e
 address_in_fits bases (Some section) number a sixteen e =
     or_fits (nearest_address bases section number) NoAddressability a (λ x i. nearest_fits bases section number x sixteen i) e
 
-implied_fits : (bases : Bases) (place : Result Value FaultKind) (a : Address) → length bases ≡ 16 → then_judge (implied_address bases) place ≡ Ok a → IsInRange a
+implied_fits : (bases : Bases) (place : Result Value FaultKind) (a : Address) → length bases ≡ 16 → then_check (implied_address bases) place ≡ Ok a → IsInRange a
 implied_fits bases (Ok v) a sixteen e = address_in_fits bases v.section v.number a sixteen e
 implied_fits bases (Err fault) a sixteen e = cc
 
-displaced_fits : (place : Result Value FaultKind) (n : ℕ) → then_judge (number_at_most 4095) place ≡ Ok n → n ≤ 4095
+displaced_fits : (place : Result Value FaultKind) (n : ℕ) → then_check (number_at_most 4095) place ≡ Ok n → n ≤ 4095
 displaced_fits (Ok v) n e = at_most_fits 4095 v n e
 displaced_fits (Err fault) n e = cc
 
@@ -109,7 +109,7 @@ both_fit (Err f) (Err g) a fits also e = cc
 addressed_fits : (c : Context) (place : Result Value FaultKind) (texts : List (List ℕ)) (a : Address) → AreSixteen c → address_by_subfields c place texts ≡ Ok a → IsInRange a
 addressed_fits c place [] a sixteen e = implied_fits c.bases place a sixteen e
 addressed_fits c place (base ∷ []) a sixteen e =
-    both_fit (then_judge (number_at_most 4095) place) (register_in c base) a (displaced_fits place) (number_fits 15 c base) e
+    both_fit (then_check (number_at_most 4095) place) (register_in c base) a (displaced_fits place) (number_fits 15 c base) e
 addressed_fits c place (base ∷ other ∷ more) a sixteen e = cc
 
 plain_operand_fits : (c : Context) (o : Option Operand) (a : Address) → AreSixteen c → option_map_or (λ (o : Operand). address_by_subfields c o.place o.subfields) o (Err BadOperand) ≡ Ok a → IsInRange a
@@ -150,7 +150,7 @@ unfolding indexed_in
 indexed_fits c text v sixteen e = indexed_operand_fits c (operand_in true c text) v sixteen e
 
 counted_address : (most : ℕ) (c : Context) (place : Result Value FaultKind) (texts : List (List ℕ)) (v : ℕ × Address) → AreSixteen c → counted_by most c place texts ≡ Ok v → IsInRange v.1
-counted_address most c place [] v sixteen e = addressed_fits c place [] v.1 sixteen (both_second (then_judge (implied_length most) place) (address_by_subfields c place []) v e)
+counted_address most c place [] v sixteen e = addressed_fits c place [] v.1 sixteen (both_second (then_check (implied_length most) place) (address_by_subfields c place []) v e)
 counted_address most c place (count ∷ base) v sixteen e = addressed_fits c place base v.1 sixteen (both_second (number_in most c count) (address_by_subfields c place base) v e)
 
 field_fits : (most : ℕ) (r : Result (ℕ × Address) FaultKind) (v : ℕ × Address) → ((w : ℕ × Address) → r ≡ Ok w → (w.0 ≤ most) × IsInRange w.1)

@@ -9,7 +9,7 @@ use Rattle.std.proofs.lemmas.Bool.Decides.{nat_tests}
 use Rattle.cx_asm_expressions.specs.Faults.{lower, lowest}
 use Rattle.cx_asm_expressions.specs.declared.faults.FaultKind.{FaultKind}
 use Rattle.cx_asm_operands.specs.Context.{Context, expression_value, register_in}
-use Rattle.cx_asm_operands.specs.Judging.{both_or_lower_fault, made_of}
+use Rattle.cx_asm_operands.specs.Checking.{both_or_lower_fault, made_of}
 use Rattle.cx_asm_operands.specs.Directives.{registers_in}
 
 pub lower_in_turn : (a b c : Option FaultKind) → lower (lower a b) c ≡ lower a (lower b c)
@@ -19,11 +19,11 @@ lower_in_turn (Some a) (Some b) None = refl
 lower_in_turn (Some a) (Some b) (Some c) = grind (arith, nat_tests)
 
 -- the fault of one expression more
-pub worth_fault_more : (c : Context) (fault : Option FaultKind) (texts : List (Bor (List ℕ))) (d : Bor (List ℕ)) (i : ℕ) (whole : Option FaultKind)
+pub value_fault_more : (c : Context) (fault : Option FaultKind) (texts : List (Bor (List ℕ))) (d : Bor (List ℕ)) (i : ℕ) (whole : Option FaultKind)
     → i < length texts
     → lower fault (lowest (map (λ t. result_err (expression_value c t)) (map (λ t. t.now) (drop i texts)))) ≡ whole
     → lower (lower fault (result_err (expression_value c (get_or texts i d).now))) (lowest (map (λ t. result_err (expression_value c t)) (map (λ t. t.now) (drop (i + 1) texts)))) ≡ whole
-worth_fault_more c fault texts d i whole within e =
+value_fault_more c fault texts d i whole within e =
     let one = drop-cons texts i d within in
     rw (add-one, lower_in_turn) (rw one at e)
 

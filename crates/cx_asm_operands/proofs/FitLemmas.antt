@@ -6,7 +6,7 @@ use Rattle.cx_asm_expressions.specs.declared.faults.FaultKind.TheVariants.{BadOp
 use Rattle.std.proofs.lemmas.Bool.Decides.{nat_tests}
 use Rattle.cx_asm_expressions.specs.declared.values.Value.{Value}
 use Rattle.cx_asm_expressions.specs.declared.faults.FaultKind.{FaultKind}
-use Rattle.cx_asm_operands.specs.Judging.{both_or_lower_fault, then_judge}
+use Rattle.cx_asm_operands.specs.Checking.{both_or_lower_fault, then_check}
 use Rattle.cx_asm_operands.specs.Storage.{address_by_subfields, counted_by, implied_length}
 use Rattle.cx_asm_operands.specs.declared.addresses.Address.{Address}
 use Rattle.cx_asm_operands.specs.Addresses.{number_within}
@@ -20,7 +20,7 @@ number_to_fits most (Some section) number n e = cc
 pub at_most_fits : (most : ℕ) (value : Value) (n : ℕ) → number_at_most most value ≡ Ok n → n ≤ most
 at_most_fits most value n e = number_to_fits most value.section value.number n e
 
-judged_fits : (most : ℕ) (value : Result Value FaultKind) (n : ℕ) → then_judge (number_at_most most) value ≡ Ok n → n ≤ most
+judged_fits : (most : ℕ) (value : Result Value FaultKind) (n : ℕ) → then_check (number_at_most most) value ≡ Ok n → n ≤ most
 judged_fits most (Ok value) n e = at_most_fits most value n e
 judged_fits most (Err fault) n e = cc
 
@@ -28,7 +28,7 @@ pub number_fits : (most : ℕ) (c : Context) (text : List ℕ) (n : ℕ) → num
 unfolding number_in
 number_fits most c text n e = judged_fits most (expression_value c text) n e
 
-length_fits : (most : ℕ) (place : Result Value FaultKind) (n : ℕ) → then_judge (implied_length most) place ≡ Ok n → n ≤ most
+length_fits : (most : ℕ) (place : Result Value FaultKind) (n : ℕ) → then_check (implied_length most) place ≡ Ok n → n ≤ most
 length_fits most (Ok value) n e = grind (arith, nat_tests)
 length_fits most (Err fault) n e = cc
 
@@ -46,5 +46,5 @@ both_second (Err f) (Ok b) v e = cc
 both_second (Err f) (Err g) v e = cc
 
 pub counted_fits : (most : ℕ) (c : Context) (place : Result Value FaultKind) (texts : List (List ℕ)) (v : ℕ × Address) → counted_by most c place texts ≡ Ok v → v.0 ≤ most
-counted_fits most c place [] v e = length_fits most place v.0 (both_first (then_judge (implied_length most) place) (address_by_subfields c place []) v e)
+counted_fits most c place [] v e = length_fits most place v.0 (both_first (then_check (implied_length most) place) (address_by_subfields c place []) v e)
 counted_fits most c place (t ∷ ts) v e = number_fits most c t v.0 (both_first (number_in most c t) (address_by_subfields c place ts) v e)

@@ -20,7 +20,7 @@ use Rattle.cx_asm_operations.specs.declared.operations.RegisterBranch.{RegisterB
 use Rattle.cx_asm_operations.specs.declared.operations.RegisterBranch.TheVariants as to
 use Rattle.cx_asm_operations.specs.declared.operations.Operation.{Operation}
 use Rattle.cx_asm_operations.specs.declared.operations.Operation.TheVariants as operation
-use Rattle.cx_asm_operands.specs.Judging.{both_or_lower_fault, made_of}
+use Rattle.cx_asm_operands.specs.Checking.{both_or_lower_fault, made_of}
 use Rattle.cx_asm_operands.specs.Context.{Context, number_in, register_in}
 use Rattle.cx_asm_operands.specs.Storage.{plain_in, indexed_in, counted_in}
 use Rattle.cx_asm_operands.specs.Forms.{fields_in, form_of_op, form_of, operands_of, instruction_or_fault}

@@ -7,12 +7,12 @@ use Rattle.cx_asm_expressions.specs.Expressions.{value_of}
 use Rattle.cx_asm_expressions.specs.declared.values.Value.{Value}
 use Rattle.cx_asm_expressions.specs.declared.faults.FaultKind.{FaultKind}
 use Rattle.cx_asm_expressions.specs.declared.faults.FaultKind.TheVariants.{BadOperand, ValueOutOfRange}
-use Rattle.cx_asm_operands.specs.Judging.{then_judge}
+use Rattle.cx_asm_operands.specs.Checking.{then_check}
 use Rattle.cx_asm_operands.specs.Bases.{Bases}
 use Rattle.cx_asm_operands.specs.Addresses.{number_within}
 use Rattle.cx_asm_operands.specs.declared.context.Context.{Context as ProductContext}
 
--- What a statement's operands are read by: what each symbol is worth, where the location counter is, the bases in use,
+-- What a statement's operands are read by: each symbol's value, where the location counter is, the bases in use,
 -- and the place of the statement's literal, if it has one.
 pub record Context : Type 0 where
   pub find : List ℕ → Option Value
@@ -27,7 +27,7 @@ context find here bases literal = record { find = find; here = here; bases = bas
 abbrev pub lookup_context : ProductContext → Context
 lookup_context c = context (find_in c.symbols.now) c.here c.bases.now c.literal
 
--- what an expression is worth
+-- the value of an expression
 abbrev pub expression_value : Context → List ℕ → Result Value FaultKind
 expression_value c text = value_of c.find c.here text
 
@@ -38,7 +38,7 @@ number_at_most most value =
 
 -- the number, 0 to `most`, that an operand is
 unfoldable pub number_in : ℕ → Context → List ℕ → Result ℕ FaultKind
-number_in most c text = then_judge (number_at_most most) (expression_value c text)
+number_in most c text = then_check (number_at_most most) (expression_value c text)
 
 -- a register, or a mask
 abbrev pub register_in : Context → List ℕ → Result ℕ FaultKind

@@ -9,7 +9,7 @@ use Rattle.cx_asm_expressions.specs.declared.faults.FaultKind.TheVariants.{BadOp
 use Rattle.cx_asm_operations.specs.declared.operations.Operation.{Operation}
 use Rattle.cx_asm_operations.specs.declared.operations.Operation.TheVariants as operation
 use Rattle.cx_asm_operations.specs.declared.operations.Directive.TheVariants as directive
-use Rattle.cx_asm_operands.specs.Judging.{both_or_lower_fault, then_judge, made_of}
+use Rattle.cx_asm_operands.specs.Checking.{both_or_lower_fault, then_check, made_of}
 use Rattle.cx_asm_operands.specs.Bases.{Bases, UsingStatement, using_with, after_using, after_drop}
 use Rattle.cx_asm_operands.specs.Addresses.{number_within}
 use Rattle.cx_asm_operands.specs.Context.{Context, expression_value, register_in}
@@ -28,7 +28,7 @@ place_in value = ok_or (option_map (λ section. (section, value.number)) value.s
 
 abbrev pub using_in : Context → List (List ℕ) → Result UsingStatement FaultKind
 using_in c (base ∷ register ∷ registers) =
-    made_of (λ v. using_with v.0.0 v.0.1 v.1) (both_or_lower_fault (then_judge place_in (expression_value c base)) (registers_in c (register ∷ registers)))
+    made_of (λ v. using_with v.0.0 v.0.1 v.1) (both_or_lower_fault (then_check place_in (expression_value c base)) (registers_in c (register ∷ registers)))
 using_in c operands = Err BadOperand
 
 -- ---- DROP: registers, or nothing
@@ -56,7 +56,7 @@ entry_of control value =
     if is_inside then ok_or (number_within 65535 value.number) ValueOutOfRange else Err NotRelocatable
 
 unfoldable pub entry_in : Option (List ℕ) → Context → List ℕ → Result ℕ FaultKind
-entry_in control c operand = if length operand == 0 then Ok 0 else then_judge (entry_of control) (expression_value c operand)
+entry_in control c operand = if length operand == 0 then Ok 0 else then_check (entry_of control) (expression_value c operand)
 
 -- ---- COPY: of the member DFHAID alone (own)
 abbrev pub copy_fault : List ℕ → Option FaultKind

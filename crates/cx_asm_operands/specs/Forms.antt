@@ -15,7 +15,7 @@ use Rattle.cx_asm_expressions.specs.declared.faults.FaultKind.TheVariants.{Unkno
 use Rattle.cx_asm_operations.specs.Operations.{base_row, branch_of, register_branch_of}
 use Rattle.cx_asm_operations.specs.declared.operations.Operation.{Operation}
 use Rattle.cx_asm_operations.specs.declared.operations.Operation.TheVariants as operation
-use Rattle.cx_asm_operands.specs.Judging.{both_or_lower_fault, made_of}
+use Rattle.cx_asm_operands.specs.Checking.{both_or_lower_fault, made_of}
 use Rattle.cx_asm_operands.specs.Context.{Context, number_in, register_in}
 use Rattle.cx_asm_operands.specs.Storage.{is_literal, plain_in, indexed_in, counted_in}
 use Rattle.cx_asm_operands.specs.declared.forms.Form.{Form}

@@ -1,5 +1,5 @@
 -- The definitions, in reading order.
-pub mod Judging
+pub mod Checking
 pub mod Bases
 pub mod Addresses
 pub mod Context

@@ -10,12 +10,12 @@ use Rattle.cx_asm_expressions.specs.Items.{parenthesized_body}
 use Rattle.cx_asm_expressions.specs.declared.values.Value.{Value}
 use Rattle.cx_asm_expressions.specs.declared.faults.FaultKind.{FaultKind}
 use Rattle.cx_asm_expressions.specs.declared.faults.FaultKind.TheVariants.{BadOperand, ValueOutOfRange}
-use Rattle.cx_asm_operands.specs.Judging.{both_or_lower_fault, then_judge, made_of}
+use Rattle.cx_asm_operands.specs.Checking.{both_or_lower_fault, then_check, made_of}
 use Rattle.cx_asm_operands.specs.Addresses.{address, implied_address}
 use Rattle.cx_asm_operands.specs.Context.{Context, expression_value, number_in, number_at_most, register_in}
 use Rattle.cx_asm_operands.specs.declared.addresses.Address.{Address}
 
--- A storage operand as it is written: what is before the parentheses is worth this, or has a fault; and the parts in
+-- A storage operand as it is written: what is before the parentheses has this value, or a fault; and the parts in
 -- the parentheses, none without them.
 pub record Operand : Type 0 where
   pub place : Result Value FaultKind
@@ -44,7 +44,7 @@ operand_in takes_literal c text =
 -- with a base written, the expression is a displacement
 abbrev pub explicit_address : Context → Result Value FaultKind → List ℕ → Result Address FaultKind
 explicit_address c place base =
-    made_of (λ v. address v.1 v.0) (both_or_lower_fault (then_judge (number_at_most 4095) place) (register_in c base))
+    made_of (λ v. address v.1 v.0) (both_or_lower_fault (then_check (number_at_most 4095) place) (register_in c base))
 
 -- subfields that the operand has no room for: BadOperand, beside their own faults and those of the rest
 abbrev pub too_many_subfields : Context → Result Address FaultKind → List (List ℕ) → Result Address FaultKind
@@ -54,7 +54,7 @@ too_many_subfields c address more =
 
 -- S, D(B): by what is in the parentheses at the place of a base: nothing, a base, or too much
 abbrev pub address_by_subfields : Context → Result Value FaultKind → List (List ℕ) → Result Address FaultKind
-address_by_subfields c place [] = then_judge (implied_address c.bases) place
+address_by_subfields c place [] = then_check (implied_address c.bases) place
 address_by_subfields c place (base ∷ []) = explicit_address c place base
 address_by_subfields c place (base ∷ other ∷ more) = too_many_subfields c (explicit_address c place base) (other ∷ more)
 
@@ -75,7 +75,7 @@ abbrev pub implied_length : ℕ → Value → Result ℕ FaultKind
 implied_length most value = if nat_le value.length most then Ok value.length else Err ValueOutOfRange
 
 abbrev pub counted_by : ℕ → Context → Result Value FaultKind → List (List ℕ) → Result (ℕ × Address) FaultKind
-counted_by most c place [] = both_or_lower_fault (then_judge (implied_length most) place) (address_by_subfields c place [])
+counted_by most c place [] = both_or_lower_fault (then_check (implied_length most) place) (address_by_subfields c place [])
 counted_by most c place (count ∷ base) = both_or_lower_fault (number_in most c count) (address_by_subfields c place base)
 
 -- the field of a length is one less, where it isn't 0

@@ -3,11 +3,11 @@
 ghost use Rattle.std.specs.Prelude.{◌≡◌, ◌≤◌, IfOk, length};
 ghost use Rattle.std.specs.Option.{option_copied};
 ghost use Rattle.cx_asm_expressions.specs.Symbols.{find_in};
-ghost use Rattle.cx_asm_operands.specs.Judging.{then_judge};
+ghost use Rattle.cx_asm_operands.specs.Checking.{then_check};
 ghost use Rattle.cx_asm_operands.specs.Context.{context, number_at_most, number_in, register_in, lookup_context, expression_value};
 
 use crate::bases::Bases;
-use crate::judging::Judged;
+use crate::checking::Checked;
 use cx_asm_expressions::{FaultKind, SymbolTable, TermFault, Value, value_of};
 use cx_ebcdic::Name8;
 use std::alloc::{AllocError, Global};
@@ -41,7 +41,7 @@ pub(crate) fn number_of(
     most: u16,
     expression_value: Result<Value, FaultKind>,
 ) -> Result<u16, FaultKind>
-    ensures { result ≡ then_judge (number_at_most most) expression_value }
+    ensures { result ≡ then_check (number_at_most most) expression_value }
 {
     match expression_value {
         Ok(value) => {
@@ -88,8 +88,8 @@ impl<'a> Context<'a> {
         self.literal
     }
 
-    /// What an expression is worth.
-    pub(crate) fn expression_value(&self, alloc: Global, text: &[u8]) -> Judged<Value>
+    /// The value of an expression.
+    pub(crate) fn expression_value(&self, alloc: Global, text: &[u8]) -> Checked<Value>
         ensures { IfOk result (λ found. found ≡ expression_value (lookup_context self.now) text.now) }
     {
         match value_of(alloc, text, self.symbols, self.here.as_ref()) {
@@ -101,7 +101,7 @@ impl<'a> Context<'a> {
 
     /// The number, 0 to `most`, that an operand is.
     #[tactic(auto, unfolding(crate::specs::Context::number_in))]
-    pub(crate) fn number(&self, alloc: Global, text: &[u8], most: u16) -> Judged<u16>
+    pub(crate) fn number(&self, alloc: Global, text: &[u8], most: u16) -> Checked<u16>
         ensures { IfOk result (λ found. found ≡ number_in most (lookup_context self.now) text.now) }
     {
         match self.expression_value(alloc, text) {
@@ -112,7 +112,7 @@ impl<'a> Context<'a> {
 
     /// The number, 0 to 255, that an immediate operand is.
     #[tactic(auto, using(crate::proofs::FitLemmas::number_fits))]
-    pub(crate) fn byte(&self, alloc: Global, text: &[u8], most: u8) -> Judged<u8>
+    pub(crate) fn byte(&self, alloc: Global, text: &[u8], most: u8) -> Checked<u8>
         ensures { IfOk result (λ found. found ≡ number_in most (lookup_context self.now) text.now) }
     {
         match self.number(alloc, text, u16::from(most))? {
@@ -122,7 +122,7 @@ impl<'a> Context<'a> {
     }
 
     /// The register, or the mask, that an operand is.
-    pub(crate) fn register(&self, alloc: Global, text: &[u8]) -> Judged<u8>
+    pub(crate) fn register(&self, alloc: Global, text: &[u8]) -> Checked<u8>
         ensures { IfOk result (λ found. found ≡ register_in (lookup_context self.now) text.now) }
     {
         self.byte(alloc, text, 15)

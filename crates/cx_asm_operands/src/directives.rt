@@ -11,15 +11,15 @@ ghost use Rattle.cx_asm_expressions.specs.declared.faults.FaultKind.TheVariants 
 ghost use Rattle.cx_asm_expressions.specs.declared.faults.TermFault.TheVariants.{Refused};
 ghost use Rattle.cx_asm_operations.specs.declared.operations.Directive.TheVariants as directive;
 ghost use Rattle.cx_asm_operations.specs.declared.operations.Operation.TheVariants as operation;
-ghost use Rattle.cx_asm_operands.specs.Judging.{both_or_lower_fault, then_judge, made_of};
+ghost use Rattle.cx_asm_operands.specs.Checking.{both_or_lower_fault, then_check, made_of};
 ghost use Rattle.cx_asm_operands.specs.Bases.{using_with};
 ghost use Rattle.cx_asm_operands.specs.Context.{context, register_in, lookup_context, expression_value};
 ghost use Rattle.cx_asm_operands.specs.Directives.{bases_in, changes_bases, copy_fault, drop_in, entry_in, entry_of, place_in, registers_in, using_in};
 ghost use Rattle.cx_asm_operands.specs.Forms.{operands_of};
 
 use crate::bases::{Bases, Dropped, Using};
+use crate::checking::Checked;
 use crate::context::Context;
-use crate::judging::Judged;
 use cx_asm_expressions::{FaultKind, SymbolTable, TermFault, Value, lower, lower_of};
 use cx_asm_operations::{Directive, Operation};
 use cx_ebcdic::Name8;
@@ -51,7 +51,7 @@ fn put_register(
 
 /// The registers that operands name, or their lowest fault.
 #[tactic(auto, using(crate::proofs::FaultLemmas::registers_end))]
-fn registers_in(alloc: Global, c: &Context<'_>, texts: &[&[u8]]) -> Judged<Vec<u8>>
+fn registers_in(alloc: Global, c: &Context<'_>, texts: &[&[u8]]) -> Checked<Vec<u8>>
     ensures { let named = registers_in (lookup_context c.now) (map (λ text. text.now) texts.now) in
         IfOk result (λ found. made_of (λ registers. registers.items) found ≡ named) }
 {
@@ -69,7 +69,7 @@ fn registers_in(alloc: Global, c: &Context<'_>, texts: &[&[u8]]) -> Judged<Vec<u
 
 /// The place in a section that a value is.
 fn place_of(expression_value: Result<Value, FaultKind>) -> Result<(Name8, i128), FaultKind>
-    ensures { result ≡ then_judge place_in expression_value }
+    ensures { result ≡ then_check place_in expression_value }
 {
     match expression_value {
         Ok(value) => {
@@ -86,9 +86,9 @@ fn place_of(expression_value: Result<Value, FaultKind>) -> Result<(Name8, i128),
 
 /// The place that the operand of a USING is.
 #[tactic(auto, using(crate::proofs::SmallLemmas::place_small))]
-fn base_of(alloc: Global, c: &Context<'_>, text: &[u8]) -> Judged<(Name8, i128)>
+fn base_of(alloc: Global, c: &Context<'_>, text: &[u8]) -> Checked<(Name8, i128)>
     ensures place { IfOk result
-        (λ found. found ≡ then_judge place_in (expression_value (lookup_context c.now) text.now)) }
+        (λ found. found ≡ then_check place_in (expression_value (lookup_context c.now) text.now)) }
     ensures small { IfOk result (λ found. IfOk found (λ place. unsigned_abs place.1 ≤ 2 ^ 100)) }
 {
     match c.expression_value(alloc, text) {
@@ -98,7 +98,7 @@ fn base_of(alloc: Global, c: &Context<'_>, text: &[u8]) -> Judged<(Name8, i128)>
 }
 
 /// What the operands of a USING say.
-fn using_of(alloc: Global, c: &Context<'_>, operands: &[&[u8]]) -> Judged<Using>
+fn using_of(alloc: Global, c: &Context<'_>, operands: &[&[u8]]) -> Checked<Using>
     ensures { IfOk result (λ found. found ≡ using_in (lookup_context c.now) (map (λ text. text.now) operands.now)) }
 {
     let Some((base, registers)) = operands.split_first() else {

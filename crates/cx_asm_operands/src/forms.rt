@@ -6,7 +6,7 @@ ghost use Rattle.cx_code.specs.Spelling.{instruction, IsWellFormed};
 ghost use Rattle.cx_asm_expressions.specs.declared.faults.FaultKind.TheVariants as FaultKind;
 ghost use Rattle.cx_asm_expressions.specs.declared.faults.TermFault.TheVariants.{Refused};
 ghost use Rattle.cx_asm_operations.specs.Operations.{base_row};
-ghost use Rattle.cx_asm_operands.specs.Judging.{both_or_lower_fault};
+ghost use Rattle.cx_asm_operands.specs.Checking.{both_or_lower_fault};
 ghost use Rattle.cx_asm_operands.specs.Context.{register_in, lookup_context};
 ghost use Rattle.cx_asm_operands.specs.Storage.{is_literal, plain_in};
 ghost use Rattle.cx_code.specs.declared.table.Format.TheVariants as format;
@@ -14,8 +14,8 @@ ghost use Rattle.cx_asm_operands.specs.declared.forms.Form.TheVariants as form;
 ghost use Rattle.cx_asm_operands.specs.Forms.{fields_in, form_of, form_of_op, literal_in, operands_of, instruction_or_fault};
 
 use crate::addresses::Address;
+use crate::checking::{Checked, both};
 use crate::context::Context;
-use crate::judging::{Judged, both};
 use crate::storage::{counted_in, indexed_in, is_literal, plain_in};
 use cx_asm_expressions::{FaultKind, TermFault};
 use cx_asm_operations::Operation;
@@ -44,7 +44,7 @@ pub enum Form {
 
 /// `R1,R2`.
 #[tactic(auto, unfolding(crate::specs::Forms::fields_in))]
-fn registers(alloc: Global, c: &Context<'_>, operands: &[&[u8]]) -> Judged<Fields>
+fn registers(alloc: Global, c: &Context<'_>, operands: &[&[u8]]) -> Checked<Fields>
     ensures { let texts = map (λ text. text.now) operands.now in
         IfOk result (λ found. found ≡ fields_in (form.Format format.Rr) (lookup_context c.now) texts) }
 {
@@ -59,7 +59,7 @@ fn registers(alloc: Global, c: &Context<'_>, operands: &[&[u8]]) -> Judged<Field
 
 /// `R1,S2`, `R1,S2(X2)`, `R1,D2(X2,B2)`, `R1,D2(,B2)` or `R1,literal`.
 #[tactic(auto, unfolding(crate::specs::Forms::fields_in))]
-fn indexed(alloc: Global, c: &Context<'_>, operands: &[&[u8]]) -> Judged<Fields>
+fn indexed(alloc: Global, c: &Context<'_>, operands: &[&[u8]]) -> Checked<Fields>
     ensures { let texts = map (λ text. text.now) operands.now in
         IfOk result (λ found. found ≡ fields_in (form.Format format.Rx) (lookup_context c.now) texts) }
 {
@@ -78,7 +78,7 @@ fn indexed(alloc: Global, c: &Context<'_>, operands: &[&[u8]]) -> Judged<Fields>
 }
 
 /// `R3,S2` or `R3,D2(B2)`, after the first operand.
-fn after_first(alloc: Global, c: &Context<'_>, r3: &[u8], s2: &[u8]) -> Judged<(u8, Address)>
+fn after_first(alloc: Global, c: &Context<'_>, r3: &[u8], s2: &[u8]) -> Checked<(u8, Address)>
     ensures { let c = lookup_context c.now in
         IfOk result (λ found. found ≡ both_or_lower_fault (register_in c r3.now) (plain_in false c s2.now)) }
 {
@@ -87,7 +87,7 @@ fn after_first(alloc: Global, c: &Context<'_>, r3: &[u8], s2: &[u8]) -> Judged<(
 
 /// `R1,R3,S2` or `R1,R3,D2(B2)`.
 #[tactic(auto, unfolding(crate::specs::Forms::fields_in))]
-fn three_operands(alloc: Global, c: &Context<'_>, operands: &[&[u8]]) -> Judged<Fields>
+fn three_operands(alloc: Global, c: &Context<'_>, operands: &[&[u8]]) -> Checked<Fields>
     ensures { let texts = map (λ text. text.now) operands.now in
         IfOk result (λ found. found ≡ fields_in (form.Format format.Rs) (lookup_context c.now) texts) }
 {
@@ -107,7 +107,7 @@ fn three_operands(alloc: Global, c: &Context<'_>, operands: &[&[u8]]) -> Judged<
 
 /// `R1,S2` or `R1,D2(B2)`.
 #[tactic(auto, unfolding(crate::specs::Forms::fields_in))]
-fn shift(alloc: Global, c: &Context<'_>, operands: &[&[u8]]) -> Judged<Fields>
+fn shift(alloc: Global, c: &Context<'_>, operands: &[&[u8]]) -> Checked<Fields>
     ensures { IfOk result
         (λ found. found ≡ fields_in form.Shift (lookup_context c.now) (map (λ text. text.now) operands.now)) }
 {
@@ -127,7 +127,7 @@ fn shift(alloc: Global, c: &Context<'_>, operands: &[&[u8]]) -> Judged<Fields>
 
 /// `S1,I2` or `D1(B1),I2`.
 #[tactic(auto, unfolding(crate::specs::Forms::fields_in))]
-fn immediate(alloc: Global, c: &Context<'_>, operands: &[&[u8]]) -> Judged<Fields>
+fn immediate(alloc: Global, c: &Context<'_>, operands: &[&[u8]]) -> Checked<Fields>
     ensures { let texts = map (λ text. text.now) operands.now in
         IfOk result (λ found. found ≡ fields_in (form.Format format.Si) (lookup_context c.now) texts) }
 {
@@ -146,7 +146,7 @@ fn immediate(alloc: Global, c: &Context<'_>, operands: &[&[u8]]) -> Judged<Field
 
 /// `S1,S2`, `S1(L),S2` or `D1(L,B1),D2(B2)`, the second also a literal.
 #[tactic(auto, unfolding(crate::specs::Forms::fields_in))]
-fn one_length(alloc: Global, c: &Context<'_>, operands: &[&[u8]]) -> Judged<Fields>
+fn one_length(alloc: Global, c: &Context<'_>, operands: &[&[u8]]) -> Checked<Fields>
     ensures { let texts = map (λ text. text.now) operands.now in
         IfOk result (λ found. found ≡ fields_in (form.Format format.Ss) (lookup_context c.now) texts) }
 {
@@ -169,7 +169,7 @@ fn one_length(alloc: Global, c: &Context<'_>, operands: &[&[u8]]) -> Judged<Fiel
 
 /// `S1,S2`, `S1(L1),S2(L2)` or `D1(L1,B1),D2(L2,B2)`, the second also a literal.
 #[tactic(auto, unfolding(crate::specs::Forms::fields_in))]
-fn two_lengths(alloc: Global, c: &Context<'_>, operands: &[&[u8]]) -> Judged<Fields>
+fn two_lengths(alloc: Global, c: &Context<'_>, operands: &[&[u8]]) -> Checked<Fields>
     ensures { let texts = map (λ text. text.now) operands.now in
         IfOk result (λ found. found ≡ fields_in (form.Format format.Ss2) (lookup_context c.now) texts) }
 {
@@ -193,7 +193,7 @@ fn two_lengths(alloc: Global, c: &Context<'_>, operands: &[&[u8]]) -> Judged<Fie
 
 /// `S2`, `S2(X2)`, `D2(X2,B2)`, `D2(,B2)` or a literal, after a mask.
 #[tactic(auto, unfolding(crate::specs::Forms::fields_in))]
-fn branch(alloc: Global, c: &Context<'_>, operands: &[&[u8]], mask: u8) -> Judged<Fields>
+fn branch(alloc: Global, c: &Context<'_>, operands: &[&[u8]], mask: u8) -> Checked<Fields>
     ensures { let texts = map (λ text. text.now) operands.now in
         IfOk result (λ found. found ≡ fields_in (form.Branch mask) (lookup_context c.now) texts) }
 {
@@ -213,7 +213,7 @@ fn branch(alloc: Global, c: &Context<'_>, operands: &[&[u8]], mask: u8) -> Judge
 
 /// `R2` after a mask.
 #[tactic(auto, unfolding(crate::specs::Forms::fields_in))]
-fn register_branch(alloc: Global, c: &Context<'_>, operands: &[&[u8]], mask: u8) -> Judged<Fields>
+fn register_branch(alloc: Global, c: &Context<'_>, operands: &[&[u8]], mask: u8) -> Checked<Fields>
     ensures { let texts = map (λ text. text.now) operands.now in
         IfOk result (λ found. found ≡ fields_in (form.RegisterBranch mask) (lookup_context c.now) texts) }
 {
@@ -227,7 +227,7 @@ fn register_branch(alloc: Global, c: &Context<'_>, operands: &[&[u8]], mask: u8)
 }
 
 /// The fields that operands give an instruction of a format, except the shifts.
-fn by_format(alloc: Global, c: &Context<'_>, format: Format, operands: &[&[u8]]) -> Judged<Fields>
+fn by_format(alloc: Global, c: &Context<'_>, format: Format, operands: &[&[u8]]) -> Checked<Fields>
     ensures { let texts = map (λ text. text.now) operands.now in
         IfOk result (λ found. found ≡ fields_in (form.Format format) (lookup_context c.now) texts) }
 {
@@ -265,7 +265,7 @@ impl Form {
     }
 
     /// The fields that operands give an instruction of this form.
-    fn fields_in(self, alloc: Global, c: &Context<'_>, operands: &[&[u8]]) -> Judged<Fields>
+    fn fields_in(self, alloc: Global, c: &Context<'_>, operands: &[&[u8]]) -> Checked<Fields>
         ensures { IfOk result
             (λ found. found ≡ fields_in self (lookup_context c.now) (map (λ text. text.now) operands.now)) }
     {
@@ -302,7 +302,7 @@ fn literal_of(text: Option<&[u8]>) -> Option<&[u8]>
 }
 
 /// The fields that an operand gives an instruction of a form.
-fn fields_of(alloc: Global, c: &Context<'_>, form: Form, operand: &[u8]) -> Judged<Fields>
+fn fields_of(alloc: Global, c: &Context<'_>, form: Form, operand: &[u8]) -> Checked<Fields>
     ensures { IfOk result (λ found. found ≡ fields_in form (lookup_context c.now) (operands_of operand.now)) }
 {
     let operands = cut(alloc, operand, Delimiter::TopComma)?;

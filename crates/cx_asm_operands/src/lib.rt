@@ -3,10 +3,10 @@
 
 mod addresses;
 mod bases;
+mod checking;
 mod context;
 mod directives;
 mod forms;
-mod judging;
 pub mod laws;
 mod storage;
 mod values;

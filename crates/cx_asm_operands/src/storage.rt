@@ -7,14 +7,14 @@ ghost use Rattle.cx_source.specs.Marks.{parts};
 ghost use Rattle.cx_source.specs.declared.marks.Delimiter.TheVariants.{TopComma};
 ghost use Rattle.cx_asm_expressions.specs.Faults.{lowest};
 ghost use Rattle.cx_asm_expressions.specs.declared.faults.FaultKind.TheVariants as FaultKind;
-ghost use Rattle.cx_asm_operands.specs.Judging.{then_judge};
+ghost use Rattle.cx_asm_operands.specs.Checking.{then_check};
 ghost use Rattle.cx_asm_operands.specs.Addresses.{implied_address};
 ghost use Rattle.cx_asm_operands.specs.Context.{lookup_context, expression_value};
 ghost use Rattle.cx_asm_operands.specs.Storage.{address_by_subfields, counted_by, counted_in, too_many_subfields, explicit_address, expression_and_list, implied_length, index_in, indexed_by, indexed_in, is_literal, operand_in, plain_in};
 
 use crate::addresses::Address;
+use crate::checking::{Checked, both};
 use crate::context::{Context, number_of};
-use crate::judging::{Judged, both};
 use cx_asm_expressions::{FaultKind, Value, lower, lower_of, parenthesized_body};
 use cx_source::{Delimiter, cut, first_mark};
 use std::alloc::{AllocError, Global};
@@ -112,7 +112,7 @@ impl<'a> Operand<'a> {
 
 /// The implied address of a value, where there is one.
 fn implied(c: &Context<'_>, place: Result<Value, FaultKind>) -> Result<Address, FaultKind>
-    ensures { result ≡ then_judge (implied_address (lookup_context c.now).bases) place }
+    ensures { result ≡ then_check (implied_address (lookup_context c.now).bases) place }
 {
     match place {
         Ok(value) => {
@@ -129,7 +129,7 @@ fn explicit_address(
     c: &Context<'_>,
     place: Result<Value, FaultKind>,
     base: &[u8],
-) -> Judged<Address>
+) -> Checked<Address>
     ensures { IfOk result (λ found. found ≡ explicit_address (lookup_context c.now) place base.now) }
 {
     let displacement = number_of(GREATEST, place);
@@ -177,7 +177,7 @@ fn crowded(
     c: &Context<'_>,
     address: Result<Address, FaultKind>,
     more: &[&[u8]],
-) -> Judged<Address>
+) -> Checked<Address>
     ensures { IfOk result
         (λ found. found ≡ too_many_subfields (lookup_context c.now) address (map (λ text. text.now) more.now)) }
 {
@@ -193,7 +193,7 @@ fn address_by_subfields(
     c: &Context<'_>,
     place: Result<Value, FaultKind>,
     subfields: &[&[u8]],
-) -> Judged<Address>
+) -> Checked<Address>
     ensures { IfOk result
         (λ found. found ≡ address_by_subfields (lookup_context c.now) place (map (λ text. text.now) subfields.now)) }
 {
@@ -208,7 +208,7 @@ fn address_by_subfields(
 }
 
 /// The index in front of a base, 0 where it isn't written.
-fn index_in(alloc: Global, c: &Context<'_>, text: &[u8]) -> Judged<u8>
+fn index_in(alloc: Global, c: &Context<'_>, text: &[u8]) -> Checked<u8>
     ensures { IfOk result (λ found. found ≡ index_in (lookup_context c.now) text.now) }
 {
     match text {
@@ -218,8 +218,9 @@ fn index_in(alloc: Global, c: &Context<'_>, text: &[u8]) -> Judged<u8>
 }
 
 /// The index, 0 where none is written, and the address of `S`, `S(X)`, `D(X,B)` or `D(,B)`.
-fn indexed(alloc: Global, c: &Context<'_>, operand: &Operand<'_>) -> Judged<(u8, Address)>
-    ensures { IfOk result (λ found. found ≡ indexed_by (lookup_context c.now) operand.now.place operand.now.subfields) }
+fn indexed(alloc: Global, c: &Context<'_>, operand: &Operand<'_>) -> Checked<(u8, Address)>
+    ensures { IfOk result
+        (λ found. found ≡ indexed_by (lookup_context c.now) operand.now.place operand.now.subfields) }
 {
     match operand.subfields.as_slice() {
         [] => Ok(both(Ok(0), implied(c, operand.place))),
@@ -234,7 +235,7 @@ fn indexed(alloc: Global, c: &Context<'_>, operand: &Operand<'_>) -> Judged<(u8,
 
 /// The length attribute of a value, up to `most`, where there is a value.
 fn implied_length(most: u16, place: Result<Value, FaultKind>) -> Result<u16, FaultKind>
-    ensures { result ≡ then_judge (implied_length most) place }
+    ensures { result ≡ then_check (implied_length most) place }
 {
     match place {
         Ok(value) => {
@@ -255,7 +256,7 @@ fn counted(
     c: &Context<'_>,
     operand: &Operand<'_>,
     most: u16,
-) -> Judged<(u16, Address)>
+) -> Checked<(u16, Address)>
     ensures { IfOk result
         (λ found. found ≡ counted_by most (lookup_context c.now) operand.now.place operand.now.subfields) }
 {
@@ -279,7 +280,7 @@ pub(crate) fn plain_in(
     takes_literal: bool,
     c: &Context<'_>,
     text: &[u8],
-) -> Judged<Address>
+) -> Checked<Address>
     ensures { IfOk result (λ found. found ≡ plain_in takes_literal (lookup_context c.now) text.now) }
 {
     match Operand::read(alloc, takes_literal, c, text)? {
@@ -295,7 +296,7 @@ pub(crate) fn plain_in(
 
 /// The index and the address that a storage operand of RX is.
 #[tactic(auto, unfolding(crate::specs::Storage::indexed_in))]
-pub(crate) fn indexed_in(alloc: Global, c: &Context<'_>, text: &[u8]) -> Judged<(u8, Address)>
+pub(crate) fn indexed_in(alloc: Global, c: &Context<'_>, text: &[u8]) -> Checked<(u8, Address)>
     ensures { IfOk result (λ found. found ≡ indexed_in (lookup_context c.now) text.now) }
 {
     match Operand::read(alloc, true, c, text)? {
@@ -320,7 +321,7 @@ pub(crate) fn counted_in(
     c: &Context<'_>,
     text: &[u8],
     most: u16,
-) -> Judged<(u8, Address)>
+) -> Checked<(u8, Address)>
     requires { most ≤ 256 }
     ensures { IfOk result (λ found. found ≡ counted_in most takes_literal (lookup_context c.now) text.now) }
 {

@@ -8,7 +8,7 @@ ghost use Rattle.cx_asm_expressions.specs.declared.faults.TermFault.TheVariants.
 ghost use Rattle.cx_asm_expressions.specs.Expressions.{Answers};
 ghost use Rattle.cx_asm_expressions.specs.Symbols.{find_in};
 ghost use Rattle.cx_asm_expressions.specs.Bytes.{made_of};
-ghost use Rattle.cx_asm_operands.specs.Judging.{then_judge};
+ghost use Rattle.cx_asm_operands.specs.Checking.{then_check};
 
 use cx_asm_expressions::{Constant, ConstantBytes, SymbolTable, TermFault, Value};
 use cx_ebcdic::Name8;
@@ -29,8 +29,9 @@ pub fn item_bytes(
     control: Option<Name8>,
 ) -> Result<ConstantBytes, TermFault>
     ensures made { let made = made_of (find_in symbols.now) (option_copied here.entry) control in
-        Answers (then_judge made (constant_in is_ds text.now)) result }
-    ensures refused { (fault : FaultKind) → constant_in is_ds text.now ≡ Err fault → result ≡ Err (Refused fault) }
+        Answers (then_check made (constant_in is_ds text.now)) result }
+    ensures refused { (fault : FaultKind) → constant_in is_ds text.now ≡ Err fault
+        → result ≡ Err (Refused fault) }
 {
     match Constant::read(text, is_ds) {
         Ok(item) => item.bytes(alloc, symbols, here, control),

@@ -6,7 +6,8 @@ ghost use Rattle.cx_asm_operations.specs.declared.operations.Operation.{Operatio
 
 /// No two operations have one name: an operation is found under a name exactly where it has that name.
 pub fn one_name()
-    ensures { (name : List ℕ) (it : Operation) → (operation_named name ≡ Some it) ↔ (operation_name it ≡ name) }
+    ensures { (name : List ℕ) (it : Operation)
+        → (operation_named name ≡ Some it) ↔ (operation_name it ≡ name) }
 {
     cx_code::laws::one_mnemonic();
 }

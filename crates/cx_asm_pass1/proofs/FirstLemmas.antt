@@ -13,11 +13,11 @@ use Rattle.cx_asm_pass1.specs.Laws.FirstFaults.{Ascend, Fault, NoneBelow, fault_
 use Rattle.cx_asm_pass1.specs.Facts.First.{one_more}
 use Rattle.cx_asm_pass1.specs.declared.place.LineFault.{LineFault}
 
-line_more : (line : ℕ) (stmt : Option Stmt) (known : PassState) (before : List Fault) → IsFirstOf before known.fault
-    → IsFirstOf (fault_at line stmt known before) (after_line line stmt known).fault
+line_more : (line : ℕ) (stmt : Option Stmt) (state : PassState) (before : List Fault) → IsFirstOf before state.fault
+    → IsFirstOf (fault_at line stmt state before) (after_line line stmt state).fault
 unfolding next_state
-line_more line None known before h = h
-line_more line (Some stmt) known before h = one_more line (fault_in stmt known) before known.fault h
+line_more line None state before h = h
+line_more line (Some stmt) state before h = one_more line (fault_in stmt state) before state.fault h
 
 pub first_is_first : (items : List Item) → IsFirstOf (faults_after items) (state_after items).fault
 first_is_first [] = tt
@@ -94,21 +94,21 @@ begun_by line most [] all begins = absurd begins
 begun_by line most (f ∷ fs) all (inl it) = begun_by line most fs all.1 it
 begun_by line most (f ∷ fs) all (inr it) = omega (arith, all.0, it.1)
 
-at_most : (most line : ℕ) (stmt : Option Stmt) (known : PassState) (faults : List Fault) → line ≤ most → AreAtMost most faults → AreAtMost most (fault_at line stmt known faults)
+at_most : (most line : ℕ) (stmt : Option Stmt) (state : PassState) (faults : List Fault) → line ≤ most → AreAtMost most faults → AreAtMost most (fault_at line stmt state faults)
 unfolding AreAtMost
-at_most most line None known faults le all = all
-at_most most line (Some stmt) known faults le all = (le, all)
+at_most most line None state faults le all = all
+at_most most line (Some stmt) state faults le all = (le, all)
 
 faults_at_most : (most : ℕ) (items : List Item) → AllByRecursion (λ earlier. earlier.line ≤ most) items → AreAtMost most (faults_after items)
 unfolding AreAtMost
 faults_at_most most [] all = tt
 faults_at_most most (item ∷ before) all = at_most most item.line item.stmt (state_after before) (faults_after before) all.0 (faults_at_most most before all.1)
 
-below_line : (first line : ℕ) (stmt : Option Stmt) (known : PassState) (faults : List Fault) → AreAtMost line faults → (BeginOn first faults → NoneBelow first faults)
-    → BeginOn first (fault_at line stmt known faults) → NoneBelow first (fault_at line stmt known faults)
-below_line first line None known faults most h begins = h begins
-below_line first line (Some stmt) known faults most h (inl it) = ((λ lower. let le : first ≤ line = begun_by first line faults most it in absurd (omega (arith, le, lower))), h it)
-below_line first line (Some stmt) known faults most h (inr it) = ((λ lower. let e : line ≡ first = it.1 in absurd (omega (arith, e, lower))), sound_below first faults it.0)
+below_line : (first line : ℕ) (stmt : Option Stmt) (state : PassState) (faults : List Fault) → AreAtMost line faults → (BeginOn first faults → NoneBelow first faults)
+    → BeginOn first (fault_at line stmt state faults) → NoneBelow first (fault_at line stmt state faults)
+below_line first line None state faults most h begins = h begins
+below_line first line (Some stmt) state faults most h (inl it) = ((λ lower. let le : first ≤ line = begun_by first line faults most it in absurd (omega (arith, le, lower))), h it)
+below_line first line (Some stmt) state faults most h (inr it) = ((λ lower. let e : line ≡ first = it.1 in absurd (omega (arith, e, lower))), sound_below first faults it.0)
 
 begun_below : (first : ℕ) (items : List Item) → Ascend items → BeginOn first (faults_after items) → NoneBelow first (faults_after items)
 begun_below first [] ascend begins = tt

@@ -38,7 +38,7 @@ or_same false a v some = or_none a
 or_same true None v some = let e : false ≡ true = some refl in cc
 or_same true (Some x) v some = refl
 
--- what a table answers to a definition of a name that is worth this, if anything
+-- what a table answers to a definition of a name that has this value, if any
 abbrev Defined : Option Value → Result (Unit {0}) TermFault → Type 0
 Defined found answer = MatchOption found (IsOkUnless answer Memory) (λ _. IsErrOf answer (Refused DuplicateSymbol))
 

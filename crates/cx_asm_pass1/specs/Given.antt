@@ -36,14 +36,14 @@ value_in_range (Err fault) = Err fault
 
 -- The value that a statement gives to its name, if it gives one. `find` knows the symbols of the statements before.
 abbrev pub value_given : Role → Option (List ℕ) → (List ℕ → Option Value) → Option (List ℕ) → List ℕ → Extent → Result (Option Value) FaultKind
-value_given Control name find section operand laid = Ok (Some (place_value name 0 1))
-value_given Dummy name find section operand laid = Ok (Some (place_value name 0 1))
-value_given Equate name find section operand laid =
-    value_in_range (value_of find (location_counter section laid.offset 1) operand)
-value_given Registers name find section operand laid = Ok None
-value_given Member name find section operand laid = Ok None
-value_given Nothing name find section operand laid = Ok None
-value_given _ name find section operand laid = Ok (Some (place_value section laid.offset laid.length))
+value_given Control name find section operand extent = Ok (Some (place_value name 0 1))
+value_given Dummy name find section operand extent = Ok (Some (place_value name 0 1))
+value_given Equate name find section operand extent =
+    value_in_range (value_of find (location_counter section extent.offset 1) operand)
+value_given Registers name find section operand extent = Ok None
+value_given Member name find section operand extent = Ok None
+value_given Nothing name find section operand extent = Ok None
+value_given _ name find section operand extent = Ok (Some (place_value section extent.offset extent.length))
 
 -- ---- symbols that are defined together
 -- a name and a number

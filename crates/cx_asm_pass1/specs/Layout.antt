@@ -36,20 +36,20 @@ item_end at read = item_start at read + cap (constant_size read)
 abbrev pub item_length : StorageItem → ℕ
 item_length read = option_map_or length_of (result_ok read) 1
 
-abbrev pub laid_at : ℕ → List ℕ → ℕ → ℕ → Option FaultKind → Extent
-laid_at offset items end length fault = record { offset = offset; items = items; end = end; length = length; fault = fault }
+abbrev pub extent_at : ℕ → List ℕ → ℕ → ℕ → Option FaultKind → Extent
+extent_at offset items end length fault = record { offset = offset; items = items; end = end; length = length; fault = fault }
 
 -- `size` bytes on a boundary, with a length attribute
 abbrev pub bytes_at : ℕ → ℕ → ℕ → ℕ → Extent
 bytes_at boundary size length at =
-    laid_at (align boundary at) [] (align boundary at + size) length (fault_beyond (align boundary at + size))
+    extent_at (align boundary at) [] (align boundary at + size) length (fault_beyond (align boundary at + size))
 
 -- items, one after the other; the first's place and length are theirs
 abbrev pub items_at : List StorageItem → ℕ → Extent
 items_at items at =
     let offsets = scan item_end item_start at items in let end = fold item_end at items in
     let length = option_map_or item_length (slice_get items 0) 1 in
-    laid_at (unwrap_or (slice_get offsets 0) at) offsets end length (lower (lowest (map result_err items)) (fault_beyond end))
+    extent_at (unwrap_or (slice_get offsets 0) at) offsets end length (lower (lowest (map result_err items)) (fault_beyond end))
 
 -- What a statement takes from the next offset on, by what its operation does, the parts of its operand, and how many
 -- bytes the open pool has: an instruction, items, or a literal pool that has literals; every other statement takes
@@ -58,4 +58,4 @@ unfoldable pub extent_of : Role → List (List ℕ) → Option ℕ → ℕ → E
 extent_of (Instruction size) parts extent at = bytes_at 2 (cap size) size at
 extent_of (Storage is_ds) parts extent at = items_at (map (constant_in is_ds) parts) at
 extent_of Pool parts (Some size) at = bytes_at 8 size 1 at
-extent_of _ parts extent at = laid_at at [] at 1 None
+extent_of _ parts extent at = extent_at at [] at 1 None

@@ -1,4 +1,4 @@
 -- The vocabulary of private functions.
 pub mod Faulty
-pub mod Judging
+pub mod Checking
 pub mod Passing

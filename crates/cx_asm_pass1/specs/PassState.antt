@@ -63,19 +63,19 @@ length_of_section section lengths = option_map_or lengths section 0
 
 -- the next offset in the section
 abbrev pub next_in : PassState → ℕ
-next_in known = cap (length_of_section known.section known.lengths)
+next_in state = cap (length_of_section state.section state.lengths)
 
-abbrev pub laid_in : Stmt → PassState → Extent
-laid_in stmt known = extent_of (role_in stmt) (parts_in stmt) (pool_extent known.pool) (next_in known)
+abbrev pub extent_in : Stmt → PassState → Extent
+extent_in stmt state = extent_of (role_in stmt) (parts_in stmt) (pool_extent state.pool) (next_in state)
 
 abbrev pub given_in : Stmt → PassState → Result (Option Value) FaultKind
-given_in stmt known = value_given (role_in stmt) (name_in stmt) known.symbols known.section stmt.operand (laid_in stmt known)
+given_in stmt state = value_given (role_in stmt) (name_in stmt) state.symbols state.section stmt.operand (extent_in stmt state)
 
 -- what it defines; where its value is at fault, a different one stands for it
 abbrev pub definitions_in : Stmt → PassState → Option Value → Symbols
-definitions_in stmt known other =
-    let value = unwrap_or (result_ok (given_in stmt known)) other in
-    definitions (role_in stmt) (name_in stmt) known.control known.symbols stmt.operand value
+definitions_in stmt state other =
+    let value = unwrap_or (result_ok (given_in stmt state)) other in
+    definitions (role_in stmt) (name_in stmt) state.control state.symbols stmt.operand value
 
 -- ---- what is wrong with it
 abbrev pub operation_fault : Role → Option FaultKind
@@ -119,19 +119,19 @@ literal_fault _ user parts pool = None
 
 -- It defines a name again, whatever its value: where that is at fault, any stands for it.
 abbrev pub duplicate_in : Stmt → PassState → Option FaultKind
-duplicate_in stmt known = duplicate known.symbols (definitions_in stmt known (Some (absolute (pos 0))))
+duplicate_in stmt state = duplicate state.symbols (definitions_in stmt state (Some (absolute (pos 0))))
 
 -- all except the literals
 abbrev pub own_fault : Stmt → PassState → Option FaultKind
-own_fault stmt known =
+own_fault stmt state =
     lowest (operation_fault (role_in stmt) ∷ name_fault (role_in stmt) stmt.name
-    ∷ section_fault (role_in stmt) (name_in stmt) known.section known.control ∷ (laid_in stmt known).fault ∷ result_err (given_in stmt known)
-    ∷ duplicate_in stmt known ∷ [])
+    ∷ section_fault (role_in stmt) (name_in stmt) state.section state.control ∷ (extent_in stmt state).fault ∷ result_err (given_in stmt state)
+    ∷ duplicate_in stmt state ∷ [])
 
 -- the lowest fault of the statement
 abbrev pub fault_in : Stmt → PassState → Option FaultKind
-fault_in stmt known =
-    lower (own_fault stmt known) (literal_fault (role_in stmt) (length known.places) (parts_in stmt) known.pool)
+fault_in stmt state =
+    lower (own_fault stmt state) (literal_fault (role_in stmt) (length state.places) (parts_in stmt) state.pool)
 
 abbrev pub line_fault : ℕ → FaultKind → LineFault
 line_fault line kind = record { line = line; kind = kind }
@@ -166,8 +166,8 @@ pools_after _ offset pool pools = pools
 
 -- where it is: its section, offset, its items' offsets, and the number of its pool
 abbrev pub place_in : Stmt → PassState → Place
-place_in stmt known =
-    record { section = known.section; offset = (laid_in stmt known).offset; items = (laid_in stmt known).items; pool = length known.pools }
+place_in stmt state =
+    record { section = state.section; offset = (extent_in stmt state).offset; items = (extent_in stmt state).items; pool = length state.pools }
 
 -- The statement lengthens its own section alone.
 abbrev pub length_after : Option (List ℕ) → ℕ → (List ℕ → ℕ) → List ℕ → ℕ
@@ -175,22 +175,22 @@ length_after section end lengths name = if stands_in name section then end else 
 
 -- What is known after a statement of a line. A symbol has the value that the first statement gives it.
 unfoldable pub next_state : ℕ → Stmt → PassState → PassState
-next_state line stmt known =
+next_state line stmt state =
     record {
-      section = section_after (role_in stmt) (name_in stmt) known.section;
-      control = control_after (role_in stmt) (name_in stmt) known.control;
-      lengths = length_after known.section (laid_in stmt known).end known.lengths;
-      symbols = λ name. option_or (known.symbols name) (find_in (definitions_in stmt known None) name);
-      pool = pool_after (role_in stmt) (length known.places) (parts_in stmt) known.pool;
-      pools = pools_after (role_in stmt) (laid_in stmt known).offset known.pool known.pools;
-      places = known.places ++ place_in stmt known ∷ [];
-      fault = first_fault_after line (fault_in stmt known) known.fault;
+      section = section_after (role_in stmt) (name_in stmt) state.section;
+      control = control_after (role_in stmt) (name_in stmt) state.control;
+      lengths = length_after state.section (extent_in stmt state).end state.lengths;
+      symbols = λ name. option_or (state.symbols name) (find_in (definitions_in stmt state None) name);
+      pool = pool_after (role_in stmt) (length state.places) (parts_in stmt) state.pool;
+      pools = pools_after (role_in stmt) (extent_in stmt state).offset state.pool state.pools;
+      places = state.places ++ place_in stmt state ∷ [];
+      fault = first_fault_after line (fault_in stmt state) state.fault;
     }
 
 -- a comment, and a line that continues a statement, add nothing
 abbrev pub after_line : ℕ → Option Stmt → PassState → PassState
-after_line line None known = known
-after_line line (Some stmt) known = next_state line stmt known
+after_line line None state = state
+after_line line (Some stmt) state = next_state line stmt state
 
 -- what is known by lines, the latest first
 abbrev pub state_after : List Item → PassState

@@ -94,17 +94,17 @@ pub(crate) fn value_given(
     symbols: &SymbolTable,
     section: Option<Name8>,
     operand: &[u8],
-    laid: &Extent,
+    extent: &Extent,
 ) -> Result<Option<Value>, TermFault>
-    ensures { Answers (value_given role name (find_in symbols.now) section operand.now laid.now) result }
+    ensures { Answers (value_given role name (find_in symbols.now) section operand.now extent.now) result }
 {
     match role {
         Role::Instruction(_) | Role::Storage { is_ds: _ } | Role::Pool | Role::Unknown => {
-            Ok(Some(place_value(section, laid.offset, laid.length)))
+            Ok(Some(place_value(section, extent.offset, extent.length)))
         }
         Role::Control | Role::Dummy => Ok(Some(place_value(name, 0, 1))),
         Role::Equate => {
-            let here = location_counter(section, laid.offset, 1);
+            let here = location_counter(section, extent.offset, 1);
             let value = value_of(alloc, operand, symbols, here.as_ref())?;
             limited(value)
         }

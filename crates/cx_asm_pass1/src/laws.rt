@@ -11,7 +11,7 @@ ghost use Rattle.cx_asm_expressions.specs.Symbols.{find_in};
 ghost use Rattle.cx_asm_expressions.specs.declared.values.Value.{Value};
 ghost use Rattle.cx_asm_pools.specs.Laws.Literals.{IsPool};
 ghost use Rattle.cx_asm_pools.specs.Pools.{PlacedLiterals, cap, closed_pool};
-ghost use Rattle.cx_asm_pass1.specs.PassState.{PassState, next_state, is_control, state_after, laid_in, parts_in, place_in, role_in};
+ghost use Rattle.cx_asm_pass1.specs.PassState.{PassState, next_state, is_control, state_after, extent_in, parts_in, place_in, role_in};
 ghost use Rattle.cx_asm_pass1.specs.Laws.Apart.{AreApart, ClosesApart, EndWithin, Stands, control_length, section_length, stretches_after};
 ghost use Rattle.cx_asm_pass1.specs.Laws.Definitions.{definitions_after};
 ghost use Rattle.cx_asm_pass1.specs.Laws.FirstFaults.{Ascend, Fault, IsFirstOf, NoneBelow, faults_after};
@@ -44,11 +44,11 @@ pub fn ascending_lines_have_it_first()
 /// In an accepted source a statement's instruction, items or literals are placed one after the other, aligned, from its
 /// section's length so far to the statement's end, which is within the bound of all numbers.
 pub fn a_statement_stands_after_its_section()
-    ensures stands { (before : List Item) (line : ℕ) (stmt : Stmt) → let known = state_after before in
-        (next_state line stmt known).fault ≡ None
-        → Stands (role_in stmt) (parts_in stmt) known.pool (section_length known) (laid_in stmt known) }
+    ensures stands { (before : List Item) (line : ℕ) (stmt : Stmt) → let state = state_after before in
+        (next_state line stmt state).fault ≡ None
+        → Stands (role_in stmt) (parts_in stmt) state.pool (section_length state) (extent_in stmt state) }
     ensures within { (before : List Item) (line : ℕ) (stmt : Stmt)
-        → (next_state line stmt (state_after before)).fault ≡ None → (laid_in stmt (state_after before)).end ≤ bound }
+        → (next_state line stmt (state_after before)).fault ≡ None → (extent_in stmt (state_after before)).end ≤ bound }
 {}
 
 /// In an accepted source the control section never gets shorter; after a statement that is in it, it is as long as the
@@ -57,9 +57,11 @@ pub fn the_control_section_grows()
     ensures grows { (before : List Item) (line : ℕ) (stmt : Stmt)
         → (next_state line stmt (state_after before)).fault ≡ None
         → control_length (state_after before) ≤ control_length (next_state line stmt (state_after before)) }
-    ensures ends { (line : ℕ) → (stmt : Stmt) → (known : PassState) → is_control known.section known.control ≡ true
-        → control_length (next_state line stmt known) ≡ (laid_in stmt known).end }
-    ensures own { (section control : Option (List ℕ)) → is_control section control ≡ true → section ≡ control }
+    ensures ends { (line : ℕ) → (stmt : Stmt) → (state : PassState)
+        → is_control state.section state.control ≡ true
+        → control_length (next_state line stmt state) ≡ (extent_in stmt state).end }
+    ensures own { (section control : Option (List ℕ)) → is_control section control ≡ true
+        → section ≡ control }
 {}
 
 /// In an accepted source statements of one section share no byte: a later one begins at or past the end of each earlier
@@ -71,10 +73,10 @@ pub fn statements_stand_apart()
 /// In an accepted source the statements of the control section end inside it, and the last pool is after them, at its
 /// end.
 pub fn the_last_pool_ends_the_control_section()
-    ensures inside { (items : List Item) → let known = state_after items in
-        known.fault ≡ None → EndWithin known (stretches_after items) }
-    ensures last { (items : List Item) → let known = state_after items in
-        known.fault ≡ None → (last_pool_extent known).end ≤ bound → ClosesApart known }
+    ensures inside { (items : List Item) → let state = state_after items in
+        state.fault ≡ None → EndWithin state (stretches_after items) }
+    ensures last { (items : List Item) → let state = state_after items in
+        state.fault ≡ None → (last_pool_extent state).end ≤ bound → ClosesApart state }
 {}
 
 /// The open pool has each text once, with its size.
@@ -83,28 +85,30 @@ pub fn the_open_pool_is_one()
 {}
 
 /// A statement's place stays, however many statements follow.
-#[tactic(auto, using(crate::specs::Facts::Kept::place_told, crate::specs::Facts::Kept::place_kept))]
+#[tactic(auto, using(crate::specs::Facts::Kept::place_listed, crate::specs::Facts::Kept::place_kept))]
 pub fn places_stay()
-    ensures told { (line : ℕ) (stmt : Stmt) (known : PassState)
-        → slice_get (next_state line stmt known).places (length known.places) ≡ Some (place_in stmt known) }
+    ensures listed { (line : ℕ) (stmt : Stmt) (state : PassState)
+        → slice_get (next_state line stmt state).places (length state.places) ≡ Some (place_in stmt state) }
     ensures stays { (more before : List Item) (index : ℕ) (place : Place)
         → slice_get (state_after before).places index ≡ Some place
         → slice_get (state_after (more ++ before)).places index ≡ Some place }
 {}
 
 /// The pool that LTORG closes stays, and so among all pools; the last pool is after the closed ones.
-#[tactic(auto, using(crate::specs::Facts::Kept::pool_told, crate::specs::Facts::Kept::pool_kept, crate::specs::Facts::Kept::pool_among, crate::specs::Facts::Kept::last_pool))]
+#[tactic(auto, using(crate::specs::Facts::Kept::pool_listed, crate::specs::Facts::Kept::pool_kept, crate::specs::Facts::Kept::pool_among, crate::specs::Facts::Kept::last_pool))]
 pub fn pools_stay()
-    ensures told { (line : ℕ) (stmt : Stmt) (known : PassState) → let offset = cap (laid_in stmt known).offset in
+    ensures listed { (line : ℕ) (stmt : Stmt) (state : PassState)
+        → let offset = cap (extent_in stmt state).offset in
         role_in stmt ≡ Pool
-        → slice_get (next_state line stmt known).pools (length known.pools) ≡ Some (closed_pool offset known.pool) }
+        → slice_get (next_state line stmt state).pools (length state.pools) ≡ Some (closed_pool offset state.pool) }
     ensures stays { (more before : List Item) (index : ℕ) (pool : PlacedLiterals)
         → slice_get (state_after before).pools index ≡ Some pool
         → slice_get (state_after (more ++ before)).pools index ≡ Some pool }
-    ensures among { (known : PassState) (index : ℕ) (pool : PlacedLiterals) → slice_get known.pools index ≡ Some pool
-        → slice_get (all_pools known) index ≡ Some pool }
-    ensures last { (known : PassState) → let offset = cap (last_pool_extent known).offset in
-        slice_get (all_pools known) (length known.pools) ≡ Some (closed_pool offset known.pool) }
+    ensures among { (state : PassState) (index : ℕ) (pool : PlacedLiterals)
+        → slice_get state.pools index ≡ Some pool
+        → slice_get (all_pools state) index ≡ Some pool }
+    ensures last { (state : PassState) → let offset = cap (last_pool_extent state).offset in
+        slice_get (all_pools state) (length state.pools) ≡ Some (closed_pool offset state.pool) }
 {}
 
 /// A symbol has the value of its first definition, and keeps it, however many statements follow. In an accepted source

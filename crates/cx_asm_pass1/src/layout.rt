@@ -5,7 +5,7 @@ ghost use Rattle.std.specs.Result.{result_err};
 ghost use Rattle.cx_asm_expressions.specs.Digits.{bound};
 ghost use Rattle.cx_asm_expressions.specs.Items.{constant_in};
 ghost use Rattle.cx_asm_pools.specs.Pools.{cap};
-ghost use Rattle.cx_asm_pass1.specs.Layout.{align, fault_beyond, bytes_at, item_end, item_start, items_at, extent_of, laid_at};
+ghost use Rattle.cx_asm_pass1.specs.Layout.{align, fault_beyond, bytes_at, item_end, item_start, items_at, extent_of, extent_at};
 
 use crate::roles::Role;
 use cx_asm_expressions::{Constant, FaultKind, lower};
@@ -121,7 +121,7 @@ fn items_at(alloc: Global, is_ds: bool, parts: &[&[u8]], next: u128) -> Result<E
 impl Extent {
     /// Nothing, at an offset.
     fn nothing_at(alloc: Global, at: u128) -> Extent
-        ensures { result ≡ laid_at at [] at 1 None }
+        ensures { result ≡ extent_at at [] at 1 None }
     {
         Extent {
             offset: at,

@@ -2,9 +2,9 @@
 #![tactic(auto)]
 
 mod all_faults;
+mod checked;
 mod faults;
 mod given;
-mod judged;
 pub mod laws;
 mod layout;
 mod pass;

@@ -3,11 +3,11 @@
 ghost use Rattle.std.specs.Prelude.{◌≡◌, ◌≤◌, ◌+◌, [], List as Elements, ℕ, map, option_and_then, IfOk, OnOk};
 ghost use Rattle.cx_asm_expressions.specs.Digits.{bound};
 ghost use Rattle.cx_asm_pass1.specs.PassState.{next_state, after_line, at_start, control_after, fault_in, length_after, length_of_section, literal_fault, next_in, parts_in, pool_after, pools_after, section_after};
-ghost use Rattle.cx_asm_pass1.specs.Parts.Judging.{heading_in, judged_in};
-ghost use Rattle.cx_asm_pass1.specs.Parts.Passing.{known_to, length_in};
+ghost use Rattle.cx_asm_pass1.specs.Parts.Checking.{heading_in, checked_in};
+ghost use Rattle.cx_asm_pass1.specs.Parts.Passing.{state_of, length_in};
 
+use crate::checked::{Checked, define_all, duplicate, value_in, value_or_fault};
 use crate::faults::{Heading, extent_fault, first_fault_after, lowest_fault};
-use crate::judged::{Judged, define_all, duplicate, value_in, value_or_fault};
 use crate::layout::Extent;
 use crate::place::{LineFault, Place};
 use crate::roles::Role;
@@ -90,7 +90,8 @@ fn use_pool<'a>(
     pool: &mut OpenPool<'a>,
 ) -> Result<Option<FaultKind>, AllocError>
     ensures pool { OnOk result (pool.new ≡ pool_after role user (map (λ part. part.now) parts.now) pool.old) }
-    ensures fault { IfOk result (λ fault. fault ≡ literal_fault role user (map (λ part. part.now) parts.now) pool.old) }
+    ensures fault { IfOk result
+        (λ fault. fault ≡ literal_fault role user (map (λ part. part.now) parts.now) pool.old) }
 {
     match role {
         Role::Instruction(_) => {
@@ -124,7 +125,7 @@ fn close_pool<'a>(
 impl<'a> Pass<'a> {
     /// The pass before the first statement. It takes no memory.
     pub(crate) fn start(alloc: Global) -> Pass<'a>
-        ensures { known_to result ≡ at_start }
+        ensures { state_of result ≡ at_start }
     {
         Pass {
             section: None,
@@ -140,7 +141,7 @@ impl<'a> Pass<'a> {
 
     /// How a statement begins.
     fn heading(&self, stmt: &Stmt) -> Heading
-        ensures { result ≡ heading_in stmt.now (known_to self.now) }
+        ensures { result ≡ heading_in stmt.now (state_of self.now) }
     {
         Heading {
             role: Role::of(stmt.operation.as_slice()),
@@ -151,51 +152,59 @@ impl<'a> Pass<'a> {
     }
 
     /// What is known of a statement.
-    #[tactic(auto, using(crate::proofs::FaultLemmas::lower_nothing), unfolding(crate::specs::Parts::Judging::judged_in))]
-    fn judged(
+    #[tactic(auto, using(crate::proofs::FaultLemmas::lower_nothing), unfolding(crate::specs::Parts::Checking::checked_in))]
+    fn checked(
         &self,
         alloc: Global,
         stmt: &Stmt,
         heading: &Heading,
         parts: &[&[u8]],
-    ) -> Result<Judged, AllocError>
-        requires heading { heading.now ≡ heading_in stmt.now (known_to self.now) }
+    ) -> Result<Checked, AllocError>
+        requires heading { heading.now ≡ heading_in stmt.now (state_of self.now) }
         requires parts { map (λ part. part.now) parts.now ≡ parts_in stmt.now }
-        ensures { IfOk result (λ judged. judged ≡ judged_in stmt.now (known_to self.now)) }
+        ensures { IfOk result (λ checked. checked ≡ checked_in stmt.now (state_of self.now)) }
     {
         let operand = stmt.operand.as_slice();
         let next = capped(length_of_section(heading.section, &self.lengths));
-        let laid = Extent::of(alloc, heading.role, parts, self.pool.extent(), next)?;
-        let given = value_or_fault(alloc, heading, &self.symbols, operand, &laid)?;
-        let known = duplicate(heading, &self.symbols, operand, &given);
+        let extent = Extent::of(alloc, heading.role, parts, self.pool.extent(), next)?;
+        let given = value_or_fault(alloc, heading, &self.symbols, operand, &extent)?;
+        let twice = duplicate(heading, &self.symbols, operand, &given);
         let value = value_in(&given);
-        let inner = lower(laid.fault, lower(given.err(), known));
+        let inner = lower(extent.fault, lower(given.err(), twice));
         let fault = lowest_fault(heading, stmt.name.as_slice(), inner);
-        Ok(Judged { laid, value, fault })
+        Ok(Checked {
+            extent,
+            value,
+            fault,
+        })
     }
 
     /// Takes a statement in, and answers its lowest fault.
-    #[tactic(auto, unfolding(crate::specs::PassState::next_state, crate::specs::Parts::Judging::judged_in))]
+    #[tactic(auto, unfolding(crate::specs::PassState::next_state, crate::specs::Parts::Checking::checked_in))]
     fn take(
         &mut self,
         alloc: Global,
         line: usize,
         stmt: &'a Stmt,
     ) -> Result<Option<FaultKind>, AllocError>
-        ensures known { OnOk result (known_to self.new ≡ next_state line stmt.now (known_to self.old)) }
-        ensures fault { IfOk result (λ fault. fault ≡ fault_in stmt.now (known_to self.old)) }
+        ensures state { OnOk result (state_of self.new ≡ next_state line stmt.now (state_of self.old)) }
+        ensures fault { IfOk result (λ fault. fault ≡ fault_in stmt.now (state_of self.old)) }
     {
         let heading = self.heading(stmt);
         let operand = stmt.operand.as_slice();
         let parts = cut(alloc, operand, Delimiter::TopComma)?;
-        let Judged { laid, value, fault } = self.judged(alloc, stmt, &heading, parts.as_slice())?;
+        let Checked {
+            extent,
+            value,
+            fault,
+        } = self.checked(alloc, stmt, &heading, parts.as_slice())?;
         define_all(&heading, &mut self.symbols, operand, value)?;
-        set_length(&mut self.lengths, heading.section, laid.end)?;
+        set_length(&mut self.lengths, heading.section, extent.end)?;
         let number = self.pools.len();
         close_pool(
             alloc,
             heading.role,
-            laid.offset,
+            extent.offset,
             &self.pool,
             &mut self.pools,
         )?;
@@ -205,8 +214,8 @@ impl<'a> Pass<'a> {
         self.fault = first_fault_after(line, lowest, self.fault);
         self.places.push(Place {
             section: self.section,
-            offset: laid.offset,
-            items: laid.items,
+            offset: extent.offset,
+            items: extent.items,
             pool: number,
         })?;
         self.section = section_after(&heading);
@@ -220,9 +229,9 @@ impl<'a> Pass<'a> {
         alloc: Global,
         item: &'a Item,
     ) -> Result<Option<FaultKind>, AllocError>
-        ensures known { OnOk result (known_to self.new ≡ after_line item.now.line item.now.stmt (known_to self.old)) }
+        ensures state { OnOk result (state_of self.new ≡ after_line item.now.line item.now.stmt (state_of self.old)) }
         ensures fault { IfOk result
-            (λ fault. fault ≡ option_and_then (λ stmt. fault_in stmt (known_to self.old)) item.now.stmt) }
+            (λ fault. fault ≡ option_and_then (λ stmt. fault_in stmt (state_of self.old)) item.now.stmt) }
     {
         match &item.stmt {
             Some(stmt) => self.take(alloc, item.line, stmt),

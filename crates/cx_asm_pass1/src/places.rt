@@ -3,8 +3,8 @@
 ghost use Rattle.std.specs.Prelude.{◌≡◌, [], IfOk, List as Elements, OnOk, ℕ, reverse};
 ghost use Rattle.cx_asm_pass1.specs.AllFaults.{faults_after, place_faults};
 ghost use Rattle.cx_asm_pass1.specs.PassState.{at_start, state_after};
-ghost use Rattle.cx_asm_pass1.specs.Parts.Passing.{known_to};
-ghost use Rattle.cx_asm_pass1.specs.Locations.{IsPlaced, PlacesAs, last_pool_extent, known_of, storage_length};
+ghost use Rattle.cx_asm_pass1.specs.Parts.Passing.{state_of};
+ghost use Rattle.cx_asm_pass1.specs.Locations.{IsPlaced, PlacesAs, last_pool_extent, final_state, storage_length};
 
 use crate::all_faults::LineFaults;
 use crate::layout::Extent;
@@ -35,7 +35,7 @@ pub struct Places<'a> {
 
 /// The pass over lines.
 fn pass_over<'a>(alloc: Global, items: &'a [Item]) -> Result<Pass<'a>, AllocError>
-    ensures { IfOk result (λ pass. known_to pass ≡ state_after (reverse items.now)) }
+    ensures { IfOk result (λ pass. state_of pass ≡ state_after (reverse items.now)) }
 {
     let mut pass = Pass::start(alloc);
     for item in items {
@@ -46,7 +46,7 @@ fn pass_over<'a>(alloc: Global, items: &'a [Item]) -> Result<Pass<'a>, AllocErro
 
 /// The length of the dummy section DFHEISTG; 0 without it.
 fn storage_length(pass: &Pass<'_>) -> u128
-    ensures { result ≡ storage_length (known_to pass.now) }
+    ensures { result ≡ storage_length (state_of pass.now) }
 {
     let Some(name) = symbol_name(b"DFHEISTG") else {
         return 0;
@@ -60,7 +60,7 @@ fn storage_length(pass: &Pass<'_>) -> u128
 /// The places after the last statement.
 #[tactic(auto, unfolding(crate::specs::Layout::extent_of))]
 fn finished<'a>(alloc: Global, pass: Pass<'a>) -> Result<Places<'a>, AllocError>
-    ensures { IfOk result (λ places. IsPlaced (known_to pass.entry) places) }
+    ensures { IfOk result (λ places. IsPlaced (state_of pass.entry) places) }
 {
     let stg_length = storage_length(&pass);
     let next = capped(length_of_section(pass.control, &pass.lengths));
@@ -100,7 +100,7 @@ pub fn place_all<'a>(
     alloc: Global,
     source: &'a Source,
 ) -> Result<Result<Places<'a>, LineFault>, AllocError>
-    ensures { IfOk result (λ answer. PlacesAs (known_of source.now) answer) }
+    ensures { IfOk result (λ answer. PlacesAs (final_state source.now) answer) }
 {
     let pass = pass_over(alloc, source.items.as_slice())?;
     if let Some(first) = pass.fault {
@@ -117,7 +117,7 @@ fn pass_with_faults<'a>(
     faults: &mut LineFaults,
 ) -> Result<Pass<'a>, AllocError>
     requires { faults.old ≡ [] }
-    ensures pass { IfOk result (λ pass. known_to pass ≡ state_after (reverse items.now)) }
+    ensures pass { IfOk result (λ pass. state_of pass ≡ state_after (reverse items.now)) }
     ensures faults { OnOk result (faults.new ≡ faults_after (reverse items.now)) }
 {
     let mut pass = Pass::start(alloc);
@@ -137,7 +137,7 @@ pub fn place_with_faults<'a>(
     alloc: Global,
     source: &'a Source,
 ) -> Result<(Places<'a>, List<LineFault>), AllocError>
-    ensures places { IfOk result (λ both. IsPlaced (known_of source.now) both.0) }
+    ensures places { IfOk result (λ both. IsPlaced (final_state source.now) both.0) }
     ensures faults { IfOk result (λ both. both.1 ≡ place_faults source.now) }
 {
     let mut met = LineFaults::new(alloc);

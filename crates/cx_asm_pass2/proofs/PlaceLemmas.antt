@@ -25,22 +25,22 @@ last_one [] x = refl
 last_one (y ∷ xs) x = last_one xs x
 
 -- A line puts at most one place after the others.
-after_keeps : (line : ℕ) (stmt : Option Stmt) (known : PassState) (n : ℕ) (p : Place) → slice_get known.places n ≡ Some p → slice_get (after_line line stmt known).places n ≡ Some p
+after_keeps : (line : ℕ) (stmt : Option Stmt) (state : PassState) (n : ℕ) (p : Place) → slice_get state.places n ≡ Some p → slice_get (after_line line stmt state).places n ≡ Some p
 unfolding next_state
-after_keeps line None known n p e = e
-after_keeps line (Some stmt) known n p e = stays_front known.places (place_in stmt known) n p e
+after_keeps line None state n p e = e
+after_keeps line (Some stmt) state n p e = stays_front state.places (place_in stmt state) n p e
 
 places_stay : (later before : List Item) (n : ℕ) (p : Place) → slice_get (state_after before).places n ≡ Some p → slice_get (state_after (later ++ before)).places n ≡ Some p
 places_stay [] before n p e = e
 places_stay (item ∷ later) before n p e = after_keeps item.line item.stmt (state_after (later ++ before)) n p (places_stay later before n p e)
 
-own_place : (line : ℕ) (stmt : Stmt) (known : PassState) → slice_get (after_line line (Some stmt) known).places (length known.places) ≡ Some (place_in stmt known)
+own_place : (line : ℕ) (stmt : Stmt) (state : PassState) → slice_get (after_line line (Some stmt) state).places (length state.places) ≡ Some (place_in stmt state)
 unfolding next_state
-own_place line stmt known = last_one known.places (place_in stmt known)
+own_place line stmt state = last_one state.places (place_in stmt state)
 
-count_after : (line : ℕ) (stmt : Stmt) (known : PassState) → length (after_line line (Some stmt) known).places ≡ length known.places + 1
+count_after : (line : ℕ) (stmt : Stmt) (state : PassState) → length (after_line line (Some stmt) state).places ≡ length state.places + 1
 unfolding next_state
-count_after line stmt known = length-append known.places (place_in stmt known ∷ [])
+count_after line stmt state = length-append state.places (place_in stmt state ∷ [])
 
 front_and_rest : {X : Type 0} (xs : List X) (d : X) (i : ℕ) → i < length xs → reverse xs ≡ reverse (drop (suc i) xs) ++ (get_or xs i d ∷ reverse (take i xs))
 front_and_rest xs d i within =

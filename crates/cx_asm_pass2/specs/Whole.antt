@@ -12,7 +12,7 @@ use Rattle.cx_asm_pools.specs.Pools.{PlacedLiterals, literal_text}
 use Rattle.cx_asm_pass1.specs.Given.{location_counter}
 use Rattle.cx_asm_pass1.specs.Layout.{item_length}
 use Rattle.cx_asm_pass1.specs.PassState.{PassState, role_in}
-use Rattle.cx_asm_pass1.specs.Locations.{all_pools, known_of}
+use Rattle.cx_asm_pass1.specs.Locations.{all_pools, final_state}
 use Rattle.cx_asm_pass1.specs.declared.roles.Role.{Role}
 use Rattle.cx_asm_pass1.specs.declared.roles.Role.TheVariants.{Instruction}
 use Rattle.cx_asm_pass1.specs.declared.places.Places.{Places}
@@ -20,7 +20,7 @@ use Rattle.cx_source.specs.declared.source.Source.{Source}
 use Rattle.cx_asm_operands.specs.Bases.{Bases}
 use Rattle.cx_asm_operands.specs.Context.{Context, context}
 use Rattle.cx_asm_operands.specs.Forms.{literal_in}
-use Rattle.cx_asm_operands.specs.Judging.{then_judge}
+use Rattle.cx_asm_operands.specs.Checking.{then_check}
 use Rattle.cx_asm_pass2.specs.Statements.{PlacedStatement}
 
 -- the symbols, the literal pools and the control section
@@ -32,11 +32,11 @@ pub record Whole : Type 0 where
 abbrev pub whole : (List ℕ → Option Value) → List PlacedLiterals → Option (List ℕ) → Whole
 whole find pools control = record { find = find; pools = pools; control = control }
 
-abbrev pub whole_known : PassState → Whole
-whole_known known = whole known.symbols (all_pools known) known.control
+abbrev pub whole_of_state : PassState → Whole
+whole_of_state state = whole state.symbols (all_pools state) state.control
 
 abbrev pub whole_of : Source → Whole
-whole_of source = whole_known (known_of source)
+whole_of source = whole_of_state (final_state source)
 
 -- ---- the location counter
 -- `*` has the length of an instruction, and else 1
@@ -51,29 +51,29 @@ counter_of s = location_counter s.place.section s.place.offset (own_length (role
 -- ---- literals
 -- the pool that a statement's literals are in
 abbrev pub pool_of : Whole → PlacedStatement → PlacedLiterals
-pool_of told s = unwrap_or (slice_get told.pools s.place.pool) []
+pool_of whole s = unwrap_or (slice_get whole.pools s.place.pool) []
 
 -- The literal of a text stands for its place, with the length of one copy.
 abbrev pub literal_place : Whole → PlacedStatement → List ℕ → Option Value
-literal_place told s text =
-    let length = item_length (constant_in false text) in let literal = lookup (bytes_eq text) (pool_of told s) in
+literal_place whole s text =
+    let length = item_length (constant_in false text) in let literal = lookup (bytes_eq text) (pool_of whole s) in
     option_and_then (λ it. location_counter s.place.section it.offset length) literal
 
 -- that of the statement's last operand, where it is a literal
 abbrev pub literal_of : Whole → PlacedStatement → Option Value
-literal_of told s = option_and_then (literal_place told s) (option_and_then literal_text (literal_in s.stmt.operand))
+literal_of whole s = option_and_then (literal_place whole s) (option_and_then literal_text (literal_in s.stmt.operand))
 
 -- ---- what operands are read by, where these bases are in use
 abbrev pub instruction_context : Whole → Bases → PlacedStatement → Context
-instruction_context told bases s = context told.find (counter_of s) bases (literal_of told s)
+instruction_context whole bases s = context whole.find (counter_of s) bases (literal_of whole s)
 
 abbrev pub directive_context : Whole → Bases → PlacedStatement → Context
-directive_context told bases s = context told.find (counter_of s) bases None
+directive_context whole bases s = context whole.find (counter_of s) bases None
 
 -- one copy of an item of a DS, or of a DC or a literal, where the location counter is at this place
 abbrev pub item_made : Whole → Bool → Option Value → List ℕ → Result CopyOfConstant FaultKind
-item_made told is_ds at text = then_judge (made_of told.find at told.control) (constant_in is_ds text)
+item_made whole is_ds at text = then_check (made_of whole.find at whole.control) (constant_in is_ds text)
 
 -- what is known by the places of a first pass
-abbrev pub told_by : Places → Whole
-told_by places = whole (find_in places.symbols) places.pools (option_map (λ control. control.name) places.control)
+abbrev pub whole_by : Places → Whole
+whole_by places = whole (find_in places.symbols) places.pools (option_map (λ control. control.name) places.control)

@@ -4,7 +4,7 @@ ghost use Rattle.std.specs.Prelude.{◌≡◌, IfOk, IsOk, OnOk, false, option_a
 ghost use Rattle.std.specs.Option.{option_map_or};
 ghost use Rattle.std.specs.Result.{result_err};
 ghost use Rattle.cx_asm_operands.specs.Directives.{bases_in, changes_bases};
-ghost use Rattle.cx_asm_pass2.specs.Whole.{directive_context, told_by};
+ghost use Rattle.cx_asm_pass2.specs.Whole.{directive_context, whole_by};
 ghost use Rattle.cx_asm_pass2.specs.SecondFaults.{bases_after};
 ghost use Rattle.cx_asm_pass2.specs.Statements.{operation_of};
 
@@ -26,8 +26,8 @@ pub fn pass_bases(
     bases: &mut Bases,
     statement: &Statement<'_>,
 ) -> Result<Option<FaultKind>, AllocError>
-    ensures bases { OnOk result (bases.new ≡ bases_after (told_by places.now) bases.old statement.now) }
-    ensures fault { let c = directive_context (told_by places.now) bases.old statement.now in
+    ensures bases { OnOk result (bases.new ≡ bases_after (whole_by places.now) bases.old statement.now) }
+    ensures fault { let c = directive_context (whole_by places.now) bases.old statement.now in
         let operation = operation_of statement.now in let operand = statement.now.stmt.operand in
         IfOk result (λ fault. fault ≡ option_and_then (λ o. result_err (bases_in o c operand)) operation) }
     ensures others { option_map_or changes_bases (operation_of statement.now) false ≡ false → IsOk result }

@@ -10,7 +10,7 @@ ghost use Rattle.cx_asm_operands.specs.Directives.{entry_in};
 ghost use Rattle.cx_asm_operands.specs.Bases.{none_in_use};
 ghost use Rattle.cx_asm_operands.specs.Forms.{instruction_or_fault};
 ghost use Rattle.cx_asm_pass2.specs.SecondFaults.{literals_fault, part_fault, used_fault};
-ghost use Rattle.cx_asm_pass2.specs.Whole.{directive_context, instruction_context, item_made, pool_of, told_by};
+ghost use Rattle.cx_asm_pass2.specs.Whole.{directive_context, instruction_context, item_made, pool_of, whole_by};
 
 use crate::statements::Statement;
 use crate::whole::{control_name, counter_of, item_made, literal_of, pool_of};
@@ -33,7 +33,7 @@ pub fn made_fault(
     at: Option<Value>,
     text: &[u8],
 ) -> Result<Option<FaultKind>, AllocError>
-    ensures { IfOk result (λ fault. fault ≡ result_err (item_made (told_by places.now) is_ds at text.now)) }
+    ensures { IfOk result (λ fault. fault ≡ result_err (item_made (whole_by places.now) is_ds at text.now)) }
 {
     match item_made(alloc, places, is_ds, at, text) {
         Ok(_) => Ok(None),
@@ -50,8 +50,9 @@ fn text_fault(
     statement: &Statement<'_>,
     text: &[u8],
 ) -> Result<Option<FaultKind>, AllocError>
-    ensures { let told = told_by places.now in let literal = lookup (bytes_eq text.now) (pool_of told statement.now) in
-        IfOk result (λ fault. fault ≡ option_and_then (used_fault told number statement.now text.now) literal) }
+    ensures { let whole = whole_by places.now in let literal = lookup (bytes_eq text.now)
+        (pool_of whole statement.now) in
+        IfOk result (λ fault. fault ≡ option_and_then (used_fault whole number statement.now text.now) literal) }
 {
     let Some(pool) = pool_of(places, statement) else {
         return Ok(None);
@@ -73,7 +74,7 @@ fn part_fault(
     statement: &Statement<'_>,
     part: &[u8],
 ) -> Result<Option<FaultKind>, AllocError>
-    ensures { IfOk result (λ fault. fault ≡ part_fault (told_by places.now) number statement.now part.now) }
+    ensures { IfOk result (λ fault. fault ≡ part_fault (whole_by places.now) number statement.now part.now) }
 {
     match literal_text(part) {
         Some(text) => text_fault(alloc, places, number, statement, text),
@@ -89,7 +90,7 @@ fn parts_fault(
     statement: &Statement<'_>,
     parts: &[&[u8]],
 ) -> Result<Option<FaultKind>, AllocError>
-    ensures { let fault_of = part_fault (told_by places.now) number statement.now in
+    ensures { let fault_of = part_fault (whole_by places.now) number statement.now in
         IfOk result (λ fault. fault ≡ lowest (map fault_of (map (λ part. part.now) parts.now))) }
 {
     let mut fault = None;
@@ -109,7 +110,7 @@ pub fn literals_fault(
     number: usize,
     statement: &Statement<'_>,
 ) -> Result<Option<FaultKind>, AllocError>
-    ensures { IfOk result (λ fault. fault ≡ literals_fault (told_by places.now) number statement.now) }
+    ensures { IfOk result (λ fault. fault ≡ literals_fault (whole_by places.now) number statement.now) }
 {
     let parts = cut(
         alloc,
@@ -129,7 +130,7 @@ pub fn instruction_of(
     statement: &Statement<'_>,
     operation: Operation,
 ) -> Result<Inst, TermFault>
-    ensures { let c = instruction_context (told_by places.now) bases.now statement.now in
+    ensures { let c = instruction_context (whole_by places.now) bases.now statement.now in
         Answers (instruction_or_fault operation c statement.now.stmt.operand) result }
 {
     let literal = literal_of(alloc, places, statement)?;
@@ -150,8 +151,8 @@ pub fn entry_of(
     places: &Places<'_>,
     statement: &Statement<'_>,
 ) -> Result<u32, TermFault>
-    ensures { let told = told_by places.now in let c = directive_context told none_in_use statement.now in
-        Answers (entry_in told.control c statement.now.stmt.operand) result }
+    ensures { let whole = whole_by places.now in let c = directive_context whole none_in_use statement.now in
+        Answers (entry_in whole.control c statement.now.stmt.operand) result }
 {
     let bases = Bases::new();
     let context = Context::new(&places.symbols, counter_of(statement), &bases, None);

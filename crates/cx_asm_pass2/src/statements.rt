@@ -3,7 +3,7 @@
 ghost use Rattle.std.specs.Prelude.{◌≡◌, IfOk, IsOk, codes, length, map, option_map, slice_get};
 ghost use Rattle.std.specs.List.{filter_map, find, zip};
 ghost use Rattle.cx_asm_pass1.specs.PassState.{parts_in, role_in};
-ghost use Rattle.cx_asm_pass1.specs.Locations.{known_of};
+ghost use Rattle.cx_asm_pass1.specs.Locations.{final_state};
 ghost use Rattle.cx_asm_pass2.specs.Statements.{end_of, operation_of, placed_items, placed_of, stated_in};
 ghost use Rattle.std.specs.Str.{bytes_eq};
 
@@ -220,7 +220,7 @@ pub fn placed_lines<'a>(
     source: &'a Source,
     places: &'a [Place],
 ) -> Result<Vec<PlacedItem<'a>>, AllocError>
-    requires { places.now ≡ (known_of source.now).places }
+    requires { places.now ≡ (final_state source.now).places }
     ensures { IfOk result (λ placed. placed.items ≡ placed_of source.now) }
 {
     let mut placed = Vec::new(alloc);

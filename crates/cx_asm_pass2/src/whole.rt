@@ -5,7 +5,7 @@ ghost use Rattle.std.specs.Option.{option_copied};
 ghost use Rattle.cx_asm_expressions.specs.Expressions.{Answers};
 ghost use Rattle.cx_asm_expressions.specs.Items.{constant_in};
 ghost use Rattle.cx_asm_pass1.specs.Layout.{item_length};
-ghost use Rattle.cx_asm_pass2.specs.Whole.{counter_of, item_made, literal_of, literal_place, own_length, pool_of, told_by};
+ghost use Rattle.cx_asm_pass2.specs.Whole.{counter_of, item_made, literal_of, literal_place, own_length, pool_of, whole_by};
 
 use crate::statements::Statement;
 use cx_asm_expressions::{Constant, ConstantBytes, TermFault, Value};
@@ -17,7 +17,7 @@ use std::alloc::{AllocError, Global};
 
 /// The name of the control section. It takes no memory.
 pub fn control_name(places: &Places<'_>) -> Option<Name8>
-    ensures { result ≡ (told_by places.now).control }
+    ensures { result ≡ (whole_by places.now).control }
 {
     match places.control {
         Some(control) => Some(control.name),
@@ -45,7 +45,7 @@ pub fn counter_of(statement: &Statement<'_>) -> Option<Value>
 
 /// The pool that a statement's literals are in. It takes no memory.
 pub fn pool_of<'a, 'b>(places: &'b Places<'a>, statement: &Statement<'_>) -> Option<&'b Pool<'a>>
-    ensures { unwrap_or (option_map (λ pool. pool.now) result) [] ≡ pool_of (told_by places.now) statement.now }
+    ensures { unwrap_or (option_map (λ pool. pool.now) result) [] ≡ pool_of (whole_by places.now) statement.now }
 {
     places.pools.as_slice().get(statement.place().pool)
 }
@@ -62,7 +62,7 @@ fn length_once(text: &[u8]) -> u128
 
 /// The place of the literal of a text.
 fn literal_place(places: &Places<'_>, statement: &Statement<'_>, text: &[u8]) -> Option<Value>
-    ensures { result ≡ literal_place (told_by places.now) statement.now text.now }
+    ensures { result ≡ literal_place (whole_by places.now) statement.now text.now }
 {
     let pool = pool_of(places, statement)?;
     let literal = pool.get(text)?;
@@ -75,7 +75,7 @@ pub fn literal_of(
     places: &Places<'_>,
     statement: &Statement<'_>,
 ) -> Result<Option<Value>, AllocError>
-    ensures { IfOk result (λ value. value ≡ literal_of (told_by places.now) statement.now) }
+    ensures { IfOk result (λ value. value ≡ literal_of (whole_by places.now) statement.now) }
 {
     let Some(part) = literal_in(alloc, statement.stmt().operand.as_slice())? else {
         return Ok(None);
@@ -94,7 +94,7 @@ pub fn item_made(
     at: Option<Value>,
     text: &[u8],
 ) -> Result<ConstantBytes, TermFault>
-    ensures { Answers (item_made (told_by places.now) is_ds at text.now) result }
+    ensures { Answers (item_made (whole_by places.now) is_ds at text.now) result }
 {
     let control = control_name(places);
     item_bytes(alloc, text, is_ds, &places.symbols, at.as_ref(), control)

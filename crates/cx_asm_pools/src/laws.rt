@@ -17,7 +17,8 @@ pub fn texts_are_pooled_once()
 /// end of the one before it and on a multiple of its group, the last one's end the pool's. (Where the pool goes beyond
 /// the bound it has no place.)
 pub fn literals_stand_apart()
-    ensures placed { (pool : OpenLiterals) (from : ℕ) → IsPool pool → from % 8 ≡ 0 → from + pool_size pool ≤ bound
+    ensures placed { (pool : OpenLiterals) (from : ℕ) → IsPool pool → from % 8 ≡ 0
+        → from + pool_size pool ≤ bound
         → StandApart from (closed_pool from pool) (from + pool_size pool) }
     ensures none { (from : ℕ) → StandApart from (closed_pool from []) from }
 {}

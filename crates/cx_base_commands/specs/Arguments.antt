@@ -1,4 +1,4 @@
--- The arguments of an argument list, and how many bytes a command reads at each (this project's own layout).
+-- The arguments of an argument list, and how many bytes a command reads at each (this product's own layout).
 use Rattle.std.specs.Prelude.{ℕ, ◌^◌, Bool, true, false, ◌&&◌, nat_lt, nat_le, List, Option, Some, None, if◌then◌else◌}
 use Rattle.std.specs.List.{filter, find, list_any, position}
 use Rattle.cx_base_commands.specs.declared.commands.Command.{Command}
@@ -18,7 +18,7 @@ takes_argument _ = true
 
 -- an option that option byte 1 has, and that has an argument
 abbrev pub is_argument : ℕ → CommandOption → Bool
-is_argument first option = has_bit first option.bit && takes_argument option.mark
+is_argument first option = has_bit first option.bit && takes_argument option.kind
 
 -- the options with an argument that option byte 1 has, in the order of their words
 unfoldable pub arguments_in : List CommandOption → ℕ → List CommandOption
@@ -46,7 +46,7 @@ abbrev pub bytes_of_name : Option ℕ → ℕ
 bytes_of_name None = 0
 bytes_of_name (Some halfword) = if nat_le halfword 255 then halfword else 0
 
--- How many bytes a command reads at an argument: by the option's mark, by the options that are given with it, and by
+-- How many bytes a command reads at an argument: by the option's kind, by the options that are given with it, and by
 -- the halfword in LENGTH's argument, where it has LENGTH.
 unfoldable pub input_len : ArgumentKind → (OptionName → Bool) → Option ℕ → ℕ
 input_len Flag has length = 0

@@ -1,5 +1,5 @@
 -- The table of commands: the argument list that each builds (Application Programmer's Reference Manual, SC33-0077,
--- the syntax of each command; the function values, bits and order are this project's own).
+-- the syntax of each command; the function values, bits and order are this product's own).
 use Rattle.std.specs.Prelude.{ℕ, true, false, ◌==◌, List, [], ◌∷◌, ◌++◌, Option, codes}
 use Rattle.std.specs.List.{find}
 use Rattle.std.specs.Option.{option_map, option_or}
@@ -27,10 +27,10 @@ row function name options rules = record { function = function; name = name; opt
 
 -- an option that the command can't be without, and one that it can
 abbrev pub required_option : ℕ → OptionName → ArgumentKind → CommandOption
-required_option bit name mark = record { bit = bit; name = name; mark = mark; required = true }
+required_option bit name kind = record { bit = bit; name = name; kind = kind; required = true }
 
 abbrev pub optional_option : ℕ → OptionName → ArgumentKind → CommandOption
-optional_option bit name mark = record { bit = bit; name = name; mark = mark; required = false }
+optional_option bit name kind = record { bit = bit; name = name; kind = kind; required = false }
 
 abbrev pub row_of : Command → Row
 row_of command.Address = row 0x0202 (codes "ADDRESS") (required_option 0x80 Cwa Pointer ∷ []) ([])

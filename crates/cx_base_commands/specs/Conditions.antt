@@ -1,5 +1,5 @@
 -- Exceptional conditions (Application Programmer's Reference Manual, SC33-0077, "Exceptional conditions").
--- The numbers and abend codes are this project's own.
+-- The numbers and abend codes are this product's own.
 use Rattle.std.specs.Prelude.{ℕ, ◌==◌, Option, Some, None, List, [], ◌∷◌, codes, option_and_then, unwrap_or}
 use Rattle.std.specs.List.{position}
 use Rattle.cx_ebcdic.specs.Names.{padded_name}

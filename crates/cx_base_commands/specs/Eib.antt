@@ -1,5 +1,5 @@
 -- The EXEC interface block (Application Programmer's Reference Manual, SC33-0077, "EXEC Interface Block"; the layout is
--- this project's own).
+-- this product's own).
 use Rattle.std.specs.Prelude.{ℕ, ◌-◌, nat_lt, List, [], ◌∷◌, ◌++◌, Some, None, codes, if◌then◌else◌}
 use Rattle.cx_base_commands.specs.declared.eib.EibField.{EibField}
 use Rattle.cx_base_commands.specs.declared.eib.EibField.TheVariants.{Time, Date, Trnid, Taskn, Trmid, Calen, Aid, Fn, Rcode, Rsrce, Resp}

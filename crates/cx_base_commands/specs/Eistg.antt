@@ -1,4 +1,4 @@
--- The head of a program's DFHEISTG: what comes before the program's own fields (this project's own).
+-- The head of a program's DFHEISTG: what comes before the program's own fields (this product's own).
 use Rattle.std.specs.Prelude.{ℕ, List, [], ◌∷◌, codes}
 use Rattle.cx_base_commands.specs.declared.eistg.EistgField.{EistgField}
 use Rattle.cx_base_commands.specs.declared.eistg.EistgField.TheVariants.{Eipl, Eitp, Eicap}

@@ -1,4 +1,4 @@
--- Which options may be given together (this project's own layout of the argument list's block).
+-- Which options may be given together (this product's own layout of the argument list's block).
 use Rattle.std.specs.Prelude.{ℕ, Bool, true, false, ◌&&◌, ◌||◌, not, ◌==◌, nat_le, List, [], ◌∷◌, bit_and, count_by, if◌then◌else◌}
 use Rattle.std.specs.List.{list_all, list_any}
 use Rattle.cx_base_commands.specs.declared.options.CommandOption.{CommandOption}

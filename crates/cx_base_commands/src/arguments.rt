@@ -54,14 +54,14 @@ impl Command {
             .position(|option| option.name == name)
     }
 
-    /// How many bytes the command reads at the argument of an option with this mark, where option byte 1 is
+    /// How many bytes the command reads at the argument of an option with this kind, where option byte 1 is
     /// `first` and LENGTH's argument, if it is there, holds this halfword. None are read where that is a
     /// negative length, or for a resource's name one above 255.
     #[tactic(auto, unfolding(crate::specs::Arguments::input_len))]
-    pub fn input_len(self, first: u8, mark: ArgumentKind, length: Option<u16>) -> u16
-        ensures { result ≡ input_len mark (has_option self first) length }
+    pub fn input_len(self, first: u8, kind: ArgumentKind, length: Option<u16>) -> u16
+        ensures { result ≡ input_len kind (has_option self first) length }
     {
-        match mark {
+        match kind {
             ArgumentKind::BytesRead => bytes_of_length(length),
             ArgumentKind::BytesOrAddress => bytes_of_name(length),
             ArgumentKind::Byte => 1,
@@ -96,7 +96,7 @@ impl CommandOption {
     pub fn is_argument(&self, first: u8) -> bool
         ensures { result ≡ is_argument first self.now }
     {
-        has_bit(first, self.bit) && self.mark.takes_argument()
+        has_bit(first, self.bit) && self.kind.takes_argument()
     }
 }
 

@@ -10,7 +10,7 @@ use crate::options::{ArgumentKind, CommandOption, OptionName, Rule};
 /// A command that a program can give by EXEC CICS.
 ///
 /// Application Programmer's Reference Manual, SC33-0077. The function values, the bits of the options
-/// and their order are this project's own.
+/// and their order are this product's own.
 #[derive(Clone, Copy, Debug, PartialEq, Eq)]
 pub enum Command {
     Address,
@@ -246,108 +246,108 @@ fn is_joined(text: &[u8], first: &[u8], second: &[u8]) -> bool
 
 #[rattlefmt::skip]
 const ADDRESS: [CommandOption; 1] = [
-    CommandOption { bit: 0x80, name: OptionName::Cwa, mark: ArgumentKind::Pointer, required: true },
+    CommandOption { bit: 0x80, name: OptionName::Cwa, kind: ArgumentKind::Pointer, required: true },
 ];
 
 #[rattlefmt::skip]
 const RECEIVE: [CommandOption; 2] = [
-    CommandOption { bit: 0x80, name: OptionName::Into, mark: ArgumentKind::BytesWritten, required: true },
-    CommandOption { bit: 0x40, name: OptionName::Length, mark: ArgumentKind::HalfwordBothWays, required: true },
+    CommandOption { bit: 0x80, name: OptionName::Into, kind: ArgumentKind::BytesWritten, required: true },
+    CommandOption { bit: 0x40, name: OptionName::Length, kind: ArgumentKind::HalfwordBothWays, required: true },
 ];
 
 #[rattlefmt::skip]
 const WRITEQ_TS: [CommandOption; 8] = [
-    CommandOption { bit: 0x80, name: OptionName::Queue, mark: ArgumentKind::Name8, required: true },
-    CommandOption { bit: 0x40, name: OptionName::From, mark: ArgumentKind::BytesRead, required: true },
-    CommandOption { bit: 0x20, name: OptionName::Length, mark: ArgumentKind::Halfword, required: true },
-    CommandOption { bit: 0x10, name: OptionName::Main, mark: ArgumentKind::Flag, required: false },
-    CommandOption { bit: 0x08, name: OptionName::Auxiliary, mark: ArgumentKind::Flag, required: false },
-    CommandOption { bit: 0x04, name: OptionName::Nosuspend, mark: ArgumentKind::Flag, required: false },
-    CommandOption { bit: 0x02, name: OptionName::Item, mark: ArgumentKind::HalfwordOutWithoutRewrite, required: false },
-    CommandOption { bit: 0x01, name: OptionName::Rewrite, mark: ArgumentKind::Flag, required: false },
+    CommandOption { bit: 0x80, name: OptionName::Queue, kind: ArgumentKind::Name8, required: true },
+    CommandOption { bit: 0x40, name: OptionName::From, kind: ArgumentKind::BytesRead, required: true },
+    CommandOption { bit: 0x20, name: OptionName::Length, kind: ArgumentKind::Halfword, required: true },
+    CommandOption { bit: 0x10, name: OptionName::Main, kind: ArgumentKind::Flag, required: false },
+    CommandOption { bit: 0x08, name: OptionName::Auxiliary, kind: ArgumentKind::Flag, required: false },
+    CommandOption { bit: 0x04, name: OptionName::Nosuspend, kind: ArgumentKind::Flag, required: false },
+    CommandOption { bit: 0x02, name: OptionName::Item, kind: ArgumentKind::HalfwordOutWithoutRewrite, required: false },
+    CommandOption { bit: 0x01, name: OptionName::Rewrite, kind: ArgumentKind::Flag, required: false },
 ];
 
 #[rattlefmt::skip]
 const READQ_TS: [CommandOption; 7] = [
-    CommandOption { bit: 0x80, name: OptionName::Queue, mark: ArgumentKind::Name8, required: true },
-    CommandOption { bit: 0x40, name: OptionName::Into, mark: ArgumentKind::BytesWritten, required: false },
-    CommandOption { bit: 0x20, name: OptionName::Length, mark: ArgumentKind::HalfwordBothWaysWithoutSet, required: true },
-    CommandOption { bit: 0x10, name: OptionName::Item, mark: ArgumentKind::Halfword, required: false },
-    CommandOption { bit: 0x08, name: OptionName::Next, mark: ArgumentKind::Flag, required: false },
-    CommandOption { bit: 0x04, name: OptionName::Set, mark: ArgumentKind::Pointer, required: false },
-    CommandOption { bit: 0x02, name: OptionName::Numitems, mark: ArgumentKind::HalfwordOut, required: false },
+    CommandOption { bit: 0x80, name: OptionName::Queue, kind: ArgumentKind::Name8, required: true },
+    CommandOption { bit: 0x40, name: OptionName::Into, kind: ArgumentKind::BytesWritten, required: false },
+    CommandOption { bit: 0x20, name: OptionName::Length, kind: ArgumentKind::HalfwordBothWaysWithoutSet, required: true },
+    CommandOption { bit: 0x10, name: OptionName::Item, kind: ArgumentKind::Halfword, required: false },
+    CommandOption { bit: 0x08, name: OptionName::Next, kind: ArgumentKind::Flag, required: false },
+    CommandOption { bit: 0x04, name: OptionName::Set, kind: ArgumentKind::Pointer, required: false },
+    CommandOption { bit: 0x02, name: OptionName::Numitems, kind: ArgumentKind::HalfwordOut, required: false },
 ];
 
 #[rattlefmt::skip]
 const DELETEQ_TS: [CommandOption; 1] = [
-    CommandOption { bit: 0x80, name: OptionName::Queue, mark: ArgumentKind::Name8, required: true },
+    CommandOption { bit: 0x80, name: OptionName::Queue, kind: ArgumentKind::Name8, required: true },
 ];
 
 #[rattlefmt::skip]
 const GETMAIN: [CommandOption; 4] = [
-    CommandOption { bit: 0x80, name: OptionName::Set, mark: ArgumentKind::Pointer, required: true },
-    CommandOption { bit: 0x40, name: OptionName::Length, mark: ArgumentKind::Halfword, required: true },
-    CommandOption { bit: 0x20, name: OptionName::Initimg, mark: ArgumentKind::Byte, required: false },
-    CommandOption { bit: 0x10, name: OptionName::Nosuspend, mark: ArgumentKind::Flag, required: false },
+    CommandOption { bit: 0x80, name: OptionName::Set, kind: ArgumentKind::Pointer, required: true },
+    CommandOption { bit: 0x40, name: OptionName::Length, kind: ArgumentKind::Halfword, required: true },
+    CommandOption { bit: 0x20, name: OptionName::Initimg, kind: ArgumentKind::Byte, required: false },
+    CommandOption { bit: 0x10, name: OptionName::Nosuspend, kind: ArgumentKind::Flag, required: false },
 ];
 
 #[rattlefmt::skip]
 const FREEMAIN: [CommandOption; 1] = [
-    CommandOption { bit: 0x80, name: OptionName::Data, mark: ArgumentKind::Address, required: true },
+    CommandOption { bit: 0x80, name: OptionName::Data, kind: ArgumentKind::Address, required: true },
 ];
 
 #[rattlefmt::skip]
 const LINK: [CommandOption; 3] = [
-    CommandOption { bit: 0x80, name: OptionName::Program, mark: ArgumentKind::Name8, required: true },
-    CommandOption { bit: 0x40, name: OptionName::Commarea, mark: ArgumentKind::Address, required: false },
-    CommandOption { bit: 0x20, name: OptionName::Length, mark: ArgumentKind::Halfword, required: false },
+    CommandOption { bit: 0x80, name: OptionName::Program, kind: ArgumentKind::Name8, required: true },
+    CommandOption { bit: 0x40, name: OptionName::Commarea, kind: ArgumentKind::Address, required: false },
+    CommandOption { bit: 0x20, name: OptionName::Length, kind: ArgumentKind::Halfword, required: false },
 ];
 
 #[rattlefmt::skip]
 const XCTL: [CommandOption; 3] = [
-    CommandOption { bit: 0x80, name: OptionName::Program, mark: ArgumentKind::Name8, required: true },
-    CommandOption { bit: 0x40, name: OptionName::Commarea, mark: ArgumentKind::BytesRead, required: false },
-    CommandOption { bit: 0x20, name: OptionName::Length, mark: ArgumentKind::Halfword, required: false },
+    CommandOption { bit: 0x80, name: OptionName::Program, kind: ArgumentKind::Name8, required: true },
+    CommandOption { bit: 0x40, name: OptionName::Commarea, kind: ArgumentKind::BytesRead, required: false },
+    CommandOption { bit: 0x20, name: OptionName::Length, kind: ArgumentKind::Halfword, required: false },
 ];
 
 #[rattlefmt::skip]
 const RETURN: [CommandOption; 3] = [
-    CommandOption { bit: 0x80, name: OptionName::Transid, mark: ArgumentKind::Name4, required: false },
-    CommandOption { bit: 0x40, name: OptionName::Commarea, mark: ArgumentKind::BytesRead, required: false },
-    CommandOption { bit: 0x20, name: OptionName::Length, mark: ArgumentKind::Halfword, required: false },
+    CommandOption { bit: 0x80, name: OptionName::Transid, kind: ArgumentKind::Name4, required: false },
+    CommandOption { bit: 0x40, name: OptionName::Commarea, kind: ArgumentKind::BytesRead, required: false },
+    CommandOption { bit: 0x20, name: OptionName::Length, kind: ArgumentKind::Halfword, required: false },
 ];
 
 #[rattlefmt::skip]
 const ABEND: [CommandOption; 3] = [
-    CommandOption { bit: 0x80, name: OptionName::Abcode, mark: ArgumentKind::Name4, required: false },
-    CommandOption { bit: 0x40, name: OptionName::Cancel, mark: ArgumentKind::Flag, required: false },
-    CommandOption { bit: 0x20, name: OptionName::Nodump, mark: ArgumentKind::Flag, required: false },
+    CommandOption { bit: 0x80, name: OptionName::Abcode, kind: ArgumentKind::Name4, required: false },
+    CommandOption { bit: 0x40, name: OptionName::Cancel, kind: ArgumentKind::Flag, required: false },
+    CommandOption { bit: 0x20, name: OptionName::Nodump, kind: ArgumentKind::Flag, required: false },
 ];
 
 #[rattlefmt::skip]
 const HANDLE_ABEND: [CommandOption; 3] = [
-    CommandOption { bit: 0x80, name: OptionName::Label, mark: ArgumentKind::Address, required: false },
-    CommandOption { bit: 0x40, name: OptionName::Cancel, mark: ArgumentKind::Flag, required: false },
-    CommandOption { bit: 0x20, name: OptionName::Reset, mark: ArgumentKind::Flag, required: false },
+    CommandOption { bit: 0x80, name: OptionName::Label, kind: ArgumentKind::Address, required: false },
+    CommandOption { bit: 0x40, name: OptionName::Cancel, kind: ArgumentKind::Flag, required: false },
+    CommandOption { bit: 0x20, name: OptionName::Reset, kind: ArgumentKind::Flag, required: false },
 ];
 
 #[rattlefmt::skip]
 const ENQ: [CommandOption; 3] = [
-    CommandOption { bit: 0x80, name: OptionName::Resource, mark: ArgumentKind::BytesOrAddress, required: true },
-    CommandOption { bit: 0x40, name: OptionName::Length, mark: ArgumentKind::Halfword, required: false },
-    CommandOption { bit: 0x20, name: OptionName::Nosuspend, mark: ArgumentKind::Flag, required: false },
+    CommandOption { bit: 0x80, name: OptionName::Resource, kind: ArgumentKind::BytesOrAddress, required: true },
+    CommandOption { bit: 0x40, name: OptionName::Length, kind: ArgumentKind::Halfword, required: false },
+    CommandOption { bit: 0x20, name: OptionName::Nosuspend, kind: ArgumentKind::Flag, required: false },
 ];
 
 #[rattlefmt::skip]
 const DEQ: [CommandOption; 2] = [
-    CommandOption { bit: 0x80, name: OptionName::Resource, mark: ArgumentKind::BytesOrAddress, required: true },
-    CommandOption { bit: 0x40, name: OptionName::Length, mark: ArgumentKind::Halfword, required: false },
+    CommandOption { bit: 0x80, name: OptionName::Resource, kind: ArgumentKind::BytesOrAddress, required: true },
+    CommandOption { bit: 0x40, name: OptionName::Length, kind: ArgumentKind::Halfword, required: false },
 ];
 
 #[rattlefmt::skip]
 const SEND_TEXT: [CommandOption; 4] = [
-    CommandOption { bit: 0x80, name: OptionName::From, mark: ArgumentKind::BytesRead, required: true },
-    CommandOption { bit: 0x40, name: OptionName::Length, mark: ArgumentKind::Halfword, required: true },
-    CommandOption { bit: 0x20, name: OptionName::Erase, mark: ArgumentKind::Flag, required: false },
-    CommandOption { bit: 0x10, name: OptionName::Freekb, mark: ArgumentKind::Flag, required: false },
+    CommandOption { bit: 0x80, name: OptionName::From, kind: ArgumentKind::BytesRead, required: true },
+    CommandOption { bit: 0x40, name: OptionName::Length, kind: ArgumentKind::Halfword, required: true },
+    CommandOption { bit: 0x20, name: OptionName::Erase, kind: ArgumentKind::Flag, required: false },
+    CommandOption { bit: 0x10, name: OptionName::Freekb, kind: ArgumentKind::Flag, required: false },
 ];

@@ -5,7 +5,7 @@ ghost use Rattle.cx_base_commands.specs.Layout.{end_of};
 
 /// A field of the EXEC interface block.
 ///
-/// Application Programmer's Reference Manual, SC33-0077, "EXEC Interface Block". The layout is this project's own.
+/// Application Programmer's Reference Manual, SC33-0077, "EXEC Interface Block". The layout is this product's own.
 #[derive(Clone, Copy, Debug, PartialEq, Eq)]
 pub enum EibField {
     /// The time of attach.

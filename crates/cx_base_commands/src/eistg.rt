@@ -5,7 +5,7 @@ ghost use Rattle.cx_base_commands.specs.Layout.{end_of};
 
 /// A field at the head of a program's DFHEISTG, before the program's own fields.
 ///
-/// The layout is this project's own.
+/// The layout is this product's own.
 #[derive(Clone, Copy, Debug, PartialEq, Eq)]
 pub enum EistgField {
     /// The words of the argument list.

@@ -133,7 +133,7 @@ fn with_name(options: &[OptionName], name: &[u8]) -> Option<OptionName>
 
 /// An option that every command may have. It has a bit in option byte 2 of the argument list.
 ///
-/// Application Programmer's Reference Manual, SC33-0077, "Exceptional conditions". The bits are this project's own.
+/// Application Programmer's Reference Manual, SC33-0077, "Exceptional conditions". The bits are this product's own.
 #[derive(Clone, Copy, Debug, PartialEq, Eq)]
 pub enum CommonOption {
     /// What HANDLE and IGNORE CONDITION asked for isn't looked at.
@@ -241,7 +241,7 @@ pub struct CommandOption {
     /// Its name.
     pub name: OptionName,
     /// What its argument is.
-    pub mark: ArgumentKind,
+    pub kind: ArgumentKind,
     /// Whether the command can't be without it.
     pub required: bool,
 }

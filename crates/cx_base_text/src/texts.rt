@@ -100,7 +100,8 @@ pub fn trimmed(text: &[u8]) -> &[u8]
 #[tactic(auto, using(crate::proofs::FieldLemmas::one_more, crate::proofs::FieldLemmas::no_more))]
 fn put(field: &mut [u8], at: usize, character: u8) -> usize
     requires { at ≤ length field.old }
-    ensures holds { (text : List ℕ) → Holds field.old at text → Holds field.new result (text ++ character ∷ []) }
+    ensures holds { (text : List ℕ) → Holds field.old at text
+        → Holds field.new result (text ++ character ∷ []) }
     ensures within { result ≤ length field.new }
     ensures length { length field.new ≡ length field.old }
 {

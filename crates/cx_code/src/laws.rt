@@ -73,7 +73,8 @@ pub fn read_before_rest()
 /// A first byte that is a row's code, and no other, lets that row be read where the bytes are as
 /// many as its length.
 pub fn read_by_first_byte()
-    ensures known { (bytes : List ℕ) (op : Op) → slice_index bytes 0 ≡ code_of op → length_of op ≤ length bytes
+    ensures known { (bytes : List ℕ) (op : Op) → slice_index bytes 0 ≡ code_of op
+        → length_of op ≤ length bytes
         → reading bytes ≡ Some (instruction op (fields_at op bytes)) }
     ensures only { (bytes : List ℕ) (i : Instruction) → reading bytes ≡ Some i
         → (slice_index bytes 0 ≡ code_of i.op) × (length_of i.op ≤ length bytes) }

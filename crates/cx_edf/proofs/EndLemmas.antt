@@ -32,9 +32,9 @@ ends_live old name a ends = (and_parts (stopped_at old name) (is_some (task_of o
 -- and its alteration is done
 pub ended_reply : (old : RegionState) (name : List ℕ) (r : Reply) (new : RegionState) → is_some (task_of old name) ≡ true → Applies old (event.Alter name change.Abend) r new
     → r ≡ reply.Alter alter.Altered
-ended_reply old name r new live happens =
-    let told = alter_reply old name change.Abend r new happens in
-    told.1 ∙ ap (λ x. reply.Alter x) (abends_are_done old name told.0 new told.2 live)
+ended_reply old name r new live applies =
+    let altered = alter_reply old name change.Abend r new applies in
+    altered.1 ∙ ap (λ x. reply.Alter x) (abends_are_done old name altered.0 new altered.2 live)
 
 -- so the event is passed
 pub ended_passed : (old v new : EdfState) (name : List ℕ) (given : AlterReply) → old ≡ v → Alters old.region name change.Abend given new.region
@@ -43,4 +43,4 @@ pub ended_passed : (old v new : EdfState) (name : List ℕ) (given : AlterReply)
 unfolding Applies
 ended_passed old v new name given same alters table =
     subst (λ (s : EdfState). PassesOn s (event.Alter name change.Abend) (Some answer.ToEdf) answer.ToEdf new) same
-    (record { reply = reply.Alter given; happens = alters; table = table; answers = refl })
+    (record { reply = reply.Alter given; applies = alters; table = table; answers = refl })

@@ -39,7 +39,7 @@ use Rattle.cx_edf.specs.Runs.{IsKept, displays_after, stop_taken}
 use Rattle.cx_edf.proofs.DoorLemmas.{Fits, by_test, by_tests, fits}
 use Rattle.cx_edf.proofs.LookupLemmas.{at_other, at_same, same_name}
 use Rattle.cx_edf.proofs.KeepLemmas.{keep_one_more}
-use Rattle.cx_edf.proofs.StepLemmas.{told_reply}
+use Rattle.cx_edf.proofs.StepLemmas.{reported_reply}
 
 -- a session that there is has kept the last ten
 abbrev Had : Option SessionState → List Display → Type 0
@@ -222,7 +222,7 @@ unfolding Keeping taken
 after_door old e (Keeps own sessions) given new q all fit keeps row kept =
     none_more (session_at new q) all (subst (λ (s : EdfState). Had (session_at s q) all) (sym row.1) keeps)
 after_door old e (Passes x own) given new q all fit keeps row kept =
-    subst (λ (r : Reply). Had (session_at new q) (all ++ taken old new.region q (if is_refused x r then [] else (x, r) ∷ []))) (sym (told_reply old e x own given new fit row))
+    subst (λ (r : Reply). Had (session_at new q) (all ++ taken old new.region q (if is_refused x r then [] else (x, r) ∷ []))) (sym (reported_reply old e x own given new fit row))
     (subst (λ (s : Sessions). Had (session_in s q) (all ++ taken old new.region q (if is_refused x row.reply then [] else (x, row.reply) ∷ []))) (sym row.table)
     (passing old x row.reply new.region q all kept))
 

@@ -31,7 +31,7 @@ use Rattle.cx_edf.specs.State.{EdfState, ends_by_key, holds, stopped_at}
 use Rattle.cx_edf.specs.Steps.{DoorAnswers, Door, EdfApplies, Keeps, PassesOn, Passes, with_session_changed, door_of, sessions_after}
 use Rattle.cx_edf.specs.Erasure.{answers_itself, is_own, is_refused, left_in, left_of, region_replies}
 use Rattle.cx_edf.specs.Runs.{Trace, last_state}
-use Rattle.cx_edf.specs.Laws.Edf.{EdfEventsDecide, EdfRunsDecide, ErasedEvents, ErasedEventsLeaveTheRegion, OffIsTheRegion, OtherEventsArePassed, OwnEventsHaveOwnAnswers, PlainRunsAgree, StopsAreMissedUnderSuppression, ToldAreThoseGiven, ends_task, given_by, given_in, is_alteration, is_edfs, is_refusal}
+use Rattle.cx_edf.specs.Laws.Edf.{EdfEventsDecide, EdfRunsDecide, ErasedEvents, ErasedEventsLeaveTheRegion, OffIsTheRegion, OtherEventsArePassed, OwnEventsHaveOwnAnswers, PlainRunsAgree, StopsAreMissedUnderSuppression, ReportedAreThoseGiven, ends_task, given_by, given_in, is_alteration, is_edfs, is_refusal}
 use Rattle.cx_edf.proofs.EndLemmas.{ends_stopped}
 use Rattle.cx_edf.proofs.DoorLemmas.{Fits, by_test, by_tests, fits}
 use Rattle.cx_edf.proofs.StepLemmas.{left_runs}
@@ -44,7 +44,7 @@ done_decides : EventsDecide → (old : EdfState) (door : Door) (given other : An
     → DoorAnswers old door given new → DoorAnswers old door other later → (given ≡ other) × (new ≡ later)
 done_decides decide old (Keeps own sessions) given other new later h k = (h.0 ∙ sym k.0, h.1 ∙ sym k.1)
 done_decides decide old (Passes e own) given other new later h k =
-    let same = decide old.region e h.reply k.reply new.region later.region h.happens k.happens in (
+    let same = decide old.region e h.reply k.reply new.region later.region h.applies k.applies in (
       h.answers ∙ ap (λ r. unwrap_or own (answer.Region r)) same.0 ∙ sym k.answers,
       same_state new later same.1 (h.table ∙ (λ i. sessions_after old.sessions e (same.0 i) (same.1 i)) ∙ sym k.table),
     )
@@ -98,22 +98,22 @@ never_refused (edf_event.Off name) given own = refl
 
 -- what is replied, and whether anything is left
 record IsLeft (old : EdfState) (e : EdfEvent) (given : Answer) (left : List (Event × Reply)) : Type 0 where
-  pub told : map (λ (p : Event × Reply). p.1) left ≡ given_by old e given
+  pub reported : map (λ (p : Event × Reply). p.1) left ≡ given_by old e given
   pub none : (length left == 0) ≡ ((is_edfs given && not (ends_task old e)) || is_refusal e given)
 
 kept : (old : EdfState) (e : EdfEvent) (given : Answer) → is_edfs given ≡ true → ends_task old e ≡ false → IsLeft old e given []
-kept old e given own ends = record { told = rw (ends, own) refl; none = rw (own, ends) refl }
+kept old e given own ends = record { reported = rw (ends, own) refl; none = rw (own, ends) refl }
 
 ended : (old : EdfState) (e : EdfEvent) (given : Answer) (x : Event) → is_edfs given ≡ true → ends_task old e ≡ true → IsLeft old e given ((x, reply.Alter alter.Altered) ∷ [])
-ended old e given x own ends = record { told = rw ends refl; none = rw (own, ends, never_refused e given own) refl }
+ended old e given x own ends = record { reported = rw ends refl; none = rw (own, ends, never_refused e given own) refl }
 
 passed : (old : EdfState) (x : Event) (r : Reply) → ends_task old (edf_event.Plain x) ≡ false
     → IsLeft old (edf_event.Plain x) (answer.Region r) (if is_refused x r then [] else (x, r) ∷ [])
 passed old x r ends = go (is_refused x r) refl
   where
     go : (b : Bool) → is_refused x r ≡ b → IsLeft old (edf_event.Plain x) (answer.Region r) (if b then [] else (x, r) ∷ [])
-    go true is = record { told = rw (ends, is) refl; none = rw is refl }
-    go false is = record { told = rw (ends, is) refl; none = rw is refl }
+    go true is = record { reported = rw (ends, is) refl; none = rw is refl }
+    go false is = record { reported = rw (ends, is) refl; none = rw is refl }
 
 left_by : (old : EdfState) (e : EdfEvent) (door : Door) (given : Answer) (new : EdfState) → Fits old e door → DoorAnswers old door given new → IsLeft old e given (left_in door given)
 unfolding Fits
@@ -132,18 +132,18 @@ left_is : (old : EdfState) (e : EdfEvent) (given : Answer) (new : EdfState) → 
 unfolding EdfApplies left_of
 left_is old e given new row = left_by old e (door_of old e) given new (fits old e) row
 
-told_trace : (old : EdfState) (events : List EdfEvent) (answers : List Answer) (states : List EdfState) → Trace old events answers states
+reported_trace : (old : EdfState) (events : List EdfEvent) (answers : List Answer) (states : List EdfState) → Trace old events answers states
     → region_replies old events answers states ≡ given_in old events answers states
 unfolding Trace region_replies given_in
-told_trace old [] [] [] trace = refl
-told_trace old [] [] (s ∷ ss) trace = absurd trace
-told_trace old [] (g ∷ gs) ss trace = absurd trace
-told_trace old (e ∷ es) [] ss trace = absurd trace
-told_trace old (e ∷ es) (g ∷ gs) [] trace = absurd trace
-told_trace old (e ∷ es) (g ∷ gs) (s ∷ ss) trace = λ i. (left_is old e g s trace.0).told i ++ told_trace s es gs ss trace.1 i
+reported_trace old [] [] [] trace = refl
+reported_trace old [] [] (s ∷ ss) trace = absurd trace
+reported_trace old [] (g ∷ gs) ss trace = absurd trace
+reported_trace old (e ∷ es) [] ss trace = absurd trace
+reported_trace old (e ∷ es) (g ∷ gs) [] trace = absurd trace
+reported_trace old (e ∷ es) (g ∷ gs) (s ∷ ss) trace = λ i. (left_is old e g s trace.0).reported i ++ reported_trace s es gs ss trace.1 i
 
-pub told_are_those_given : ToldAreThoseGiven
-told_are_those_given old events answers new run = told_trace old events answers run.states run.trace
+pub reported_are_those_given : ReportedAreThoseGiven
+reported_are_those_given old events answers new run = reported_trace old events answers run.states run.trace
 
 -- ---- what is erased
 pub erased_events : ErasedEvents
@@ -180,12 +180,12 @@ unfolding EdfApplies door_of Applies
 stops_are_missed old name r new session stop row there stops missed = by_mode session.mode refl missed
   where
     of_region : (x : Reply) → answer.Region (reply.Turn r) ≡ answer.Region x → Applies old.region (event.Turn name) x new.region → TakesTurn old.region name r new.region
-    of_region x same happens = subst (λ (y : Reply). Applies old.region (event.Turn name) y new.region) (sym (let e : reply.Turn r ≡ x = cc in e)) happens
+    of_region x same applies = subst (λ (y : Reply). Applies old.region (event.Turn name) y new.region) (sym (let e : reply.Turn r ≡ x = cc in e)) applies
 
     held : (live : Bool) → is_some (task_of old.region name) ≡ live
         → DoorAnswers old (if live then Keeps answer.Held old.sessions else Passes (event.Turn name) None) (answer.Region (reply.Turn r)) new → ⊥
     held true is row = let never : answer.Region (reply.Turn r) ≡ answer.Held = row.0 in cc
-    held false is row = turn_without_task old.region name r new.region stop (of_region row.reply row.answers row.happens) is stops
+    held false is row = turn_without_task old.region name r new.region stop (of_region row.reply row.answers row.applies) is stops
 
     stopped : (k : StopPoint) → session.mode ≡ mode.Stopped k → stopped_at old name ≡ true
     stopped k is = ap (λ o. option_map_or (λ s. is_stopped s.mode) o false) there ∙ ap is_stopped is
@@ -211,7 +211,7 @@ others_are_passed old e none = passed_as_it_is old e (door_of old (edf_event.Pla
 -- ---- Off everywhere
 record Plainly (old : EdfState) (e : Event) (given : Answer) (new : EdfState) : Type 0 where
   pub reply : Reply
-  pub happens : Applies old.region e reply new.region
+  pub applies : Applies old.region e reply new.region
   pub off : new.sessions ≡ []
   pub answers : given ≡ answer.Region reply
 
@@ -243,7 +243,7 @@ plainly : (old : EdfState) (e : Event) (given : Answer) (new : EdfState) → old
 unfolding EdfApplies
 plainly old e given new off plain row =
     let passed : PassesOn old e None given new = subst (λ (door : Door). DoorAnswers old door given new) (others_are_passed old e (none_own old e off plain)) row in
-    record { reply = passed.reply; happens = passed.happens; off = passed.table ∙ none_after old.sessions e passed.reply new.region off plain; answers = passed.answers }
+    record { reply = passed.reply; applies = passed.applies; off = passed.table ∙ none_after old.sessions e passed.reply new.region off plain; answers = passed.answers }
 
 off_trace : (old : EdfState) (events : List Event) (answers : List Answer) (states : List EdfState) → old.sessions ≡ [] → AllByRecursion (λ e. is_alteration e ≡ false) events
     → Trace old (map (λ e. edf_event.Plain e) events) answers states
@@ -257,7 +257,7 @@ off_trace old (e ∷ es) (g ∷ gs) [] off plain trace = absurd trace
 off_trace old (e ∷ es) (g ∷ gs) (s ∷ ss) off plain trace =
     let first = plainly old e g s off plain.0 trace.0 in
     let rest = off_trace s es gs ss first.off plain.1 trace.1 in
-    (first.reply ∷ rest.0, (s.region, first.happens, rest.1), λ i. first.answers i ∷ rest.2 i, rest.3)
+    (first.reply ∷ rest.0, (s.region, first.applies, rest.1), λ i. first.answers i ∷ rest.2 i, rest.3)
 
 pub off_is_the_region : OffIsTheRegion
 off_is_the_region old events answers new off plain run =

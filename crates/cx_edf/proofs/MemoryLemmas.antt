@@ -34,7 +34,7 @@ allows old e (Passes x (Some own)) fit allowed checked =
 kept_by : SoundIsKept → (old new : EdfState) (door : Door) (given : Answer) → IsSound old.region → Allows door → ArePartsSound new.region → DoorAnswers old door given new → IsSound new.region
 unfolding Allows
 kept_by law old new (Keeps own sessions) given ok allowed parts h = subst (λ (s : EdfState). IsSound s.region) (sym h.1) ok
-kept_by law old new (Passes x own) given ok allowed parts h = law old.region new.region x h.reply ok allowed.0 allowed.1 h.happens parts
+kept_by law old new (Passes x own) given ok allowed parts h = law old.region new.region x h.reply ok allowed.0 allowed.1 h.applies parts
 
 pub sound_is_kept : SoundIsKept → EdfSoundIsKept
 unfolding EdfApplies
@@ -50,7 +50,7 @@ same_answer decide old new after e (Err fault) other h k = tt
 pub refused_events_are_none : EdfEventsDecide → RefusedEdfEventsAreNone
 refused_events_are_none decide old mid new refused next fault result first second =
     let done : IsDoneEdf old next result new = subst (λ (s : EdfState). IsDoneEdf s next result new) first.err second in
-    record { done = done; answer = λ other after h. same_answer decide old new after next result other done.happens h }
+    record { done = done; answer = λ other after h. same_answer decide old new after next result other done.applies h }
 
 -- ---- runs
 traces_join : (old : EdfState) (events more : List EdfEvent) (answers others : List Answer) (states after : List EdfState) → Trace old events answers states → Trace (last_state old states) more others after

@@ -25,11 +25,11 @@ record HasEnd (old : EdfState) (door : Door) : Type 0 where
 -- an event of the region that was refused memory
 passed : EventsHaveOutcomes → (old : EdfState) (x : Event) (own : Option Answer) → AllocError → IsChecked x → MayTakeMemory old.region x → HasEnd old (Passes x own)
 passed outcomes old x own fault fit due =
-    let found : HasOutcome old.region x = outcomes old.region old.region x (Err fault) fit (record { happens = tt; memory = due; err = refl }) in
+    let found : HasOutcome old.region x = outcomes old.region old.region x (Err fault) fit (record { applies = tt; memory = due; err = refl }) in
     record {
       given = unwrap_or own (answer.Region found.reply);
       new = record { region = found.new; sessions = sessions_after old.sessions x found.reply found.new };
-      done = record { reply = found.reply; happens = found.happens; table = refl; answers = refl };
+      done = record { reply = found.reply; applies = found.applies; table = refl; answers = refl };
     }
 
 ends : EventsHaveOutcomes → (old : EdfState) (e : EdfEvent) (door : Door) → AllocError → Fits old e door → IsCheckedEdf e → MayTake old.region door → HasEnd old door
@@ -43,8 +43,8 @@ may_take_outcome : EventsHaveOutcomes → (old : EdfState) (e : EdfEvent) → Al
 unfolding MayTakeEdf EdfApplies
 may_take_outcome outcomes old e fault checked due =
     let found : HasEnd old (door_of old e) = ends outcomes old e (door_of old e) fault (fits old e) checked due in
-    record { given = found.given; new = found.new; happens = found.done }
+    record { given = found.given; new = found.new; applies = found.done }
 
 pub events_have_outcomes : EventsHaveOutcomes → EdfEventsHaveOutcomes
-events_have_outcomes outcomes old new e (Ok given) fit done = record { given = given; new = new; happens = done.happens }
+events_have_outcomes outcomes old new e (Ok given) fit done = record { given = given; new = new; applies = done.applies }
 events_have_outcomes outcomes old new e (Err fault) fit done = may_take_outcome outcomes old e fault fit done.memory

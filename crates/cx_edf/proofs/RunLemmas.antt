@@ -21,8 +21,8 @@ take_last (e ∷ events) (suc k) d below = let more : suc k + 1 ≡ suc (k + 1) 
 
 pub run_more : (old mid new : EdfState) (events : List EdfEvent) (k : ℕ) (event : EdfEvent) (answers : List Answer) (given : Answer) → k < length events → event ≡ get_or events k event
     → EdfRun old (take k events) answers mid → EdfApplies mid event given new → EdfRun old (take (k + 1) events) (answers ++ given ∷ []) new
-run_more old mid new events k event answers given below is run happens =
-    let last = run_last old mid new (take k events) event answers given run happens in
+run_more old mid new events k event answers given below is run applies =
+    let last = run_last old mid new (take k events) event answers given run applies in
     rw (take_last events k event below, ← is) last
 
 pub run_all : (old new : EdfState) (events : List EdfEvent) (k : ℕ) (answers : List Answer) → take k events ≡ events → EdfRun old (take k events) answers new → EdfRun old events answers new

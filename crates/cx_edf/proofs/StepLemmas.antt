@@ -25,14 +25,14 @@ none old new same = same
 -- one event of the region
 one : (old : RegionState) (e : Event) (r : Reply) (new : RegionState) → Applies old e r new → Run old (e ∷ []) (r ∷ []) new
 unfolding Run
-one old e r new happens = (new, happens, refl)
+one old e r new applies = (new, applies, refl)
 
 -- a refused alteration leaves the region
 refused_stays : (old : RegionState) (e : Event) (r : Reply) (new : RegionState) → is_refused e r ≡ true → Applies old e r new → new ≡ old
 refused_stays old (event.Alter name c) r new is h =
-    let told = alter_reply old name c r new h in
-    refused_alterations_leave old name c told.0 new told.2
-    (λ done. true≢false (sym is ∙ ap (is_refused (event.Alter name c)) (told.1 ∙ ap (λ x. reply.Alter x) done)))
+    let altered = alter_reply old name c r new h in
+    refused_alterations_leave old name c altered.0 new altered.2
+    (λ done. true≢false (sym is ∙ ap (is_refused (event.Alter name c)) (altered.1 ∙ ap (λ x. reply.Alter x) done)))
 refused_stays old _ r new is h = absurd (true≢false (sym is))
 
 -- what was passed, except a refused alteration
@@ -46,20 +46,20 @@ left_runs_in old e r new h = go (is_refused e r) refl
     go false is = one old e r new h
 
 -- the answer has the region's reply
-pub told_reply : (old : EdfState) (e : EdfEvent) (x : Event) (own : Option Answer) (given : Answer) (new : EdfState) → Fits old e (Passes x own) → (row : PassesOn old x own given new)
+pub reported_reply : (old : EdfState) (e : EdfEvent) (x : Event) (own : Option Answer) (given : Answer) (new : EdfState) → Fits old e (Passes x own) → (row : PassesOn old x own given new)
     → reply_in given ≡ row.reply
 unfolding Fits
-told_reply old e x None given new fit row = ap reply_in row.answers
-told_reply old e x (Some own) given new fit row =
+reported_reply old e x None given new fit row = ap reply_in row.answers
+reported_reply old e x (Some own) given new fit row =
     ap reply_in (row.answers ∙ fit.1.own_answer)
-    ∙ sym (ended_reply old.region fit.1.name row.reply new.region fit.1.live (subst (λ (y : Event). Applies old.region y row.reply new.region) fit.1.abend row.happens))
+    ∙ sym (ended_reply old.region fit.1.name row.reply new.region fit.1.live (subst (λ (y : Event). Applies old.region y row.reply new.region) fit.1.abend row.applies))
 
 left_at : (old : EdfState) (e : EdfEvent) (door : Door) (given : Answer) (new : EdfState) → Fits old e door → DoorAnswers old door given new
     → Run old.region (map (λ (p : Event × Reply). p.0) (left_in door given)) (map (λ (p : Event × Reply). p.1) (left_in door given)) new.region
 left_at old e (Keeps own sessions) given new fit row = none old.region new.region (ap (λ (s : EdfState). s.region) row.1)
 left_at old e (Passes x own) given new fit row =
     subst (λ (r : Reply). Run old.region (map (λ (p : Event × Reply). p.0) (if is_refused x r then [] else (x, r) ∷ [])) (map (λ (p : Event × Reply). p.1) (if is_refused x r then [] else (x, r) ∷ [])) new.region)
-    (sym (told_reply old e x own given new fit row)) (left_runs_in old.region x row.reply new.region row.happens)
+    (sym (reported_reply old e x own given new fit row)) (left_runs_in old.region x row.reply new.region row.applies)
 
 -- what is left of one event is a run of the region
 pub left_runs : (old : EdfState) (e : EdfEvent) (given : Answer) (new : EdfState) → EdfApplies old e given new

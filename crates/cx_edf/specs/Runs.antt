@@ -86,7 +86,7 @@ MayTakeEdf old e = MayTake old.region (door_of old e)
 
 -- What the one door for events promises: it is answered; or it was refused memory that it may take, and all is as before.
 pub record IsDoneEdf (old : EdfState) (e : EdfEvent) (result : Result Answer AllocError) (new : EdfState) : Type 0 where
-  pub happens : IfOk result (λ given. EdfApplies old e given new)
+  pub applies : IfOk result (λ given. EdfApplies old e given new)
   pub memory : OnErr result (MayTakeEdf old e)
   pub err : OnErr result (new ≡ old)
 

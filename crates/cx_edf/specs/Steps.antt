@@ -63,7 +63,7 @@ sessions_after sessions _ _ region = sessions
 -- the region's event, an answer of EDF's own or the region's reply, and the sessions after it
 pub record PassesOn (old : EdfState) (event : Event) (own : Option Answer) (given : Answer) (new : EdfState) : Type 0 where
   pub reply : Reply
-  pub happens : Applies old.region event reply new.region
+  pub applies : Applies old.region event reply new.region
   pub table : new.sessions ≡ sessions_after old.sessions event reply new.region
   pub answers : given ≡ unwrap_or own (answer.Region reply)
 

@@ -4,7 +4,7 @@ ghost use Rattle.cx_region.specs.Events.{IsAllowed};
 ghost use Rattle.cx_region.specs.Sound.{IsSound};
 ghost use Rattle.cx_region.specs.declared.replies.Event.TheVariants as event;
 ghost use Rattle.cx_edf.specs.Answers.{turn_answer};
-ghost use Rattle.cx_edf.specs.Causes.{EdfHasTrouble};
+ghost use Rattle.cx_edf.specs.Causes.{EdfHasAbendRecord};
 ghost use Rattle.cx_edf.specs.Runs.{IsAllowedEdf, MayTakeEdf};
 ghost use Rattle.cx_edf.specs.State.{holds};
 ghost use Rattle.cx_edf.specs.Steps.{EdfApplies};
@@ -15,7 +15,7 @@ use crate::debugged::Debugged;
 use crate::run::of_turn;
 use crate::table;
 use cx_ebcdic::Name4;
-use cx_region::{Event, Trouble};
+use cx_region::{AbendRecord, Event};
 use cx_storage::Store;
 use std::alloc::AllocError;
 
@@ -23,14 +23,15 @@ impl<S: Store + Drop> Debugged<S> {
     /// A turn of a terminal, as `turn`, that reports why it leads to an abend, where it does.
     ///
     /// An error comes only where an allocation failed in the region's turn. Then all is as before.
-    #[tactic(auto, unfolding(crate::specs::Steps::EdfApplies, crate::specs::Steps::door_of, crate::specs::Causes::EdfHasTrouble, crate::specs::Runs::MayTakeEdf, cx_region::specs::Events::Applies, cx_region::specs::Events::MayTakeMemory))]
+    #[tactic(auto, unfolding(crate::specs::Steps::EdfApplies, crate::specs::Steps::door_of, crate::specs::Causes::EdfHasAbendRecord, crate::specs::Runs::MayTakeEdf, cx_region::specs::Events::Applies, cx_region::specs::Events::MayTakeMemory))]
     pub fn turn_with_cause(
         &mut self,
         name: Name4,
-    ) -> Result<(TurnAnswer, Option<Trouble>), AllocError>
-        ensures happens { let turn = edf_event.Plain (event.Turn name) in
-            IfOk result (λ told. EdfApplies self.old turn (turn_answer told.0) self.new) }
-        ensures troubled { IfOk result (λ told. EdfHasTrouble self.old (edf_event.Plain (event.Turn name)) told.1) }
+    ) -> Result<(TurnAnswer, Option<AbendRecord>), AllocError>
+        ensures applies { let turn = edf_event.Plain (event.Turn name) in
+            IfOk result (λ both. EdfApplies self.old turn (turn_answer both.0) self.new) }
+        ensures abend_record { IfOk result
+            (λ both. EdfHasAbendRecord self.old (edf_event.Plain (event.Turn name)) both.1) }
         ensures memory { OnErr result (MayTakeEdf self.old (edf_event.Plain (event.Turn name))) }
         ensures held { holds self.old name ≡ true → IsOk result }
         ensures err { OnErr result (self.new ≡ self.old) }
@@ -39,16 +40,16 @@ impl<S: Store + Drop> Debugged<S> {
         if self.holds(name) {
             return Ok((TurnAnswer::Held, None));
         }
-        let (reply, trouble) = self.region.turn_with_cause(name)?;
+        let (reply, abend_record) = self.region.turn_with_cause(name)?;
         table::note(&mut self.sessions, &self.region, name, &reply);
-        Ok((TurnAnswer::Region(reply), trouble))
+        Ok((TurnAnswer::Region(reply), abend_record))
     }
 
     /// An event of the region that isn't a turn.
-    fn without_cause(&mut self, event: &Event) -> Result<(Answer, Option<Trouble>), AllocError>
+    fn without_cause(&mut self, event: &Event) -> Result<(Answer, Option<AbendRecord>), AllocError>
         requires { IsAllowed event.now }
-        ensures happens { IfOk result (λ told. EdfApplies self.old (edf_event.Plain event.now) told.0 self.new) }
-        ensures none { IfOk result (λ told. told.1 ≡ None) }
+        ensures applies { IfOk result (λ both. EdfApplies self.old (edf_event.Plain event.now) both.0 self.new) }
+        ensures none { IfOk result (λ both. both.1 ≡ None) }
         ensures memory { OnErr result (MayTakeEdf self.old (edf_event.Plain event.now)) }
         ensures err { OnErr result (self.new ≡ self.old) }
         ensures sound { IsSound self.new.region }
@@ -58,19 +59,22 @@ impl<S: Store + Drop> Debugged<S> {
     }
 
     /// An event of the region.
-    #[tactic(auto, unfolding(crate::specs::Causes::EdfHasTrouble))]
-    fn plain_with_cause(&mut self, event: &Event) -> Result<(Answer, Option<Trouble>), AllocError>
+    #[tactic(auto, unfolding(crate::specs::Causes::EdfHasAbendRecord))]
+    fn plain_with_cause(
+        &mut self,
+        event: &Event,
+    ) -> Result<(Answer, Option<AbendRecord>), AllocError>
         requires { IsAllowed event.now }
-        ensures happens { IfOk result (λ told. EdfApplies self.old (edf_event.Plain event.now) told.0 self.new) }
-        ensures troubled { IfOk result (λ told. EdfHasTrouble self.old (edf_event.Plain event.now) told.1) }
+        ensures applies { IfOk result (λ both. EdfApplies self.old (edf_event.Plain event.now) both.0 self.new) }
+        ensures abend_record { IfOk result (λ both. EdfHasAbendRecord self.old (edf_event.Plain event.now) both.1) }
         ensures memory { OnErr result (MayTakeEdf self.old (edf_event.Plain event.now)) }
         ensures err { OnErr result (self.new ≡ self.old) }
         ensures sound { IsSound self.new.region }
     {
         match event {
             Event::Turn(name) => {
-                let (given, trouble) = self.turn_with_cause(*name)?;
-                Ok((of_turn(given), trouble))
+                let (given, abend_record) = self.turn_with_cause(*name)?;
+                Ok((of_turn(given), abend_record))
             }
             Event::Key(_, _, _) => self.without_cause(event),
             Event::Alter(_, _) => self.without_cause(event),
@@ -86,14 +90,14 @@ impl<S: Store + Drop> Debugged<S> {
     ///
     /// An error comes only where an allocation failed, no refusal is due, and the event may take memory. Then all is as
     /// before.
-    #[tactic(auto, unfolding(crate::specs::Causes::EdfHasTrouble))]
-    pub fn happen_with_cause(
+    #[tactic(auto, unfolding(crate::specs::Causes::EdfHasAbendRecord))]
+    pub fn apply_with_cause(
         &mut self,
         event: &EdfEvent,
-    ) -> Result<(Answer, Option<Trouble>), AllocError>
+    ) -> Result<(Answer, Option<AbendRecord>), AllocError>
         requires { IsAllowedEdf event.now }
-        ensures happens { IfOk result (λ told. EdfApplies self.old event.now told.0 self.new) }
-        ensures troubled { IfOk result (λ told. EdfHasTrouble self.old event.now told.1) }
+        ensures applies { IfOk result (λ both. EdfApplies self.old event.now both.0 self.new) }
+        ensures abend_record { IfOk result (λ both. EdfHasAbendRecord self.old event.now both.1) }
         ensures memory { OnErr result (MayTakeEdf self.old event.now) }
         ensures err { OnErr result (self.new ≡ self.old) }
         ensures sound { IsSound self.new.region }

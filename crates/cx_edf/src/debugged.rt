@@ -77,7 +77,7 @@ impl<S: Store + Drop> Debugged<S> {
     #[tactic(auto, unfolding(crate::specs::Steps::EdfApplies, crate::specs::Steps::door_of, crate::specs::Runs::MayTakeEdf, cx_region::specs::Events::Applies, cx_region::specs::Events::MayTakeMemory))]
     pub fn key(&mut self, name: Name4, aid: Aid, bytes: &[u8]) -> Result<KeyAnswer, AllocError>
         requires { length bytes.now ≤ 1920 }
-        ensures happens { let key = edf_event.Plain (event.Key name aid bytes.now) in
+        ensures applies { let key = edf_event.Plain (event.Key name aid bytes.now) in
             IfOk result (λ given. EdfApplies self.old key (key_answer given) self.new) }
         ensures memory { OnErr result (MayTakeEdf self.old (edf_event.Plain (event.Key name aid bytes.now))) }
         ensures succeeds { stopped_at self.old name ≡ true → IsOk result }
@@ -132,7 +132,7 @@ impl<S: Store + Drop> Debugged<S> {
     #[tactic(auto, unfolding(crate::specs::Steps::EdfApplies, crate::specs::Steps::door_of, cx_region::specs::Events::Applies))]
     pub fn alter(&mut self, name: Name4, change: Change) -> AlterAnswer
         requires { IsAllowedChange change }
-        ensures happens { let alter = edf_event.Plain (event.Alter name change) in
+        ensures applies { let alter = edf_event.Plain (event.Alter name change) in
             EdfApplies self.old alter (alter_answer result) self.new }
         ensures sound { IsSound self.new.region }
     {
@@ -150,7 +150,7 @@ impl<S: Store + Drop> Debugged<S> {
     /// An error comes only where an allocation failed in the region's turn. Then all is as before.
     #[tactic(auto, unfolding(crate::specs::Steps::EdfApplies, crate::specs::Steps::door_of, crate::specs::Runs::MayTakeEdf, cx_region::specs::Events::Applies, cx_region::specs::Events::MayTakeMemory))]
     pub fn turn(&mut self, name: Name4) -> Result<TurnAnswer, AllocError>
-        ensures happens { let turn = edf_event.Plain (event.Turn name) in
+        ensures applies { let turn = edf_event.Plain (event.Turn name) in
             IfOk result (λ given. EdfApplies self.old turn (turn_answer given) self.new) }
         ensures memory { OnErr result (MayTakeEdf self.old (edf_event.Plain (event.Turn name))) }
         ensures held { holds self.old name ≡ true → IsOk result }
@@ -171,7 +171,7 @@ impl<S: Store + Drop> Debugged<S> {
     /// An error comes only where memory for the session was refused. Then all is as before.
     #[tactic(auto, unfolding(crate::specs::Steps::EdfApplies, crate::specs::Steps::door_of, crate::specs::Runs::MayTakeEdf))]
     pub fn edf_on(&mut self, name: Name4) -> Result<EdfReply, AllocError>
-        ensures happens { IfOk result (λ given. EdfApplies self.old (edf_event.On name) (answer.Edf given) self.new) }
+        ensures applies { IfOk result (λ given. EdfApplies self.old (edf_event.On name) (answer.Edf given) self.new) }
         ensures memory { OnErr result (MayTakeEdf self.old (edf_event.On name)) }
         ensures err { OnErr result (self.new ≡ self.old) }
         ensures sound { IsSound self.new.region }
@@ -190,7 +190,7 @@ impl<S: Store + Drop> Debugged<S> {
     /// NoSuchTerminal or NotOn. It takes no memory.
     #[tactic(auto, unfolding(crate::specs::Steps::EdfApplies, crate::specs::Steps::door_of))]
     pub fn edf_off(&mut self, name: Name4) -> EdfReply
-        ensures happens { EdfApplies self.old (edf_event.Off name) (answer.Edf result) self.new }
+        ensures applies { EdfApplies self.old (edf_event.Off name) (answer.Edf result) self.new }
         ensures sound { IsSound self.new.region }
     {
         if self.region.screen(name).is_none() {
@@ -206,7 +206,7 @@ impl<S: Store + Drop> Debugged<S> {
     /// Does an event of the region that EDF never takes: a definition, or the clock.
     pub(crate) fn pass(&mut self, event: &Event) -> Result<Answer, AllocError>
         requires { IsAllowed event.now }
-        ensures happens { IfOk result (λ given. Applies self.old.region event.now (reply_in given) self.new.region) }
+        ensures applies { IfOk result (λ given. Applies self.old.region event.now (reply_in given) self.new.region) }
         ensures answers { IfOk result (λ given. given ≡ answer.Region (reply_in given)) }
         ensures sessions { self.new.sessions ≡ self.old.sessions }
         ensures memory { OnErr result (MayTakeMemory self.old.region event.now) }
@@ -280,7 +280,7 @@ impl<S: Store + Drop> Debugged<S> {
     pub fn set_clock(&mut self, time: u32, date: u32)
         requires time { time ≤ 999999 }
         requires date { date ≤ 99999 }
-        ensures happens { let clock_set = edf_event.Plain (event.Clock time date) in
+        ensures applies { let clock_set = edf_event.Plain (event.Clock time date) in
             EdfApplies self.old clock_set (answer.Region reply.Clock) self.new }
         ensures sound { IsSound self.new.region }
     {
@@ -297,14 +297,16 @@ impl<S: Store + Drop> Debugged<S> {
 
     /// The screen of a terminal; None where there is no such terminal. It takes no memory.
     pub fn screen(&self, name: Name4) -> Option<&Screen>
-        ensures { option_copied result ≡ option_map (λ terminal. terminal.screen) (terminal_of self.now.region name) }
+        ensures { option_copied result
+            ≡ option_map (λ terminal. terminal.screen) (terminal_of self.now.region name) }
     {
         self.region.screen(name)
     }
 
     /// The live task of a terminal; None where there is none, or no such terminal. It takes no memory.
     pub fn task(&self, name: Name4) -> Option<TaskInfo>
-        ensures { MatchOption (task_of self.now.region name) (result ≡ None) (λ task. IsSomeAnd result (Shows task)) }
+        ensures { MatchOption (task_of self.now.region name) (result ≡ None)
+            (λ task. IsSomeAnd result (Shows task)) }
     {
         self.region.task(name)
     }
@@ -318,7 +320,8 @@ impl<S: Store + Drop> Debugged<S> {
 
     /// In Stopped the display that is shown, and which of its pages; None in any other mode. It takes no memory.
     pub fn display(&self, name: Name4) -> Option<(&Display, View)>
-        ensures shown { option_map (λ p. (p.0.now, p.1)) result ≡ option_and_then shown_of (session_at self.now name) }
+        ensures shown { option_map (λ p. (p.0.now, p.1)) result
+            ≡ option_and_then shown_of (session_at self.now name) }
         ensures stopped { is_some result ≡ stopped_at self.now name }
     {
         let session = self.sessions.get(&name)?;

@@ -1,10 +1,10 @@
 //! What holds of every event under EDF, and of every run of them.
-ghost use Rattle.cx_edf.specs.Laws.Edf.{EdfEventsDecide, EdfRunsDecide, ErasedEvents, ErasedEventsLeaveTheRegion, EventsAreSteps, OffIsTheRegion, OtherEventsArePassed, OtherSessionsStay, OwnEventsHaveOwnAnswers, PlainRunsAgree, SessionsAreSet, StopsAreMissedUnderSuppression, ToldAreThoseGiven, TracesAreRuns};
+ghost use Rattle.cx_edf.specs.Laws.Edf.{EdfEventsDecide, EdfRunsDecide, ErasedEvents, ErasedEventsLeaveTheRegion, EventsAreSteps, OffIsTheRegion, OtherEventsArePassed, OtherSessionsStay, OwnEventsHaveOwnAnswers, PlainRunsAgree, SessionsAreSet, StopsAreMissedUnderSuppression, ReportedAreThoseGiven, TracesAreRuns};
 ghost use Rattle.cx_edf.specs.Laws.Memory.{EdfSoundIsKept, RefusedEdfEventsAreNone, StoppedEdfRunsGoOn};
 ghost use Rattle.cx_edf.specs.Laws.Outcomes.{EdfEventsHaveOutcomes};
 
 /// Events done one at a time are a run, with the states that they left. Such an event is what each call of a region under EDF
-/// ensures: `key`, `turn`, `alter`, `edf_on`, `edf_off`, `set_clock` and `apply` by `happens`, a definition by `defined` or
+/// ensures: `key`, `turn`, `alter`, `edf_on`, `edf_off`, `set_clock` and `apply` by `applies`, a definition by `defined` or
 /// `refused`; and a call that was refused memory is none, for its clause `err` leaves the state as before.
 pub fn traces_are_runs()
     ensures steps { EventsAreSteps }
@@ -30,7 +30,7 @@ pub fn edf_runs_decide()
 /// EDF left.
 pub fn a_plain_run_agrees()
     ensures run { PlainRunsAgree }
-    ensures replies { ToldAreThoseGiven }
+    ensures replies { ReportedAreThoseGiven }
 {
     cx_region_laws::laws::runs_decide();
 }

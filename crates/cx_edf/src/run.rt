@@ -72,7 +72,7 @@ impl<S: Store + Drop> Debugged<S> {
     #[tactic(auto, unfolding(crate::specs::Steps::EdfApplies, crate::specs::Steps::door_of, crate::specs::Runs::MayTakeEdf))]
     pub(crate) fn plain(&mut self, event: &Event) -> Result<Answer, AllocError>
         requires { IsAllowed event.now }
-        ensures happens { IfOk result (λ given. EdfApplies self.old (edf_event.Plain event.now) given self.new) }
+        ensures applies { IfOk result (λ given. EdfApplies self.old (edf_event.Plain event.now) given self.new) }
         ensures memory { OnErr result (MayTakeEdf self.old (edf_event.Plain event.now)) }
         ensures err { OnErr result (self.new ≡ self.old) }
         ensures sound { IsSound self.new.region }

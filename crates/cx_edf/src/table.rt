@@ -45,7 +45,8 @@ pub(crate) fn end(sessions: &mut IndexMap<Name4, Session>, name: Name4)
 
 /// A key in Stopped, other than PF3.
 fn press(sessions: &mut IndexMap<Name4, Session>, name: Name4, aid: Aid, bytes: &[u8])
-    requires { (it : SessionState) → session_in sessions.old.entries name ≡ Some it → IsTrue (is_stopped it.mode) }
+    requires { (it : SessionState) → session_in sessions.old.entries name ≡ Some it
+        → IsTrue (is_stopped it.mode) }
     ensures { aid ≢ Aid.Pf3 → (session : SessionState) → session_in sessions.old.entries name ≡ Some session
         → sessions.new.entries
         ≡ with_session_changed sessions.old.entries name (λ session. after_key session aid bytes.now) }
@@ -86,8 +87,8 @@ pub(crate) fn note<S: Store + Drop>(
     name: Name4,
     turn: &TurnReply,
 )
-    ensures { let told = reply.Turn turn.now in
-        sessions.new.entries ≡ sessions_after sessions.old.entries (event.Turn name) told region.now }
+    ensures { let reported = reply.Turn turn.now in
+        sessions.new.entries ≡ sessions_after sessions.old.entries (event.Turn name) reported region.now }
 {
     let Some(session) = sessions.get_mut(&name) else {
         return;

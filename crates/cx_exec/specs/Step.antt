@@ -1,4 +1,4 @@
--- One step (GA22-7000, "Instruction Execution", "Execute"; the entry is this project's own).
+-- One step (GA22-7000, "Instruction Execution", "Execute"; the entry is this product's own).
 use Rattle.cx_storage.specs.Address.{address_after}
 use Rattle.std.specs.Prelude.{◌≡◌, ◌≢◌, ℕ, ◌/◌, ◌%◌, List, [], ◌∷◌, length, Bool, true, false, ◌==◌, bit_or, Result, Ok, Err, MatchResult, if◌then◌else◌}
 use Rattle.cx_code.specs.declared.table.Op.{Op}

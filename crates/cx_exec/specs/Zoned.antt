@@ -1,6 +1,6 @@
 -- F2 PACK  Pack, F3 UNPK  Unpack [SS, two lengths] (GA22-7000): a byte of an operand absent 5; the code stays. Both go
 -- from right to left, so places are counted from the right, and an operand is named by the address of its last byte.
--- That each source byte is fetched just before the bytes made of it are stored is this project's own.
+-- That each source byte is fetched just before the bytes made of it are stored is this product's own.
 use Rattle.std.specs.Prelude.{ℕ, ◌+◌, ◌-◌, ◌*◌, ◌/◌, ◌%◌, ◌^◌, List, take, reverse, ◌==◌, nat_lt, if◌then◌else◌}
 use Rattle.cx_storage.specs.Storage.{Storage, span}
 use Rattle.cx_storage.specs.Address.{address_after, distance}

@@ -32,8 +32,10 @@ pub(crate) fn pack_aligned(zoned: &[u8; 33], new: &mut [u8; 16])
 
 /// Puts each half of aligned packed bytes into a byte with the zone F, with the halves of the last one exchanged.
 pub(crate) fn unpack_aligned(packed: &[u8; 33], new: &mut [u8; 16])
-    ensures right { (i : ℕ) → i < 8 → slice_index new.new (2 * i) ≡ 0xF0 + slice_index packed.now (23 + i) % 16 }
-    ensures left { (i : ℕ) → i < 7 → slice_index new.new (2 * i + 1) ≡ 0xF0 + slice_index packed.now (24 + i) / 16 }
+    ensures right { (i : ℕ) → i < 8
+        → slice_index new.new (2 * i) ≡ 0xF0 + slice_index packed.now (23 + i) % 16 }
+    ensures left { (i : ℕ) → i < 7
+        → slice_index new.new (2 * i + 1) ≡ 0xF0 + slice_index packed.now (24 + i) / 16 }
     ensures last { slice_index new.new 15 ≡ swap_halves (slice_index packed.now 31) }
 {
     for i in 0..8 {

@@ -29,7 +29,8 @@ impl Model for Front {
 
     ghost Value = { List ℕ };
 
-    ghost view = { λ prefix. prefix.code ∷ prefix.second ∷ (big_bytes 2 prefix.first_address ++ big_bytes 2 prefix.second_address) };
+    ghost view = { λ prefix.
+        prefix.code ∷ prefix.second ∷ (big_bytes 2 prefix.first_address ++ big_bytes 2 prefix.second_address) };
 }
 
 /// Two fields of four bits as a byte.

@@ -23,7 +23,8 @@ pub(crate) fn repeat(new: &mut [u8], period: usize)
     requires size { length new.old ≤ 256 }
     ensures size { length new.new ≡ length new.old }
     ensures prefix { (k : ℕ) → k < period → slice_index new.new k ≡ slice_index new.old k }
-    ensures each { (k : ℕ) → k + period < length new.old → slice_index new.new (k + period) ≡ slice_index new.new k }
+    ensures each { (k : ℕ) → k + period < length new.old
+        → slice_index new.new (k + period) ≡ slice_index new.new k }
 {
     if period == 1 {
         let byte = new[0];

@@ -61,11 +61,11 @@ pub(crate) fn effective(regs: &[u32; 16], index: u8, base: u8, displacement: u16
 /// What the program-status word is updated to after an instruction of `length` bytes at the next address, unless it is
 /// given.
 #[inline(always)]
-fn updated_at(cpu: &Cpu, told: Option<Updated>, length: u32) -> Updated
+fn updated_at(cpu: &Cpu, by_execute: Option<Updated>, length: u32) -> Updated
     requires { length ≤ 6 }
-    ensures { result ≡ unwrap_or told (updated_by cpu.now.next length) }
+    ensures { result ≡ unwrap_or by_execute (updated_by cpu.now.next length) }
 {
-    match told {
+    match by_execute {
         Some(updated) => updated,
         None => Updated {
             length_code: (length / 2) as u8,
@@ -96,16 +96,16 @@ pub struct Registers {
 
 /// The operands of format RR.
 #[inline(always)]
-fn registers_of(cpu: &Cpu, prefix: &Front, told: Option<Updated>) -> Registers
-    requires length { IfSome told (λ updated. updated.length_code ≤ 3) }
-    requires address { IfSome told (λ updated. updated.address < 2 ^ 24) }
+fn registers_of(cpu: &Cpu, prefix: &Front, by_execute: Option<Updated>) -> Registers
+    requires length { IfSome by_execute (λ updated. updated.length_code ≤ 3) }
+    requires address { IfSome by_execute (λ updated. updated.address < 2 ^ 24) }
     ensures r1 { result.r1 ≡ left_half prefix.now }
     ensures r2 { result.r2 ≡ right_half prefix.now }
     ensures low1 { result.r1 < 16 }
     ensures low2 { result.r2 < 16 }
     ensures first { result.first ≡ slice_index cpu.now.regs result.r1 }
     ensures second { result.second ≡ slice_index cpu.now.regs result.r2 }
-    ensures updated { result.updated ≡ unwrap_or told (updated_by cpu.now.next 2) }
+    ensures updated { result.updated ≡ unwrap_or by_execute (updated_by cpu.now.next 2) }
     ensures length { result.updated.length_code ≤ 3 }
     ensures address { result.updated.address < 2 ^ 24 }
 {
@@ -116,7 +116,7 @@ fn registers_of(cpu: &Cpu, prefix: &Front, told: Option<Updated>) -> Registers
         r2,
         first: cpu.regs[r1 as usize],
         second: cpu.regs[r2 as usize],
-        updated: updated_at(cpu, told, 2),
+        updated: updated_at(cpu, by_execute, 2),
     }
 }
 
@@ -134,10 +134,10 @@ pub struct Operands {
 
 /// The operands of formats RX, RS and SI, the address with an index.
 #[inline(always)]
-fn operands_of(cpu: &Cpu, prefix: &Front, index: u8, told: Option<Updated>) -> Operands
+fn operands_of(cpu: &Cpu, prefix: &Front, index: u8, by_execute: Option<Updated>) -> Operands
     requires index { index < 16 }
-    requires length { IfSome told (λ updated. updated.length_code ≤ 3) }
-    requires address { IfSome told (λ updated. updated.address < 2 ^ 24) }
+    requires length { IfSome by_execute (λ updated. updated.length_code ≤ 3) }
+    requires address { IfSome by_execute (λ updated. updated.address < 2 ^ 24) }
     ensures byte { result.i2 ≡ slice_index prefix.now 1 }
     ensures r1 { result.r1 ≡ left_half prefix.now }
     ensures r3 { result.r3 ≡ right_half prefix.now }
@@ -146,7 +146,7 @@ fn operands_of(cpu: &Cpu, prefix: &Front, index: u8, told: Option<Updated>) -> O
     ensures first { result.first ≡ slice_index cpu.now.regs result.r1 }
     ensures operand { result.a ≡ effective cpu.now.regs index (base_at 2 prefix.now) (displacement_at 2 prefix.now) }
     ensures short { result.a < 2 ^ 24 }
-    ensures updated { result.updated ≡ unwrap_or told (updated_by cpu.now.next 4) }
+    ensures updated { result.updated ≡ unwrap_or by_execute (updated_by cpu.now.next 4) }
     ensures length { result.updated.length_code ≤ 3 }
     ensures address { result.updated.address < 2 ^ 24 }
 {
@@ -158,26 +158,26 @@ fn operands_of(cpu: &Cpu, prefix: &Front, index: u8, told: Option<Updated>) -> O
         r3,
         first: cpu.regs[r1 as usize],
         a: address_in(cpu, index, prefix.first_address()),
-        updated: updated_at(cpu, told, 4),
+        updated: updated_at(cpu, by_execute, 4),
     }
 }
 
 /// The operands of format RX.
 #[inline(always)]
-pub(crate) fn indexed_of(cpu: &Cpu, prefix: &Front, told: Option<Updated>) -> Operands
-    requires length { IfSome told (λ updated. updated.length_code ≤ 3) }
-    requires address { IfSome told (λ updated. updated.address < 2 ^ 24) }
+pub(crate) fn indexed_of(cpu: &Cpu, prefix: &Front, by_execute: Option<Updated>) -> Operands
+    requires length { IfSome by_execute (λ updated. updated.length_code ≤ 3) }
+    requires address { IfSome by_execute (λ updated. updated.address < 2 ^ 24) }
     ensures r1 { result.r1 ≡ left_half prefix.now }
     ensures low1 { result.r1 < 16 }
     ensures first { result.first ≡ slice_index cpu.now.regs result.r1 }
     ensures operand { let bytes = prefix.now in
         result.a ≡ effective cpu.now.regs (right_half bytes) (base_at 2 bytes) (displacement_at 2 bytes) }
     ensures short { result.a < 2 ^ 24 }
-    ensures updated { result.updated ≡ unwrap_or told (updated_by cpu.now.next 4) }
+    ensures updated { result.updated ≡ unwrap_or by_execute (updated_by cpu.now.next 4) }
     ensures length { result.updated.length_code ≤ 3 }
     ensures address { result.updated.address < 2 ^ 24 }
 {
-    operands_of(cpu, prefix, prefix.second() & 15, told)
+    operands_of(cpu, prefix, prefix.second() & 15, by_execute)
 }
 
 /// The operands of formats SS: the byte that has one length or two, each less one, and two addresses.
@@ -191,15 +191,15 @@ pub struct Strings {
 
 /// The operands of formats SS.
 #[inline(always)]
-fn strings_of(cpu: &Cpu, prefix: &Front, told: Option<Updated>) -> Strings
-    requires length { IfSome told (λ updated. updated.length_code ≤ 3) }
-    requires address { IfSome told (λ updated. updated.address < 2 ^ 24) }
+fn strings_of(cpu: &Cpu, prefix: &Front, by_execute: Option<Updated>) -> Strings
+    requires length { IfSome by_execute (λ updated. updated.length_code ≤ 3) }
+    requires address { IfSome by_execute (λ updated. updated.address < 2 ^ 24) }
     ensures lengths { result.l ≡ slice_index prefix.now 1 }
     ensures first { result.a1 ≡ effective cpu.now.regs 0 (base_at 2 prefix.now) (displacement_at 2 prefix.now) }
     ensures second { result.a2 ≡ effective cpu.now.regs 0 (base_at 4 prefix.now) (displacement_at 4 prefix.now) }
     ensures short1 { result.a1 < 2 ^ 24 }
     ensures short2 { result.a2 < 2 ^ 24 }
-    ensures updated { result.updated ≡ unwrap_or told (updated_by cpu.now.next 6) }
+    ensures updated { result.updated ≡ unwrap_or by_execute (updated_by cpu.now.next 6) }
     ensures length { result.updated.length_code ≤ 3 }
     ensures address { result.updated.address < 2 ^ 24 }
 {
@@ -207,7 +207,7 @@ fn strings_of(cpu: &Cpu, prefix: &Front, told: Option<Updated>) -> Strings
         l: prefix.second(),
         a1: address_in(cpu, 0, prefix.first_address()),
         a2: address_in(cpu, 0, prefix.second_address()),
-        updated: updated_at(cpu, told, 6),
+        updated: updated_at(cpu, by_execute, 6),
     }
 }
 
@@ -219,38 +219,38 @@ pub(crate) fn strings_effect<S: Store>(
     store: &mut S,
     op: Op,
     prefix: &Front,
-    told: Option<Updated>,
+    by_execute: Option<Updated>,
 ) -> Result<(), Interruption>
     requires strings { length_of op ≡ 6 }
-    requires length { IfSome told (λ updated. updated.length_code ≤ 3) }
-    requires address { IfSome told (λ updated. updated.address < 2 ^ 24) }
+    requires length { IfSome by_execute (λ updated. updated.length_code ≤ 3) }
+    requires address { IfSome by_execute (λ updated. updated.address < 2 ^ 24) }
     ensures { Effect (instruction op (fields_at op prefix.now))
-        (unwrap_or told (updated_by cpu.old.next (length_of op)))
+        (unwrap_or by_execute (updated_by cpu.old.next (length_of op)))
         (machine cpu.old (S.storage store.old)) result (machine cpu.new (S.storage store.new)) }
 {
     match op {
         Op::Mvc => {
-            let it = strings_of(cpu, prefix, told);
+            let it = strings_of(cpu, prefix, by_execute);
             mvc(cpu, store, u32::from(it.l) + 1, it.a1, it.a2, it.updated)
         }
         Op::Clc => {
-            let it = strings_of(cpu, prefix, told);
+            let it = strings_of(cpu, prefix, by_execute);
             clc(cpu, store, u32::from(it.l) + 1, it.a1, it.a2, it.updated)
         }
         Op::Xc => {
-            let it = strings_of(cpu, prefix, told);
+            let it = strings_of(cpu, prefix, by_execute);
             xc(cpu, store, u32::from(it.l) + 1, it.a1, it.a2, it.updated)
         }
         Op::Tr => {
-            let it = strings_of(cpu, prefix, told);
+            let it = strings_of(cpu, prefix, by_execute);
             tr(cpu, store, u32::from(it.l) + 1, it.a1, it.a2, it.updated)
         }
         Op::Trt => {
-            let it = strings_of(cpu, prefix, told);
+            let it = strings_of(cpu, prefix, by_execute);
             trt(cpu, store, u32::from(it.l) + 1, it.a1, it.a2, it.updated)
         }
         Op::Pack => {
-            let it = strings_of(cpu, prefix, told);
+            let it = strings_of(cpu, prefix, by_execute);
             pack(
                 cpu,
                 store,
@@ -262,7 +262,7 @@ pub(crate) fn strings_effect<S: Store>(
             )
         }
         Op::Unpk => {
-            let it = strings_of(cpu, prefix, told);
+            let it = strings_of(cpu, prefix, by_execute);
             unpk(
                 cpu,
                 store,
@@ -286,74 +286,74 @@ pub(crate) fn register_rows<S: Store>(
     store: &mut S,
     op: Op,
     prefix: &Front,
-    told: Option<Updated>,
+    by_execute: Option<Updated>,
 ) -> Result<(), Interruption>
     requires rows { has_registers op ≡ true }
-    requires length { IfSome told (λ updated. updated.length_code ≤ 3) }
-    requires address { IfSome told (λ updated. updated.address < 2 ^ 24) }
+    requires length { IfSome by_execute (λ updated. updated.length_code ≤ 3) }
+    requires address { IfSome by_execute (λ updated. updated.address < 2 ^ 24) }
     ensures { Effect (instruction op (fields_at op prefix.now))
-        (unwrap_or told (updated_by cpu.old.next (length_of op)))
+        (unwrap_or by_execute (updated_by cpu.old.next (length_of op)))
         (machine cpu.old (S.storage store.old)) result (machine cpu.new (S.storage store.new)) }
 {
     match op {
         Op::Balr => {
-            let it = registers_of(cpu, prefix, told);
+            let it = registers_of(cpu, prefix, by_execute);
             let to = branch_address(&cpu.regs, it.r2, it.updated);
             link(cpu, it.r1, to, it.updated)
         }
         Op::Bctr => {
-            let it = registers_of(cpu, prefix, told);
+            let it = registers_of(cpu, prefix, by_execute);
             let to = branch_address(&cpu.regs, it.r2, it.updated);
             count(cpu, it.r1, to, it.updated)
         }
         Op::Bcr => {
-            let it = registers_of(cpu, prefix, told);
+            let it = registers_of(cpu, prefix, by_execute);
             let to = branch_address(&cpu.regs, it.r2, it.updated);
             branch(cpu, it.r1, to, it.updated)
         }
         Op::Ltr => {
-            let it = registers_of(cpu, prefix, told);
+            let it = registers_of(cpu, prefix, by_execute);
             load_coded(cpu, it.r1, it.second, sign_code(it.second), it.updated)
         }
         Op::Lcr => {
-            let it = registers_of(cpu, prefix, told);
+            let it = registers_of(cpu, prefix, by_execute);
             put_sum(cpu, it.r1, complement(it.second), it.updated)
         }
         Op::Clr => {
-            let it = registers_of(cpu, prefix, told);
+            let it = registers_of(cpu, prefix, by_execute);
             set_code(cpu, logical_order(it.first, it.second), it.updated)
         }
         Op::Xr => {
-            let it = registers_of(cpu, prefix, told);
+            let it = registers_of(cpu, prefix, by_execute);
             let word = it.first ^ it.second;
             load_coded(cpu, it.r1, word, logical_code(word), it.updated)
         }
         Op::Lr => {
-            let it = registers_of(cpu, prefix, told);
+            let it = registers_of(cpu, prefix, by_execute);
             load(cpu, it.r1, it.second, it.updated)
         }
         Op::Cr => {
-            let it = registers_of(cpu, prefix, told);
+            let it = registers_of(cpu, prefix, by_execute);
             set_code(cpu, signed_order(it.first, it.second), it.updated)
         }
         Op::Ar => {
-            let it = registers_of(cpu, prefix, told);
+            let it = registers_of(cpu, prefix, by_execute);
             put_sum(cpu, it.r1, sum(it.first, it.second), it.updated)
         }
         Op::Sr => {
-            let it = registers_of(cpu, prefix, told);
+            let it = registers_of(cpu, prefix, by_execute);
             put_sum(cpu, it.r1, difference(it.first, it.second), it.updated)
         }
         Op::Mr => {
-            let it = registers_of(cpu, prefix, told);
+            let it = registers_of(cpu, prefix, by_execute);
             multiply(cpu, even(it.r1)?, it.second, it.updated)
         }
         Op::Dr => {
-            let it = registers_of(cpu, prefix, told);
+            let it = registers_of(cpu, prefix, by_execute);
             divide(cpu, even(it.r1)?, it.second, it.updated)
         }
         Op::Srl => {
-            let it = operands_of(cpu, prefix, 0, told);
+            let it = operands_of(cpu, prefix, 0, by_execute);
             load(
                 cpu,
                 it.r1,
@@ -362,7 +362,7 @@ pub(crate) fn register_rows<S: Store>(
             )
         }
         Op::Sll => {
-            let it = operands_of(cpu, prefix, 0, told);
+            let it = operands_of(cpu, prefix, 0, by_execute);
             load(
                 cpu,
                 it.r1,
@@ -371,31 +371,31 @@ pub(crate) fn register_rows<S: Store>(
             )
         }
         Op::Sra => {
-            let it = operands_of(cpu, prefix, 0, told);
+            let it = operands_of(cpu, prefix, 0, by_execute);
             shift_right(cpu, it.r1, (it.a % 64) as u8, it.updated)
         }
         Op::Sla => {
-            let it = operands_of(cpu, prefix, 0, told);
+            let it = operands_of(cpu, prefix, 0, by_execute);
             shift_left(cpu, it.r1, (it.a % 64) as u8, it.updated)
         }
         Op::Srda => {
-            let it = operands_of(cpu, prefix, 0, told);
+            let it = operands_of(cpu, prefix, 0, by_execute);
             shift_pair(cpu, even(it.r1)?, (it.a % 64) as u8, it.updated)
         }
         Op::Stm => {
-            let it = operands_of(cpu, prefix, 0, told);
+            let it = operands_of(cpu, prefix, 0, by_execute);
             store_multiple(cpu, store, it.r1, it.r3, it.a, it.updated)
         }
         Op::Lm => {
-            let it = operands_of(cpu, prefix, 0, told);
+            let it = operands_of(cpu, prefix, 0, by_execute);
             load_multiple(cpu, store, it.r1, it.r3, it.a, it.updated)
         }
         Op::Stcm => {
-            let it = operands_of(cpu, prefix, 0, told);
+            let it = operands_of(cpu, prefix, 0, by_execute);
             stcm(cpu, store, it.r1, it.r3, it.a, it.updated)
         }
         Op::Icm => {
-            let it = operands_of(cpu, prefix, 0, told);
+            let it = operands_of(cpu, prefix, 0, by_execute);
             icm(cpu, store, it.r1, it.r3, it.a, it.updated)
         }
         // Not reached.
@@ -411,28 +411,28 @@ pub(crate) fn word_rows<S: Store>(
     store: &mut S,
     op: Op,
     prefix: &Front,
-    told: Option<Updated>,
+    by_execute: Option<Updated>,
 ) -> Result<(), Interruption>
     requires rows { has_word op ≡ true }
-    requires length { IfSome told (λ updated. updated.length_code ≤ 3) }
-    requires address { IfSome told (λ updated. updated.address < 2 ^ 24) }
+    requires length { IfSome by_execute (λ updated. updated.length_code ≤ 3) }
+    requires address { IfSome by_execute (λ updated. updated.address < 2 ^ 24) }
     ensures { Effect (instruction op (fields_at op prefix.now))
-        (unwrap_or told (updated_by cpu.old.next (length_of op)))
+        (unwrap_or by_execute (updated_by cpu.old.next (length_of op)))
         (machine cpu.old (S.storage store.old)) result (machine cpu.new (S.storage store.new)) }
 {
     match op {
         Op::L => {
-            let it = indexed_of(cpu, prefix, told);
+            let it = indexed_of(cpu, prefix, by_execute);
             let second = word_at(store, it.a)?;
             load(cpu, it.r1, second, it.updated)
         }
         Op::Cl => {
-            let it = indexed_of(cpu, prefix, told);
+            let it = indexed_of(cpu, prefix, by_execute);
             let second = word_at(store, it.a)?;
             set_code(cpu, logical_order(it.first, second), it.updated)
         }
         Op::C => {
-            let it = indexed_of(cpu, prefix, told);
+            let it = indexed_of(cpu, prefix, by_execute);
             let second = word_at(store, it.a)?;
             set_code(cpu, signed_order(it.first, second), it.updated)
         }
@@ -449,32 +449,32 @@ pub(crate) fn word_result_rows<S: Store>(
     store: &mut S,
     op: Op,
     prefix: &Front,
-    told: Option<Updated>,
+    by_execute: Option<Updated>,
 ) -> Result<(), Interruption>
     requires rows { has_word_result op ≡ true }
-    requires length { IfSome told (λ updated. updated.length_code ≤ 3) }
-    requires address { IfSome told (λ updated. updated.address < 2 ^ 24) }
+    requires length { IfSome by_execute (λ updated. updated.length_code ≤ 3) }
+    requires address { IfSome by_execute (λ updated. updated.address < 2 ^ 24) }
     ensures { Effect (instruction op (fields_at op prefix.now))
-        (unwrap_or told (updated_by cpu.old.next (length_of op)))
+        (unwrap_or by_execute (updated_by cpu.old.next (length_of op)))
         (machine cpu.old (S.storage store.old)) result (machine cpu.new (S.storage store.new)) }
 {
     match op {
         Op::A => {
-            let it = indexed_of(cpu, prefix, told);
+            let it = indexed_of(cpu, prefix, by_execute);
             let second = word_at(store, it.a)?;
             put_sum(cpu, it.r1, sum(it.first, second), it.updated)
         }
         Op::S => {
-            let it = indexed_of(cpu, prefix, told);
+            let it = indexed_of(cpu, prefix, by_execute);
             let second = word_at(store, it.a)?;
             put_sum(cpu, it.r1, difference(it.first, second), it.updated)
         }
         Op::M => {
-            let it = indexed_of(cpu, prefix, told);
+            let it = indexed_of(cpu, prefix, by_execute);
             multiply(cpu, even(it.r1)?, word_at(store, it.a)?, it.updated)
         }
         Op::D => {
-            let it = indexed_of(cpu, prefix, told);
+            let it = indexed_of(cpu, prefix, by_execute);
             divide(cpu, even(it.r1)?, word_at(store, it.a)?, it.updated)
         }
         // Not reached.
@@ -490,33 +490,33 @@ pub(crate) fn half_rows<S: Store>(
     store: &mut S,
     op: Op,
     prefix: &Front,
-    told: Option<Updated>,
+    by_execute: Option<Updated>,
 ) -> Result<(), Interruption>
     requires rows { has_half op ≡ true }
-    requires length { IfSome told (λ updated. updated.length_code ≤ 3) }
-    requires address { IfSome told (λ updated. updated.address < 2 ^ 24) }
+    requires length { IfSome by_execute (λ updated. updated.length_code ≤ 3) }
+    requires address { IfSome by_execute (λ updated. updated.address < 2 ^ 24) }
     ensures { Effect (instruction op (fields_at op prefix.now))
-        (unwrap_or told (updated_by cpu.old.next (length_of op)))
+        (unwrap_or by_execute (updated_by cpu.old.next (length_of op)))
         (machine cpu.old (S.storage store.old)) result (machine cpu.new (S.storage store.new)) }
 {
     match op {
         Op::Lh => {
-            let it = indexed_of(cpu, prefix, told);
+            let it = indexed_of(cpu, prefix, by_execute);
             let second = halfword_at(store, it.a)?;
             load(cpu, it.r1, second, it.updated)
         }
         Op::Ch => {
-            let it = indexed_of(cpu, prefix, told);
+            let it = indexed_of(cpu, prefix, by_execute);
             let second = halfword_at(store, it.a)?;
             set_code(cpu, signed_order(it.first, second), it.updated)
         }
         Op::Ah => {
-            let it = indexed_of(cpu, prefix, told);
+            let it = indexed_of(cpu, prefix, by_execute);
             let second = halfword_at(store, it.a)?;
             put_sum(cpu, it.r1, sum(it.first, second), it.updated)
         }
         Op::Sh => {
-            let it = indexed_of(cpu, prefix, told);
+            let it = indexed_of(cpu, prefix, by_execute);
             let second = halfword_at(store, it.a)?;
             put_sum(cpu, it.r1, difference(it.first, second), it.updated)
         }
@@ -533,56 +533,56 @@ pub(crate) fn indexed_rows<S: Store>(
     store: &mut S,
     op: Op,
     prefix: &Front,
-    told: Option<Updated>,
+    by_execute: Option<Updated>,
 ) -> Result<(), Interruption>
     requires rows { has_address op ≡ true }
-    requires length { IfSome told (λ updated. updated.length_code ≤ 3) }
-    requires address { IfSome told (λ updated. updated.address < 2 ^ 24) }
+    requires length { IfSome by_execute (λ updated. updated.length_code ≤ 3) }
+    requires address { IfSome by_execute (λ updated. updated.address < 2 ^ 24) }
     ensures { Effect (instruction op (fields_at op prefix.now))
-        (unwrap_or told (updated_by cpu.old.next (length_of op)))
+        (unwrap_or by_execute (updated_by cpu.old.next (length_of op)))
         (machine cpu.old (S.storage store.old)) result (machine cpu.new (S.storage store.new)) }
 {
     match op {
         Op::Sth => {
-            let it = indexed_of(cpu, prefix, told);
+            let it = indexed_of(cpu, prefix, by_execute);
             let half = (it.first % 0x1_0000) as u16;
             put_bytes(cpu, store, it.a, &half.to_be_bytes(), it.updated)
         }
         Op::La => {
-            let it = indexed_of(cpu, prefix, told);
+            let it = indexed_of(cpu, prefix, by_execute);
             load(cpu, it.r1, it.a, it.updated)
         }
         Op::Stc => {
-            let it = indexed_of(cpu, prefix, told);
+            let it = indexed_of(cpu, prefix, by_execute);
             put_bytes(cpu, store, it.a, &[(it.first % 0x100) as u8], it.updated)
         }
         Op::Bal => {
-            let it = indexed_of(cpu, prefix, told);
+            let it = indexed_of(cpu, prefix, by_execute);
             link(cpu, it.r1, it.a, it.updated)
         }
         Op::Bct => {
-            let it = indexed_of(cpu, prefix, told);
+            let it = indexed_of(cpu, prefix, by_execute);
             count(cpu, it.r1, it.a, it.updated)
         }
         Op::Bc => {
-            let it = indexed_of(cpu, prefix, told);
+            let it = indexed_of(cpu, prefix, by_execute);
             branch(cpu, it.r1, it.a, it.updated)
         }
         Op::St => {
-            let it = indexed_of(cpu, prefix, told);
+            let it = indexed_of(cpu, prefix, by_execute);
             put_bytes(cpu, store, it.a, &it.first.to_be_bytes(), it.updated)
         }
         Op::Cvd => {
-            let it = indexed_of(cpu, prefix, told);
+            let it = indexed_of(cpu, prefix, by_execute);
             cvd(cpu, store, it.r1, it.a, it.updated)
         }
         Op::Ic => {
-            let it = indexed_of(cpu, prefix, told);
+            let it = indexed_of(cpu, prefix, by_execute);
             let byte = byte_at(store, it.a)?;
             load(cpu, it.r1, inserted(it.first, byte), it.updated)
         }
         Op::Cvb => {
-            let it = indexed_of(cpu, prefix, told);
+            let it = indexed_of(cpu, prefix, by_execute);
             cvb(cpu, store, it.r1, it.a, it.updated)
         }
         // Not reached.
@@ -598,37 +598,37 @@ pub(crate) fn immediate_rows<S: Store>(
     store: &mut S,
     op: Op,
     prefix: &Front,
-    told: Option<Updated>,
+    by_execute: Option<Updated>,
 ) -> Result<(), Interruption>
     requires rows { has_immediate op ≡ true }
-    requires length { IfSome told (λ updated. updated.length_code ≤ 3) }
-    requires address { IfSome told (λ updated. updated.address < 2 ^ 24) }
+    requires length { IfSome by_execute (λ updated. updated.length_code ≤ 3) }
+    requires address { IfSome by_execute (λ updated. updated.address < 2 ^ 24) }
     ensures { Effect (instruction op (fields_at op prefix.now))
-        (unwrap_or told (updated_by cpu.old.next (length_of op)))
+        (unwrap_or by_execute (updated_by cpu.old.next (length_of op)))
         (machine cpu.old (S.storage store.old)) result (machine cpu.new (S.storage store.new)) }
 {
     match op {
         Op::Tm => {
-            let it = operands_of(cpu, prefix, 0, told);
+            let it = operands_of(cpu, prefix, 0, by_execute);
             let byte = byte_at(store, it.a)?;
             set_code(cpu, test_code(it.i2, byte), it.updated)
         }
         Op::Mvi => {
-            let it = operands_of(cpu, prefix, 0, told);
+            let it = operands_of(cpu, prefix, 0, by_execute);
             put_bytes(cpu, store, it.a, &[it.i2], it.updated)
         }
         Op::Ni => {
-            let it = operands_of(cpu, prefix, 0, told);
+            let it = operands_of(cpu, prefix, 0, by_execute);
             let byte = byte_at(store, it.a)?;
             put_logical(cpu, store, it.a, byte & it.i2, it.updated)
         }
         Op::Cli => {
-            let it = operands_of(cpu, prefix, 0, told);
+            let it = operands_of(cpu, prefix, 0, by_execute);
             let byte = byte_at(store, it.a)?;
             set_code(cpu, byte_order(byte, it.i2), it.updated)
         }
         Op::Oi => {
-            let it = operands_of(cpu, prefix, 0, told);
+            let it = operands_of(cpu, prefix, 0, by_execute);
             let byte = byte_at(store, it.a)?;
             put_logical(cpu, store, it.a, byte | it.i2, it.updated)
         }
@@ -645,12 +645,12 @@ pub(crate) fn effect<S: Store>(
     store: &mut S,
     op: Op,
     prefix: &Front,
-    told: Option<Updated>,
+    by_execute: Option<Updated>,
 ) -> Result<(), Interruption>
-    requires length { IfSome told (λ updated. updated.length_code ≤ 3) }
-    requires address { IfSome told (λ updated. updated.address < 2 ^ 24) }
+    requires length { IfSome by_execute (λ updated. updated.length_code ≤ 3) }
+    requires address { IfSome by_execute (λ updated. updated.address < 2 ^ 24) }
     ensures { Effect (instruction op (fields_at op prefix.now))
-        (unwrap_or told (updated_by cpu.old.next (length_of op)))
+        (unwrap_or by_execute (updated_by cpu.old.next (length_of op)))
         (machine cpu.old (S.storage store.old)) result (machine cpu.new (S.storage store.new)) }
 {
     match op {
@@ -675,10 +675,10 @@ pub(crate) fn effect<S: Store>(
         | Op::Stm
         | Op::Lm
         | Op::Stcm
-        | Op::Icm => { register_rows(cpu, store, op, prefix, told) }
-        Op::L | Op::Cl | Op::C => { word_rows(cpu, store, op, prefix, told) }
-        Op::A | Op::S | Op::M | Op::D => { word_result_rows(cpu, store, op, prefix, told) }
-        Op::Lh | Op::Ch | Op::Ah | Op::Sh => { half_rows(cpu, store, op, prefix, told) }
+        | Op::Icm => { register_rows(cpu, store, op, prefix, by_execute) }
+        Op::L | Op::Cl | Op::C => { word_rows(cpu, store, op, prefix, by_execute) }
+        Op::A | Op::S | Op::M | Op::D => { word_result_rows(cpu, store, op, prefix, by_execute) }
+        Op::Lh | Op::Ch | Op::Ah | Op::Sh => { half_rows(cpu, store, op, prefix, by_execute) }
         Op::Sth
         | Op::La
         | Op::Stc
@@ -688,12 +688,12 @@ pub(crate) fn effect<S: Store>(
         | Op::St
         | Op::Cvd
         | Op::Ic
-        | Op::Cvb => { indexed_rows(cpu, store, op, prefix, told) }
+        | Op::Cvb => { indexed_rows(cpu, store, op, prefix, by_execute) }
         Op::Tm | Op::Mvi | Op::Ni | Op::Cli | Op::Oi => {
-            immediate_rows(cpu, store, op, prefix, told)
+            immediate_rows(cpu, store, op, prefix, by_execute)
         }
         Op::Mvc | Op::Clc | Op::Xc | Op::Tr | Op::Trt | Op::Pack | Op::Unpk => {
-            strings_effect(cpu, store, op, prefix, told)
+            strings_effect(cpu, store, op, prefix, by_execute)
         }
         // An EX is performed by its target.
         Op::Ex => Err(Interruption::Operation),

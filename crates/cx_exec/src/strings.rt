@@ -181,7 +181,8 @@ fn join_copies<S: Store>(store: &S, a1: u32, a2: u32, new: &mut [u8]) -> bool
     requires outside { (j : ℕ) → 0 < j → j < length new.old → a1 ≢ address_after a2 j }
     ensures present { let s = S.storage store.now in let n = length new.old in
         result ≡ is_some (span s a1 n) && is_some (span s a2 n) }
-    ensures bytes { result ≡ true → new.new ≡ stored_by (xored_byte (S.storage store.now) a1 a2) (length new.old) }
+    ensures bytes { result ≡ true
+        → new.new ≡ stored_by (xored_byte (S.storage store.now) a1 a2) (length new.old) }
 {
     let mut left = [0; 256];
     let mut right = [0; 256];
@@ -203,7 +204,8 @@ fn join_stored<S: Store>(store: &S, a1: u32, a2: u32, new: &mut [u8]) -> bool
     requires outside { (j : ℕ) → 0 < j → j < length new.old → a1 ≢ address_after a2 j }
     ensures present { let s = S.storage store.now in let n = length new.old in
         result ≡ is_some (span s a1 n) && is_some (span s a2 n) }
-    ensures bytes { result ≡ true → new.new ≡ stored_by (xored_byte (S.storage store.now) a1 a2) (length new.old) }
+    ensures bytes { result ≡ true
+        → new.new ≡ stored_by (xored_byte (S.storage store.now) a1 a2) (length new.old) }
 {
     if let Some(first) = store.slice(a1, new.len()) {
         if let Some(second) = store.slice(a2, new.len()) {

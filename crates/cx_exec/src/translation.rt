@@ -28,7 +28,8 @@ fn has_table<S: Store>(store: &S, n: u32, a1: u32, a2: u32) -> bool
     requires first { a1 < 2 ^ 24 }
     requires second { a2 < 2 ^ 24 }
     requires count { n ≤ 256 }
-    ensures { MatchBool result (HasTable (S.storage store.now) n a1 a2) (HasTable (S.storage store.now) n a1 a2 → ⊥) }
+    ensures { MatchBool result (HasTable (S.storage store.now) n a1 a2)
+        (HasTable (S.storage store.now) n a1 a2 → ⊥) }
 {
     for k in 0..n {
         if table_byte(store, a1, a2, k).is_none() {
@@ -161,7 +162,8 @@ fn first_lent<S: Store>(store: &S, n: u32, a1: u32, a2: u32) -> Option<Option<u3
     requires first { a1 < 2 ^ 24 }
     requires second { a2 < 2 ^ 24 }
     requires count { n ≤ 256 }
-    ensures { IfSome result (λ place. (place ≡ first_found (S.storage store.now) n a1 a2) × IfSome place (λ k. k < n)) }
+    ensures { IfSome result
+        (λ place. (place ≡ first_found (S.storage store.now) n a1 a2) × IfSome place (λ k. k < n)) }
 {
     let argument = store.slice(a1, n as usize)?;
     let table = store.slice(a2, 256)?;
@@ -203,7 +205,8 @@ fn set_found(cpu: &mut Cpu, n: u32, a1: u32, k: u32, byte: u8, updated: Updated)
     requires place { k < n }
     requires count { n ≤ 256 }
     requires address { updated.address < 2 ^ 24 }
-    ensures { (storage : Storage) → machine cpu.new storage ≡ found_at n a1 k byte updated (machine cpu.old storage) }
+    ensures { (storage : Storage)
+        → machine cpu.new storage ≡ found_at n a1 k byte updated (machine cpu.old storage) }
 {
     cpu.regs[1] = with_address(cpu.regs[1], along(a1, k));
     cpu.regs[2] = inserted(cpu.regs[2], byte);

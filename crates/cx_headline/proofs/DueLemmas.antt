@@ -14,7 +14,7 @@ use Rattle.cx_region_state.specs.declared.replies.TurnReply.TheVariants as turn
 use Rattle.cx_region_state.specs.declared.verdict.NewLevel.{NewLevel}
 use Rattle.cx_region_state.specs.Replies.{is_over}
 use Rattle.cx_region_state.specs.State.{Input, TaskContext, TaskState}
-use Rattle.cx_region_task_laws.specs.Laws.Levels.{DueIsKept, Keeps}
+use Rattle.cx_region_laws.specs.Laws.Levels.{DueIsKept, Keeps}
 use Rattle.cx_region.specs.declared.changes.AlterReply.{AlterReply}
 use Rattle.cx_region.specs.declared.changes.AlterReply.TheVariants as alter
 use Rattle.cx_region.specs.declared.changes.Change.{Change}

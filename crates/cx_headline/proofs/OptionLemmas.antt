@@ -13,8 +13,8 @@ use Rattle.cx_base_commands.specs.Commands.{row_of}
 use Rattle.cx_base_commands.specs.Facts.Commands.{each_command}
 use Rattle.cx_base_commands.specs.Legal.{has_bit, lists_conditions}
 use Rattle.cx_base_commands.specs.Options.{option_name}
-use Rattle.cx_translate.specs.declared.due.DueStatement.{DueStatement}
-use Rattle.cx_translate.specs.declared.due.DueStatement.TheVariants.{Nothing, Name, Value, Label}
+use Rattle.cx_translate.specs.declared.due_arguments.DueArgument.{DueArgument}
+use Rattle.cx_translate.specs.declared.due_arguments.DueArgument.TheVariants.{Nothing, Name, Value, Label}
 use Rattle.cx_translate.specs.declared.faults.TransFault.{TransFault}
 use Rattle.cx_translate.specs.declared.faults.TransFault.TheVariants.{BadArgument, UnknownOption}
 use Rattle.cx_translate.specs.declared.words.Argument.{Argument}
@@ -22,7 +22,7 @@ use Rattle.cx_translate.specs.declared.words.Argument.TheVariants.{Absent, Given
 use Rattle.cx_translate.specs.declared.words.Word.{Word}
 use Rattle.cx_translate.specs.Facts.Found.{is_wrong, operand_by, with_option}
 use Rattle.cx_translate.specs.Call.{argument_of, operands_of, text_in}
-use Rattle.cx_translate.specs.PendingStatements.{common_due, condition_due, due_of, option_called, suits}
+use Rattle.cx_translate.specs.DueArguments.{common_due, condition_due, due_of, option_called, suits}
 use Rattle.cx_translate.specs.Refusals.{conditions_in, fault_in, first_byte, has_argument, has_unknown, has_wrong, is_given}
 
 -- ---- the bits of an option byte
@@ -47,44 +47,44 @@ all_tell = each_command (λ c. tells (row_of c).options 0 []) refl
 abbrev HasIts : List Word → ℕ → CommandOption → Type 0
 HasIts words byte o = has_bit byte o.bit ≡ is_given words (option_name o.name)
 
-record Told (words : List Word) (byte : ℕ) (options : List CommandOption) (seen : List (CommandOption × Bool)) : Type 0 where
+record Reported (words : List Word) (byte : ℕ) (options : List CommandOption) (seen : List (CommandOption × Bool)) : Type 0 where
   own : AllByRecursion (HasIts words byte) options
   others : list_all (λ (p : CommandOption × Bool). agree (has_bit byte (p.0).bit) p.1) seen ≡ true
 
-told : (words : List Word) (options : List CommandOption) (byte : ℕ) (seen : List (CommandOption × Bool)) → tells options byte seen ≡ true
-    → Told words (fold (with_option words) byte options) options seen
-told words [] byte seen h = record { own = tt; others = h }
-told words (o ∷ rest) byte seen h =
+reported : (words : List Word) (options : List CommandOption) (byte : ℕ) (seen : List (CommandOption × Bool)) → tells options byte seen ≡ true
+    → Reported words (fold (with_option words) byte options) options seen
+reported words [] byte seen h = record { own = tt; others = h }
+reported words (o ∷ rest) byte seen h =
     let p = and_parts (tells rest (bit_or byte o.bit) ((o, true) ∷ seen)) (tells rest byte ((o, false) ∷ seen)) h in
-    by_given (is_given words (option_name o.name)) refl (told words rest (bit_or byte o.bit) ((o, true) ∷ seen) p.0) (told words rest byte ((o, false) ∷ seen) p.1)
+    by_given (is_given words (option_name o.name)) refl (reported words rest (bit_or byte o.bit) ((o, true) ∷ seen) p.0) (reported words rest byte ((o, false) ∷ seen) p.1)
   where
-    more : (g : Bool) (now : ℕ) → is_given words (option_name o.name) ≡ g → Told words now rest ((o, g) ∷ seen) → Told words now (o ∷ rest) seen
+    more : (g : Bool) (now : ℕ) → is_given words (option_name o.name) ≡ g → Reported words now rest ((o, g) ∷ seen) → Reported words now (o ∷ rest) seen
     more g now e t =
         let p = and_parts (agree (has_bit now o.bit) g) (list_all (λ (p : CommandOption × Bool). agree (has_bit now (p.0).bit) p.1) seen) t.others in
         record { own = (agree_is (has_bit now o.bit) g p.0 ∙ sym e, t.own); others = p.1 }
 
-    by_given : (g : Bool) → is_given words (option_name o.name) ≡ g → Told words (fold (with_option words) (bit_or byte o.bit) rest) rest ((o, true) ∷ seen)
-        → Told words (fold (with_option words) byte rest) rest ((o, false) ∷ seen) → Told words (fold (with_option words) (with_option words byte o) rest) (o ∷ rest) seen
+    by_given : (g : Bool) → is_given words (option_name o.name) ≡ g → Reported words (fold (with_option words) (bit_or byte o.bit) rest) rest ((o, true) ∷ seen)
+        → Reported words (fold (with_option words) byte rest) rest ((o, false) ∷ seen) → Reported words (fold (with_option words) (with_option words byte o) rest) (o ∷ rest) seen
     by_given true e given other = rw e (more true _ e given)
     by_given false e given other = rw e (more false _ e other)
 
 -- ---- an option's argument
--- what is due with an option agrees with its mark
-abbrev fits : Option DueStatement → ArgumentKind → Bool
-fits (Some Nothing) mark = not (takes_argument mark)
-fits (Some (Name n)) mark = takes_argument mark
-fits (Some Value) mark = takes_argument mark
-fits due mark = false
+-- what is due with an option agrees with its kind
+abbrev fits : Option DueArgument → ArgumentKind → Bool
+fits (Some Nothing) kind = not (takes_argument kind)
+fits (Some (Name n)) kind = takes_argument kind
+fits (Some Value) kind = takes_argument kind
+fits due kind = false
 
-all_fit : (c : Command) → list_all (λ o. fits (due_of c (option_name o.name)) o.mark) (row_of c).options ≡ true
+all_fit : (c : Command) → list_all (λ o. fits (due_of c (option_name o.name)) o.kind) (row_of c).options ≡ true
 unfolding due_of option_called common_due condition_due
-all_fit = each_command (λ c. list_all (λ o. fits (due_of c (option_name o.name)) o.mark) (row_of c).options) refl
+all_fit = each_command (λ c. list_all (λ o. fits (due_of c (option_name o.name)) o.kind) (row_of c).options) refl
 
 not_true : (b : Bool) → not b ≡ true → false ≡ b
 not_true true e = absurd (cc)
 not_true false e = refl
 
-suited : (d : DueStatement) (a : Argument) (m : ArgumentKind) → fits (Some d) m ≡ true → not (suits d a) ≡ false → is_some (text_in a) ≡ takes_argument m
+suited : (d : DueArgument) (a : Argument) (m : ArgumentKind) → fits (Some d) m ≡ true → not (suits d a) ≡ false → is_some (text_in a) ≡ takes_argument m
 unfolding suits
 suited Nothing Absent m f s = not_true (takes_argument m) f
 suited Nothing (Given text) m f s = absurd (cc)
@@ -97,7 +97,7 @@ suited Value (Given text) m f s = sym f
 suited Value Bad m f s = absurd (cc)
 suited Label a m f s = absurd (cc)
 
-right_by : (d : Option DueStatement) (a : Argument) (m : ArgumentKind) → fits d m ≡ true → is_wrong d a ≡ false → is_some (text_in a) ≡ takes_argument m
+right_by : (d : Option DueArgument) (a : Argument) (m : ArgumentKind) → fits d m ≡ true → is_wrong d a ≡ false → is_some (text_in a) ≡ takes_argument m
 right_by None a m f w = absurd (cc)
 right_by (Some d) a m f w = suited d a m f w
 
@@ -124,11 +124,11 @@ abbrev IsRead : List Word → ℕ → CommandOption → Type 0
 IsRead words first o = is_argument first o ≡ is_some (argument_of words (option_name o.name))
 
 are_read : (c : Command) (words : List Word) (first : ℕ) (options : List CommandOption) → has_wrong c words ≡ false
-    → list_all (λ o. fits (due_of c (option_name o.name)) o.mark) options ≡ true → AllByRecursion (HasIts words first) options → AllByRecursion (IsRead words first) options
+    → list_all (λ o. fits (due_of c (option_name o.name)) o.kind) options ≡ true → AllByRecursion (HasIts words first) options → AllByRecursion (IsRead words first) options
 are_read c words first [] right fit own = tt
 are_read c words first (o ∷ rest) right fit own =
-    let p = and_parts (fits (due_of c (option_name o.name)) o.mark) (list_all (λ o. fits (due_of c (option_name o.name)) o.mark) rest) fit in
-    (ap (λ b. b && takes_argument o.mark) own.0 ∙ sym (argued c words (option_name o.name) o.mark p.0 right), are_read c words first rest right p.1 own.1)
+    let p = and_parts (fits (due_of c (option_name o.name)) o.kind) (list_all (λ o. fits (due_of c (option_name o.name)) o.kind) rest) fit in
+    (ap (λ b. b && takes_argument o.kind) own.0 ∙ sym (argued c words (option_name o.name) o.kind p.0 right), are_read c words first rest right p.1 own.1)
 
 -- at the place of the argument that was handed over
 at_its_place : (words : List Word) (first : ℕ) (before : List CommandOption) (option : CommandOption) (after : List CommandOption) (text : List ℕ)
@@ -144,7 +144,7 @@ at_its_place words first (o ∷ before) option after text read given =
     rest = filter (is_argument first) (before ++ option ∷ after)
 
     by_argument : (a : Option (List ℕ)) (b : Bool) → b ≡ is_some a → slice_get rest (length (operands_of before words)) ≡ Some option
-        → slice_get (cond b (o ∷ rest) rest) (length (operand_by o.mark a ++ operands_of before words)) ≡ Some option
+        → slice_get (cond b (o ∷ rest) rest) (length (operand_by o.kind a ++ operands_of before words)) ≡ Some option
     by_argument None b e more = rw e more
     by_argument (Some t) b e more = rw e more
 
@@ -187,6 +187,6 @@ option_is_read line c cics named words before option after text none split given
         → slice_get (filter (is_argument (cond (lists_conditions c) (conditions_in words) byte)) (row_of c).options) (length (operands_of before words)) ≡ Some option
     by_list true e z = empty (row_of c).options before split z
     by_list false e z =
-        let its = are_read c words byte (row_of c).options (right line c cics named words none) (all_fit c) (told words (row_of c).options 0 [] (all_tell c)).own in
+        let its = are_read c words byte (row_of c).options (right line c cics named words none) (all_fit c) (reported words (row_of c).options 0 [] (all_tell c)).own in
         let there = at_its_place words byte before option after text (subst (AllByRecursion (IsRead words byte)) split its) given in
         rw e (subst (λ (k : List CommandOption). slice_get (filter (is_argument byte) k) (length (operands_of before words)) ≡ Some option) (sym split) there)

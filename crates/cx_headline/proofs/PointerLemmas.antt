@@ -21,9 +21,9 @@ use Rattle.cx_region_call.specs.declared.call.CallFault.{CallFault}
 use Rattle.cx_region_call.specs.declared.outputs.Output.{Output}
 use Rattle.cx_region_call.specs.declared.outputs.OutputValue.TheVariants.{Word}
 use Rattle.cx_region_call.specs.Call.{Call, place_of}
-use Rattle.cx_asm_arrival.specs.Arrives.{Arrives}
-use Rattle.cx_asm_arrival.specs.Stands.{code_length}
-use Rattle.cx_asm_arrival.specs.Expansion.{Argument, Statement, argument_address, call_made, instructions_made}
+use Rattle.cx_asm_execution.specs.Arrives.{Arrives}
+use Rattle.cx_asm_execution.specs.Stands.{code_length}
+use Rattle.cx_asm_execution.specs.Expansion.{Argument, Statement, argument_address, call_made, instructions_made}
 use Rattle.cx_source.specs.declared.source.Item.{Item}
 use Rattle.cx_source.specs.declared.source.Source.{Source}
 use Rattle.cx_source.specs.declared.source.Stmt.{Stmt}
@@ -42,7 +42,7 @@ use Rattle.cx_region_commands.specs.Common.{output as output_of}
 use Rattle.cx_region_state.specs.State.{TaskContext}
 use Rattle.cx_region_state.specs.Verdicts.{handed_over}
 use Rattle.cx_region_task.specs.Turn.{machine_of}
-use Rattle.cx_region_task_laws.specs.Laws.Pointers.{HasPutOut, OutputsStay, ProgramsGoOn, is_written_again}
+use Rattle.cx_region_laws.specs.Laws.Pointers.{HasPutOut, OutputsStay, ProgramsGoOn, is_written_again}
 use Rattle.cx_headline.specs.Laws.Pointers.{GetsPointer, IsPerformed, PointersAreGiven}
 use Rattle.cx_headline.proofs.OptionLemmas.{option_is_read}
 

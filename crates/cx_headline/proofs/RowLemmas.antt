@@ -58,8 +58,8 @@ ended_row : (before : EdfState) (name : List ℕ) (a : Aid) (bytes : List ℕ) (
 unfolding EdfApplies door_of
 ended_row before name a bytes given after h ends =
     let row : PassesOn before (event.Alter name change.Abend) (Some answer.ToEdf) given after = at_true before (ends_by_key before name a) _ _ given after ends h in
-    let told = alter_reply before.region name change.Abend row.reply after.region row.happens in
-    subst (λ (r : AlterReply). Alters before.region name change.Abend r after.region) (abends_are_done before.region name told.0 after.region told.2 (ends_live before name a ends)) told.2
+    let altered = alter_reply before.region name change.Abend row.reply after.region row.applies in
+    subst (λ (r : AlterReply). Alters before.region name change.Abend r after.region) (abends_are_done before.region name altered.0 after.region altered.2 (ends_live before name a ends)) altered.2
 
 -- ---- any other event is passed
 pub passed : OtherEventsArePassed → (before : EdfState) (x : Event) (given : Answer) (after : EdfState) → EdfApplies before (edf_event.Plain x) given after
@@ -96,13 +96,13 @@ turn_row : HalfTurnsDecide → OtherEventsArePassed → (before : EdfState) (nam
     → is_own before (edf_event.Plain (event.Turn name)) ≡ false → IsTurn before.region name given after.region
 turn_row decide law before name given after h own =
     let row = passed law before (event.Turn name) given after h own in
-    turned decide before.region name row.reply given after.region row.answers row.happens
+    turned decide before.region name row.reply given after.region row.answers row.applies
 
 other_row : OtherEventsArePassed → (before : EdfState) (plain : Event) (given : Answer) (after : EdfState) → EdfApplies before (edf_event.Plain plain) given after → is_own before (edf_event.Plain plain) ≡ false
     → IsRow before.region plain given after.region
 other_row law before plain given after h own =
     let row = passed law before plain given after h own in
-    record { reply = row.reply; happens = row.happens; answers = row.answers }
+    record { reply = row.reply; applies = row.applies; answers = row.answers }
 
 -- ---- each event
 is_row : HalfTurnsDecide → OwnEventsHaveOwnAnswers → ErasedEvents → ErasedEventsLeaveTheRegion → OtherEventsArePassed → (before : EdfState) (e : EdfEvent) (given : Answer) (after : EdfState) → EdfApplies before e given after → IsItsRow before e given after

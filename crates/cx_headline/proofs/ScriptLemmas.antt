@@ -20,7 +20,7 @@ use Rattle.cx_script.specs.Laws.Inputs.{was_stopped}
 use Rattle.cx_look_script.specs.Laws.Looks.{LooksChangeNothing, plain_of, written_of}
 use Rattle.cx_look_script.specs.Looking.{LookPerforms}
 use Rattle.cx_look_script.specs.Reading.{look_language}
-use Rattle.cx_look_script.specs.State.{fresh_looked}
+use Rattle.cx_look_script.specs.State.{fresh_look_state}
 use Rattle.cx_headline.specs.Laws.Looks.{ScriptsAreLookedOver}
 use Rattle.cx_headline.specs.Laws.Runs.{IsDoneOf, OfEachRun, OfEachScript, WasWritten}
 
@@ -108,8 +108,8 @@ of_scripts law Holds each left left_after failed answer before after ran =
 -- ---- scripts with looks
 pub looked_over : ScriptsRunTheirEvents → LooksChangeNothing → ScriptsAreLookedOver
 looked_over law change left left_after failed answer before after ran =
-    let d = done_in look_language LookPerforms fresh_looked ran.ending ran.bytes answer before after ran.ends in
-    let c = change fresh_looked d.actions d.text d.new d.runs in
+    let d = done_in look_language LookPerforms fresh_look_state ran.ending ran.bytes answer before after ran.ends in
+    let c = change fresh_look_state d.actions d.text d.new d.runs in
     record {
       count = d.count;
       actions = d.actions;

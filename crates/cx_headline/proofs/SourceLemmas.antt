@@ -32,7 +32,7 @@ blocks_come_back back listing disassembly block prepared e = by_read (source_in 
     made_back : (source translated : Source) (made : AssemblyParts) → source_in block ≡ Ok source → translation_of source ≡ Ok translated
         → assembly_of translated ≡ Ok made → prepared_by listing disassembly made ≡ prepared → IsWrittenBack listing disassembly block prepared
     made_back source translated made read translation assembled same =
-        let told : List Line → List ℕ = λ all. where_wanted listing made.listing ++ where_wanted disassembly (map line_text all) in
+        let reported : List Line → List ℕ = λ all. where_wanted listing made.listing ++ where_wanted disassembly (map line_text all) in
         subst (λ (p : Prepared). IsWrittenBack listing disassembly block p) same (record {
           source = source;
           read = read;
@@ -41,7 +41,7 @@ blocks_come_back back listing disassembly block prepared e = by_read (source_in 
           made = made;
           assembled = assembled;
           image = refl;
-          text = ap told (resolved_is translated made assembled);
+          text = ap reported (resolved_is translated made assembled);
           back = back translated made assembled;
         })
 

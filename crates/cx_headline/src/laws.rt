@@ -10,7 +10,7 @@ ghost use Rattle.cx_headline.specs.Laws.Rows.{EachIsItsRow};
 ghost use Rattle.cx_headline.specs.Laws.Runs.{OfEachRun, OfEachScript};
 ghost use Rattle.cx_headline.specs.Laws.Sources.{BlocksComeBack};
 ghost use Rattle.cx_headline.specs.Laws.Watching.{IsAsUnwatched, ShowingChangesNothing};
-ghost use Rattle.cx_look_script.specs.Laws.Looks.{LooksAreMarked, LooksAreToldOnce, LooksChangeNothing};
+ghost use Rattle.cx_look_script.specs.Laws.Looks.{LooksAreMarked, LooksAreReportedOnce, LooksChangeNothing};
 ghost use Rattle.cx_region.specs.Defining.{fresh_region};
 
 /// Each event of a run changes the region exactly as its row says. A turn is one half-turn of the terminal's task: the
@@ -57,11 +57,11 @@ pub fn watching_changes_nothing()
 pub fn looking_changes_nothing()
     ensures runs { LooksChangeNothing }
     ensures scripts { ScriptsAreLookedOver }
-    ensures told { LooksAreToldOnce }
+    ensures reported { LooksAreReportedOnce }
     ensures marked { LooksAreMarked }
 {
     cx_look_script::laws::looks_change_nothing();
-    cx_look_script::laws::looks_are_told_once();
+    cx_look_script::laws::looks_are_reported_once();
     cx_look_script::laws::looks_are_marked();
     cx_script::laws::a_script_runs_its_events();
 }
@@ -86,7 +86,7 @@ pub fn what_is_due_is_kept()
     ensures watched { OfEachRun StillKeepsWhatIsDue }
     ensures scripts { OfEachScript AlwaysKeepsWhatIsDue }
 {
-    cx_region_task_laws::laws::half_turns_leave_callers();
+    cx_region_laws::laws::half_turns_leave_callers();
     cx_region_laws::laws::an_alteration_keeps_to_its_task();
     cx_script::laws::a_script_runs_its_events();
 }
@@ -101,5 +101,5 @@ pub fn a_pointer_comes_back()
     ensures { PointersAreGiven }
 {
     cx_base_commands::laws::arguments_are_found_by_name();
-    cx_region_task_laws::laws::a_pointer_stays();
+    cx_region_laws::laws::a_pointer_stays();
 }

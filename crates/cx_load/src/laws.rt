@@ -38,7 +38,7 @@ pub fn words_in_order()
         → (fault ≢ RelocOutside) × (fault ≢ Overlap) }
 {}
 
-/// Each relocated word is raised by the load address modulo 2^32, every byte of no such word stays, and
+/// The load address is added to each relocated word modulo 2^32, every byte of no such word stays, and
 /// the text keeps its length.
 pub fn relocation()
     ensures words { (at i : ℕ) (relocs text : List ℕ) → IsTrue (all_apart relocs)

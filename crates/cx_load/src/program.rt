@@ -95,7 +95,7 @@ pub fn has_room<S: Store>(store: &S, len: u32) -> bool
 }
 
 /// Loads a checked image: the text is put at the least place from X'010000' to X'1FFFFF', in a fixed
-/// area of slot 0, each relocated word raised by that address modulo 2^32. NoRoom exactly where there is
+/// area of slot 0, that address added to each relocated word modulo 2^32. NoRoom exactly where there is
 /// no place; Memory only where an allocation failed. Either leaves the store as it was.
 #[tactic(auto, using(crate::proofs::LoadLemmas::place_ends, crate::proofs::LoadLemmas::place_found))]
 pub fn load<S: Store>(

@@ -6,15 +6,15 @@ use Rattle.std.specs.Option.{option_map_or}
 use Rattle.cx_storage.specs.Address.{address_in}
 use Rattle.cx_region_task.specs.declared.cause.Cause.{Cause}
 use Rattle.cx_region_task.specs.declared.cause.Cause.TheVariants as cause
-use Rattle.cx_region_task.specs.declared.cause.Trouble.{Trouble}
+use Rattle.cx_region_task.specs.declared.cause.AbendRecord.{AbendRecord}
 use Rattle.cx_base_text.specs.Digits.{digits}
 use Rattle.cx_base_text.specs.Texts.{shown_text, shown_name}
 use Rattle.cx_look_symbols.specs.Lines.{SourcePlaces}
 use Rattle.cx_look_abend.specs.Laws.{IsOfLines, TextsAreLines}
-use Rattle.cx_look_abend.specs.Texts.{abend_text, code_line, command_lines, command_word, exit_line, head_line, instruction_word, last_of, last_text, line, next_line, none_line, place_word, register_line, register_lines, told_lines, where_lines, why_word}
+use Rattle.cx_look_abend.specs.Texts.{abend_text, code_line, command_lines, command_word, exit_line, head_line, instruction_word, last_of, last_text, line, next_line, none_line, place_word, register_line, register_lines, explanation_lines, where_lines, why_word}
 use Rattle.cx_look_abend.specs.declared.abends.LastAbend.{LastAbend}
 use Rattle.cx_look_abend.specs.declared.abends.Place.{Place}
-use Rattle.cx_look_abend.specs.declared.abends.Told.{Told}
+use Rattle.cx_look_abend.specs.declared.abends.Explanation.{Explanation}
 
 none : IsOfLines []
 none = record { lines = []; whole = refl }
@@ -45,35 +45,35 @@ registers regs =
     (both (register_line (codes "R00") regs 0) (register_line (codes "R04") regs 4) (register (codes "R00") regs 0) (register (codes "R04") regs 4))
     (register (codes "R08") regs 8)) (register (codes "R12") regs 12)
 
-next : (sources : SourcePlaces) (trouble : Trouble) (place : Place) → IsOfLines (next_line sources trouble place)
-next sources trouble place = one (codes "NEXT" ∷ place_word sources place ∷ codes "INSTRUCTION" ∷ instruction_word trouble.bytes ∷ [])
+next : (sources : SourcePlaces) (abend_record : AbendRecord) (place : Place) → IsOfLines (next_line sources abend_record place)
+next sources abend_record place = one (codes "NEXT" ∷ place_word sources place ∷ codes "INSTRUCTION" ∷ instruction_word abend_record.bytes ∷ [])
 
-command : (sources : SourcePlaces) (trouble : Trouble) (place : Place) → IsOfLines (command_lines sources trouble place)
-command sources trouble place =
-    both (line (codes "COMMAND" ∷ command_word trouble.command ∷ codes "LIST" ∷ digits 16 6 (address_in (slice_index trouble.regs 1)) ∷ [])) (line (codes "R14" ∷ place_word sources place ∷ []))
-    (one (codes "COMMAND" ∷ command_word trouble.command ∷ codes "LIST" ∷ digits 16 6 (address_in (slice_index trouble.regs 1)) ∷ [])) (one (codes "R14" ∷ place_word sources place ∷ []))
+command : (sources : SourcePlaces) (abend_record : AbendRecord) (place : Place) → IsOfLines (command_lines sources abend_record place)
+command sources abend_record place =
+    both (line (codes "COMMAND" ∷ command_word abend_record.command ∷ codes "LIST" ∷ digits 16 6 (address_in (slice_index abend_record.regs 1)) ∷ [])) (line (codes "R14" ∷ place_word sources place ∷ []))
+    (one (codes "COMMAND" ∷ command_word abend_record.command ∷ codes "LIST" ∷ digits 16 6 (address_in (slice_index abend_record.regs 1)) ∷ [])) (one (codes "R14" ∷ place_word sources place ∷ []))
 
-placed : (sources : SourcePlaces) (why : Cause) (trouble : Trouble) (place : Place) → IsOfLines (where_lines sources why trouble place)
-placed sources (cause.Interrupted it) trouble place = next sources trouble place
-placed sources cause.Limit trouble place = next sources trouble place
-placed sources (cause.Refused abend) trouble place = command sources trouble place
-placed sources (cause.Met condition) trouble place = command sources trouble place
-placed sources cause.Asked trouble place = command sources trouble place
+placed : (sources : SourcePlaces) (why : Cause) (abend_record : AbendRecord) (place : Place) → IsOfLines (where_lines sources why abend_record place)
+placed sources (cause.Interrupted it) abend_record place = next sources abend_record place
+placed sources cause.Limit abend_record place = next sources abend_record place
+placed sources (cause.Refused abend) abend_record place = command sources abend_record place
+placed sources (cause.Met condition) abend_record place = command sources abend_record place
+placed sources cause.Asked abend_record place = command sources abend_record place
 
-told : (sources : SourcePlaces) (it : Told) → IsOfLines (told_lines sources it)
-unfolding told_lines
-told sources it =
-    both (where_lines sources it.trouble.cause it.trouble it.place ++ register_lines it.trouble.regs) (code_line it.trouble.cc)
-    (both (where_lines sources it.trouble.cause it.trouble it.place) (register_lines it.trouble.regs) (placed sources it.trouble.cause it.trouble it.place) (registers it.trouble.regs))
-    (one (codes "CC" ∷ digits 10 1 it.trouble.cc ∷ []))
+explanation : (sources : SourcePlaces) (it : Explanation) → IsOfLines (explanation_lines sources it)
+unfolding explanation_lines
+explanation sources it =
+    both (where_lines sources it.abend_record.cause it.abend_record it.place ++ register_lines it.abend_record.regs) (code_line it.abend_record.cc)
+    (both (where_lines sources it.abend_record.cause it.abend_record it.place) (register_lines it.abend_record.regs) (placed sources it.abend_record.cause it.abend_record it.place) (registers it.abend_record.regs))
+    (one (codes "CC" ∷ digits 10 1 it.abend_record.cc ∷ []))
 
 last : (sources : SourcePlaces) (name : List ℕ) (it : LastAbend) → IsOfLines (last_text sources name it)
 unfolding last_text
 last sources name it =
-    both (head_line name it ++ exit_line sources it.exit) (option_map_or (told_lines sources) it.told [])
-    (both (head_line name it) (exit_line sources it.exit) (one (codes "ABEND" ∷ shown_name name ∷ shown_text it.code ∷ why_word it.told ∷ []))
+    both (head_line name it ++ exit_line sources it.exit) (option_map_or (explanation_lines sources) it.explanation [])
+    (both (head_line name it) (exit_line sources it.exit) (one (codes "ABEND" ∷ shown_name name ∷ shown_text it.code ∷ why_word it.explanation ∷ []))
     (if_there (λ (place : Place). line (codes "EXIT" ∷ place_word sources place ∷ [])) (λ place. one (codes "EXIT" ∷ place_word sources place ∷ [])) it.exit))
-    (if_there (told_lines sources) (told sources) it.told)
+    (if_there (explanation_lines sources) (explanation sources) it.explanation)
 
 pub texts_are_lines : TextsAreLines
 unfolding abend_text

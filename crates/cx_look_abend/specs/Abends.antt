@@ -10,7 +10,7 @@ use Rattle.cx_region_state.specs.declared.replies.TurnReply.{TurnReply}
 use Rattle.cx_region_state.specs.declared.replies.TurnReply.TheVariants as turn
 use Rattle.cx_region_task.specs.declared.cause.Cause.{Cause}
 use Rattle.cx_region_task.specs.declared.cause.Cause.TheVariants as cause
-use Rattle.cx_region_task.specs.declared.cause.Trouble.{Trouble}
+use Rattle.cx_region_task.specs.declared.cause.AbendRecord.{AbendRecord}
 use Rattle.cx_region.specs.State.{RegionState}
 use Rattle.cx_region.specs.Tables.{task_of}
 use Rattle.cx_look_abend.specs.declared.abends.LastAbend.{LastAbend}
@@ -37,13 +37,13 @@ abend_code_in (turn.Abended code) = Some code
 abend_code_in _ = None
 
 -- where the program was: at the next address, or after a command, where bits 8 to 31 of R14 lead
-abbrev pub place_by : Cause → Trouble → ℕ
-place_by (cause.Interrupted interruption) trouble = trouble.next
-place_by cause.Limit trouble = trouble.next
-place_by _ trouble = address_in (slice_index trouble.regs 14)
+abbrev pub place_by : Cause → AbendRecord → ℕ
+place_by (cause.Interrupted interruption) abend_record = abend_record.next
+place_by cause.Limit abend_record = abend_record.next
+place_by _ abend_record = address_in (slice_index abend_record.regs 14)
 
-abbrev pub told_place : Trouble → ℕ
-told_place trouble = place_by trouble.cause trouble
+abbrev pub abend_place : AbendRecord → ℕ
+abend_place abend_record = place_by abend_record.cause abend_record
 
 -- where the program goes on, where an exit took the abend
 abbrev pub next_of : RegionState → List ℕ → Option ℕ
@@ -53,19 +53,19 @@ abbrev pub exit_place : RegionState → List ℕ → TurnReply → Option Place
 exit_place region name (turn.TookExit code) = option_map (place_in region.programs) (next_of region name)
 exit_place region name _ = None
 
--- the abend of a turn of this terminal with that reply and trouble, in the region after it
-abbrev pub last_with : RegionState → List ℕ → TurnReply → Trouble → List ℕ → LastAbend
-last_with region name reply trouble code =
+-- the abend of a turn of this terminal with that reply and record, in the region after it
+abbrev pub last_with : RegionState → List ℕ → TurnReply → AbendRecord → List ℕ → LastAbend
+last_with region name reply abend_record code =
     record {
       code = code;
-      told = Some (record { trouble = trouble; place = place_in region.programs (told_place trouble) });
+      explanation = Some (record { abend_record = abend_record; place = place_in region.programs (abend_place abend_record) });
       exit = exit_place region name reply;
     }
 
-abbrev pub last_of_turn : RegionState → List ℕ → TurnReply → Option Trouble → Option LastAbend
-last_of_turn region name reply trouble =
-    option_and_then (λ it. option_map (last_with region name reply it) (abend_code_in reply)) trouble
+abbrev pub last_of_turn : RegionState → List ℕ → TurnReply → Option AbendRecord → Option LastAbend
+last_of_turn region name reply abend_record =
+    option_and_then (λ it. option_map (last_with region name reply it) (abend_code_in reply)) abend_record
 
 -- an abend that an operator asked for
 abbrev pub by_operator : LastAbend
-by_operator = record { code = abend_code Xedf; told = None; exit = None }
+by_operator = record { code = abend_code Xedf; explanation = None; exit = None }

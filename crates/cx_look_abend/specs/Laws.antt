@@ -20,7 +20,7 @@ pub record IsLast (before : Abends) (name code : List ℕ) (after : Abends) : Ty
   pub last : LastAbend
   pub kept : after ≡ with_last before name last
   pub with_code : last.code ≡ code
-  pub told : is_some last.told ≡ true
+  pub explained : is_some last.explanation ≡ true
 
 -- a turn that was answered as an abend, whether an exit took it or not, is kept; any other leaves what is kept
 abbrev pub KeepsTurn : Abends → List ℕ → TurnReply → Abends → Type 0

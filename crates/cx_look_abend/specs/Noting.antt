@@ -3,7 +3,7 @@ use Rattle.std.specs.Prelude.{◌≡◌, ℕ, Bool, true, false, ⊤, List, Opti
 use Rattle.std.specs.Map.{set_value}
 use Rattle.std.specs.Option.{option_map_or}
 use Rattle.indexmap.specs.IndexMap.{insert_entry}
-use Rattle.cx_region_task.specs.declared.cause.Trouble.{Trouble}
+use Rattle.cx_region_task.specs.declared.cause.AbendRecord.{AbendRecord}
 use Rattle.cx_ebcdic.specs.Names.{is_name}
 use Rattle.cx_region.specs.State.{RegionState}
 use Rattle.cx_region.specs.declared.changes.AlterReply.TheVariants as alter
@@ -11,7 +11,7 @@ use Rattle.cx_region.specs.declared.changes.Change.{Change}
 use Rattle.cx_region.specs.declared.changes.Change.TheVariants as change
 use Rattle.cx_region.specs.declared.replies.Event.TheVariants as event
 use Rattle.cx_region.specs.declared.replies.Reply.TheVariants as reply
-use Rattle.cx_edf.specs.Causes.{EdfHasTrouble}
+use Rattle.cx_edf.specs.Causes.{EdfHasAbendRecord}
 use Rattle.cx_edf.specs.Runs.{MayTakeEdf}
 use Rattle.cx_edf.specs.State.{EdfState, ends_by_key}
 use Rattle.cx_edf.specs.Steps.{EdfApplies}
@@ -39,10 +39,10 @@ abbrev pub kept_terminal : Abends → List ℕ → Answer → Abends
 kept_terminal abends name given = if is_defined given then insert_entry is_name abends name None else abends
 
 -- an abend to which a turn led, in the region after it
-abbrev pub kept_turn : Abends → List ℕ → Answer → Option Trouble → RegionState → Abends
-kept_turn abends name (answer.Region (reply.Turn given)) trouble region =
-    option_map_or (with_last abends name) (last_of_turn region name given trouble) abends
-kept_turn abends name _ trouble region = abends
+abbrev pub kept_turn : Abends → List ℕ → Answer → Option AbendRecord → RegionState → Abends
+kept_turn abends name (answer.Region (reply.Turn given)) abend_record region =
+    option_map_or (with_last abends name) (last_of_turn region name given abend_record) abends
+kept_turn abends name _ abend_record region = abends
 
 -- an abend that an operator asked for, by ALTER, or by PF12 that ends a task
 abbrev pub kept_alter : Abends → List ℕ → Change → Answer → Abends
@@ -52,14 +52,14 @@ kept_alter abends name _ _ = abends
 abbrev pub kept_key : Abends → List ℕ → Bool → Abends
 kept_key abends name ends = if ends then with_last abends name by_operator else abends
 
--- What is kept after an event that was answered so, for that trouble, in the region after it; the flag says that it was PF12
+-- What is kept after an event that was answered so, with that record of an abend, in the region after it; the flag says that it was PF12
 -- that ends a task.
-abbrev pub kept_after : Abends → Bool → EdfEvent → Answer → Option Trouble → RegionState → Abends
-kept_after abends ends (edf_event.Plain (event.Terminal name)) given trouble region = kept_terminal abends name given
-kept_after abends ends (edf_event.Plain (event.Turn name)) given trouble region = kept_turn abends name given trouble region
-kept_after abends ends (edf_event.Plain (event.Alter name c)) given trouble region = kept_alter abends name c given
-kept_after abends ends (edf_event.Plain (event.Key name aid bytes)) given trouble region = kept_key abends name ends
-kept_after abends ends _ given trouble region = abends
+abbrev pub kept_after : Abends → Bool → EdfEvent → Answer → Option AbendRecord → RegionState → Abends
+kept_after abends ends (edf_event.Plain (event.Terminal name)) given abend_record region = kept_terminal abends name given
+kept_after abends ends (edf_event.Plain (event.Turn name)) given abend_record region = kept_turn abends name given abend_record region
+kept_after abends ends (edf_event.Plain (event.Alter name c)) given abend_record region = kept_alter abends name c given
+kept_after abends ends (edf_event.Plain (event.Key name aid bytes)) given abend_record region = kept_key abends name ends
+kept_after abends ends _ given abend_record region = abends
 
 abbrev pub ends_task : EdfState → EdfEvent → Bool
 ends_task old (edf_event.Plain (event.Key name aid bytes)) = ends_by_key old name aid
@@ -67,10 +67,10 @@ ends_task old _ = false
 
 -- an event, and what is kept after it
 pub record AppliesWithAbends (old : EdfState) (before : Abends) (e : EdfEvent) (given : Answer) (new : EdfState) (after : Abends) : Type 0 where
-  pub trouble : Option Trouble
-  pub happens : EdfApplies old e given new
-  pub troubled : EdfHasTrouble old e trouble
-  pub kept : after ≡ kept_after before (ends_task old e) e given trouble new.region
+  pub abend_record : Option AbendRecord
+  pub applies : EdfApplies old e given new
+  pub recorded : EdfHasAbendRecord old e abend_record
+  pub kept : after ≡ kept_after before (ends_task old e) e given abend_record new.region
 
 -- A new terminal takes room for its last abend; any other event may take memory as it may without what is kept.
 abbrev pub defines_terminal : EdfEvent → Bool

@@ -12,7 +12,7 @@ use Rattle.cx_exec.specs.declared.machine.Interruption.TheVariants as interrupti
 use Rattle.cx_storage.specs.Address.{address_in}
 use Rattle.cx_region_task.specs.declared.cause.Cause.{Cause}
 use Rattle.cx_region_task.specs.declared.cause.Cause.TheVariants as cause
-use Rattle.cx_region_task.specs.declared.cause.Trouble.{Trouble}
+use Rattle.cx_region_task.specs.declared.cause.AbendRecord.{AbendRecord}
 use Rattle.cx_ebcdic.specs.Names.{is_name}
 use Rattle.cx_base_text.specs.Digits.{digits}
 use Rattle.cx_base_text.specs.Texts.{shown_text, shown_name, written_line}
@@ -20,7 +20,7 @@ use Rattle.cx_look_symbols.specs.Lines.{SourcePlaces, line_word}
 use Rattle.cx_look_abend.specs.Noting.{Abends}
 use Rattle.cx_look_abend.specs.declared.abends.LastAbend.{LastAbend}
 use Rattle.cx_look_abend.specs.declared.abends.Place.{Place}
-use Rattle.cx_look_abend.specs.declared.abends.Told.{Told}
+use Rattle.cx_look_abend.specs.declared.abends.Explanation.{Explanation}
 
 abbrev pub line : List (List ℕ) → List ℕ
 line words = written_line (codes ">") words
@@ -42,8 +42,8 @@ cause_word (cause.Refused abend) = codes "REFUSED"
 cause_word (cause.Met condition) = codes "CONDITION " ++ (entry_of condition).name
 cause_word cause.Asked = codes "ASKED BY PROGRAM"
 
-abbrev pub why_word : Option Told → List ℕ
-why_word told = option_map_or (λ it. cause_word it.trouble.cause) told (codes "ASKED BY OPERATOR")
+abbrev pub why_word : Option Explanation → List ℕ
+why_word explanation = option_map_or (λ it. cause_word it.abend_record.cause) explanation (codes "ASKED BY OPERATOR")
 
 -- ---- where
 -- an address, and where that is in the program there, with the line of the program's source
@@ -68,22 +68,22 @@ instruction_word bytes =
 
 -- ---- lines
 -- of an interruption or the limit: the next address, and the instruction there
-abbrev pub next_line : SourcePlaces → Trouble → Place → List ℕ
-next_line sources trouble place = line (codes "NEXT" ∷ place_word sources place ∷ codes "INSTRUCTION" ∷ instruction_word trouble.bytes ∷ [])
+abbrev pub next_line : SourcePlaces → AbendRecord → Place → List ℕ
+next_line sources abend_record place = line (codes "NEXT" ∷ place_word sources place ∷ codes "INSTRUCTION" ∷ instruction_word abend_record.bytes ∷ [])
 
 -- of a command: its name, the address of its argument list, and where the program would go on after it
 abbrev pub command_word : Option Command → List ℕ
 command_word command = option_map_or (λ it. (row_of it).name) command (codes "?")
 
-abbrev pub command_lines : SourcePlaces → Trouble → Place → List ℕ
-command_lines sources trouble place =
-    line (codes "COMMAND" ∷ command_word trouble.command ∷ codes "LIST" ∷ digits 16 6 (address_in (slice_index trouble.regs 1)) ∷ [])
+abbrev pub command_lines : SourcePlaces → AbendRecord → Place → List ℕ
+command_lines sources abend_record place =
+    line (codes "COMMAND" ∷ command_word abend_record.command ∷ codes "LIST" ∷ digits 16 6 (address_in (slice_index abend_record.regs 1)) ∷ [])
     ++ line (codes "R14" ∷ place_word sources place ∷ [])
 
-abbrev pub where_lines : SourcePlaces → Cause → Trouble → Place → List ℕ
-where_lines sources (cause.Interrupted it) trouble place = next_line sources trouble place
-where_lines sources cause.Limit trouble place = next_line sources trouble place
-where_lines sources _ trouble place = command_lines sources trouble place
+abbrev pub where_lines : SourcePlaces → Cause → AbendRecord → Place → List ℕ
+where_lines sources (cause.Interrupted it) abend_record place = next_line sources abend_record place
+where_lines sources cause.Limit abend_record place = next_line sources abend_record place
+where_lines sources _ abend_record place = command_lines sources abend_record place
 
 -- four registers from one on, and the code
 abbrev pub register_line : List ℕ → List ℕ → ℕ → List ℕ
@@ -99,9 +99,9 @@ register_lines regs =
 abbrev pub code_line : ℕ → List ℕ
 code_line code = line (codes "CC" ∷ digits 10 1 code ∷ [])
 
-unfoldable pub told_lines : SourcePlaces → Told → List ℕ
-told_lines sources told =
-    where_lines sources told.trouble.cause told.trouble told.place ++ register_lines told.trouble.regs ++ code_line told.trouble.cc
+unfoldable pub explanation_lines : SourcePlaces → Explanation → List ℕ
+explanation_lines sources explanation =
+    where_lines sources explanation.abend_record.cause explanation.abend_record explanation.place ++ register_lines explanation.abend_record.regs ++ code_line explanation.abend_record.cc
 
 -- where an exit took it
 abbrev pub exit_line : SourcePlaces → Option Place → List ℕ
@@ -109,10 +109,10 @@ exit_line sources exit = option_map_or (λ place. line (codes "EXIT" ∷ place_w
 
 -- ---- the look
 abbrev pub head_line : List ℕ → LastAbend → List ℕ
-head_line name last = line (codes "ABEND" ∷ shown_name name ∷ shown_text last.code ∷ why_word last.told ∷ [])
+head_line name last = line (codes "ABEND" ∷ shown_name name ∷ shown_text last.code ∷ why_word last.explanation ∷ [])
 
 unfoldable pub last_text : SourcePlaces → List ℕ → LastAbend → List ℕ
-last_text sources name last = head_line name last ++ exit_line sources last.exit ++ option_map_or (told_lines sources) last.told []
+last_text sources name last = head_line name last ++ exit_line sources last.exit ++ option_map_or (explanation_lines sources) last.explanation []
 
 abbrev pub none_line : List ℕ → List ℕ
 none_line name = line (codes "ABEND" ∷ shown_name name ∷ codes "NONE" ∷ [])

@@ -3,12 +3,12 @@ ghost use Rattle.std.specs.Prelude.{◌≡◌, ◌≤◌, None, Some};
 ghost use Rattle.std.specs.List.{find};
 ghost use Rattle.indexmap.specs.IndexMap.{insert_entry, spare};
 ghost use Rattle.cx_ebcdic.specs.Names.{is_name};
-ghost use Rattle.cx_look_abend.specs.Abends.{abend_code_in, by_operator, covers, exit_place, last_of_turn, next_of, place_in, told_place};
+ghost use Rattle.cx_look_abend.specs.Abends.{abend_code_in, by_operator, covers, exit_place, last_of_turn, next_of, place_in, abend_place};
 
 use cx_base_commands::Abend;
 use cx_ebcdic::{Name4, Name8};
 use cx_load::Loaded;
-use cx_region::{Cause, Region, Trouble, TurnReply};
+use cx_region::{AbendRecord, Cause, Region, TurnReply};
 use cx_storage::{Store, address_in};
 use indexmap::IndexMap;
 use std::marker::Model;
@@ -22,8 +22,8 @@ pub struct Place {
 
 /// Why a turn led to an abend, and where its program was: at the next address, or after a command, where R14 leads.
 #[derive(Clone, Copy, Debug, PartialEq, Eq)]
-pub struct Told {
-    pub trouble: Trouble,
+pub struct Explanation {
+    pub abend_record: AbendRecord,
     pub place: Place,
 }
 
@@ -32,7 +32,7 @@ pub struct Told {
 pub struct LastAbend {
     pub code: Name4,
     /// Why a turn led to it; None where an operator asked for it.
-    pub told: Option<Told>,
+    pub explanation: Option<Explanation>,
     /// Where the program went on, where an exit took it.
     pub exit: Option<Place>,
 }
@@ -136,12 +136,12 @@ fn abend_code_in(reply: &TurnReply) -> Option<Name4>
 }
 
 /// The address where the program was.
-fn told_place(trouble: &Trouble) -> u32
-    ensures { result ≡ told_place trouble.now }
+fn abend_place(abend_record: &AbendRecord) -> u32
+    ensures { result ≡ abend_place abend_record.now }
 {
-    match trouble.cause {
-        Cause::Interrupted(_) | Cause::Limit => trouble.next,
-        _ => address_in(trouble.regs[14]),
+    match abend_record.cause {
+        Cause::Interrupted(_) | Cause::Limit => abend_record.next,
+        _ => address_in(abend_record.regs[14]),
     }
 }
 
@@ -167,22 +167,25 @@ fn exit_place<S: Store + Drop>(region: &Region<S>, name: Name4, reply: &TurnRepl
     }
 }
 
-/// The abend of a turn that was answered so, for that trouble, where the region is as it was after the turn.
+/// The abend of a turn that was answered so, with that record of an abend, where the region is as it was after the turn.
 pub(crate) fn last_of_turn<S: Store + Drop>(
     region: &Region<S>,
     name: Name4,
     reply: &TurnReply,
-    trouble: &Option<Trouble>,
+    abend_record: &Option<AbendRecord>,
 ) -> Option<LastAbend>
-    ensures { result ≡ last_of_turn region.now name reply.now trouble.now }
+    ensures { result ≡ last_of_turn region.now name reply.now abend_record.now }
 {
-    let trouble = (*trouble)?;
+    let abend_record = (*abend_record)?;
     let code = abend_code_in(reply)?;
-    let place = place_in(&region.shared().programs, told_place(&trouble));
+    let place = place_in(&region.shared().programs, abend_place(&abend_record));
     let exit = exit_place(region, name, reply);
     Some(LastAbend {
         code,
-        told: Some(Told { trouble, place }),
+        explanation: Some(Explanation {
+            abend_record,
+            place,
+        }),
         exit,
     })
 }
@@ -193,7 +196,7 @@ pub(crate) fn by_operator() -> LastAbend
 {
     LastAbend {
         code: Abend::Xedf.code(),
-        told: None,
+        explanation: None,
         exit: None,
     }
 }

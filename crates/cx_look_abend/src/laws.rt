@@ -6,7 +6,7 @@ ghost use Rattle.cx_look_abend.specs.Laws.{AbendsAreKept, NotedDecide, TextsAreL
 pub fn abends_are_kept()
     ensures { AbendsAreKept }
 {
-    cx_region_task::laws::troubles_explain();
+    cx_region_task::laws::abend_records_explain();
 }
 
 /// What was there before an event decides its answer, the state after it, and the last abends that are kept then.
@@ -14,7 +14,7 @@ pub fn noted_events_decide()
     ensures { NotedDecide }
 {
     cx_edf::laws::edf_events_decide();
-    cx_region_task::laws::troubles_explain();
+    cx_region_task::laws::abend_records_explain();
 }
 
 /// The text of a terminal's last abend is lines that begin with `> `.

@@ -6,6 +6,6 @@ pub mod laws;
 mod noting;
 mod texts;
 
-pub use abends::{Kept, LastAbend, LastAbends, Place, Told};
-pub use noting::happen_noted;
+pub use abends::{Explanation, Kept, LastAbend, LastAbends, Place};
+pub use noting::apply_noted;
 pub use texts::abend_text;

@@ -10,7 +10,7 @@ ghost use Rattle.cx_look_abend.specs.Noting.{AppliesWithAbends, MayTakeNoted, de
 use crate::abends::{LastAbend, LastAbends, by_operator, last_of_turn, put_none};
 use cx_ebcdic::{Aid, Name4};
 use cx_edf::{Answer, Debugged, EdfEvent};
-use cx_region::{AlterReply, Change, Event, Region, Reply, Trouble, TurnReply};
+use cx_region::{AbendRecord, AlterReply, Change, Event, Region, Reply, TurnReply};
 use cx_storage::Store;
 use std::alloc::AllocError;
 
@@ -49,14 +49,14 @@ fn keep_turn<S: Store + Drop>(
     region: &Region<S>,
     name: Name4,
     answer: &Answer,
-    trouble: &Option<Trouble>,
+    abend_record: &Option<AbendRecord>,
 )
-    ensures { abends.new.entries ≡ kept_turn abends.old.entries name answer.now trouble.now region.now }
+    ensures { abends.new.entries ≡ kept_turn abends.old.entries name answer.now abend_record.now region.now }
 {
     let Answer::Region(Reply::Turn(reply)) = answer else {
         return;
     };
-    let Some(last) = last_of_turn(region, name, reply, trouble) else {
+    let Some(last) = last_of_turn(region, name, reply, abend_record) else {
         return;
     };
     put(abends, name, last);
@@ -86,18 +86,19 @@ fn keep<S: Store + Drop>(
     region: &Region<S>,
     event: &EdfEvent,
     answer: &Answer,
-    trouble: &Option<Trouble>,
+    abend_record: &Option<AbendRecord>,
     ends: bool,
 )
     requires { defines_terminal event.now ≡ true → 1 ≤ spare abends.old }
-    ensures { abends.new.entries ≡ kept_after abends.old.entries ends event.now answer.now trouble.now region.now }
+    ensures { abends.new.entries
+        ≡ kept_after abends.old.entries ends event.now answer.now abend_record.now region.now }
 {
     let EdfEvent::Plain(plain) = event else {
         return;
     };
     match plain {
         Event::Terminal(name) => keep_terminal(abends, *name, answer),
-        Event::Turn(name) => keep_turn(abends, region, *name, answer, trouble),
+        Event::Turn(name) => keep_turn(abends, region, *name, answer, abend_record),
         Event::Alter(name, change) => keep_alter(abends, *name, change, answer),
         Event::Key(name, _aid, _bytes) => keep_key(abends, *name, ends),
         _ => (),
@@ -141,20 +142,20 @@ fn make_room(abends: &mut LastAbends, event: &EdfEvent) -> Result<(), AllocError
 ///
 /// An error comes only where an allocation failed: that of a new terminal's room, or one that the event may take. Then
 /// all is as before.
-pub fn happen_noted<S: Store + Drop>(
+pub fn apply_noted<S: Store + Drop>(
     state: &mut Debugged<S>,
     abends: &mut LastAbends,
     event: &EdfEvent,
 ) -> Result<Answer, AllocError>
     requires { IsAllowedEdf event.now }
-    ensures happens { let before = abends.old.entries in let after = abends.new.entries in
+    ensures applies { let before = abends.old.entries in let after = abends.new.entries in
         IfOk result (λ given. AppliesWithAbends state.old before event.now given state.new after) }
     ensures memory { OnErr result (MayTakeNoted state.old event.now) }
     ensures err { OnErr result ((state.new ≡ state.old) × (abends.new.entries ≡ abends.old.entries)) }
 {
     make_room(abends, event)?;
     let ends = ends_task(state, event);
-    let (answer, trouble) = state.happen_with_cause(event)?;
-    keep(abends, state.region(), event, &answer, &trouble, ends);
+    let (answer, abend_record) = state.apply_with_cause(event)?;
+    keep(abends, state.region(), event, &answer, &abend_record, ends);
     Ok(answer)
 }

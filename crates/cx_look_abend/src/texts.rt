@@ -3,16 +3,16 @@ ghost use Rattle.std.specs.Prelude.{◌≡◌, ◌≤◌, ◌++◌, [], IfOk, On
 ghost use Rattle.std.specs.Option.{option_map_or};
 ghost use Rattle.std.specs.List.{flat_map, list_all};
 ghost use Rattle.cx_look_symbols.specs.Lines.{line_word};
-ghost use Rattle.cx_look_abend.specs.Texts.{abend_text, byte_digits, bytes_word, cause_word, code_line, command_lines, command_word, exit_line, head_line, instruction_word, interruption_word, last_of, last_text, next_line, none_line, place_word, register_line, register_lines, spot_word, told_lines, where_lines, why_word};
+ghost use Rattle.cx_look_abend.specs.Texts.{abend_text, byte_digits, bytes_word, cause_word, code_line, command_lines, command_word, exit_line, head_line, instruction_word, interruption_word, last_of, last_text, next_line, none_line, place_word, register_line, register_lines, spot_word, explanation_lines, where_lines, why_word};
 
-use crate::abends::{LastAbend, LastAbends, Place, Told};
+use crate::abends::{Explanation, LastAbend, LastAbends, Place};
 use cx_base_commands::Command;
 use cx_base_text::{decimal, hexadecimal, shown, shown_name, written_line};
 use cx_code::instruction_length;
 use cx_ebcdic::{Name4, Name8};
 use cx_exec::Interruption;
 use cx_look_symbols::{SourcePlaces, line_word};
-use cx_region::{Cause, Trouble};
+use cx_region::{AbendRecord, Cause};
 use cx_storage::address_in;
 use std::alloc::{AllocError, Global};
 
@@ -48,11 +48,11 @@ fn cause_word(alloc: Global, cause: Cause) -> Result<Vec<u8>, AllocError>
 }
 
 /// Why an abend came.
-fn why_word(alloc: Global, told: &Option<Told>) -> Result<Vec<u8>, AllocError>
-    ensures { IfOk result (λ text. text.items ≡ why_word told.now) }
+fn why_word(alloc: Global, explanation: &Option<Explanation>) -> Result<Vec<u8>, AllocError>
+    ensures { IfOk result (λ text. text.items ≡ why_word explanation.now) }
 {
-    match told {
-        Some(told) => cause_word(alloc, told.trouble.cause),
+    match explanation {
+        Some(explanation) => cause_word(alloc, explanation.abend_record.cause),
         None => b"ASKED BY OPERATOR".to_vec(alloc),
     }
 }
@@ -86,7 +86,7 @@ fn place_word(alloc: Global, sources: &SourcePlaces, place: &Place) -> Result<Ve
 }
 
 /// The first `count` bytes, or all where there are fewer.
-fn front(bytes: &[Option<u8>], count: usize) -> &[Option<u8>]
+fn first_bytes(bytes: &[Option<u8>], count: usize) -> &[Option<u8>]
     ensures { result.now ≡ take count bytes.now }
 {
     bytes.split_at(count.min(bytes.len())).0
@@ -127,7 +127,7 @@ fn instruction_word(alloc: Global, bytes: &[Option<u8>; 6]) -> Result<Vec<u8>, A
     ensures { IfOk result (λ text. text.items ≡ instruction_word bytes.now) }
 {
     match bytes[0] {
-        Some(code) => bytes_word(alloc, front(bytes, instruction_length(code))),
+        Some(code) => bytes_word(alloc, first_bytes(bytes, instruction_length(code))),
         None => b"--".to_vec(alloc),
     }
 }
@@ -136,13 +136,13 @@ fn instruction_word(alloc: Global, bytes: &[Option<u8>; 6]) -> Result<Vec<u8>, A
 fn next_line(
     alloc: Global,
     sources: &SourcePlaces,
-    trouble: &Trouble,
+    abend_record: &AbendRecord,
     place: &Place,
 ) -> Result<Vec<u8>, AllocError>
-    ensures { IfOk result (λ text. text.items ≡ next_line sources.now.entries trouble.now place.now) }
+    ensures { IfOk result (λ text. text.items ≡ next_line sources.now.entries abend_record.now place.now) }
 {
     let place = place_word(alloc, sources, place)?;
-    let instruction = instruction_word(alloc, &trouble.bytes)?;
+    let instruction = instruction_word(alloc, &abend_record.bytes)?;
     written_line(
         alloc,
         b">",
@@ -164,13 +164,13 @@ fn command_word(command: &Option<Command>) -> &'static [u8]
 fn command_lines(
     alloc: Global,
     sources: &SourcePlaces,
-    trouble: &Trouble,
+    abend_record: &AbendRecord,
     place: &Place,
 ) -> Result<Vec<u8>, AllocError>
-    ensures { IfOk result (λ text. text.items ≡ command_lines sources.now.entries trouble.now place.now) }
+    ensures { IfOk result (λ text. text.items ≡ command_lines sources.now.entries abend_record.now place.now) }
 {
-    let command = command_word(&trouble.command);
-    let list = hexadecimal::<6>(address_in(trouble.regs[1]));
+    let command = command_word(&abend_record.command);
+    let list = hexadecimal::<6>(address_in(abend_record.regs[1]));
     let mut text = written_line(alloc, b">", &[b"COMMAND", command, b"LIST", &list])?;
     let place = place_word(alloc, sources, place)?;
     text.extend_from_slice(&written_line(alloc, b">", &[b"R14", &place])?)?;
@@ -181,15 +181,15 @@ fn command_lines(
 fn where_lines(
     alloc: Global,
     sources: &SourcePlaces,
-    trouble: &Trouble,
+    abend_record: &AbendRecord,
     place: &Place,
 ) -> Result<Vec<u8>, AllocError>
-    ensures { let cause = trouble.now.cause in
-        IfOk result (λ text. text.items ≡ where_lines sources.now.entries cause trouble.now place.now) }
+    ensures { let cause = abend_record.now.cause in
+        IfOk result (λ text. text.items ≡ where_lines sources.now.entries cause abend_record.now place.now) }
 {
-    match trouble.cause {
-        Cause::Interrupted(_) | Cause::Limit => next_line(alloc, sources, trouble, place),
-        _ => command_lines(alloc, sources, trouble, place),
+    match abend_record.cause {
+        Cause::Interrupted(_) | Cause::Limit => next_line(alloc, sources, abend_record, place),
+        _ => command_lines(alloc, sources, abend_record, place),
     }
 }
 
@@ -230,13 +230,22 @@ fn code_line(alloc: Global, code: u8) -> Result<Vec<u8>, AllocError>
 }
 
 /// The lines of what a turn led to.
-#[tactic(auto, unfolding(crate::specs::Texts::told_lines))]
-fn told_lines(alloc: Global, sources: &SourcePlaces, told: &Told) -> Result<Vec<u8>, AllocError>
-    ensures { IfOk result (λ text. text.items ≡ told_lines sources.now.entries told.now) }
+#[tactic(auto, unfolding(crate::specs::Texts::explanation_lines))]
+fn explanation_lines(
+    alloc: Global,
+    sources: &SourcePlaces,
+    explanation: &Explanation,
+) -> Result<Vec<u8>, AllocError>
+    ensures { IfOk result (λ text. text.items ≡ explanation_lines sources.now.entries explanation.now) }
 {
-    let mut text = where_lines(alloc, sources, &told.trouble, &told.place)?;
-    text.extend_from_slice(&register_lines(alloc, &told.trouble.regs)?)?;
-    text.extend_from_slice(&code_line(alloc, told.trouble.cc)?)?;
+    let mut text = where_lines(
+        alloc,
+        sources,
+        &explanation.abend_record,
+        &explanation.place,
+    )?;
+    text.extend_from_slice(&register_lines(alloc, &explanation.abend_record.regs)?)?;
+    text.extend_from_slice(&code_line(alloc, explanation.abend_record.cc)?)?;
     Ok(text)
 }
 
@@ -261,24 +270,24 @@ fn head_line(alloc: Global, name: Name4, last: &LastAbend) -> Result<Vec<u8>, Al
 {
     let name = shown_name(alloc, name)?;
     let code = shown(alloc, &last.code.bytes())?;
-    let why = why_word(alloc, &last.told)?;
+    let why = why_word(alloc, &last.explanation)?;
     written_line(alloc, b">", &[b"ABEND", &name, &code, &why])
 }
 
 /// Adds the lines of what a turn led to, where it was a turn.
-fn push_told(
+fn push_explanation(
     alloc: Global,
     text: &mut Vec<u8>,
     sources: &SourcePlaces,
-    told: &Option<Told>,
+    explanation: &Option<Explanation>,
 ) -> Result<(), AllocError>
-    ensures { let more = option_map_or (told_lines sources.now.entries) told.now [] in
+    ensures { let more = option_map_or (explanation_lines sources.now.entries) explanation.now [] in
         OnOk result (text.new.items ≡ text.old.items ++ more) }
 {
-    let Some(told) = told else {
+    let Some(explanation) = explanation else {
         return Ok(());
     };
-    text.extend_from_slice(&told_lines(alloc, sources, told)?)?;
+    text.extend_from_slice(&explanation_lines(alloc, sources, explanation)?)?;
     Ok(())
 }
 
@@ -294,7 +303,7 @@ fn last_text(
 {
     let mut text = head_line(alloc, name, last)?;
     text.extend_from_slice(&exit_line(alloc, sources, &last.exit)?)?;
-    push_told(alloc, &mut text, sources, &last.told)?;
+    push_explanation(alloc, &mut text, sources, &last.explanation)?;
     Ok(text)
 }
 

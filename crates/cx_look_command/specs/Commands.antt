@@ -10,7 +10,7 @@ use Rattle.cx_base_commands.specs.Legal.{has_bit}
 use Rattle.cx_base_commands.specs.Options.{option_name}
 use Rattle.cx_base_commands.specs.declared.options.CommandOption.{CommandOption}
 use Rattle.cx_base_commands.specs.declared.options.ArgumentKind.{ArgumentKind}
-use Rattle.cx_base_commands.specs.declared.options.ArgumentKind.TheVariants as mark
+use Rattle.cx_base_commands.specs.declared.options.ArgumentKind.TheVariants as kind
 use Rattle.cx_base_commands.specs.declared.options.OptionName.{OptionName}
 use Rattle.cx_base_commands.specs.declared.options.OptionName.TheVariants.{Length, Rewrite, Set}
 use Rattle.cx_region_call.specs.Call.{Call, has_nohandle, place_of, resp_place}
@@ -37,26 +37,26 @@ address_value place = option_map_or (digits 16 6) place (codes "--")
 -- how a value is written in the command: a name and a halfword that the command reads as they are, all else by its
 -- address
 abbrev pub reads_halfword : ArgumentKind → (OptionName → Bool) → Bool
-reads_halfword mark.Halfword has = true
-reads_halfword mark.HalfwordBothWays has = true
-reads_halfword mark.HalfwordBothWaysWithoutSet has = not (has Set)
-reads_halfword mark.HalfwordOutWithoutRewrite has = has Rewrite
+reads_halfword kind.Halfword has = true
+reads_halfword kind.HalfwordBothWays has = true
+reads_halfword kind.HalfwordBothWaysWithoutSet has = not (has Set)
+reads_halfword kind.HalfwordOutWithoutRewrite has = has Rewrite
 reads_halfword _ has = false
 
 abbrev pub value_by : ArgumentKind → Bool → Storage → Call → OptionName → List ℕ
-value_by mark.Name4 is_read s call name = name_value (bytes_of s call name 4)
-value_by mark.Name8 is_read s call name = name_value (bytes_of s call name 8)
+value_by kind.Name4 is_read s call name = name_value (bytes_of s call name 4)
+value_by kind.Name8 is_read s call name = name_value (bytes_of s call name 8)
 value_by _ is_read s call name = if is_read then halfword_value (halfword_of s call name) else address_value (place_of call name)
 
 unfoldable pub option_value : Storage → Call → CommandOption → List ℕ
-option_value s call option = value_by option.mark (reads_halfword option.mark (has_option call.command call.first)) s call option.name
+option_value s call option = value_by option.kind (reads_halfword option.kind (has_option call.command call.first)) s call option.name
 
 -- NAME(value)
 abbrev pub with_value : List ℕ → List ℕ → List ℕ
 with_value name value = name ++ codes "(" ++ value ++ codes ")"
 
 unfoldable pub option_word : Storage → Call → CommandOption → List ℕ
-option_word s call option = if takes_argument option.mark then with_value (option_name option.name) (option_value s call option) else option_name option.name
+option_word s call option = if takes_argument option.kind then with_value (option_name option.name) (option_value s call option) else option_name option.name
 
 -- the command's options that are there, in the order of its row
 unfoldable pub option_words : Storage → Call → List CommandOption → List (List ℕ)
@@ -86,14 +86,14 @@ command_line s call =
 
 -- ---- what it reads beside names and halfwords: its first 64 bytes
 abbrev pub is_data : ArgumentKind → Bool
-is_data mark.BytesRead = true
-is_data mark.BytesOrAddress = true
-is_data mark.Byte = true
+is_data kind.BytesRead = true
+is_data kind.BytesOrAddress = true
+is_data kind.Byte = true
 is_data _ = false
 
 -- how many bytes the command reads at an option's argument
 abbrev pub count_read : Storage → Call → CommandOption → ℕ
-count_read s call option = input_len option.mark (has_option call.command call.first) (halfword_of s call Length)
+count_read s call option = input_len option.kind (has_option call.command call.first) (halfword_of s call Length)
 
 unfoldable pub input_line : Storage → Call → CommandOption → List ℕ
 input_line s call option =
@@ -101,7 +101,7 @@ input_line s call option =
 
 -- the data options that are there, of which the command reads some byte
 unfoldable pub is_input : Storage → Call → CommandOption → Bool
-is_input s call option = is_data option.mark && nat_lt 0 (count_read s call option)
+is_input s call option = is_data option.kind && nat_lt 0 (count_read s call option)
 
 unfoldable pub input_lines : Storage → Call → List CommandOption → List ℕ
 input_lines s call options = flat_map (input_line s call) (filter (is_input s call) (arguments_in options call.first))

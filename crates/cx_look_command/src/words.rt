@@ -19,10 +19,10 @@ use std::alloc::{AllocError, Global};
 const MOST_BYTES: usize = 64;
 
 /// Whether an option is a halfword that the command reads, beside the options of option byte 1.
-fn reads_halfword(mark: ArgumentKind, command: Command, first: u8) -> bool
-    ensures { result ≡ reads_halfword mark (has_option command first) }
+fn reads_halfword(kind: ArgumentKind, command: Command, first: u8) -> bool
+    ensures { result ≡ reads_halfword kind (has_option command first) }
 {
-    match mark {
+    match kind {
         ArgumentKind::Halfword | ArgumentKind::HalfwordBothWays => true,
         ArgumentKind::HalfwordBothWaysWithoutSet => !command.has_option(first, OptionName::Set),
         ArgumentKind::HalfwordOutWithoutRewrite => command.has_option(first, OptionName::Rewrite),
@@ -67,7 +67,7 @@ fn address_value(alloc: Global, place: Option<u32>) -> Result<Vec<u8>, AllocErro
     }
 }
 
-/// The value of an option, by its mark.
+/// The value of an option, by its kind.
 #[tactic(auto, unfolding(crate::specs::Commands::option_value))]
 fn option_value<S: Store>(
     alloc: Global,
@@ -77,8 +77,8 @@ fn option_value<S: Store>(
 ) -> Result<Vec<u8>, AllocError>
     ensures { IfOk result (λ value. value.items ≡ option_value (S.storage store.now) call.now option.now) }
 {
-    let is_read = reads_halfword(option.mark, call.command(), call.first());
-    match option.mark {
+    let is_read = reads_halfword(option.kind, call.command(), call.first());
+    match option.kind {
         ArgumentKind::Name4 => name_value::<S, 4>(alloc, store, call, option.name),
         ArgumentKind::Name8 => name_value::<S, 8>(alloc, store, call, option.name),
         _ if is_read => halfword_value(alloc, halfword(store, call, option.name)),
@@ -108,7 +108,7 @@ fn option_word<S: Store>(
     ensures { IfOk result (λ word. word.items ≡ option_word (S.storage store.now) call.now option.now) }
 {
     let name = option.name.name().as_bytes();
-    if !option.mark.takes_argument() {
+    if !option.kind.takes_argument() {
         return name.to_vec(alloc);
     }
     let value = option_value(alloc, store, call, option)?;
@@ -214,11 +214,11 @@ fn command_line<S: Store>(alloc: Global, store: &S, call: &Call) -> Result<Vec<u
 }
 
 /// Whether an option is data.
-fn is_data(mark: ArgumentKind) -> bool
-    ensures { result ≡ is_data mark }
+fn is_data(kind: ArgumentKind) -> bool
+    ensures { result ≡ is_data kind }
 {
     matches!(
-        mark,
+        kind,
         ArgumentKind::BytesRead | ArgumentKind::BytesOrAddress | ArgumentKind::Byte
     )
 }
@@ -228,7 +228,7 @@ fn count_read<S: Store>(store: &S, call: &Call, option: &CommandOption) -> usize
     ensures { result ≡ count_read (S.storage store.now) call.now option.now }
 {
     let length = halfword(store, call, OptionName::Length);
-    let count = call.command().input_len(call.first(), option.mark, length);
+    let count = call.command().input_len(call.first(), option.kind, length);
     usize::from(count)
 }
 
@@ -237,7 +237,7 @@ fn count_read<S: Store>(store: &S, call: &Call, option: &CommandOption) -> usize
 fn is_input<S: Store>(store: &S, call: &Call, option: &CommandOption) -> bool
     ensures { result ≡ is_input (S.storage store.now) call.now option.now }
 {
-    is_data(option.mark) && count_read(store, call, option) > 0
+    is_data(option.kind) && count_read(store, call, option) > 0
 }
 
 /// The first bytes that the command reads at an option's argument.

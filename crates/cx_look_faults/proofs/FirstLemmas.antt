@@ -52,7 +52,7 @@ by_assembly listing disassembly (Err fault) (f ∷ more) e h =
 translated : (listing disassembly : Bool) (source : Source) (first : Option TransFault) (faults : List TransFault) → slice_get faults 0 ≡ first
     → prepared.by_translation listing disassembly (option_map_or (λ fault. Err fault) first (Ok source)) ≢ Err Memory
     → Tells (prepared.by_translation listing disassembly (option_map_or (λ fault. Err fault) first (Ok source))) (by_translation (unless_faulty faults source))
-translated listing disassembly source None [] e h = by_assembly listing disassembly (assembly_of source) (assembly_faults source) (assembly.first_is_told source) h
+translated listing disassembly source None [] e h = by_assembly listing disassembly (assembly_of source) (assembly_faults source) (assembly.first_is_reported source) h
 translated listing disassembly source (Some first) [] e h = absurd (cc)
 translated listing disassembly source None (f ∷ more) e h = absurd (cc)
 translated listing disassembly source (Some first) (f ∷ more) e h =
@@ -60,10 +60,10 @@ translated listing disassembly source (Some first) (f ∷ more) e h =
     ap (λ x. Some (of_translation x)) (sym same)
     ∙ first_line (of_translation f) _ (no_memory (of_translation f) (Err (of_translation first)) (ap (λ x. Err (of_translation x)) (sym same)) h)
 
-by_translation_told : (listing disassembly : Bool) (source : Source) → prepared.by_translation listing disassembly (translation.translation_of source) ≢ Err Memory
+by_translation_reported : (listing disassembly : Bool) (source : Source) → prepared.by_translation listing disassembly (translation.translation_of source) ≢ Err Memory
     → Tells (prepared.by_translation listing disassembly (translation.translation_of source)) (by_translation (translation.translation_or_faults source))
 unfolding translation.translation_of translation.translation_or_faults
-by_translation_told listing disassembly source h =
+by_translation_reported listing disassembly source h =
     translated listing disassembly (translation.made_source source) (slice_get (translation.statement_faults source.items) 0)
     (translation.statement_faults source.items) refl h
 
@@ -71,7 +71,7 @@ by_translation_told listing disassembly source h =
 read : (listing disassembly : Bool) (source : Source) (first : Option SourceFault) (faults : List SourceFault) → slice_get faults 0 ≡ first
     → prepared.by_source listing disassembly (option_map_or Err first (Ok source)) ≢ Err Memory
     → Tells (prepared.by_source listing disassembly (option_map_or Err first (Ok source))) (by_source (unless_faulty faults source))
-read listing disassembly source None [] e h = by_translation_told listing disassembly source h
+read listing disassembly source None [] e h = by_translation_reported listing disassembly source h
 read listing disassembly source (Some first) [] e h = absurd (cc)
 read listing disassembly source None (f ∷ more) e h = absurd (cc)
 read listing disassembly source (Some first) (f ∷ more) e h =
@@ -79,8 +79,8 @@ read listing disassembly source (Some first) (f ∷ more) e h =
     ap (λ x. Some (of_source x)) (sym same)
     ∙ first_line (of_source f) _ (no_memory (of_source f) (Err (of_source first)) (ap (λ x. Err (of_source x)) (sym same)) h)
 
-pub first_is_told : (listing disassembly : Bool) (all : List (List ℕ)) → result_err (prepared.prepared_of listing disassembly all) ≡ option_map fault_of (slice_get (faults_of all) 0)
+pub first_is_reported : (listing disassembly : Bool) (all : List (List ℕ)) → result_err (prepared.prepared_of listing disassembly all) ≡ option_map fault_of (slice_get (faults_of all) 0)
 unfolding prepared.prepared_of source_in faults_of source_or_faults
-first_is_told listing disassembly all =
+first_is_reported listing disassembly all =
     read listing disassembly (source_from (up_to_end false (map text_of all))) (slice_get (line_faults false 1 all) 0) (line_faults false 1 all)
     refl (prepared_not_memory listing disassembly all)

@@ -18,7 +18,7 @@ faulty_line (At line kind) = Some (record { line = line; kind = kind })
 faulty_line Memory = None
 
 abbrev pub faulty_lines : {F : Type 0} → (F → PrepareFault) → List F → List FaultyLine
-faulty_lines told faults = filter_map (λ fault. faulty_line (told fault)) faults
+faulty_lines reported faults = filter_map (λ fault. faulty_line (reported fault)) faults
 
 -- One stage after the other, each on what the one before gave: the translation, the source.
 abbrev pub by_translation : Result Source (List TransFault) → List FaultyLine

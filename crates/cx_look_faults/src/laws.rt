@@ -7,7 +7,7 @@ ghost use Rattle.cx_look_faults.specs.Faults.{faults_of};
 ghost use Rattle.cx_look_faults.specs.Laws.First.{fault_of};
 
 /// The first of them is what the source is refused for; a source without any is prepared.
-#[tactic(auto, using(crate::proofs::FirstLemmas::first_is_told))]
+#[tactic(auto, using(crate::proofs::FirstLemmas::first_is_reported))]
 pub fn the_first_is_what_a_source_is_refused_for()
     ensures { (listing disassembly : Bool) (all : List (List ℕ))
         → result_err (prepared_of listing disassembly all) ≡ option_map fault_of (slice_get (faults_of all) 0) }

@@ -11,7 +11,7 @@ use Rattle.cx_exec.specs.declared.machine.Interruption.TheVariants as interrupti
 use Rattle.cx_storage.specs.Address.{address_in}
 use Rattle.cx_region_task.specs.declared.cause.Cause.{Cause}
 use Rattle.cx_region_task.specs.declared.cause.Cause.TheVariants as cause
-use Rattle.cx_region_task.specs.declared.cause.Trouble.{Trouble}
+use Rattle.cx_region_task.specs.declared.cause.AbendRecord.{AbendRecord}
 use Rattle.cx_base_text.specs.Digits.{digits}
 use Rattle.cx_base_text.specs.Texts.{shown_text, shown_name}
 use Rattle.cx_look_words.specs.Facts.Marked.{a_line, more_lines, no_lines}
@@ -20,10 +20,10 @@ use Rattle.cx_look_words.specs.Marked.{IsOfLooks, IsWord}
 use Rattle.cx_look_symbols.specs.Facts.Lines.{line_is_word}
 use Rattle.cx_look_symbols.specs.Lines.{SourcePlaces, line_word}
 use Rattle.cx_look_abend.specs.Noting.{Abends}
-use Rattle.cx_look_abend.specs.Texts.{abend_text, byte_digits, bytes_word, cause_word, code_line, command_lines, command_word, exit_line, head_line, instruction_word, interruption_word, last_of, last_text, line, next_line, none_line, place_word, register_line, register_lines, spot_word, told_lines, where_lines, why_word}
+use Rattle.cx_look_abend.specs.Texts.{abend_text, byte_digits, bytes_word, cause_word, code_line, command_lines, command_word, exit_line, head_line, instruction_word, interruption_word, last_of, last_text, line, next_line, none_line, place_word, register_line, register_lines, spot_word, explanation_lines, where_lines, why_word}
 use Rattle.cx_look_abend.specs.declared.abends.LastAbend.{LastAbend}
 use Rattle.cx_look_abend.specs.declared.abends.Place.{Place}
-use Rattle.cx_look_abend.specs.declared.abends.Told.{Told}
+use Rattle.cx_look_abend.specs.declared.abends.Explanation.{Explanation}
 use Rattle.cx_look_script.proofs.CommandMarks.{command_named, condition_named}
 
 -- ---- words
@@ -42,9 +42,9 @@ caused (cause.Refused abend) = refl
 caused (cause.Met condition) = word_append (codes "CONDITION ") (entry_of condition).name refl (condition_named condition)
 caused cause.Asked = refl
 
-why_is_word : (told : Option Told) → IsWord (why_word told)
+why_is_word : (explanation : Option Explanation) → IsWord (why_word explanation)
 why_is_word None = refl
-why_is_word (Some it) = caused it.trouble.cause
+why_is_word (Some it) = caused it.abend_record.cause
 
 spot_is_word : (sources : SourcePlaces) (spot : Option (List ℕ × ℕ)) → IsWord (spot_word sources spot)
 spot_is_word sources None = refl
@@ -102,40 +102,40 @@ registers regs =
     (more_lines (register_line (codes "R00") regs 0) (register_line (codes "R04") regs 4) (register (codes "R00") regs 0 refl) (register (codes "R04") regs 4 refl))
     (register (codes "R08") regs 8 refl)) (register (codes "R12") regs 12 refl)
 
-next : (sources : SourcePlaces) (trouble : Trouble) (place : Place) → IsOfLooks (next_line sources trouble place)
-next sources trouble place =
-    a_line (codes "NEXT" ∷ place_word sources place ∷ codes "INSTRUCTION" ∷ instruction_word trouble.bytes ∷ [])
-    (refl, (place_is_word sources place, (refl, (instruction_is_word trouble.bytes, tt))))
+next : (sources : SourcePlaces) (abend_record : AbendRecord) (place : Place) → IsOfLooks (next_line sources abend_record place)
+next sources abend_record place =
+    a_line (codes "NEXT" ∷ place_word sources place ∷ codes "INSTRUCTION" ∷ instruction_word abend_record.bytes ∷ [])
+    (refl, (place_is_word sources place, (refl, (instruction_is_word abend_record.bytes, tt))))
 
-command : (sources : SourcePlaces) (trouble : Trouble) (place : Place) → IsOfLooks (command_lines sources trouble place)
-command sources trouble place =
-    more_lines (line (codes "COMMAND" ∷ command_word trouble.command ∷ codes "LIST" ∷ digits 16 6 (address_in (slice_index trouble.regs 1)) ∷ [])) (line (codes "R14" ∷ place_word sources place ∷ []))
-    (a_line (codes "COMMAND" ∷ command_word trouble.command ∷ codes "LIST" ∷ digits 16 6 (address_in (slice_index trouble.regs 1)) ∷ [])
-    (refl, (command_is_word trouble.command, (refl, (digits_are_word 16 6 (address_in (slice_index trouble.regs 1)), tt)))))
+command : (sources : SourcePlaces) (abend_record : AbendRecord) (place : Place) → IsOfLooks (command_lines sources abend_record place)
+command sources abend_record place =
+    more_lines (line (codes "COMMAND" ∷ command_word abend_record.command ∷ codes "LIST" ∷ digits 16 6 (address_in (slice_index abend_record.regs 1)) ∷ [])) (line (codes "R14" ∷ place_word sources place ∷ []))
+    (a_line (codes "COMMAND" ∷ command_word abend_record.command ∷ codes "LIST" ∷ digits 16 6 (address_in (slice_index abend_record.regs 1)) ∷ [])
+    (refl, (command_is_word abend_record.command, (refl, (digits_are_word 16 6 (address_in (slice_index abend_record.regs 1)), tt)))))
     (placed sources (codes "R14") place refl)
 
-where_marked : (sources : SourcePlaces) (why : Cause) (trouble : Trouble) (place : Place) → IsOfLooks (where_lines sources why trouble place)
-where_marked sources (cause.Interrupted it) trouble place = next sources trouble place
-where_marked sources cause.Limit trouble place = next sources trouble place
-where_marked sources (cause.Refused abend) trouble place = command sources trouble place
-where_marked sources (cause.Met condition) trouble place = command sources trouble place
-where_marked sources cause.Asked trouble place = command sources trouble place
+where_marked : (sources : SourcePlaces) (why : Cause) (abend_record : AbendRecord) (place : Place) → IsOfLooks (where_lines sources why abend_record place)
+where_marked sources (cause.Interrupted it) abend_record place = next sources abend_record place
+where_marked sources cause.Limit abend_record place = next sources abend_record place
+where_marked sources (cause.Refused abend) abend_record place = command sources abend_record place
+where_marked sources (cause.Met condition) abend_record place = command sources abend_record place
+where_marked sources cause.Asked abend_record place = command sources abend_record place
 
-told : (sources : SourcePlaces) (it : Told) → IsOfLooks (told_lines sources it)
-unfolding told_lines
-told sources it =
-    more_lines (where_lines sources it.trouble.cause it.trouble it.place ++ register_lines it.trouble.regs) (code_line it.trouble.cc)
-    (more_lines (where_lines sources it.trouble.cause it.trouble it.place) (register_lines it.trouble.regs) (where_marked sources it.trouble.cause it.trouble it.place) (registers it.trouble.regs))
-    (a_line (codes "CC" ∷ digits 10 1 it.trouble.cc ∷ []) (refl, (digits_are_word 10 1 it.trouble.cc, tt)))
+explanation : (sources : SourcePlaces) (it : Explanation) → IsOfLooks (explanation_lines sources it)
+unfolding explanation_lines
+explanation sources it =
+    more_lines (where_lines sources it.abend_record.cause it.abend_record it.place ++ register_lines it.abend_record.regs) (code_line it.abend_record.cc)
+    (more_lines (where_lines sources it.abend_record.cause it.abend_record it.place) (register_lines it.abend_record.regs) (where_marked sources it.abend_record.cause it.abend_record it.place) (registers it.abend_record.regs))
+    (a_line (codes "CC" ∷ digits 10 1 it.abend_record.cc ∷ []) (refl, (digits_are_word 10 1 it.abend_record.cc, tt)))
 
 last : (sources : SourcePlaces) (name : List ℕ) (it : LastAbend) → IsOfLooks (last_text sources name it)
 unfolding last_text
 last sources name it =
-    more_lines (head_line name it ++ exit_line sources it.exit) (option_map_or (told_lines sources) it.told [])
+    more_lines (head_line name it ++ exit_line sources it.exit) (option_map_or (explanation_lines sources) it.explanation [])
     (more_lines (head_line name it) (exit_line sources it.exit)
-    (a_line (codes "ABEND" ∷ shown_name name ∷ shown_text it.code ∷ why_word it.told ∷ []) (refl, (name_is_word name, (shown_is_word it.code, (why_is_word it.told, tt)))))
+    (a_line (codes "ABEND" ∷ shown_name name ∷ shown_text it.code ∷ why_word it.explanation ∷ []) (refl, (name_is_word name, (shown_is_word it.code, (why_is_word it.explanation, tt)))))
     (if_there (λ (place : Place). line (codes "EXIT" ∷ place_word sources place ∷ [])) (λ place. placed sources (codes "EXIT") place refl) it.exit))
-    (if_there (told_lines sources) (told sources) it.told)
+    (if_there (explanation_lines sources) (explanation sources) it.explanation)
 
 pub an_abend : (sources : SourcePlaces) (abends : Abends) (name : List ℕ) → IsOfLooks (abend_text sources abends name)
 unfolding abend_text

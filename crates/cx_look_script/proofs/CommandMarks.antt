@@ -15,7 +15,7 @@ use Rattle.cx_base_commands.specs.declared.commands.Command.{Command}
 use Rattle.cx_base_commands.specs.declared.conditions.Condition.{Condition}
 use Rattle.cx_base_commands.specs.declared.options.CommandOption.{CommandOption}
 use Rattle.cx_base_commands.specs.declared.options.ArgumentKind.{ArgumentKind}
-use Rattle.cx_base_commands.specs.declared.options.ArgumentKind.TheVariants as mark
+use Rattle.cx_base_commands.specs.declared.options.ArgumentKind.TheVariants as kind
 use Rattle.cx_base_commands.specs.declared.options.OptionName.{OptionName}
 use Rattle.cx_base_commands.specs.declared.options.OptionName.TheVariants as option
 use Rattle.cx_storage.specs.Storage.{Storage}
@@ -98,20 +98,20 @@ other_value is_read s call name =
     either is_read (halfword_value (halfword_of s call name)) (address_value (place_of call name)) (halfword_marked (halfword_of s call name)) (address_marked (place_of call name))
 
 value_marked : (m : ArgumentKind) (is_read : Bool) (s : Storage) (call : Call) (name : OptionName) → IsWord (value_by m is_read s call name)
-value_marked mark.Name4 is_read s call name = name_marked (bytes_of s call name 4)
-value_marked mark.Name8 is_read s call name = name_marked (bytes_of s call name 8)
-value_marked mark.Flag is_read s call name = other_value is_read s call name
-value_marked mark.Address is_read s call name = other_value is_read s call name
-value_marked mark.BytesRead is_read s call name = other_value is_read s call name
-value_marked mark.BytesWritten is_read s call name = other_value is_read s call name
-value_marked mark.BytesOrAddress is_read s call name = other_value is_read s call name
-value_marked mark.Byte is_read s call name = other_value is_read s call name
-value_marked mark.Halfword is_read s call name = other_value is_read s call name
-value_marked mark.HalfwordBothWays is_read s call name = other_value is_read s call name
-value_marked mark.HalfwordBothWaysWithoutSet is_read s call name = other_value is_read s call name
-value_marked mark.HalfwordOut is_read s call name = other_value is_read s call name
-value_marked mark.HalfwordOutWithoutRewrite is_read s call name = other_value is_read s call name
-value_marked mark.Pointer is_read s call name = other_value is_read s call name
+value_marked kind.Name4 is_read s call name = name_marked (bytes_of s call name 4)
+value_marked kind.Name8 is_read s call name = name_marked (bytes_of s call name 8)
+value_marked kind.Flag is_read s call name = other_value is_read s call name
+value_marked kind.Address is_read s call name = other_value is_read s call name
+value_marked kind.BytesRead is_read s call name = other_value is_read s call name
+value_marked kind.BytesWritten is_read s call name = other_value is_read s call name
+value_marked kind.BytesOrAddress is_read s call name = other_value is_read s call name
+value_marked kind.Byte is_read s call name = other_value is_read s call name
+value_marked kind.Halfword is_read s call name = other_value is_read s call name
+value_marked kind.HalfwordBothWays is_read s call name = other_value is_read s call name
+value_marked kind.HalfwordBothWaysWithoutSet is_read s call name = other_value is_read s call name
+value_marked kind.HalfwordOut is_read s call name = other_value is_read s call name
+value_marked kind.HalfwordOutWithoutRewrite is_read s call name = other_value is_read s call name
+value_marked kind.Pointer is_read s call name = other_value is_read s call name
 
 valued : (name value : List ℕ) → IsWord name → IsWord value → IsWord (with_value name value)
 valued name value p q =
@@ -123,9 +123,9 @@ valued name value p q =
 option_marked : (s : Storage) (call : Call) (o : CommandOption) → IsWord (option_word s call o)
 unfolding option_word option_value
 option_marked s call o =
-    let value : List ℕ = value_by o.mark (reads_halfword o.mark (has_option call.command call.first)) s call o.name in
-    either (takes_argument o.mark) (with_value (option_name o.name) value) (option_name o.name)
-    (valued (option_name o.name) value (option_named o.name) (value_marked o.mark (reads_halfword o.mark (has_option call.command call.first)) s call o.name))
+    let value : List ℕ = value_by o.kind (reads_halfword o.kind (has_option call.command call.first)) s call o.name in
+    either (takes_argument o.kind) (with_value (option_name o.name) value) (option_name o.name)
+    (valued (option_name o.name) value (option_named o.name) (value_marked o.kind (reads_halfword o.kind (has_option call.command call.first)) s call o.name))
     (option_named o.name)
 
 each_word : {A : Type 0} (f : A → List ℕ) → ((x : A) → IsWord (f x)) → (xs : List A) → AreWords (map f xs)

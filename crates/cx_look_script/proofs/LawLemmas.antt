@@ -22,7 +22,7 @@ runs_one old a text new p = (new, text, [], p, (refl, refl), sym (append-nil tex
 -- what `cicsedf` does and writes of an action
 pub performs : (old : LookState) (a : Action) (text : List ℕ) (new : LookState) → NotedPerforms old a text new → Performs old.edf a text new.edf
 unfolding NotedPerforms Performs Replies
-performs old (edf_action.Event e) text new p = (p.0, p.1.noted.happens, p.2)
+performs old (edf_action.Event e) text new p = (p.0, p.1.noted.applies, p.2)
 performs old (edf_action.Image name image) text new p = p.0
 performs old (edf_action.Source name before image) text new p = p.0
 performs old (edf_action.Screen name) text new p = p.0
@@ -53,24 +53,24 @@ turn_first : (old : LookState) (name : List ℕ) (n : ℕ) (given : Answer) (bet
     → AppliesAtLooks old (turn_of name) given between → MatchBool on (RunsOn between name n rest new) ((rest ≡ []) × (new ≡ between))
     → (RunsOn between name n rest new → RanTurns between name n rest new) → text ≡ answer_text (turn_of name) given ++ rest → RanTurns old name (suc n) text new
 unfolding Runs
-turn_first old name n given between rest text new true happens after later e =
+turn_first old name n given between rest text new true applies after later e =
     let r = later after in
     let a = answer_text (turn_of name) given in
     record {
       turns = suc r.turns;
       written = a ++ r.written;
       looked = r.looked;
-      runs = (between, a, r.written, turned old name given between happens, r.runs, refl);
+      runs = (between, a, r.written, turned old name given between applies, r.runs, refl);
       ended = one_more name r.turns n r.looked r.ended;
       whole = e ∙ ap (λ l. a ++ l) r.whole ∙ sym (append_assoc a r.written r.looked);
     }
-turn_first old name n given between rest text new false happens after later e =
+turn_first old name n given between rest text new false applies after later e =
     let a = answer_text (turn_of name) given in
     record {
       turns = 1;
       written = a;
       looked = [];
-      runs = (between, a, [], turned old name given between happens, (refl, after.1), sym (append-nil a));
+      runs = (between, a, [], turned old name given between applies, (refl, after.1), sym (append-nil a));
       ended = inl (omega arith, refl);
       whole = e ∙ ap (λ l. a ++ l) after.0;
     }

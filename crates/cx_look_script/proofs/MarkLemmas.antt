@@ -10,7 +10,7 @@ use Rattle.cx_look_xref.specs.Facts.Marked.{xref_marked}
 use Rattle.cx_look_tasks.specs.Laws.{ResourcesTextsDecide, TasksTextsDecide}
 use Rattle.cx_look_script.specs.Looking.{IsLookText}
 use Rattle.cx_look_script.specs.Sources.{source_lines}
-use Rattle.cx_look_script.specs.Laws.Looks.{LooksAreMarked, LooksAreToldOnce}
+use Rattle.cx_look_script.specs.Laws.Looks.{LooksAreMarked, LooksAreReportedOnce}
 use Rattle.cx_look_script.proofs.AbendMarks.{an_abend}
 use Rattle.cx_look_script.proofs.CommandMarks.{a_command}
 use Rattle.cx_look_script.proofs.FaultMarks.{faults_marked}
@@ -41,21 +41,21 @@ looks_are_marked (look.Symbols program) state text e =
     marked text _ e (symbols_marked (program_of state.edf.region program) program (source_lines state.sources program))
 looks_are_marked (look.Xref program) state text e = marked text _ e (xref_marked program (source_lines state.sources program))
 
-pub looks_are_told_once : TasksTextsDecide → ResourcesTextsDecide → LooksAreToldOnce
+pub looks_are_reported_once : TasksTextsDecide → ResourcesTextsDecide → LooksAreReportedOnce
 unfolding IsLookText
-looks_are_told_once tasks resources look.Queues state one other p q = p ∙ sym q
-looks_are_told_once tasks resources (look.Queue name) state one other p q = p ∙ sym q
-looks_are_told_once tasks resources (look.Item name n) state one other p q = p ∙ sym q
-looks_are_told_once tasks resources look.Programs state one other p q = p ∙ sym q
-looks_are_told_once tasks resources look.Tasks state one other p q = tasks state.edf.region one other p q
-looks_are_told_once tasks resources look.Resources state one other p q = resources state.edf.region one other p q
-looks_are_told_once tasks resources (look.Command name) state one other p q = p ∙ sym q
-looks_are_told_once tasks resources (look.Storage at n) state one other p q = p ∙ sym q
-looks_are_told_once tasks resources look.Areas state one other p q = p ∙ sym q
-looks_are_told_once tasks resources (look.AreasOf name) state one other p q = p ∙ sym q
-looks_are_told_once tasks resources (look.Task name) state one other p q = p ∙ sym q
-looks_are_told_once tasks resources (look.Abend name) state one other p q = p ∙ sym q
-looks_are_told_once tasks resources (look.Faults source) state one other p q = p ∙ sym q
-looks_are_told_once tasks resources (look.Symbol program name) state one other p q = p ∙ sym q
-looks_are_told_once tasks resources (look.Symbols program) state one other p q = p ∙ sym q
-looks_are_told_once tasks resources (look.Xref program) state one other p q = p ∙ sym q
+looks_are_reported_once tasks resources look.Queues state one other p q = p ∙ sym q
+looks_are_reported_once tasks resources (look.Queue name) state one other p q = p ∙ sym q
+looks_are_reported_once tasks resources (look.Item name n) state one other p q = p ∙ sym q
+looks_are_reported_once tasks resources look.Programs state one other p q = p ∙ sym q
+looks_are_reported_once tasks resources look.Tasks state one other p q = tasks state.edf.region one other p q
+looks_are_reported_once tasks resources look.Resources state one other p q = resources state.edf.region one other p q
+looks_are_reported_once tasks resources (look.Command name) state one other p q = p ∙ sym q
+looks_are_reported_once tasks resources (look.Storage at n) state one other p q = p ∙ sym q
+looks_are_reported_once tasks resources look.Areas state one other p q = p ∙ sym q
+looks_are_reported_once tasks resources (look.AreasOf name) state one other p q = p ∙ sym q
+looks_are_reported_once tasks resources (look.Task name) state one other p q = p ∙ sym q
+looks_are_reported_once tasks resources (look.Abend name) state one other p q = p ∙ sym q
+looks_are_reported_once tasks resources (look.Faults source) state one other p q = p ∙ sym q
+looks_are_reported_once tasks resources (look.Symbol program name) state one other p q = p ∙ sym q
+looks_are_reported_once tasks resources (look.Symbols program) state one other p q = p ∙ sym q
+looks_are_reported_once tasks resources (look.Xref program) state one other p q = p ∙ sym q

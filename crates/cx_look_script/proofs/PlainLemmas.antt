@@ -6,7 +6,7 @@ use Rattle.std.specs.Result.{result_map_both}
 use Rattle.std.specs.Str.{bytes_eq}
 use Rattle.cx_ebcdic.specs.Names.{padded_name}
 use Rattle.cx_region.specs.declared.replies.Event.TheVariants as event
-use Rattle.cx_script_actions.specs.Actions.{line_asked_for, display_line, does, is_idle, key_with_text, line_of, source_line, switch_of, edf_switch, wanted_of}
+use Rattle.cx_script_actions.specs.Actions.{line_asked_for, display_line, does, is_blank_or_comment, key_with_text, line_of, source_line, switch_of, edf_switch, wanted_of}
 use Rattle.cx_script_actions.specs.Alterations.{change_of}
 use Rattle.cx_script_actions.specs.Language.{edf_language}
 use Rattle.cx_script_actions.specs.Words.{after_first_blank, hex_bytes, number_of, two_words, word}
@@ -73,7 +73,7 @@ asked_plain verb text =
 
 line_plain : (text : List ℕ) → IfSome (line_of text) IsPlainLine
 unfolding line_of
-line_plain text = either (is_idle text) _ _ tt (chained (line_asked_for (word text)) (after_first_blank text) (asked_plain (word text)))
+line_plain text = either (is_blank_or_comment text) _ _ tt (chained (line_asked_for (word text)) (after_first_blank text) (asked_plain (word text)))
 
 -- ---- and so none is left to the next line
 abbrev pub IsPlainBody : Body → Type 0

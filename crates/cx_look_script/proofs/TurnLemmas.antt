@@ -16,7 +16,7 @@ once : (old between new : LookState) (name : List ℕ) (n : ℕ) (given : Answer
     → MatchBool (goes_on between.edf name given) (RunsOn between name n rest new) ((rest ≡ []) × (new ≡ between))
     → RunsOn old name (suc n) (answer_text (turn_of name) given ++ rest) new
 unfolding RunsOn
-once old between new name n given rest happens later = (given, between, rest, happens, later, refl)
+once old between new name n given rest applies later = (given, between, rest, applies, later, refl)
 
 one_less : (n done : ℕ) → done < n → suc (n - (done + 1)) ≡ n - done
 one_less n done h = omega (arith, h)
@@ -28,16 +28,16 @@ joined : (start old between new : LookState) (name : List ℕ) (n done : ℕ) (b
     → Left start name n old (n - done) before → AppliesAtLooks old (turn_of name) given between → after ≡ before ++ answer_text (turn_of name) given
     → MatchBool (goes_on between.edf name given) (RunsOn between name (n - (done + 1)) rest new) ((rest ≡ []) × (new ≡ between))
     → RunsOn start name n (after ++ rest) new
-joined start old between new name n done before after given rest less left happens written later =
+joined start old between new name n done before after given rest less left applies written later =
     let a = answer_text (turn_of name) given in
-    let one = once old between new name (n - (done + 1)) given rest happens later in
+    let one = once old between new name (n - (done + 1)) given rest applies later in
     let due = subst (λ (k : ℕ). RunsOn old name k (a ++ rest) new) (one_less n done less) one in
     subst (λ t. RunsOn start name n t new) (after_text before after a rest written) (left (a ++ rest) new due)
 
 pub left_next : (start old between : LookState) (name : List ℕ) (n done : ℕ) (before after : List ℕ) (on : Bool) → done < n
     → Left start name n old (n - done) before → TurnsOnce old name before on after between → on ≡ true → Left start name n between (n - (done + 1)) after
 left_next start old between name n done before after on less left turn goes rest new h =
-    joined start old between new name n done before after turn.given rest less left turn.happens turn.written
+    joined start old between new name n done before after turn.given rest less left turn.applies turn.written
     (subst (λ b. MatchBool b (RunsOn between name (n - (done + 1)) rest new) ((rest ≡ []) × (new ≡ between))) (sym goes ∙ turn.follows) h)
 
 ends_here : (b : Bool) (Next : Type 0) (rest : List ℕ) (between new : LookState) → b ≡ false → rest ≡ [] → new ≡ between
@@ -49,7 +49,7 @@ pub runs_to_the_end : (start old between : LookState) (name : List ℕ) (n done 
     → Left start name n old (n - done) before → TurnsOnce old name before on after between → on ≡ false → RunsOn start name n after between
 runs_to_the_end start old between name n done before after on less left turn stops =
     subst (λ t. RunsOn start name n t between) (append-nil after)
-    (joined start old between between name n done before after turn.given [] less left turn.happens turn.written
+    (joined start old between between name n done before after turn.given [] less left turn.applies turn.written
     (ends_here (goes_on between.edf name turn.given) (RunsOn between name (n - (done + 1)) [] between) [] between between (sym turn.follows ∙ stops) refl refl))
 
 still : (old : LookState) (name : List ℕ) (left : ℕ) → left ≡ 0 → RunsOn old name left (still_running name) old

@@ -17,5 +17,5 @@ pub record LookState : Type 0 where
   pub sources : Sources
 
 -- as a script begins it: no terminal is defined, and no program
-abbrev pub fresh_looked : LookState
-fresh_looked = record { edf = fresh_state; abends = []; sources = record { lines = []; places = [] } }
+abbrev pub fresh_look_state : LookState
+fresh_look_state = record { edf = fresh_state; abends = []; sources = record { lines = []; places = [] } }

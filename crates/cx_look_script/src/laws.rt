@@ -1,6 +1,6 @@
 //! What follows from the definitions of a script with looks.
 
-ghost use Rattle.cx_look_script.specs.Laws.Looks.{LooksAreMarked, LooksAreToldOnce, LooksChangeNothing};
+ghost use Rattle.cx_look_script.specs.Laws.Looks.{LooksAreMarked, LooksAreReportedOnce, LooksChangeNothing};
 ghost use Rattle.cx_look_script.specs.Laws.Scripts.{ActionsStay, ScriptsStay};
 
 /// A look changes nothing. Each run has for each of its actions a part, in which an action of `cicsedf` stands for itself, RUN for as
@@ -17,8 +17,8 @@ pub fn looks_are_marked()
 {}
 
 /// The text of a look is a function of the state.
-pub fn looks_are_told_once()
-    ensures { LooksAreToldOnce }
+pub fn looks_are_reported_once()
+    ensures { LooksAreReportedOnce }
 {
     cx_look_tasks::laws::texts_decide();
 }

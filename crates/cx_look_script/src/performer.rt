@@ -5,7 +5,7 @@ ghost use Rattle.cx_script_actions.specs.Allowed.{IsAllowed};
 ghost use Rattle.cx_script_actions.specs.declared.actions.Action.TheVariants as edf_action;
 ghost use Rattle.cx_look_script.specs.Looking.{LookPerforms, NotedPerforms, SourcePerforms};
 ghost use Rattle.cx_look_script.specs.Runs.{AppliesAtLooks};
-ghost use Rattle.cx_look_script.specs.State.{fresh_looked};
+ghost use Rattle.cx_look_script.specs.State.{fresh_look_state};
 
 use crate::action::LookAction;
 use crate::looks::look_text;
@@ -14,7 +14,7 @@ use crate::turns::run;
 use cx_base_lists::List;
 use cx_ebcdic::Name8;
 use cx_edf::{Answer, Debugged, EdfEvent};
-use cx_look_abend::{LastAbends, happen_noted};
+use cx_look_abend::{LastAbends, apply_noted};
 use cx_look_symbols::statement_places;
 use cx_script::edf_stage;
 use cx_script_actions::{Action, Performer, answer_text};
@@ -58,7 +58,7 @@ impl<S: Store + Drop> Looking<S> {
         requires { IsAllowedEdf event.now }
         ensures { IfOk result (λ given. AppliesAtLooks self.old event.now given self.new) }
     {
-        happen_noted(&mut self.state, &mut self.abends, event)
+        apply_noted(&mut self.state, &mut self.abends, event)
     }
 
     /// Does an event, and gives the text of its answer.
@@ -108,9 +108,9 @@ impl<S: Store + Drop> Looking<S> {
 /// What a script of `cicslook` is performed on.
 pub type LookStage = Looking<PagedStore>;
 
-/// The stage on which a script of `cicslook` begins: a fresh region, with EDF Off at each terminal.
+/// The performer of a script of `cicslook` at its beginning: a fresh region, with EDF Off at each terminal.
 pub fn look_stage(alloc: Global) -> Result<LookStage, AllocError>
-    ensures { IfOk result (λ performer. performer ≡ fresh_looked) }
+    ensures { IfOk result (λ performer. performer ≡ fresh_look_state) }
 {
     Ok(Looking::new(alloc, edf_stage(alloc)?))
 }

@@ -65,5 +65,5 @@ one_more s from area before after all sound e added left =
     rw added (append_assoc before (area ∷ []) (areas_from s (area.start + 1)) ∙ ap (λ rest. before ++ rest) (sym (next_left s from area sound e)) ∙ left)
 
 -- all are reported
-pub all_told : (s : Storage) (from : ℕ) (before all : List Area) → next_area s from ≡ None → before ++ areas_from s from ≡ all → before ≡ all
-all_told s from before all e left = sym (append-nil before) ∙ ap (λ rest. before ++ rest) (sym (none_left s from e)) ∙ left
+pub all_reported : (s : Storage) (from : ℕ) (before all : List Area) → next_area s from ≡ None → before ++ areas_from s from ≡ all → before ≡ all
+all_reported s from before all e left = sym (append-nil before) ∙ ap (λ rest. before ++ rest) (sym (none_left s from e)) ∙ left

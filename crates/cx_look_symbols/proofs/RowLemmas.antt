@@ -24,9 +24,9 @@ use Rattle.cx_asm_pass1.specs.Facts.Definitions.{defined_once_after, first_value
 use Rattle.cx_asm_pass1.specs.Facts.Faults.{none_before, sound_statement}
 use Rattle.cx_asm_pass1.specs.Facts.StatementExtents.{lower_none}
 use Rattle.cx_asm_pass1.specs.Given.{aid_rows, definitions, is_any_known, is_in_range, value_in_range, location_counter, symbol_entry, register_rows, resumes, row_symbols, value_given}
-use Rattle.cx_asm_pass1.specs.PassState.{PassState, next_state, after_line, control_after, definitions_in, duplicate_in, fault_in, first_fault_after, given_in, state_after, laid_in, line_fault, literal_fault, name_fault, name_in, operation_fault, own_fault, parts_in, role_in, section_fault}
+use Rattle.cx_asm_pass1.specs.PassState.{PassState, next_state, after_line, control_after, definitions_in, duplicate_in, fault_in, first_fault_after, given_in, state_after, extent_in, line_fault, literal_fault, name_fault, name_in, operation_fault, own_fault, parts_in, role_in, section_fault}
 use Rattle.cx_asm_pass1.specs.Laws.Definitions.{definitions_at, definitions_after}
-use Rattle.cx_asm_pass1.specs.Locations.{IsPlaced, last_pool_extent, known_of}
+use Rattle.cx_asm_pass1.specs.Locations.{IsPlaced, last_pool_extent, final_state}
 use Rattle.cx_asm_pass1.specs.declared.place.ControlSection.{ControlSection}
 use Rattle.cx_asm_pass1.specs.declared.place.LineFault.{LineFault}
 use Rattle.cx_asm_pass1.specs.declared.places.Places.{Places}
@@ -66,9 +66,9 @@ has_lined name line (s ∷ symbols) =
     ∙ ap (λ b. is_same name s.0 || b) (has_lined name line symbols)
     ∙ sym (has_first (is_same name s.0) s.1 (lookup (is_same name) symbols))
 
-rows_are_lined : (line : ℕ) (stmt : Option Stmt) (known : PassState) → rows_on line stmt known ≡ lined line (definitions_at stmt known)
-rows_are_lined line None known = refl
-rows_are_lined line (Some stmt) known = refl
+rows_are_lined : (line : ℕ) (stmt : Option Stmt) (state : PassState) → rows_on line stmt state ≡ lined line (definitions_at stmt state)
+rows_are_lined line None state = refl
+rows_are_lined line (Some stmt) state = refl
 
 has_rows : (name : List ℕ) (items : List Item) → has name (rows_after items) ≡ has name (definitions_after items)
 has_rows name [] = refl
@@ -158,13 +158,13 @@ distinct_right : (one other : Symbols) → IsDistinct is_same (keys_of (one ++ o
 distinct_right [] other h = h
 distinct_right (s ∷ one) other h = distinct_right one other (IsDistinct-tail is_same s.0 (keys_of (one ++ other)) h)
 
-new_rows : (rows : Rows) (known : List ℕ → Option Value) (same : (name : List ℕ) → has name rows ≡ is_some (known name)) (symbols : Symbols)
-    → is_any_known known symbols ≡ false → AreNew rows symbols
+new_rows : (rows : Rows) (state : List ℕ → Option Value) (same : (name : List ℕ) → has name rows ≡ is_some (state name)) (symbols : Symbols)
+    → is_any_known state symbols ≡ false → AreNew rows symbols
 unfolding AreNew
-new_rows rows known same [] e = tt
-new_rows rows known same (s ∷ symbols) e =
-    let both = or_false (is_some (known s.0)) (is_any_known known symbols) e in
-    (same s.0 ∙ both.0, new_rows rows known same symbols both.1)
+new_rows rows state same [] e = tt
+new_rows rows state same (s ∷ symbols) e =
+    let both = or_false (is_some (state s.0)) (is_any_known state symbols) e in
+    (same s.0 ∙ both.0, new_rows rows state same symbols both.1)
 
 -- a statement gives its name a value, or never gives one
 Gives : Role → Option Value → Type 0
@@ -188,20 +188,20 @@ limited_gives (Ok value) e = go (is_in_range value.number) e
     go true e = refl
     go false e = cc
 
-gives_value : (role : Role) (name : Option (List ℕ)) (find : List ℕ → Option Value) (section : Option (List ℕ)) (operand : List ℕ) (stmt : Stmt) (known : PassState)
-    → result_err (value_given role name find section operand (laid_in stmt known)) ≡ None
-    → Gives role (unwrap_or (result_ok (value_given role name find section operand (laid_in stmt known))) None)
+gives_value : (role : Role) (name : Option (List ℕ)) (find : List ℕ → Option Value) (section : Option (List ℕ)) (operand : List ℕ) (stmt : Stmt) (state : PassState)
+    → result_err (value_given role name find section operand (extent_in stmt state)) ≡ None
+    → Gives role (unwrap_or (result_ok (value_given role name find section operand (extent_in stmt state))) None)
 unfolding Gives
-gives_value Unknown name find section operand stmt known e = refl
-gives_value Nothing name find section operand stmt known e = refl
-gives_value Registers name find section operand stmt known e = tt
-gives_value Member name find section operand stmt known e = tt
-gives_value (Instruction size) name find section operand stmt known e = refl
-gives_value Control name find section operand stmt known e = refl
-gives_value Dummy name find section operand stmt known e = refl
-gives_value Equate name find section operand stmt known e = limited_gives (value_of find (location_counter section (laid_in stmt known).offset 1) operand) e
-gives_value (Storage is_ds) name find section operand stmt known e = refl
-gives_value Pool name find section operand stmt known e = refl
+gives_value Unknown name find section operand stmt state e = refl
+gives_value Nothing name find section operand stmt state e = refl
+gives_value Registers name find section operand stmt state e = tt
+gives_value Member name find section operand stmt state e = tt
+gives_value (Instruction size) name find section operand stmt state e = refl
+gives_value Control name find section operand stmt state e = refl
+gives_value Dummy name find section operand stmt state e = refl
+gives_value Equate name find section operand stmt state e = limited_gives (value_of find (location_counter section (extent_in stmt state).offset 1) operand) e
+gives_value (Storage is_ds) name find section operand stmt state e = refl
+gives_value Pool name find section operand stmt state e = refl
 
 fault_none : (line : ℕ) (fault : Option FaultKind) (first : Option LineFault) → first_fault_after line fault first ≡ None → fault ≡ None
 fault_none line None first e = refl
@@ -220,18 +220,18 @@ fifth a b c d e f h =
     let four = lower_none d (lower e (lower f None)) three.1 in
     (lower_none e (lower f None) four.1).0
 
-value_sound : (line : ℕ) (stmt : Stmt) (known : PassState) → (next_state line stmt known).fault ≡ None → result_err (given_in stmt known) ≡ None
+value_sound : (line : ℕ) (stmt : Stmt) (state : PassState) → (next_state line stmt state).fault ≡ None → result_err (given_in stmt state) ≡ None
 unfolding next_state
-value_sound line stmt known e =
-    let none : fault_in stmt known ≡ None = fault_none line (fault_in stmt known) known.fault e in
-    let own = lower_none (own_fault stmt known) (literal_fault (role_in stmt) (length known.places) (parts_in stmt) known.pool) none in
+value_sound line stmt state e =
+    let none : fault_in stmt state ≡ None = fault_none line (fault_in stmt state) state.fault e in
+    let own = lower_none (own_fault stmt state) (literal_fault (role_in stmt) (length state.places) (parts_in stmt) state.pool) none in
     fifth (operation_fault (role_in stmt)) (name_fault (role_in stmt) stmt.name)
-    (section_fault (role_in stmt) (name_in stmt) known.section known.control) (laid_in stmt known).fault (result_err (given_in stmt known))
-    (duplicate_in stmt known) own.0
+    (section_fault (role_in stmt) (name_in stmt) state.section state.control) (extent_in stmt state).fault (result_err (given_in stmt state))
+    (duplicate_in stmt state) own.0
 
-value_gives : (line : ℕ) (stmt : Stmt) (known : PassState) → (next_state line stmt known).fault ≡ None → Gives (role_in stmt) (unwrap_or (result_ok (given_in stmt known)) None)
-value_gives line stmt known e =
-    gives_value (role_in stmt) (name_in stmt) known.symbols known.section stmt.operand stmt known (value_sound line stmt known e)
+value_gives : (line : ℕ) (stmt : Stmt) (state : PassState) → (next_state line stmt state).fault ≡ None → Gives (role_in stmt) (unwrap_or (result_ok (given_in stmt state)) None)
+value_gives line stmt state e =
+    gives_value (role_in stmt) (name_in stmt) state.symbols state.section stmt.operand stmt state (value_sound line stmt state e)
 
 -- ---- sections that are resumed
 KnowsControl : Option (List ℕ) → (List ℕ → Option Value) → Type 0
@@ -292,12 +292,12 @@ control_step Registers name control find operand value given h = λ n e. or_one 
 control_step Member name control find operand value given h = λ n e. or_one (find n) _ (h n e)
 control_step Nothing name control find operand value given h = λ n e. or_one (find n) _ (h n e)
 
-control_line : (line : ℕ) (stmt : Option Stmt) (known : PassState) → (after_line line stmt known).fault ≡ None → (known.fault ≡ None → KnowsControl known.control known.symbols)
-    → KnowsControl (after_line line stmt known).control (after_line line stmt known).symbols
+control_line : (line : ℕ) (stmt : Option Stmt) (state : PassState) → (after_line line stmt state).fault ≡ None → (state.fault ≡ None → KnowsControl state.control state.symbols)
+    → KnowsControl (after_line line stmt state).control (after_line line stmt state).symbols
 unfolding next_state
-control_line line None known e h = h e
-control_line line (Some stmt) known e h =
-    control_step (role_in stmt) (name_in stmt) known.control known.symbols stmt.operand _ (value_gives line stmt known e) (h (none_before line stmt known e))
+control_line line None state e h = h e
+control_line line (Some stmt) state e h =
+    control_step (role_in stmt) (name_in stmt) state.control state.symbols stmt.operand _ (value_gives line stmt state e) (h (none_before line stmt state e))
 
 knows_control : (items : List Item) → (state_after items).fault ≡ None → KnowsControl (state_after items).control (state_after items).symbols
 unfolding KnowsControl
@@ -311,45 +311,45 @@ nothing_put line rows role None control find None e = append_none rows
 nothing_put line rows role (Some name) control find None e = append_none rows
 nothing_put line rows role name control find (Some value) e = cc
 
-module _ (find : List ℕ → Option Value) (line : ℕ) (rows : Rows) (known : List ℕ → Option Value) (same : (name : List ℕ) → has name rows ≡ is_some (known name)) where
+module _ (find : List ℕ → Option Value) (line : ℕ) (rows : Rows) (state : List ℕ → Option Value) (same : (name : List ℕ) → has name rows ≡ is_some (state name)) where
   abbrev Found : Symbols → Type 0
   Found symbols = AllByRecursion (λ s. find s.0 ≡ Some s.1) symbols
 
-  rows_put : (all : List (List ℕ × ℕ)) → is_any_known known (row_symbols all) ≡ false → IsDistinct is_same (keys_of (row_symbols all)) → Found (row_symbols all)
+  rows_put : (all : List (List ℕ × ℕ)) → is_any_known state (row_symbols all) ≡ false → IsDistinct is_same (keys_of (row_symbols all)) → Found (row_symbols all)
       → with_names find line rows (names_among (map (λ row. row.0) all)) ≡ rows ++ lined line (row_symbols all)
   rows_put all new apart found =
       ap (λ names. with_names find line rows names) (row_names all)
-      ∙ put_all find line rows (row_symbols all) (new_rows rows known same (row_symbols all) new) apart found
+      ∙ put_all find line rows (row_symbols all) (new_rows rows state same (row_symbols all) new) apart found
 
-  one_put : (b : Bool) (name : List ℕ) (value : Value) → (b ≡ true → is_some (known name) ≡ true)
-      → is_any_known known (if b then [] else (name, value) ∷ []) ≡ false → Found (if b then [] else (name, value) ∷ [])
+  one_put : (b : Bool) (name : List ℕ) (value : Value) → (b ≡ true → is_some (state name) ≡ true)
+      → is_any_known state (if b then [] else (name, value) ∷ []) ≡ false → Found (if b then [] else (name, value) ∷ [])
       → with_names find line rows (name ∷ []) ≡ rows ++ lined line (if b then [] else (name, value) ∷ [])
   one_put true name value h new found = put_old find line rows name (same name ∙ h refl) ∙ append_none rows
-  one_put false name value h new found = put_new find line rows name value (same name ∙ (or_false (is_some (known name)) false new).0) found.0
+  one_put false name value h new found = put_new find line rows name value (same name ∙ (or_false (is_some (state name)) false new).0) found.0
 
-  named_put : (role : Role) (name control : Option (List ℕ)) (value : Option Value) → KnowsControl control known → is_some value ≡ true
-      → is_any_known known (symbol_entry role name control known value) ≡ false → Found (symbol_entry role name control known value)
-      → with_names find line rows (cons_option name []) ≡ rows ++ lined line (symbol_entry role name control known value)
+  named_put : (role : Role) (name control : Option (List ℕ)) (value : Option Value) → KnowsControl control state → is_some value ≡ true
+      → is_any_known state (symbol_entry role name control state value) ≡ false → Found (symbol_entry role name control state value)
+      → with_names find line rows (cons_option name []) ≡ rows ++ lined line (symbol_entry role name control state value)
   named_put role name control None h given new found = cc
   named_put role None control (Some value) h given new found = append_none rows
   named_put role (Some name) control (Some value) h given new found =
-      one_put (resumes role name control known) name value (resumed_known role name control known h) new found
+      one_put (resumes role name control state) name value (resumed_known role name control state h) new found
 
-  member_put : (b : Bool) → is_any_known known (if b then row_symbols aid_rows else []) ≡ false
+  member_put : (b : Bool) → is_any_known state (if b then row_symbols aid_rows else []) ≡ false
       → IsDistinct is_same (keys_of (if b then row_symbols aid_rows else [])) → Found (if b then row_symbols aid_rows else [])
       → with_names find line rows (if b then names_among (map (λ row. row.0) aid_rows) else []) ≡ rows ++ lined line (if b then row_symbols aid_rows else [])
   member_put true new apart found = rows_put aid_rows new apart found
   member_put false new apart found = append_none rows
 
-  role_put : (role : Role) (name control : Option (List ℕ)) (operand : List ℕ) (value : Option Value) → KnowsControl control known → Gives role value
-      → is_any_known known (definitions role name control known operand value) ≡ false
-      → IsDistinct is_same (keys_of (definitions role name control known operand value)) → Found (definitions role name control known operand value)
-      → with_names find line rows (names_given role name operand) ≡ rows ++ lined line (definitions role name control known operand value)
+  role_put : (role : Role) (name control : Option (List ℕ)) (operand : List ℕ) (value : Option Value) → KnowsControl control state → Gives role value
+      → is_any_known state (definitions role name control state operand value) ≡ false
+      → IsDistinct is_same (keys_of (definitions role name control state operand value)) → Found (definitions role name control state operand value)
+      → with_names find line rows (names_given role name operand) ≡ rows ++ lined line (definitions role name control state operand value)
   unfolding Gives
   role_put Registers name control operand value h given new apart found = rows_put register_rows new apart found
   role_put Member name control operand value h given new apart found = member_put (bytes_eq operand (codes "DFHAID")) new apart found
   role_put Unknown name control operand value h given new apart found = named_put Unknown name control value h given new found
-  role_put Nothing name control operand value h given new apart found = nothing_put line rows Nothing name control known value given
+  role_put Nothing name control operand value h given new apart found = nothing_put line rows Nothing name control state value given
   role_put (Instruction size) name control operand value h given new apart found = named_put (Instruction size) name control value h given new found
   role_put Control name control operand value h given new apart found = named_put Control name control value h given new found
   role_put Dummy name control operand value h given new apart found = named_put Dummy name control value h given new found
@@ -367,27 +367,27 @@ line_put : (find : List ℕ → Option Value) (line : ℕ) (stmt : Option Stmt) 
     → with_stmt find line stmt (rows_after before) ≡ rows_after before ++ lined line (definitions_at stmt (state_after before))
 line_put find line None before e apart found = append_none (rows_after before)
 line_put find line (Some stmt) before e apart found =
-    let known = state_after before in
-    role_put find line (rows_after before) known.symbols (λ name. has_known name before) (role_in stmt) (name_in stmt) known.control stmt.operand _
-    (knows_control before (none_before line stmt known e)) (value_gives line stmt known e)
-    (no_duplicate (is_any_known known.symbols (definitions_in stmt known None)) (sound_statement line stmt known e).definitions) apart found
+    let state = state_after before in
+    role_put find line (rows_after before) state.symbols (λ name. has_known name before) (role_in stmt) (name_in stmt) state.control stmt.operand _
+    (knows_control before (none_before line stmt state e)) (value_gives line stmt state e)
+    (no_duplicate (is_any_known state.symbols (definitions_in stmt state None)) (sound_statement line stmt state e).definitions) apart found
 
-before_line : (line : ℕ) (stmt : Option Stmt) (known : PassState) → (after_line line stmt known).fault ≡ None → known.fault ≡ None
-before_line line None known e = e
-before_line line (Some stmt) known e = none_before line stmt known e
+before_line : (line : ℕ) (stmt : Option Stmt) (state : PassState) → (after_line line stmt state).fault ≡ None → state.fault ≡ None
+before_line line None state e = e
+before_line line (Some stmt) state e = none_before line stmt state e
 
 table_is : (find : List ℕ → Option Value) (items : List Item) → (state_after items).fault ≡ None → AllByRecursion (λ s. find s.0 ≡ Some s.1) (definitions_after items)
     → table_after find items ≡ rows_after items
 table_is find [] e found = refl
 table_is find (item ∷ before) e found =
-    let known = state_after before in
-    let defined : Symbols = definitions_at item.stmt known in
+    let state = state_after before in
+    let defined : Symbols = definitions_at item.stmt state in
     ap (λ rows. with_stmt find item.line item.stmt rows)
-    (table_is find before (before_line item.line item.stmt known e) (left_of (λ s. find s.0 ≡ Some s.1) (definitions_after before) defined found))
+    (table_is find before (before_line item.line item.stmt state e) (left_of (λ s. find s.0 ≡ Some s.1) (definitions_after before) defined found))
     ∙ line_put find item.line item.stmt before e
     (distinct_right (definitions_after before) defined (defined_once_after (item ∷ before) e))
     (right_of (λ s. find s.0 ≡ Some s.1) (definitions_after before) defined found)
-    ∙ sym (ap (λ rows. rows_after before ++ rows) (rows_are_lined item.line item.stmt known))
+    ∙ sym (ap (λ rows. rows_after before ++ rows) (rows_are_lined item.line item.stmt state))
 
 -- each symbol of a list without repeats is found in it
 after_other : (s : List ℕ × Value) (all some : Symbols) → AllByRecursion (λ k. is_same s.0 k ≡ false) (keys_of some)
@@ -415,17 +415,17 @@ rows_are find items e same =
     (found_by find (find_in (definitions_after items)) (λ name. same name ∙ first_value items name) (definitions_after items)
     (all_found (definitions_after items) (defined_once_after items e)))
 
-pub control_told : (control : Option (List ℕ)) (length : ℕ) → option_map (λ (c : ControlSection). c.name) (option_map (λ name. record { name = name; length = length }) control) ≡ control
-control_told None length = refl
-control_told (Some name) length = refl
+pub control_reported : (control : Option (List ℕ)) (length : ℕ) → option_map (λ (c : ControlSection). c.name) (option_map (λ name. record { name = name; length = length }) control) ≡ control
+control_reported None length = refl
+control_reported (Some name) length = refl
 
 -- the names of a source without a fault
-pub named_is : (source : Source) (places : Places) (control : Option (List ℕ)) (rows : Rows) → (known_of source).fault ≡ None → IsPlaced (known_of source) places
+pub named_is : (source : Source) (places : Places) (control : Option (List ℕ)) (rows : Rows) → (final_state source).fault ≡ None → IsPlaced (final_state source) places
     → control ≡ option_map (λ (c : ControlSection). c.name) places.control → rows ≡ table_after (find_in places.symbols) (reverse source.items)
     → Some (record { control = control; rows = rows }) ≡ named_of source
 named_is source places control rows e placed c r =
-    let known = known_of source in
-    let same_control : control ≡ known.control =
-    c ∙ ap (λ (o : Option ControlSection). option_map (λ (c : ControlSection). c.name) o) placed.control ∙ control_told known.control (last_pool_extent known).end in
+    let state = final_state source in
+    let same_control : control ≡ state.control =
+    c ∙ ap (λ (o : Option ControlSection). option_map (λ (c : ControlSection). c.name) o) placed.control ∙ control_reported state.control (last_pool_extent state).end in
     let same_rows : rows ≡ rows_after (reverse source.items) = r ∙ rows_are (find_in places.symbols) (reverse source.items) e placed.symbols in
     rw (e, same_control, same_rows) refl

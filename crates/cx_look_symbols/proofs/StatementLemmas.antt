@@ -8,18 +8,18 @@ use Rattle.cx_source.specs.declared.source.Source.{Source}
 use Rattle.cx_asm_expressions.specs.Digits.{bound}
 use Rattle.cx_asm_pools.specs.Pools.{cap}
 use Rattle.cx_asm_pass1.specs.PassState.{is_control, role_in}
-use Rattle.cx_asm_pass1.specs.Locations.{IsPlaced, last_pool_extent, known_of}
+use Rattle.cx_asm_pass1.specs.Locations.{IsPlaced, last_pool_extent, final_state}
 use Rattle.cx_asm_pass1.specs.declared.place.ControlSection.{ControlSection}
 use Rattle.cx_asm_pass1.specs.declared.places.Places.{Places}
-use Rattle.cx_asm_pass2.specs.Whole.{told_by}
+use Rattle.cx_asm_pass2.specs.Whole.{whole_by}
 use Rattle.cx_asm.specs.Listing.{object_length}
 use Rattle.cx_look_symbols.specs.Laws.{ListedThere, bytes_at}
-use Rattle.cx_look_symbols.proofs.RowLemmas.{control_told}
+use Rattle.cx_look_symbols.proofs.RowLemmas.{control_reported}
 
-pub control_is : (source : Source) (places : Places) → IsPlaced (known_of source) places → (told_by places).control ≡ (known_of source).control
+pub control_is : (source : Source) (places : Places) → IsPlaced (final_state source) places → (whole_by places).control ≡ (final_state source).control
 control_is source places placed =
     ap (λ (o : Option ControlSection). option_map (λ (c : ControlSection). c.name) o) placed.control
-    ∙ control_told (known_of source).control (last_pool_extent (known_of source)).end
+    ∙ control_reported (final_state source).control (last_pool_extent (final_state source)).end
 
 -- ---- one more
 pub added_before : {A : Type 0} (found rest : List A) (one : Option A) → (found ++ cons_option one []) ++ rest ≡ found ++ cons_option one rest
@@ -56,6 +56,6 @@ there text at n line true true e le = at_place text at n le
 there text at n line true false e le = let none : n ≡ 0 = grind (arith, nat_tests, e) in rw none refl
 
 pub listed_there : ListedThere
-listed_there told text s le =
-    there text s.place.offset (object_length s (role_in s.stmt)) s.line (is_control s.place.section told.control)
+listed_there whole text s le =
+    there text s.place.offset (object_length s (role_in s.stmt)) s.line (is_control s.place.section whole.control)
     (nat_lt 0 (object_length s (role_in s.stmt))) refl le

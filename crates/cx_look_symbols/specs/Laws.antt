@@ -25,5 +25,5 @@ bytes_at text place = option_map_or (λ it. take (it.end - it.start) (drop it.st
 
 -- The bytes that are listed beside a statement are those at its place; none where it has no place.
 abbrev pub ListedThere : Type 0
-ListedThere = (told : Whole) (text : List ℕ) (s : PlacedStatement) → length text ≤ bound
-    → object_of told text s ≡ bytes_at text (place_of told.control s)
+ListedThere = (whole : Whole) (text : List ℕ) (s : PlacedStatement) → length text ≤ bound
+    → object_of whole text s ≡ bytes_at text (place_of whole.control s)

@@ -5,7 +5,7 @@ use Rattle.std.specs.Option.{option_map_or}
 use Rattle.cx_source.specs.declared.source.Source.{Source}
 use Rattle.cx_asm_pools.specs.Pools.{cap}
 use Rattle.cx_asm_pass1.specs.PassState.{is_control, role_in}
-use Rattle.cx_asm_pass1.specs.Locations.{known_of}
+use Rattle.cx_asm_pass1.specs.Locations.{final_state}
 use Rattle.cx_asm_pass2.specs.Statements.{PlacedStatement, statements_of}
 use Rattle.cx_asm.specs.Listing.{object_length}
 use Rattle.cx_look_symbols.specs.Symbols.{translated_in}
@@ -24,7 +24,7 @@ place_of control s =
 -- those of a source in its order, where the first pass finds no fault
 abbrev pub places_in : Source → List StatementPlace
 places_in source =
-    if is_none (known_of source).fault then filter_map (place_of (known_of source).control) (statements_of source) else []
+    if is_none (final_state source).fault then filter_map (place_of (final_state source).control) (statements_of source) else []
 
 -- those of lines; none where these aren't a source without a fault
 unfoldable pub statement_places : List (List ℕ) → List StatementPlace

@@ -8,7 +8,7 @@ use Rattle.cx_source.specs.declared.source.Stmt.{Stmt}
 use Rattle.cx_translate.specs.Translation.{translation_of}
 use Rattle.cx_asm_expressions.specs.declared.values.Value.{Value}
 use Rattle.cx_asm_pass1.specs.PassState.{PassState, definitions_in, state_after}
-use Rattle.cx_asm_pass1.specs.Locations.{known_of}
+use Rattle.cx_asm_pass1.specs.Locations.{final_state}
 use Rattle.cx_look_symbols.specs.declared.rows.Symbol.{Symbol}
 
 abbrev pub Rows : Type 0
@@ -19,8 +19,8 @@ symbol_of line value = record { value = value; line = line }
 
 -- the symbols that a line's statement defines
 abbrev pub rows_on : ℕ → Option Stmt → PassState → Rows
-rows_on line None known = []
-rows_on line (Some stmt) known = map (λ symbol. (symbol.0, symbol_of line symbol.1)) (definitions_in stmt known None)
+rows_on line None state = []
+rows_on line (Some stmt) state = map (λ symbol. (symbol.0, symbol_of line symbol.1)) (definitions_in stmt state None)
 
 -- those of lines in the source's order; the lines the latest first
 abbrev pub rows_after : List Item → Rows
@@ -35,7 +35,7 @@ pub record SourceSymbols : Type 0 where
 -- where the first pass finds no fault
 abbrev pub named_of : Source → Option SourceSymbols
 named_of source =
-    if is_none (known_of source).fault then Some (record { control = (known_of source).control; rows = rows_after (reverse source.items) })
+    if is_none (final_state source).fault then Some (record { control = (final_state source).control; rows = rows_after (reverse source.items) })
     else None
 
 -- the source that lines make, translated; None where it has a fault

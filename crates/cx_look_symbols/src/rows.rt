@@ -26,7 +26,7 @@ const AIDS: [&str; 16] = [
 /// A symbol of a source.
 #[derive(Clone, Copy, Debug, PartialEq, Eq)]
 pub struct Symbol {
-    /// What it is worth.
+    /// Its value.
     pub value: Value,
     /// The number of the line whose statement defines it, from 1.
     pub line: usize,

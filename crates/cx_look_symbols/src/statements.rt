@@ -2,8 +2,8 @@
 ghost use Rattle.std.specs.Prelude.{◌≡◌, ◌++◌, [], IfOk, OnOk, None};
 ghost use Rattle.std.specs.List.{cons_option, filter_map};
 ghost use Rattle.cx_asm_pass2.specs.Statements.{statements_of};
-ghost use Rattle.cx_asm_pass2.specs.Whole.{told_by};
-ghost use Rattle.cx_asm_pass1.specs.Locations.{IsPlaced, known_of};
+ghost use Rattle.cx_asm_pass2.specs.Whole.{whole_by};
+ghost use Rattle.cx_asm_pass1.specs.Locations.{IsPlaced, final_state};
 ghost use Rattle.cx_look_symbols.specs.Statements.{place_of, places_in, statement_places};
 
 use crate::reading::translated_in;
@@ -59,7 +59,7 @@ fn push_place(
     places: &Places<'_>,
     statement: &Statement<'_>,
 ) -> Result<(), AllocError>
-    ensures { let more = cons_option (place_of (told_by places.now).control statement.now) [] in
+    ensures { let more = cons_option (place_of (whole_by places.now).control statement.now) [] in
         OnOk result (found.new.items ≡ found.old.items ++ more) }
 {
     let Some(place) = place_of(alloc, control_name(places), statement)? else {
@@ -76,7 +76,7 @@ fn places_among(
     places: &Places<'_>,
     statements: &[Statement<'_>],
 ) -> Result<List<StatementPlace>, AllocError>
-    ensures { IfOk result (λ found. found ≡ filter_map (place_of (told_by places.now).control) statements.now) }
+    ensures { IfOk result (λ found. found ≡ filter_map (place_of (whole_by places.now).control) statements.now) }
 {
     let mut found = Vec::new(alloc);
     for statement in statements {
@@ -92,8 +92,8 @@ fn places_with(
     source: &Source,
     places: &Places<'_>,
 ) -> Result<List<StatementPlace>, AllocError>
-    requires fault { (known_of source.now).fault ≡ None }
-    requires placed { IsPlaced (known_of source.now) places.now }
+    requires fault { (final_state source.now).fault ≡ None }
+    requires placed { IsPlaced (final_state source.now) places.now }
     ensures { IfOk result (λ found. found ≡ places_in source.now) }
 {
     let placed = placed_lines(alloc, source, places.statements.as_slice())?;

@@ -2,7 +2,7 @@
 ghost use Rattle.std.specs.Prelude.{◌≡◌, IfOk, None, Some};
 ghost use Rattle.std.specs.Option.{option_map};
 ghost use Rattle.cx_asm_pass1.specs.declared.place.ControlSection.{ControlSection};
-ghost use Rattle.cx_asm_pass1.specs.Locations.{IsPlaced, known_of};
+ghost use Rattle.cx_asm_pass1.specs.Locations.{IsPlaced, final_state};
 ghost use Rattle.cx_look_symbols.specs.Symbols.{named_in, named_of};
 ghost use Rattle.cx_look_symbols.specs.Names.{symbols_named};
 
@@ -42,8 +42,8 @@ pub fn names_of_places(
     source: &Source,
     places: &Places<'_>,
 ) -> Result<Names, AllocError>
-    requires fault { (known_of source.now).fault ≡ None }
-    requires placed { IsPlaced (known_of source.now) places.now }
+    requires fault { (final_state source.now).fault ≡ None }
+    requires placed { IsPlaced (final_state source.now) places.now }
     ensures { IfOk result (λ names. Some (symbols_named names) ≡ named_of source.now) }
 {
     let control = control_of(places);

@@ -7,7 +7,7 @@ ghost use Rattle.cx_service.specs.Queues.{AreSoundQueues, item_of, item_numbered
 ghost use Rattle.cx_look_tables.specs.Queues.{item_found, item_line, items_text, item_text, queue_found, queue_line, queue_text, queues_text, rows_text};
 ghost use Rattle.cx_look_words.specs.Words.{look_line};
 
-use crate::rows::{front, push_rows};
+use crate::rows::{first_bytes, push_rows};
 use cx_base_text::shown;
 use cx_ebcdic::Name8;
 use cx_look_words::{decimal, in_apostrophes, look_line, written_name};
@@ -40,7 +40,7 @@ fn item_line(alloc: Global, n: usize, item: &[u8]) -> Result<Vec<u8>, AllocError
     ensures { IfOk result (λ text. text.items ≡ item_line n item.now) }
 {
     let length = decimal(alloc, item.len())?;
-    let text = shown(alloc, front(item, MOST_SHOWN))?;
+    let text = shown(alloc, first_bytes(item, MOST_SHOWN))?;
     let text = in_apostrophes(alloc, &text)?;
     let n = decimal(alloc, n)?;
     look_line(alloc, &[b"ITEM", &n, b"LENGTH", &length, &text])

@@ -21,7 +21,7 @@ fn after(bytes: &[u8], place: usize) -> &[u8]
 }
 
 /// The first `count` bytes, or all where there are fewer.
-pub(crate) fn front(bytes: &[u8], count: usize) -> &[u8]
+pub(crate) fn first_bytes(bytes: &[u8], count: usize) -> &[u8]
     ensures { result.now ≡ take count bytes.now }
 {
     bytes.split_at(count.min(bytes.len())).0
@@ -31,7 +31,7 @@ pub(crate) fn front(bytes: &[u8], count: usize) -> &[u8]
 fn group(alloc: Global, row: &[u8], place: usize) -> Result<Vec<u8>, AllocError>
     ensures { IfOk result (λ text. text.items ≡ hex_digits (take 4 (drop place row.now))) }
 {
-    spelled(alloc, front(after(row, place), GROUP))
+    spelled(alloc, first_bytes(after(row, place), GROUP))
 }
 
 /// A row's bytes in hexadecimal digits, in groups of four.
@@ -66,7 +66,7 @@ fn row_of(alloc: Global, k: u32, bytes: &[u8]) -> Result<Vec<u8>, AllocError>
     row_line(
         alloc,
         offset,
-        front(after(bytes, offset as usize), ROW as usize),
+        first_bytes(after(bytes, offset as usize), ROW as usize),
     )
 }
 

@@ -26,7 +26,7 @@ use Rattle.cx_region_task.specs.Turn.{HalfTurn, EndsRun, RunsOn}
 use Rattle.cx_region_task.specs.Continuations.{Goes, is_wait}
 use Rattle.cx_region.specs.Turn.{TaskTakesTurn, TakesTurn, context_of}
 use Rattle.cx_look_tasks.specs.Activities.{Acts, ActsByCall, ActsByCommand, ActsByVerdict, IsActivity, activity_by, is_waiting, wait_by, waits_by}
-use Rattle.cx_look_tasks.specs.Laws.{ActivitiesDecide, WaitsAreTold, is_wait_reply}
+use Rattle.cx_look_tasks.specs.Laws.{ActivitiesDecide, WaitsAreReported, is_wait_reply}
 use Rattle.cx_look_tasks.specs.declared.activities.Activity.{Activity}
 use Rattle.cx_look_tasks.specs.declared.activities.Activity.TheVariants.{Due, NoTask, Running, Waiting}
 
@@ -39,16 +39,16 @@ abend_replies code cancel mid after reply it = go it.exit it.ends
     go None over = rw over.0 refl
     go (Some index) over = rw over.0 refl
 
-goes_replies : (gone : Continuation) (condition : Condition) (settled after : TaskContext) (reply : TurnReply) → is_wait gone ≡ false → Goes gone condition settled reply after → is_wait_reply reply ≡ false
+goes_replies : (gone : Continuation) (condition : Condition) (committed after : TaskContext) (reply : TurnReply) → is_wait gone ≡ false → Goes gone condition committed reply after → is_wait_reply reply ≡ false
 unfolding Goes
-goes_replies continuation.GoesOn condition settled after reply moves goes = rw goes.0 refl
-goes_replies (continuation.TakesLabel label) condition settled after reply moves goes = rw goes.0 refl
-goes_replies continuation.Waits condition settled after reply moves goes = absurd (let no : true ≡ false = moves in cc)
-goes_replies (continuation.Abends code cancel) condition settled after reply moves goes = abend_replies code cancel settled after reply goes
-goes_replies (continuation.Enters level) condition settled after reply moves goes = rw goes.0 refl
-goes_replies (continuation.Replaces level) condition settled after reply moves goes = rw goes.0 refl
-goes_replies continuation.LevelEnds condition settled after reply moves goes = rw goes.0 refl
-goes_replies continuation.TaskEnds condition settled after reply moves goes = rw goes.0 refl
+goes_replies continuation.GoesOn condition committed after reply moves goes = rw goes.0 refl
+goes_replies (continuation.TakesLabel label) condition committed after reply moves goes = rw goes.0 refl
+goes_replies continuation.Waits condition committed after reply moves goes = absurd (let no : true ≡ false = moves in cc)
+goes_replies (continuation.Abends code cancel) condition committed after reply moves goes = abend_replies code cancel committed after reply goes
+goes_replies (continuation.Enters level) condition committed after reply moves goes = rw goes.0 refl
+goes_replies (continuation.Replaces level) condition committed after reply moves goes = rw goes.0 refl
+goes_replies continuation.LevelEnds condition committed after reply moves goes = rw goes.0 refl
+goes_replies continuation.TaskEnds condition committed after reply moves goes = rw goes.0 refl
 
 meets_replies : (call : Call) (condition : Condition) (outputs : List Output) (change : TaskChange) (before after : TaskContext) (reply : TurnReply)
     → MeetsWith call condition outputs change before reply after
@@ -59,7 +59,7 @@ meets_replies call condition outputs change before after reply meets = by_room (
     by_wait : (b : Bool) → is_wait (continuation_at call condition change before) ≡ b → MatchBool b (LeavesAll before reply after) (Does call condition outputs change before reply after)
         → is_wait_reply reply ≡ b
     by_wait true e leaves = rw leaves.waiting refl
-    by_wait false e it = goes_replies (continuation_at call condition change before) condition it.settled after reply e it.goes
+    by_wait false e it = goes_replies (continuation_at call condition change before) condition it.committed after reply e it.goes
 
     by_room : (b : Bool) → MatchBool b (MatchBool (is_wait (continuation_at call condition change before)) (LeavesAll before reply after) (Does call condition outputs change before reply after))
         (Abends (abend_code abend.Xarg) false before reply after) → is_wait_reply reply ≡ (b && is_wait (continuation_at call condition change before))
@@ -72,9 +72,9 @@ answers_replies (Refuses code) call before after reply it = abend_replies (abend
 answers_replies Waits call before after reply it = rw it.waiting refl
 answers_replies (Meets condition outputs change) call before after reply it = meets_replies call condition outputs change before after reply it
 
-told : (verdict : Verdict) (call : Call) (r : TaskContext) → is_waiting (activity_by verdict call r) ≡ waits_by verdict call r
+reported : (verdict : Verdict) (call : Call) (r : TaskContext) → is_waiting (activity_by verdict call r) ≡ waits_by verdict call r
 unfolding activity_by
-told verdict call r = by_wait (waits_by verdict call r)
+reported verdict call r = by_wait (waits_by verdict call r)
   where
     by_wait : (b : Bool) → is_waiting (if b then Waiting (wait_by verdict call r) else Due (Some call.command)) ≡ b
     by_wait true = refl
@@ -90,7 +90,7 @@ performs : JudgedOnce → (call : Call) (before after : TaskContext) (reply : Tu
     → is_wait_reply reply ≡ is_waiting activity
 performs once call before after reply activity it acts =
     let same : acts.verdict ≡ it.verdict = once call before acts.verdict it.verdict acts.judged it.judged in
-    answers_replies it.verdict call before after reply it.answers ∙ sym (told it.verdict call before) ∙ (rw (acts.is, same) refl)
+    answers_replies it.verdict call before after reply it.answers ∙ sym (reported it.verdict call before) ∙ (rw (acts.is, same) refl)
 
 half : JudgedOnce → (before after : TaskContext) (reply : TurnReply) (activity : Activity) → HalfTurn before reply after → Acts before activity → is_wait_reply reply ≡ is_waiting activity
 unfolding HalfTurn PerformsCommand PerformsCall Acts ActsByCommand ActsByCall
@@ -111,9 +111,9 @@ half once before after reply activity turns acts = by_due before.task.due turns 
     by_due true commanded acts = by_call (call_of before.shared.storage (list_of before.task)) commanded acts
     by_due false runs is = rw is (halts runs.how runs.between after reply runs.ends)
 
-pub waits_are_told : JudgedOnce → WaitsAreTold
+pub waits_are_reported : JudgedOnce → WaitsAreReported
 unfolding TakesTurn IsActivity
-waits_are_told once region new name terminal activity reply found acts turned = by_task terminal.task (rw found at turned) acts
+waits_are_reported once region new name terminal activity reply found acts turned = by_task terminal.task (rw found at turned) acts
   where
     by_task : (t : Option TaskState) → MatchOption t ((reply ≡ turn.Idle) × (new ≡ region)) (λ task. TaskTakesTurn region name terminal task reply new)
         → MatchOption t (activity ≡ NoTask) (λ task. Acts (context_of region terminal task) activity) → is_wait_reply reply ≡ is_waiting activity

@@ -14,8 +14,8 @@ is_wait_reply turn.Waiting = true
 is_wait_reply _ = false
 
 -- a terminal is reported as waiting exactly where its next turn would be answered Waiting
-abbrev pub WaitsAreTold : Type 0
-WaitsAreTold = (region new : RegionState) (name : List ℕ) (terminal : TerminalState) (activity : Activity)
+abbrev pub WaitsAreReported : Type 0
+WaitsAreReported = (region new : RegionState) (name : List ℕ) (terminal : TerminalState) (activity : Activity)
     (reply : TurnReply)
     → terminal_of region name ≡ Some terminal → IsActivity region terminal activity → TakesTurn region name reply new
     → is_wait_reply reply ≡ is_waiting activity

@@ -1,9 +1,9 @@
 //! Who is reported as waiting, and that each text is one.
-ghost use Rattle.cx_look_tasks.specs.Laws.{ActivitiesDecide, ResourcesTextsDecide, TasksTextsDecide, WaitsAreTold};
+ghost use Rattle.cx_look_tasks.specs.Laws.{ActivitiesDecide, ResourcesTextsDecide, TasksTextsDecide, WaitsAreReported};
 
 /// A terminal is reported as waiting exactly where its next turn would be answered Waiting.
-pub fn waits_are_told()
-    ensures { WaitsAreTold }
+pub fn waits_are_reported()
+    ensures { WaitsAreReported }
 {
     cx_region_commands::laws::a_call_is_judged_once();
 }

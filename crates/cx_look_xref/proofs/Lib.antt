@@ -1,5 +1,5 @@
 pub mod NameLemmas
 pub mod PoolLemmas
-pub mod ToldLemmas
+pub mod WholeLemmas
 pub mod UseLemmas
 pub mod StepLemmas

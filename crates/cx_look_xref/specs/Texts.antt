@@ -57,13 +57,13 @@ literals_from section used number (pool ∷ pools) = flat_map (literal_line sect
 -- A register that a USING names: the first line and the last of its use, and the place as the USING writes it. `after` are the statements
 -- after the USING.
 abbrev pub using_line : Whole → ℕ → PlacedStatement → List PlacedStatement → ℕ → List ℕ
-using_line told last s after register =
+using_line whole last s after register =
     look_line (codes "XREF" ∷ codes "USING" ∷ decimal register ∷ codes "FROM" ∷ decimal s.line
-    ∷ codes "TO" ∷ decimal (use_end told last register after) ∷ one_line (unwrap_or (slice_get (parts_in s.stmt) 0) []) ∷ [])
+    ∷ codes "TO" ∷ decimal (use_end whole last register after) ∷ one_line (unwrap_or (slice_get (parts_in s.stmt) 0) []) ∷ [])
 
 abbrev pub usings_from : Whole → ℕ → List PlacedStatement → List ℕ
-usings_from told last [] = []
-usings_from told last (s ∷ after) = flat_map (using_line told last s after) (base_registers told s (operation_of s)) ++ usings_from told last after
+usings_from whole last [] = []
+usings_from whole last (s ∷ after) = flat_map (using_line whole last s after) (base_registers whole s (operation_of s)) ++ usings_from whole last after
 
 -- ---- all
 -- A source with these names, whose control section has this text: its symbols in the order of their names, its literals, and its base

@@ -1,6 +1,6 @@
 //! The cross-reference of a source.
 ghost use Rattle.std.specs.Prelude.{◌≡◌, IfOk, None};
-ghost use Rattle.cx_asm_pass1.specs.Locations.{IsPlaced, known_of};
+ghost use Rattle.cx_asm_pass1.specs.Locations.{IsPlaced, final_state};
 ghost use Rattle.cx_look_symbols.specs.Symbols.{named_of, translated_in};
 ghost use Rattle.std.specs.Result.{result_ok};
 ghost use Rattle.cx_asm.specs.Assembly.{assembly_of, last_line};
@@ -28,15 +28,15 @@ fn last_line(source: &Source) -> usize
 }
 
 /// The lines of a source that is placed, whose control section has this text.
-#[tactic(auto, using(crate::proofs::ToldLemmas::told_is))]
+#[tactic(auto, using(crate::proofs::WholeLemmas::whole_is))]
 fn xref_placed(
     alloc: Global,
     source: &Source,
     section: &[u8],
     places: &Places<'_>,
 ) -> Result<Vec<u8>, AllocError>
-    requires fault { (known_of source.now).fault ≡ None }
-    requires placed { IsPlaced (known_of source.now) places.now }
+    requires fault { (final_state source.now).fault ≡ None }
+    requires placed { IsPlaced (final_state source.now) places.now }
     ensures { IfOk result (λ text. text.items ≡ xref_named source.now section.now (named_of source.now)) }
 {
     let names = names_of_places(alloc, source, places)?;

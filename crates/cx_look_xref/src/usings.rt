@@ -6,7 +6,7 @@ ghost use Rattle.cx_asm_operands.specs.Bases.{none_in_use};
 ghost use Rattle.cx_asm_operands.specs.Context.{number_at_most, register_in};
 ghost use Rattle.cx_asm_pass1.specs.PassState.{parts_in};
 ghost use Rattle.cx_asm_pass2.specs.Statements.{operation_of};
-ghost use Rattle.cx_asm_pass2.specs.Whole.{directive_context, told_by};
+ghost use Rattle.cx_asm_pass2.specs.Whole.{directive_context, whole_by};
 ghost use Rattle.cx_look_xref.specs.Usings.{base_registers, ends_use, registers_named, use_end};
 ghost use Rattle.cx_look_xref.specs.Texts.{one_line, using_line, usings_from};
 
@@ -37,7 +37,7 @@ fn register_in(
     statement: &Statement<'_>,
     part: &[u8],
 ) -> Result<Option<usize>, AllocError>
-    ensures { let c = directive_context (told_by places.now) none_in_use statement.now in
+    ensures { let c = directive_context (whole_by places.now) none_in_use statement.now in
         IfOk result (λ register. register ≡ result_ok (register_in c part.now)) }
 {
     let here = counter_of(statement);
@@ -56,7 +56,7 @@ fn registers_named(
     parts: &[&[u8]],
 ) -> Result<Vec<usize>, AllocError>
     ensures { IfOk result (λ registers. registers.items
-        ≡ registers_named (told_by places.now) statement.now (map (λ part. part.now) parts.now)) }
+        ≡ registers_named (whole_by places.now) statement.now (map (λ part. part.now) parts.now)) }
 {
     let mut registers = Vec::new(alloc);
     for part in parts {
@@ -74,7 +74,7 @@ fn using_registers(
     statement: &Statement<'_>,
 ) -> Result<Vec<usize>, AllocError>
     ensures { IfOk result (λ registers. registers.items
-        ≡ registers_named (told_by places.now) statement.now (drop 1 (parts_in statement.now.stmt))) }
+        ≡ registers_named (whole_by places.now) statement.now (drop 1 (parts_in statement.now.stmt))) }
 {
     let parts = cut(
         alloc,
@@ -92,7 +92,7 @@ fn drop_registers(
     statement: &Statement<'_>,
 ) -> Result<Vec<usize>, AllocError>
     ensures { IfOk result (λ registers. registers.items
-        ≡ registers_named (told_by places.now) statement.now (parts_in statement.now.stmt)) }
+        ≡ registers_named (whole_by places.now) statement.now (parts_in statement.now.stmt)) }
 {
     let parts = cut(
         alloc,
@@ -109,7 +109,7 @@ fn base_registers(
     statement: &Statement<'_>,
 ) -> Result<Vec<usize>, AllocError>
     ensures { IfOk result (λ registers. registers.items
-        ≡ base_registers (told_by places.now) statement.now (operation_of statement.now)) }
+        ≡ base_registers (whole_by places.now) statement.now (operation_of statement.now)) }
 {
     match statement.operation() {
         Some(Operation::Directive(Directive::Using)) => using_registers(alloc, places, statement),
@@ -132,7 +132,7 @@ fn ends_use(
     statement: &Statement<'_>,
 ) -> Result<bool, AllocError>
     ensures { IfOk result (λ ends. ends
-        ≡ ends_use (told_by places.now) register statement.now (operation_of statement.now)) }
+        ≡ ends_use (whole_by places.now) register statement.now (operation_of statement.now)) }
 {
     match statement.operation() {
         Some(Operation::Directive(Directive::Using)) => {
@@ -158,7 +158,7 @@ fn use_end(
     register: usize,
     statements: &[Statement<'_>],
 ) -> Result<usize, AllocError>
-    ensures { IfOk result (λ end. end ≡ use_end (told_by places.now) last register statements.now) }
+    ensures { IfOk result (λ end. end ≡ use_end (whole_by places.now) last register statements.now) }
 {
     for statement in statements {
         if ends_use(alloc, places, register, statement)? {
@@ -194,7 +194,7 @@ fn using_line(
     register: usize,
 ) -> Result<Vec<u8>, AllocError>
     ensures { IfOk result (λ line. line.items
-        ≡ using_line (told_by places.now) last statement.now after.now register) }
+        ≡ using_line (whole_by places.now) last statement.now after.now register) }
 {
     let end = use_end(alloc, places, last, register, after)?;
     let place = first_operand(alloc, statement)?;
@@ -220,7 +220,7 @@ fn push_registers(
     registers: &[usize],
 ) -> Result<(), AllocError>
     ensures { OnOk result (lines.new.items ≡ lines.old.items
-        ++ flat_map (using_line (told_by places.now) last statement.now after.now) registers.now) }
+        ++ flat_map (using_line (whole_by places.now) last statement.now after.now) registers.now) }
 {
     for register in registers {
         lines.extend_from_slice(&using_line(alloc, places, last, statement, after, *register)?)?;
@@ -239,7 +239,7 @@ pub fn push_usings(
     last: usize,
     statements: &[Statement<'_>],
 ) -> Result<(), AllocError>
-    ensures { let more = usings_from (told_by places.now) last statements.now in
+    ensures { let more = usings_from (whole_by places.now) last statements.now in
         OnOk result (lines.new.items ≡ lines.old.items ++ more) }
 {
     for (i, statement) in statements.iter().enumerate() {

@@ -37,13 +37,13 @@ pub altered_on : (change : Change) (shared after : SharedState) (terminal_entry 
     → HeldAltered change shared terminal_entry o after left held → kept ≡ (if ends_task change then None else held) → AlteredAt change shared (terminal_with terminal_entry o) after (terminal_with left kept)
 unfolding HeldAltered AlteredAt
 altered_on change shared after terminal_entry left None held kept h is =
-    record { shared_stays = h.shared_stays; terminal_stays = rw (h.station_stays, is, h.none, same_either (ends_task change)) refl }
+    record { shared_stays = h.shared_stays; terminal_stays = rw (h.entry_stays, is, h.none, same_either (ends_task change)) refl }
   where
     same_either : (b : Bool) → ◌≡◌ {A = Option TaskState} (if b then None else None) None
     same_either true = refl
     same_either false = refl
 altered_on change shared after terminal_entry left (Some task) held kept h is =
-    record { shared_is = h.shared_is; terminal_is = rw (h.station_is, is, h.held_is) refl }
+    record { shared_is = h.shared_is; terminal_is = rw (h.entry_is, is, h.held_is) refl }
 
 -- ---- the alteration by the parts that change
 pub altered_whole : (r : RegionState) (name : List ℕ) (change : Change) (shared : SharedState) (terminals : Terminals)

@@ -4,7 +4,7 @@ use Rattle.cx_ebcdic.specs.declared.aids.Aid.{Aid}
 use Rattle.std.specs.declared.alloc.AllocError.{AllocError}
 use Rattle.cx_region.specs.State.{RegionState}
 use Rattle.cx_region.specs.Attach.{input_from}
-use Rattle.cx_region.specs.Parts.Asking.{KeyGrows}
+use Rattle.cx_region.specs.Parts.Asking.{KeyTakesMemory}
 use Rattle.cx_region.specs.Defining.{transaction_fault, terminal_fault}
 use Rattle.cx_region.specs.Events.{IsDone, MayTakeMemory}
 use Rattle.cx_region.specs.declared.replies.DefineFault.{DefineFault}
@@ -39,13 +39,13 @@ pub terminal_memory : (old : RegionState) (name : List ℕ) (r : Result (Unit {0
 unfolding MayTakeMemory terminal_fault
 terminal_memory old name r h e = none_due (terminal_fault old name) r (λ m. two _ _ m) h e
 
-pub key_memory : (old : RegionState) (name : List ℕ) (aid : Aid) (bytes : List ℕ) → KeyGrows old name (input_from aid bytes).bytes → MayTakeMemory old (event.Key name aid bytes)
-unfolding MayTakeMemory KeyGrows
+pub key_memory : (old : RegionState) (name : List ℕ) (aid : Aid) (bytes : List ℕ) → KeyTakesMemory old name (input_from aid bytes).bytes → MayTakeMemory old (event.Key name aid bytes)
+unfolding MayTakeMemory KeyTakesMemory
 key_memory old name aid bytes h = h
 
 -- an event whose call was refused memory
 pub not_done : {A F : Type 0} (old new : RegionState) (e : Event) (r : Result A F) (fault : F) {refusal : AllocError} → r ≡ Err fault → MayTakeMemory old e → OnErr r (new ≡ old) → IsDone old e (Err refusal) new
-not_done old new e r fault is due same = record { happens = tt; memory = due; err = subst (λ x. OnErr x (new ≡ old)) is same }
+not_done old new e r fault is due same = record { applies = tt; memory = due; err = subst (λ x. OnErr x (new ≡ old)) is same }
 
 -- what holds anyway holds of an error
 pub on_err : {A E : Type 0} (r : Result A E) (P : Type 0) → P → OnErr r P

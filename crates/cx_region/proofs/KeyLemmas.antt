@@ -21,7 +21,7 @@ use Rattle.cx_ebcdic.specs.Names.{is_name}
 use Rattle.cx_region.specs.Tables.{program_of, terminal_of, transaction_of, with_terminal}
 use Rattle.cx_region.specs.Attach.{ArePlaced, AttachesTask, Attaches, Gives, HasNoPlaces, TakesKey, OnlyAnswers, Starts, commarea_kept, eib_at_attach, with_areas_filled, next_number, transaction_named, with_task, with_task_areas}
 use Rattle.cx_region.specs.declared.asking.Places.{Places}
-use Rattle.cx_region.specs.Parts.Asking.{KeyGrows, asked, asked_at, input_asked, level_of, start_asked, start_of, task_of_start}
+use Rattle.cx_region.specs.Parts.Asking.{KeyTakesMemory, asked, asked_at, input_asked, level_of, start_asked, start_of, task_of_start}
 use Rattle.cx_region.specs.declared.attach.StartFault.{StartFault}
 use Rattle.cx_region.specs.Parts.Placing.{AreFaultsOf, IsReady}
 use Rattle.cx_region.specs.Sound.{IsSound}
@@ -71,8 +71,8 @@ keyed_given r new name input giving is =
     (of_some _ (λ task. Gives r name giving.terminal input key.Given new) giving.terminal.task giving.task giving.live
     (of_none _ (λ held. OnlyAnswers key.AlreadyHeldInput r key.Given new) giving.terminal.input giving.none (refl, is)))
 
-pub given_grows : (r : RegionState) (name bytes : List ℕ) → Giving r name → KeyGrows r name bytes
-unfolding KeyGrows
+pub given_grows : (r : RegionState) (name bytes : List ℕ) → Giving r name → KeyTakesMemory r name bytes
+unfolding KeyTakesMemory
 given_grows r name bytes giving =
     rw giving.there (of_some _ (λ task. giving.terminal.input ≡ None) giving.terminal.task giving.task giving.live giving.none)
 
@@ -87,8 +87,8 @@ keyed_start r new name input start starting reply h =
     (transaction_of r start.tran) start.program starting.defined
     (of_some _ (λ loaded. Attaches r name starting.terminal input start.tran start.program loaded reply new) (program_of r start.program) start.loaded starting.program h))))
 
-pub start_grows : (r : RegionState) (name bytes : List ℕ) (start : Start) → Starting r name bytes start → (IsTaskPlace r.storage eib_len None → ⊥) → KeyGrows r name bytes
-unfolding KeyGrows
+pub start_grows : (r : RegionState) (name bytes : List ℕ) (start : Start) → Starting r name bytes start → (IsTaskPlace r.storage eib_len None → ⊥) → KeyTakesMemory r name bytes
+unfolding KeyTakesMemory
 start_grows r name bytes start starting h =
     rw starting.there
     (of_none _ (λ task. starting.terminal.input ≡ None) starting.terminal.task starting.idle
@@ -225,5 +225,5 @@ sound_give r name giving held ts ok is =
 pub keyed_seen : (r v : RegionState) (name : List ℕ) (input : Input) (reply : KeyReply) (new : RegionState) → r ≡ v → TakesKey r name input reply new → TakesKey v name input reply new
 keyed_seen r v name input reply new e h = subst (λ (k : RegionState). TakesKey k name input reply new) e h
 
-pub grows_seen : (r v : RegionState) (name bytes : List ℕ) → r ≡ v → KeyGrows r name bytes → KeyGrows v name bytes
-grows_seen r v name bytes e h = subst (λ (k : RegionState). KeyGrows k name bytes) e h
+pub memory_seen : (r v : RegionState) (name bytes : List ℕ) → r ≡ v → KeyTakesMemory r name bytes → KeyTakesMemory v name bytes
+memory_seen r v name bytes e h = subst (λ (k : RegionState). KeyTakesMemory k name bytes) e h

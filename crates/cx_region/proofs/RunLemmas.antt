@@ -17,10 +17,10 @@ run_none r (e ∷ events) = refl
 run_last : (old mid new : RegionState) (events : List Event) (event : Event) (replies : List Reply) (reply : Reply) → Run old events replies mid → Applies mid event reply new
     → Run old (events ++ event ∷ []) (replies ++ reply ∷ []) new
 unfolding Run
-run_last old mid new [] event [] reply run happens = (new, subst (λ (r : RegionState). Applies r event reply new) run happens, refl)
-run_last old mid new [] event (r ∷ replies) reply run happens = absurd run
-run_last old mid new (e ∷ events) event [] reply run happens = absurd run
-run_last old mid new (e ∷ events) event (r ∷ replies) reply run happens = (run.0, run.1, run_last run.0 mid new events event replies reply run.2 happens)
+run_last old mid new [] event [] reply run applies = (new, subst (λ (r : RegionState). Applies r event reply new) run applies, refl)
+run_last old mid new [] event (r ∷ replies) reply run applies = absurd run
+run_last old mid new (e ∷ events) event [] reply run applies = absurd run
+run_last old mid new (e ∷ events) event (r ∷ replies) reply run applies = (run.0, run.1, run_last run.0 mid new events event replies reply run.2 applies)
 
 take_last : (events : List Event) (k : ℕ) (d : Event) → k < length events → take (k + 1) events ≡ take k events ++ get_or events k d ∷ []
 take_last [] k d below = absurd (omega arith)
@@ -29,8 +29,8 @@ take_last (e ∷ events) (suc k) d below = let more : suc k + 1 ≡ suc (k + 1) 
 
 pub run_more : (old mid new : RegionState) (events : List Event) (k : ℕ) (event : Event) (replies : List Reply) (reply : Reply) → k < length events → event ≡ get_or events k event
     → Run old (take k events) replies mid → Applies mid event reply new → Run old (take (k + 1) events) (replies ++ reply ∷ []) new
-run_more old mid new events k event replies reply below is run happens =
-    let last = run_last old mid new (take k events) event replies reply run happens in
+run_more old mid new events k event replies reply below is run applies =
+    let last = run_last old mid new (take k events) event replies reply run applies in
     rw (take_last events k event below, ← is) last
 
 pub run_all : (old new : RegionState) (events : List Event) (k : ℕ) (replies : List Reply) → length events ≤ k → Run old (take k events) replies new → Run old events replies new

@@ -12,14 +12,14 @@ use Rattle.cx_region_state.specs.Replies.{is_over}
 use Rattle.cx_region_state.specs.State.{SharedState, TerminalEntryState, TaskState, context}
 use Rattle.cx_region_task.specs.Laws.HalfTurns.{HalfTurnsKeep}
 use Rattle.cx_region_task.specs.Turn.{HalfTurn}
-use Rattle.cx_region_task.specs.declared.cause.Trouble.{Trouble}
+use Rattle.cx_region_task.specs.declared.cause.AbendRecord.{AbendRecord}
 use Rattle.cx_region.specs.State.{RegionState, TerminalState, shared_of, terminal_with}
 use Rattle.cx_ebcdic.specs.Names.{is_name}
-use Rattle.cx_region.specs.Causes.{TurnHasTrouble}
+use Rattle.cx_region.specs.Causes.{TurnHasAbendRecord}
 use Rattle.cx_region.specs.Turn.{TaskTakesTurn, TakesTurn}
 use Rattle.cx_region.specs.declared.replies.Event.TheVariants as event
 use Rattle.cx_region.specs.Events.{MayTakeMemory}
-use Rattle.cx_region.specs.Parts.Turning.{GrowsAt, PartIdle, PartTurned, Terminals, TroubledAt, TurnedAt}
+use Rattle.cx_region.specs.Parts.Turning.{TakesMemoryAt, PartIdle, PartTurned, Terminals, HasAbendRecordAt, TurnedAt}
 use Rattle.cx_region.specs.Sound.{IsSound}
 use Rattle.cx_region.specs.Facts.SoundTurned.{sound_turned}
 
@@ -80,17 +80,17 @@ turned_seen reply_in r v name t left (Ok a) shared later puts e turned =
     subst (λ (k : RegionState). TakesTurn k name (reply_in a) (with_parts r shared later)) e (turned_whole r name t left (reply_in a) shared later puts turned)
 turned_seen reply_in r v name t left (Err refused) shared later puts e turned = tt
 
-pub troubled_seen : {E : Type 0} (r v : RegionState) (name : List ℕ) (t : TerminalState) (result : Result (TurnReply × Option Trouble) E) → lookup (is_name name) r.terminals ≡ Some t → r ≡ v
-    → IfOk result (λ told. TroubledAt (shared_of r) t told.1) → IfOk result (λ told. TurnHasTrouble v name told.1)
-unfolding TurnHasTrouble TroubledAt
-troubled_seen r v name t (Ok told) there e troubled = rw (← e) (rw there troubled)
-troubled_seen r v name t (Err refused) there e troubled = tt
+pub abend_record_seen : {E : Type 0} (r v : RegionState) (name : List ℕ) (t : TerminalState) (result : Result (TurnReply × Option AbendRecord) E) → lookup (is_name name) r.terminals ≡ Some t → r ≡ v
+    → IfOk result (λ both. HasAbendRecordAt (shared_of r) t both.1) → IfOk result (λ both. TurnHasAbendRecord v name both.1)
+unfolding TurnHasAbendRecord HasAbendRecordAt
+abend_record_seen r v name t (Ok both) there e abend_record = rw (← e) (rw there abend_record)
+abend_record_seen r v name t (Err refused) there e abend_record = tt
 
-pub grows_seen : {A E : Type 0} (r v : RegionState) (name : List ℕ) (t : TerminalState) (result : Result A E) → lookup (is_name name) r.terminals ≡ Some t → r ≡ v
-    → OnErr result (GrowsAt (shared_of r) t) → OnErr result (MayTakeMemory v (event.Turn name))
-unfolding MayTakeMemory GrowsAt
-grows_seen r v name t (Ok a) there e grows = tt
-grows_seen r v name t (Err refused) there e grows = rw (← e) (rw there grows)
+pub memory_seen : {A E : Type 0} (r v : RegionState) (name : List ℕ) (t : TerminalState) (result : Result A E) → lookup (is_name name) r.terminals ≡ Some t → r ≡ v
+    → OnErr result (TakesMemoryAt (shared_of r) t) → OnErr result (MayTakeMemory v (event.Turn name))
+unfolding MayTakeMemory TakesMemoryAt
+memory_seen r v name t (Ok a) there e grows = tt
+memory_seen r v name t (Err refused) there e grows = rw (← e) (rw there grows)
 
 pub same_seen : {A E : Type 0} (r v : RegionState) (name : List ℕ) (t left : TerminalState) (result : Result A E) (shared : SharedState) (later : Terminals)
     → Puts r name t left later → r ≡ v → OnErr result ((shared ≡ shared_of r) × (left ≡ t)) → OnErr result (with_parts r shared later ≡ v)

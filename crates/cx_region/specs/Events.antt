@@ -52,7 +52,7 @@ MayTakeMemory region _ = ⊥
 
 -- What the one door for events promises: it is answered; or it was refused memory that it may take, and all is as before.
 pub record IsDone (old : RegionState) (event : Event) (result : Result Reply AllocError) (new : RegionState) : Type 0 where
-  pub happens : IfOk result (λ reply. Applies old event reply new)
+  pub applies : IfOk result (λ reply. Applies old event reply new)
   pub memory : OnErr result (MayTakeMemory old event)
   pub err : OnErr result (new ≡ old)
 

@@ -18,7 +18,7 @@ pub use Rattle.cx_base_commands.specs.Conditions
 pub use Rattle.cx_base_commands.specs.Legal
 pub use Rattle.cx_region_state.specs.Areas
 pub use Rattle.cx_region_state.specs.Replies as TurnReplies
-pub use Rattle.cx_region_state.specs.State as Stations
+pub use Rattle.cx_region_state.specs.State as TaskStates
 pub use Rattle.cx_storage.specs.Address
 pub use Rattle.cx_storage.specs.Storage
 pub use Rattle.cx_region_task.specs.Abends as Abends

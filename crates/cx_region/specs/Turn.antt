@@ -5,12 +5,12 @@ use Rattle.cx_region_state.specs.declared.replies.TurnReply.TheVariants as turn
 use Rattle.cx_region_state.specs.Replies.{is_over}
 use Rattle.cx_region_state.specs.State.{TaskContext, TaskState, context}
 use Rattle.cx_region_task.specs.Turn.{HalfTurn}
-use Rattle.cx_region.specs.State.{RegionState, TerminalState, shared_of, station_of, terminal_with}
+use Rattle.cx_region.specs.State.{RegionState, TerminalState, shared_of, terminal_entry_of, terminal_with}
 use Rattle.cx_region.specs.Tables.{terminal_of, with_terminal}
 
 -- what a half-turn of a terminal's task reaches
 abbrev pub context_of : RegionState → TerminalState → TaskState → TaskContext
-context_of region terminal task = context (shared_of region) (station_of terminal) task
+context_of region terminal task = context (shared_of region) (terminal_entry_of terminal) task
 
 -- the region with what was reached put back, and the task that is left: what tasks share and the terminal are as there, all
 -- else is as before

@@ -7,7 +7,7 @@ ghost use Rattle.cx_region_task.specs.Continuations.{gone_on};
 ghost use Rattle.cx_region.specs.Alter.{Alters, IsAllowedChange, alter_refusal, after_change, change_refusal, ends_task, with_register};
 ghost use Rattle.cx_region.specs.Parts.Altering.{AlteredAt, AlteredIn, HeldAltered};
 ghost use Rattle.cx_region.specs.Sound.{IsSound};
-ghost use Rattle.cx_region.specs.State.{station_of, terminal_with};
+ghost use Rattle.cx_region.specs.State.{terminal_entry_of, terminal_with};
 
 use crate::changes::{AlterReply, Change};
 use crate::looking::byte_of;
@@ -51,7 +51,7 @@ fn task_refusal<S: Store + Drop>(
     shared: &Shared<S>,
     terminal: &Terminal,
 ) -> Option<AlterReply>
-    ensures { let terminal_entry = station_of terminal.now in let none = Some AlterReply.NoTask in
+    ensures { let terminal_entry = terminal_entry_of terminal.now in let none = Some AlterReply.NoTask in
         let held = terminal.now.task in
         result ≡ option_map_or (λ task. change_refusal change.now (context shared.now terminal_entry task)) held none }
 {

@@ -10,7 +10,7 @@ ghost use Rattle.cx_region_state.specs.Areas.{IsSoundProgram, IsTaskPlace, syste
 ghost use Rattle.cx_region_state.specs.State.{TaskState};
 ghost use Rattle.cx_region.specs.Tables.{program_of, terminal_of, transaction_of};
 ghost use Rattle.cx_region.specs.Attach.{ArePlaced, IsCopyPlace, TakesKey, commarea_kept, eib_at_attach, with_areas_filled, first_word, fresh_task, input_from, next_number, sends_data, transaction_named, with_copy, with_task, with_task_areas};
-ghost use Rattle.cx_region.specs.Parts.Asking.{KeyGrows, asked, asked_at, input_asked, level_of, start_asked, start_of, task_of_start};
+ghost use Rattle.cx_region.specs.Parts.Asking.{KeyTakesMemory, asked, asked_at, input_asked, level_of, start_asked, start_of, task_of_start};
 ghost use Rattle.cx_region.specs.Parts.Placing.{AreFaultsOf, ArePlacesBelow, IsCopyFault, IsPlaceFault, IsReady, IsSlotFree, input_of};
 ghost use Rattle.cx_region.specs.Events.{MayTakeMemory};
 ghost use Rattle.cx_region.specs.declared.replies.Event.TheVariants as event;
@@ -407,7 +407,7 @@ fn start_at(terminals: &mut IndexMap<Name4, Terminal>, name: Name4, input: Input
 }
 
 /// Holds an input for a terminal's task.
-fn give_at(terminals: &mut IndexMap<Name4, Terminal>, name: Name4, input: Input)
+fn hold_input_at(terminals: &mut IndexMap<Name4, Terminal>, name: Name4, input: Input)
     ensures { MatchOption (lookup (is_name name) terminals.old.entries) ⊤ (λ terminal. terminals.new.entries
         ≡ set_value (is_name name) terminals.old.entries (record terminal { input = Some input })) }
 {
@@ -530,7 +530,7 @@ impl<S: Store + Drop> Region<S> {
         requires asked { asked self.old name bytes.now ≡ Asked.Attach start.now }
         requires few { length bytes.now ≤ 1920 }
         ensures keyed { IfOk result (λ reply. TakesKey self.old name (input_of aid bytes.now) reply self.new) }
-        ensures grows { OnErr result (KeyGrows self.old name bytes.now) }
+        ensures memory { OnErr result (KeyTakesMemory self.old name bytes.now) }
         ensures err { OnErr result (self.new ≡ self.old) }
         ensures sound { IsSound self.new }
     {
@@ -557,16 +557,16 @@ impl<S: Store + Drop> Region<S> {
     }
 
     /// Holds an input for a terminal's task.
-    fn give(&mut self, name: Name4, aid: Aid, bytes: &[u8]) -> Result<(), AllocError>
+    fn hold_input(&mut self, name: Name4, aid: Aid, bytes: &[u8]) -> Result<(), AllocError>
         requires asked { asked self.old name bytes.now ≡ Asked.Give }
         requires few { length bytes.now ≤ 1920 }
         ensures keyed { OnOk result (TakesKey self.old name (input_of aid bytes.now) KeyReply.Given self.new) }
-        ensures grows { OnErr result (KeyGrows self.old name bytes.now) }
+        ensures memory { OnErr result (KeyTakesMemory self.old name bytes.now) }
         ensures err { OnErr result (self.new ≡ self.old) }
         ensures sound { IsSound self.new }
     {
         let input = input_of(self.alloc, aid, bytes)?;
-        give_at(&mut self.terminals, name, input);
+        hold_input_at(&mut self.terminals, name, input);
         Ok(())
     }
 
@@ -583,7 +583,7 @@ impl<S: Store + Drop> Region<S> {
     pub fn key(&mut self, name: Name4, aid: Aid, bytes: &[u8]) -> Result<KeyReply, AllocError>
         requires { length bytes.now ≤ 1920 }
         ensures keyed { IfOk result (λ reply. TakesKey self.old name (input_from aid bytes.now) reply self.new) }
-        ensures grows { OnErr result (MayTakeMemory self.old (event.Key name aid bytes.now)) }
+        ensures memory { OnErr result (MayTakeMemory self.old (event.Key name aid bytes.now)) }
         ensures err { OnErr result (self.new ≡ self.old) }
         ensures sound { IsSound self.new }
     {
@@ -591,7 +591,7 @@ impl<S: Store + Drop> Region<S> {
         match self.asked(name, sent) {
             Asked::Answer(reply) => Ok(reply),
             Asked::Give => {
-                self.give(name, aid, sent)?;
+                self.hold_input(name, aid, sent)?;
                 Ok(KeyReply::Given)
             }
             Asked::Attach(start) => self.attach_task(name, aid, sent, &start),

@@ -224,7 +224,8 @@ fn put_transaction(
     name: Name4,
     program: Name8,
 ) -> Result<(), AllocError>
-    ensures put { OnOk result (transactions.new.entries ≡ insert_entry is_name transactions.old.entries name program) }
+    ensures put { OnOk result
+        (transactions.new.entries ≡ insert_entry is_name transactions.old.entries name program) }
     ensures distinct { OnOk result (IsDistinct is_name (keys_of transactions.new.entries)) }
     ensures err { OnErr result (transactions.new.entries ≡ transactions.old.entries) }
 {
@@ -244,7 +245,8 @@ fn load_program<S: Store>(
     ensures fit { IsFit image.now }
     ensures good { IfOk result IsSoundProgram }
     ensures loaded { IfOk result (λ loaded. IsLoaded (S.storage store.old) image.now loaded (S.storage store.new)) }
-    ensures put { IfOk result (λ loaded. programs.new.entries ≡ insert_entry is_name programs.old.entries name loaded) }
+    ensures put { IfOk result
+        (λ loaded. programs.new.entries ≡ insert_entry is_name programs.old.entries name loaded) }
     ensures distinct { OnOk result (IsDistinct is_name (keys_of programs.new.entries)) }
     ensures refused { IfErr result (λ fault. MatchLoadRefusal (S.storage store.old) (length image.now.text) fault) }
     ensures store_stays { OnErr result (S.storage store.new ≡ S.storage store.old) }
@@ -268,7 +270,8 @@ fn load_into<S: Store + Drop>(
     ensures fit { IsFit image.now }
     ensures good { IfOk result IsSoundProgram }
     ensures loaded { IfOk result (λ loaded. IsLoaded shared.old.storage image.now loaded shared.new.storage) }
-    ensures put { IfOk result (λ loaded. shared.new.programs ≡ insert_entry is_name shared.old.programs name loaded) }
+    ensures put { IfOk result
+        (λ loaded. shared.new.programs ≡ insert_entry is_name shared.old.programs name loaded) }
     ensures distinct { OnOk result (IsDistinct is_name (keys_of shared.new.programs)) }
     ensures queues { shared.new.queues ≡ shared.old.queues }
     ensures resources { shared.new.resources ≡ shared.old.resources }

@@ -20,7 +20,7 @@ pub use cx_region_call::{Call, CallFault, read_call};
 pub use cx_region_state::TurnReply;
 #[doc(hidden)]
 pub use cx_region_state::{Following, Input, Shared, Task, TerminalEntry};
-pub use cx_region_task::{Cause, Trouble};
+pub use cx_region_task::{AbendRecord, Cause};
 pub use looking::command_name;
 pub use replies::{DefineFault, Event, KeyReply, Reply, RunStop, TaskInfo};
 pub use state::Region;

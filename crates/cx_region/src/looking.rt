@@ -4,7 +4,7 @@ ghost use Rattle.std.specs.Option.{option_copied};
 ghost use Rattle.cx_base_commands.specs.declared.commands.Command.{Command as TheCommand};
 ghost use Rattle.cx_base_commands.specs.Commands.{row_of};
 ghost use Rattle.cx_storage.specs.Storage.{byte_at};
-ghost use Rattle.cx_region.specs.State.{shared_of, station_of};
+ghost use Rattle.cx_region.specs.State.{shared_of, terminal_entry_of};
 ghost use Rattle.cx_region.specs.Tables.{task_of, terminal_of};
 ghost use Rattle.cx_region.specs.Looking.{Shows};
 
@@ -52,7 +52,7 @@ impl Terminal {
 
     /// The terminal without its task.
     pub fn terminal_entry(&self) -> &TerminalEntry
-        ensures { result.now ≡ station_of self.now }
+        ensures { result.now ≡ terminal_entry_of self.now }
     {
         &self.terminal_entry
     }

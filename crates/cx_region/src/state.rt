@@ -20,7 +20,14 @@ impl Model for Terminal {
 
     ghost Value = { TerminalState };
 
-    ghost view = { λ terminal. record { slot = terminal.terminal_entry.slot; screen = terminal.terminal_entry.screen; input = terminal.terminal_entry.input; following = terminal.terminal_entry.following; task = terminal.task } };
+    ghost view = { λ terminal.
+        record {
+          slot = terminal.terminal_entry.slot;
+          screen = terminal.terminal_entry.screen;
+          input = terminal.terminal_entry.input;
+          following = terminal.terminal_entry.following;
+          task = terminal.task;
+        } };
 }
 
 impl Terminal {
@@ -55,7 +62,29 @@ impl<S: Store + Drop> Model for Region<S> {
 
     ghost Value = { RegionState };
 
-    ghost view = { λ r. record { storage = r.shared.storage; time = r.time; date = r.date; programs = r.shared.programs; transactions = r.transactions.entries; terminals = r.terminals.entries; queues = r.shared.queues; resources = r.shared.resources; counter = r.counter } };
+    ghost view = { λ r.
+        record {
+          storage = r.shared.storage;
+          time = r.time;
+          date = r.date;
+          programs = r.shared.programs;
+          transactions = r.transactions.entries;
+          terminals = r.terminals.entries;
+          queues = r.shared.queues;
+          resources = r.shared.resources;
+          counter = r.counter;
+        } };
 
-    ghost invariant = { λ r. IsSound (record { storage = r.shared.storage; time = r.time; date = r.date; programs = r.shared.programs; transactions = r.transactions.entries; terminals = r.terminals.entries; queues = r.shared.queues; resources = r.shared.resources; counter = r.counter }) };
+    ghost invariant = { λ r.
+        IsSound (record {
+          storage = r.shared.storage;
+          time = r.time;
+          date = r.date;
+          programs = r.shared.programs;
+          transactions = r.transactions.entries;
+          terminals = r.terminals.entries;
+          queues = r.shared.queues;
+          resources = r.shared.resources;
+          counter = r.counter;
+        }) };
 }

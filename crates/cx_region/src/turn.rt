@@ -5,7 +5,7 @@ ghost use Rattle.cx_storage.specs.Storage.{IsSound as IsSoundStorage};
 ghost use Rattle.cx_service.specs.Queues.{AreSoundQueues};
 ghost use Rattle.cx_service.specs.Resources.{AreSoundResources};
 ghost use Rattle.cx_region_commands.specs.Common.{AreSoundPrograms};
-ghost use Rattle.cx_region.specs.Parts.Turning.{GrowsAt, TurnedAt};
+ghost use Rattle.cx_region.specs.Parts.Turning.{TakesMemoryAt, TurnedAt};
 ghost use Rattle.cx_region.specs.Turn.{TakesTurn};
 ghost use Rattle.cx_region.specs.Events.{MayTakeMemory};
 ghost use Rattle.cx_region.specs.declared.replies.Event.TheVariants as event;
@@ -38,14 +38,14 @@ pub(crate) fn drop_over(reply: &TurnReply, held: &mut Option<Task>)
 }
 
 /// A half-turn of a terminal's task, where it has one. A task that is over is dropped.
-#[tactic(auto, unfolding(crate::specs::Parts::Turning::TurnedAt, crate::specs::Parts::Turning::GrowsAt))]
+#[tactic(auto, unfolding(crate::specs::Parts::Turning::TurnedAt, crate::specs::Parts::Turning::TakesMemoryAt))]
 fn turn_terminal<S: Store + Drop>(
     shared: &mut Shared<S>,
     terminal: &mut Terminal,
 ) -> Result<TurnReply, AllocError>
     requires { AreSoundPrograms shared.old.programs }
     ensures turned { IfOk result (λ reply. TurnedAt shared.old terminal.old reply shared.new terminal.new) }
-    ensures grows { OnErr result (GrowsAt shared.old terminal.old) }
+    ensures memory { OnErr result (TakesMemoryAt shared.old terminal.old) }
     ensures err { OnErr result ((shared.new ≡ shared.old) × (terminal.new ≡ terminal.old)) }
 {
     let Some(task) = &mut terminal.task else {
@@ -76,7 +76,7 @@ impl<S: Store + Drop> Region<S> {
     #[tactic(auto, unfolding(crate::specs::Turn::TakesTurn))]
     pub fn turn(&mut self, name: Name4) -> Result<TurnReply, AllocError>
         ensures turned { IfOk result (λ reply. TakesTurn self.old name reply self.new) }
-        ensures grows { OnErr result (MayTakeMemory self.old (event.Turn name)) }
+        ensures memory { OnErr result (MayTakeMemory self.old (event.Turn name)) }
         ensures err { OnErr result (self.new ≡ self.old) }
         ensures sound { IsSound self.new }
     {

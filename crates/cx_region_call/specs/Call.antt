@@ -1,5 +1,5 @@
 -- A command's argument list, read as a call (Application Programmer's Reference Manual, SC33-0077, the expansion of
--- a command; the list's layout and the order of the tests are this project's own).
+-- a command; the list's layout and the order of the tests are this product's own).
 use Rattle.std.specs.Prelude.{ℕ, ◌+◌, ◌-◌, ◌*◌, ◌^◌, zero, suc, Bool, true, false, nat_le, ◌==◌, List, [], ◌∷◌, length, map, drop, count_by, slice_get, slice_index, Option, Some, None, Result, Ok, Err, if◌then◌else◌}
 use Rattle.std.specs.Option.{option_map, option_and_then, ok_or}
 use Rattle.std.specs.List.{position_or_len}

@@ -34,7 +34,7 @@ pub enum CallFault {
 
 /// A command as its argument list gives it.
 ///
-/// Application Programmer's Reference Manual, SC33-0077; the layout of the list is this project's own.
+/// Application Programmer's Reference Manual, SC33-0077; the layout of the list is this product's own.
 /// Contracts see it as `Call`: the command, the two option bytes, the listed conditions, and the addresses
 /// of the arguments. It takes no memory.
 #[derive(Debug, Drop)]
@@ -53,7 +53,14 @@ impl Model for Call {
 
     ghost Value = { Call };
 
-    ghost view = { λ call. record { command = call.command; first = call.first; second = call.second; conditions = call.conditions.items; places = call.places.items } };
+    ghost view = { λ call.
+        record {
+          command = call.command;
+          first = call.first;
+          second = call.second;
+          conditions = call.conditions.items;
+          places = call.places.items;
+        } };
 
     ghost invariant = { λ call. AllByRecursion (λ place. place < 2 ^ 24) call.places.items };
 }
@@ -179,7 +186,8 @@ impl Model for ArgumentBlock {
 
     ghost Value = { ArgumentBlock };
 
-    ghost view = { λ block. record { place = block.place; function = block.function; first = block.first; second = block.second } };
+    ghost view = { λ block.
+        record { place = block.place; function = block.function; first = block.first; second = block.second } };
 
     ghost invariant = { λ block. block.place < 2 ^ 24 };
 }

@@ -122,7 +122,7 @@ fn is_input_there<S: Store>(store: &S, call: &Call, option: &CommandOption) -> b
     ensures { result ≡ is_some (input_of (S.storage store.now) call.now option.now) }
 {
     let length = halfword(store, call, OptionName::Length);
-    let len = call.command().input_len(call.first(), option.mark, length);
+    let len = call.command().input_len(call.first(), option.kind, length);
     match call.place(option.name) {
         Some(place) => store.has_span(place, usize::from(len)),
         None => false,
@@ -143,7 +143,7 @@ fn are_all_there<S: Store>(store: &S, call: &Call, options: &[CommandOption]) ->
 
 /// Whether each byte that the command reads is in storage, and RESP's word too, where RESP is there.
 ///
-/// How many bytes an option's argument has is known from its mark. Of bytes that LENGTH measures none is tested
+/// How many bytes an option's argument has is known from its kind. Of bytes that LENGTH measures none is tested
 /// where LENGTH is at fault: where it is negative, or for the name of a resource above 255. Nothing is read at the
 /// COMMAREA of LINK.
 #[tactic(auto, unfolding(crate::specs::Inputs::are_inputs_there))]

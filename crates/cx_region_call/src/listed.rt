@@ -92,7 +92,8 @@ fn push_entry(
 ) -> usize
     requires few { length listed.old < 16 }
     requires labels { labels < 16 }
-    ensures value { (later : List ListedCondition) → listed.new ++ conditions_with_labels later (drop result places.now)
+    ensures value { (later : List ListedCondition)
+        → listed.new ++ conditions_with_labels later (drop result places.now)
         ≡ listed.old ++ conditions_with_labels (entry ∷ later) (drop labels places.now) }
     ensures most { length listed.new ≤ length listed.old + 1 }
     ensures labels { result ≤ labels + 1 }

@@ -12,7 +12,7 @@ use cx_storage::Store;
 use indexmap::IndexMap;
 
 /// A condition alone: no output, no change.
-pub(crate) fn only(condition: Condition) -> Verdict
+pub(crate) fn condition_alone(condition: Condition) -> Verdict
     ensures { result ≡ condition_alone condition }
 {
     Verdict::Meets(condition, Outputs::none(), TaskChange::Nothing)

@@ -2,7 +2,7 @@
 ghost use Rattle.std.specs.Prelude.{◌≡◌};
 ghost use Rattle.cx_region_commands.specs.DeleteqTs.{deleteq_row};
 
-use crate::common::{does, only};
+use crate::common::{condition_alone, does};
 use cx_base_commands::{Condition, OptionName};
 use cx_region_call::{Call, name8};
 use cx_region_state::{Ended, TaskChange, Verdict};
@@ -15,10 +15,10 @@ pub(crate) fn judge_deleteq_ts<S: Store>(store: &S, queues: &Queues, call: &Call
     ensures { result ≡ deleteq_row (S.storage store.now) queues.now call.now }
 {
     let Some(name) = name8(store, call, OptionName::Queue) else {
-        return only(Condition::Qiderr);
+        return condition_alone(Condition::Qiderr);
     };
     if queues.items(name).is_none() {
-        return only(Condition::Qiderr);
+        return condition_alone(Condition::Qiderr);
     }
     does(TaskChange::Ends(Ended::QueueGone(name)))
 }

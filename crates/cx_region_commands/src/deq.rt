@@ -2,7 +2,7 @@
 ghost use Rattle.std.specs.Prelude.{◌≡◌};
 ghost use Rattle.cx_region_commands.specs.Deq.{deq_row};
 
-use crate::common::{does, only};
+use crate::common::{condition_alone, does};
 use crate::enq::{is_wrong_length, resource_named};
 use cx_base_commands::Condition;
 use cx_region_call::Call;
@@ -15,10 +15,10 @@ pub(crate) fn judge_deq<S: Store>(store: &S, call: &Call) -> Verdict
     ensures { result ≡ deq_row (S.storage store.now) call.now }
 {
     if is_wrong_length(store, call) {
-        return only(Condition::Lengerr);
+        return condition_alone(Condition::Lengerr);
     }
     match resource_named(store, call) {
         Some(name) => does(TaskChange::Ends(Ended::Dequeues(name))),
-        None => only(Condition::Lengerr),
+        None => condition_alone(Condition::Lengerr),
     }
 }

@@ -2,8 +2,8 @@
 ghost use Rattle.std.specs.Prelude.{◌≡◌, IsFalse};
 ghost use Rattle.cx_region_commands.specs.Enq.{enq_row, enqueues, is_wrong_length, resource_named};
 
-use crate::common::{does, only};
-use crate::services::unless;
+use crate::common::{condition_alone, does};
+use crate::services::fault_or_verdict;
 use cx_base_commands::{Condition, OptionName};
 use cx_region_call::{Call, measured, read_argument};
 use cx_region_state::{Made, TaskChange, Verdict};
@@ -45,7 +45,7 @@ fn enqueues(resources: &Enqueues, slot: u8, name: ResourceName) -> Verdict
     ensures { result ≡ enqueues resources.now slot name }
 {
     let tested = resources.can_enq(slot, &name);
-    unless(tested, does(TaskChange::Makes(Made::Enqueues(name))))
+    fault_or_verdict(tested, does(TaskChange::Makes(Made::Enqueues(name))))
 }
 
 /// How an ENQ is judged.
@@ -54,10 +54,10 @@ pub(crate) fn judge_enq<S: Store>(store: &S, resources: &Enqueues, slot: u8, cal
     ensures { result ≡ enq_row (S.storage store.now) resources.now slot call.now }
 {
     if is_wrong_length(store, call) {
-        return only(Condition::Lengerr);
+        return condition_alone(Condition::Lengerr);
     }
     match resource_named(store, call) {
         Some(name) => enqueues(resources, slot, name),
-        None => only(Condition::Lengerr),
+        None => condition_alone(Condition::Lengerr),
     }
 }

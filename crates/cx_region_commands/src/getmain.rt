@@ -3,7 +3,7 @@ ghost use Rattle.std.specs.Prelude.{◌≡◌, ◌≤◌};
 ghost use Rattle.cx_region_commands.specs.Common.{AtPlace};
 ghost use Rattle.cx_region_commands.specs.Getmain.{GetmainRow, asked_len, fill_byte, gets, is_area_length};
 
-use crate::common::{only, task_place};
+use crate::common::{condition_alone, task_place};
 use cx_base_commands::{Condition, OptionName};
 use cx_region_call::{Call, OutputValue, Outputs, halfword, read_argument};
 use cx_region_state::{Fill, Got, TaskChange, Verdict};
@@ -37,7 +37,7 @@ fn gets(len: u16, byte: u8, place: Option<u32>) -> Verdict
     ensures { result ≡ gets len byte place }
 {
     let Some(place) = place else {
-        return only(Condition::Nostg);
+        return condition_alone(Condition::Nostg);
     };
     let got = Got {
         place,
@@ -55,7 +55,7 @@ pub(crate) fn judge_getmain<S: Store>(store: &S, call: &Call) -> Verdict
 {
     let len = asked_len(store, call);
     if len == 0 || len > MOST_BYTES {
-        return only(Condition::Lengerr);
+        return condition_alone(Condition::Lengerr);
     }
     let place = task_place(store, u32::from(len));
     gets(len, filling(store, call), place)

@@ -2,7 +2,7 @@
 ghost use Rattle.std.specs.Prelude.{◌≡◌};
 ghost use Rattle.cx_region_commands.specs.Handling.{asks, handle_row, ignore_row, pop_row, push_row};
 
-use crate::common::{does, only};
+use crate::common::{condition_alone, does};
 use cx_base_commands::Condition;
 use cx_program::HandleTable;
 use cx_region_call::Call;
@@ -39,7 +39,7 @@ pub(crate) fn judge_push(handles: &HandleTable) -> Verdict
     if handles.pushed() < 16 {
         asks(Request::Push)
     } else {
-        only(Condition::Invreq)
+        condition_alone(Condition::Invreq)
     }
 }
 
@@ -49,7 +49,7 @@ pub(crate) fn judge_pop(handles: &HandleTable) -> Verdict
     ensures { result ≡ pop_row handles.now.kept }
 {
     if handles.pushed() == 0 {
-        only(Condition::Invreq)
+        condition_alone(Condition::Invreq)
     } else {
         asks(Request::Pop)
     }

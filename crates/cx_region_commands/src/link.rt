@@ -4,7 +4,9 @@ ghost use Rattle.cx_region_state.specs.Areas.{IsSoundProgram};
 ghost use Rattle.cx_region_commands.specs.Common.{AreSoundPrograms, AtPlace};
 ghost use Rattle.cx_region_commands.specs.Link.{LinkRow, Links, enters};
 
-use crate::common::{Called, commarea_of, does, named_program, new_level, only, task_place};
+use crate::common::{
+    Called, commarea_of, condition_alone, does, named_program, new_level, task_place,
+};
 use cx_base_commands::{Abend, Condition};
 use cx_ebcdic::Name8;
 use cx_load::Loaded;
@@ -50,10 +52,10 @@ pub(crate) fn judge_link<S: Store>(
     ensures { LinkRow (S.storage store.now) programs.now.entries levels.now call.now result }
 {
     if is_length_negative(store, call) {
-        return only(Condition::Lengerr);
+        return condition_alone(Condition::Lengerr);
     }
     match named_program(store, call, programs) {
         Some(called) => link_to(store, call, levels, called),
-        None => only(Condition::Pgmiderr),
+        None => condition_alone(Condition::Pgmiderr),
     }
 }

@@ -4,8 +4,8 @@ ghost use Rattle.cx_service.specs.Queues.{read_fault};
 ghost use Rattle.cx_region_commands.specs.Common.{AtPlace};
 ghost use Rattle.cx_region_commands.specs.ReadqTs.{Reads, ReadsItem, ReadsQueue, ReadqRow, reads_into, reads_to};
 
-use crate::common::{only, task_place};
-use crate::services::unless;
+use crate::common::{condition_alone, task_place};
+use crate::services::fault_or_verdict;
 use cx_base_commands::{Condition, OptionName};
 use cx_ebcdic::Name8;
 use cx_region_call::{Call, OutputValue, Outputs, halfword, is_length_negative, measured, name8};
@@ -52,7 +52,7 @@ fn reads<S: Store>(store: &S, call: &Call, reading: Reading) -> Verdict
         return reads_into(measured(store, call), reading);
     }
     let Some(place) = task_place(store, u32::from(reading.len)) else {
-        return only(Condition::Nostg);
+        return condition_alone(Condition::Nostg);
     };
     let outputs = Outputs::none()
         .with(OptionName::Length, OutputValue::Half(reading.len))
@@ -85,7 +85,7 @@ fn reads_queue<S: Store>(store: &S, queues: &Queues, call: &Call, name: Name8) -
             };
             reads(store, call, reading)
         }
-        Err(fault) => unless(Err(fault), only(Condition::Qiderr)),
+        Err(fault) => fault_or_verdict(Err(fault), condition_alone(Condition::Qiderr)),
     }
 }
 
@@ -95,10 +95,10 @@ pub(crate) fn judge_readq_ts<S: Store>(store: &S, queues: &Queues, call: &Call) 
     ensures { ReadqRow (S.storage store.now) queues.now call.now result }
 {
     if call.has(OptionName::Into) && is_length_negative(store, call) {
-        return only(Condition::Lengerr);
+        return condition_alone(Condition::Lengerr);
     }
     match name8(store, call, OptionName::Queue) {
         Some(name) => reads_queue(store, queues, call, name),
-        None => only(Condition::Qiderr),
+        None => condition_alone(Condition::Qiderr),
     }
 }

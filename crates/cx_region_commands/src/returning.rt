@@ -3,7 +3,7 @@ ghost use Rattle.std.specs.Prelude.{◌≡◌, ◌||◌, if◌then◌else◌};
 ghost use Rattle.cx_region_commands.specs.Return.{highest_return, next_of, return_row};
 ghost use Rattle.cx_region_commands.specs.Common.{does, has, condition_alone};
 
-use crate::common::{commarea_of, does, only};
+use crate::common::{commarea_of, condition_alone, does};
 use cx_base_commands::{Condition, OptionName};
 use cx_program::LevelStack;
 use cx_region_call::{Call, is_length_negative, name4};
@@ -26,7 +26,7 @@ fn lower_return(call: &Call) -> Verdict
         then condition_alone Condition.Invreq else does TaskChange.LevelEnds) }
 {
     if call.has(OptionName::Transid) || call.has(OptionName::Commarea) {
-        only(Condition::Invreq)
+        condition_alone(Condition::Invreq)
     } else {
         does(TaskChange::LevelEnds)
     }
@@ -38,10 +38,10 @@ fn highest_return<S: Store>(store: &S, call: &Call) -> Verdict
 {
     let lacks_transid = call.has(OptionName::Commarea) && !call.has(OptionName::Transid);
     if lacks_transid {
-        return only(Condition::Invreq);
+        return condition_alone(Condition::Invreq);
     }
     if is_length_negative(store, call) {
-        return only(Condition::Lengerr);
+        return condition_alone(Condition::Lengerr);
     }
     does(TaskChange::TaskEnds(next_of(store, call)))
 }

@@ -3,7 +3,7 @@ ghost use Rattle.std.specs.Prelude.{◌≡◌};
 ghost use Rattle.std.specs.Option.{option_map_or};
 ghost use Rattle.cx_region_commands.specs.SendText.{send_text_row};
 
-use crate::common::{does, only};
+use crate::common::{condition_alone, does};
 use cx_base_commands::{Condition, OptionName};
 use cx_region_call::{Call, StorageSpan, is_length_negative, measured_piece};
 use cx_region_state::{Made, TaskChange, Verdict};
@@ -25,7 +25,7 @@ pub(crate) fn judge_send_text<S: Store>(store: &S, call: &Call) -> Verdict
     ensures { result ≡ send_text_row (S.storage store.now) call.now }
 {
     if is_length_negative(store, call) {
-        return only(Condition::Lengerr);
+        return condition_alone(Condition::Lengerr);
     }
     let piece = measured_piece(store, call, OptionName::From);
     does(shown(piece, call.has(OptionName::Erase)))

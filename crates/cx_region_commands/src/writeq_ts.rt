@@ -5,8 +5,8 @@ ghost use Rattle.cx_region_commands.specs.Services.{fault_or_verdict};
 ghost use Rattle.cx_region_commands.specs.Common.{does, output};
 ghost use Rattle.cx_service.specs.Queues.{count_of, rewrite_fault, write_fault};
 
-use crate::common::{does, only};
-use crate::services::unless;
+use crate::common::{condition_alone, does};
+use crate::services::fault_or_verdict;
 use cx_base_commands::{Condition, OptionName};
 use cx_ebcdic::Name8;
 use cx_region_call::{Call, OutputValue, Outputs, StorageSpan, halfword, measured_piece, name8};
@@ -25,7 +25,7 @@ fn writes(queues: &Queues, name: Name8, piece: StorageSpan) -> Verdict
     let number = queues.items(name).unwrap_or(0) as u16 + 1;
     let outputs = Outputs::none().with(OptionName::Item, OutputValue::Half(number));
     let change = TaskChange::Makes(Made::ItemLast(name, piece));
-    unless(
+    fault_or_verdict(
         queues.can_write(name, usize::from(piece.len)),
         Verdict::Meets(Condition::Normal, outputs, change),
     )
@@ -38,7 +38,7 @@ fn rewrites(queues: &Queues, name: Name8, n: u16, piece: StorageSpan) -> Verdict
         (does (TaskChange.Makes (Made.ItemAt name n piece))) }
 {
     let tested = queues.can_rewrite(name, usize::from(n), usize::from(piece.len));
-    unless(
+    fault_or_verdict(
         tested,
         does(TaskChange::Makes(Made::ItemAt(name, usize::from(n), piece))),
     )
@@ -62,7 +62,7 @@ fn written_to<S: Store>(
     ensures { result ≡ written_to (S.storage store.now) queues.now call.now name piece }
 {
     let Some(piece) = piece else {
-        return only(Condition::Qiderr);
+        return condition_alone(Condition::Qiderr);
     };
     if call.has(OptionName::Rewrite) {
         rewrites(queues, name, item_named(store, call), piece)
@@ -77,7 +77,7 @@ pub(crate) fn judge_writeq_ts<S: Store>(store: &S, queues: &Queues, call: &Call)
     ensures { result ≡ writeq_row (S.storage store.now) queues.now call.now }
 {
     let Some(name) = name8(store, call, OptionName::Queue) else {
-        return only(Condition::Qiderr);
+        return condition_alone(Condition::Qiderr);
     };
     let piece = measured_piece(store, call, OptionName::From);
     written_to(store, queues, call, name, piece)

@@ -4,7 +4,9 @@ ghost use Rattle.cx_region_state.specs.Areas.{IsSoundProgram, IsTaskPlace, first
 ghost use Rattle.cx_region_commands.specs.Common.{AreSoundPrograms, AtPlace};
 ghost use Rattle.cx_region_commands.specs.Xctl.{Copies, Transfers, XctlRow, XctlTo, replaces};
 
-use crate::common::{Called, commarea_of, does, named_program, new_level, only, task_place};
+use crate::common::{
+    Called, commarea_of, condition_alone, does, named_program, new_level, task_place,
+};
 use cx_base_commands::{Abend, Condition};
 use cx_ebcdic::Name8;
 use cx_load::Loaded;
@@ -97,10 +99,10 @@ pub(crate) fn judge_xctl<S: Store>(
     ensures { (slot : ℕ) → XctlRow (S.storage store.now) slot programs.now.entries call.now result }
 {
     if is_length_negative(store, call) {
-        return only(Condition::Lengerr);
+        return condition_alone(Condition::Lengerr);
     }
     match named_program(store, call, programs) {
         Some(called) => xctl_to(store, call, called),
-        None => only(Condition::Pgmiderr),
+        None => condition_alone(Condition::Pgmiderr),
     }
 }

@@ -42,8 +42,8 @@ LoadingDecides = (storage after later : Storage) (image : Image) (one other : Lo
     → IsLoaded storage image one after → IsLoaded storage image other later → (one ≡ other) × (after ≡ later)
 
 -- two outcomes that are both the given one
-told : {A B : Type 0} (r s x : A) (a b y : B) → (r ≡ x) × (a ≡ y) → (s ≡ x) × (b ≡ y) → (r ≡ s) × (a ≡ b)
-told r s x a b y h k = (h.0 ∙ sym k.0, h.1 ∙ sym k.1)
+same_answers : {A B : Type 0} (r s x : A) (a b y : B) → (r ≡ x) × (a ≡ y) → (s ≡ x) × (b ≡ y) → (r ≡ s) × (a ≡ b)
+same_answers r s x a b y h k = (h.0 ∙ sym k.0, h.1 ∙ sym k.1)
 
 -- ---- definitions
 abbrev Alike : {A : Type 0} → A → A → RegionState → RegionState → Type 0
@@ -84,13 +84,13 @@ program_decides loading old name image r s a b h k = by_fault (program_fault old
         → MatchOption o (Loads old name image r a) (λ fault. (r ≡ Err fault) × (a ≡ old))
         → MatchOption o (Loads old name image s b) (λ fault. (s ≡ Err fault) × (b ≡ old)) → Alike r s a b
     by_fault None one two = loads_decide loading old name image r s a b one two
-    by_fault (Some fault) one two = told r s (Err fault) a b old one two
+    by_fault (Some fault) one two = same_answers r s (Err fault) a b old one two
 
 done_or_refused : (o : Option DefineFault) (old after : RegionState) (r s : Result (Unit {0}) DefineFault) (a b : RegionState)
     → MatchOption o ((r ≡ Ok tt) × (a ≡ after)) (λ fault. (r ≡ Err fault) × (a ≡ old))
     → MatchOption o ((s ≡ Ok tt) × (b ≡ after)) (λ fault. (s ≡ Err fault) × (b ≡ old)) → Alike r s a b
-done_or_refused None old after r s a b one two = told r s (Ok tt) a b after one two
-done_or_refused (Some fault) old after r s a b one two = told r s (Err fault) a b old one two
+done_or_refused None old after r s a b one two = same_answers r s (Ok tt) a b after one two
+done_or_refused (Some fault) old after r s a b one two = same_answers r s (Err fault) a b old one two
 
 pub transaction_decides : (old : RegionState) (tran program : List ℕ) (r s : Result (Unit {0}) DefineFault) (a b : RegionState)
     → DefinesTransaction old tran program r a → DefinesTransaction old tran program s b → Alike r s a b
@@ -163,21 +163,21 @@ key_decides old name input r s a b h k = at_terminal (terminal_of old name) h k
     at_program : (t : TerminalState) (tran program : List ℕ) (o : Option Loaded)
         → MatchOption o (OnlyAnswers key.NoSuchTransaction old r a) (λ loaded. Attaches old name t input tran program loaded r a)
         → MatchOption o (OnlyAnswers key.NoSuchTransaction old s b) (λ loaded. Attaches old name t input tran program loaded s b) → Alike r s a b
-    at_program t tran program None one two = told r s key.NoSuchTransaction a b old one two
+    at_program t tran program None one two = same_answers r s key.NoSuchTransaction a b old one two
     at_program t tran program (Some loaded) one two = attach_decides old name t input tran program loaded r s a b one two
 
     at_tran : (t : TerminalState) (tran : List ℕ) (o : Option (List ℕ))
         → MatchOption o (OnlyAnswers key.NoSuchTransaction old r a) (λ program. MatchOption (program_of old program) (OnlyAnswers key.NoSuchTransaction old r a) (λ loaded. Attaches old name t input tran program loaded r a))
         → MatchOption o (OnlyAnswers key.NoSuchTransaction old s b) (λ program. MatchOption (program_of old program) (OnlyAnswers key.NoSuchTransaction old s b) (λ loaded. Attaches old name t input tran program loaded s b))
         → Alike r s a b
-    at_tran t tran None one two = told r s key.NoSuchTransaction a b old one two
+    at_tran t tran None one two = same_answers r s key.NoSuchTransaction a b old one two
     at_tran t tran (Some program) one two = at_program t tran program (program_of old program) one two
 
     at_input : (t : TerminalState) (o : Option Input)
         → MatchOption o ((r ≡ key.Given) × (a ≡ with_terminal old name (record t { input = Some input }))) (λ held. OnlyAnswers key.AlreadyHeldInput old r a)
         → MatchOption o ((s ≡ key.Given) × (b ≡ with_terminal old name (record t { input = Some input }))) (λ held. OnlyAnswers key.AlreadyHeldInput old s b) → Alike r s a b
-    at_input t None one two = told r s key.Given a b _ one two
-    at_input t (Some held) one two = told r s key.AlreadyHeldInput a b old one two
+    at_input t None one two = same_answers r s key.Given a b _ one two
+    at_input t (Some held) one two = same_answers r s key.AlreadyHeldInput a b old one two
 
     at_task : (t : TerminalState) (tran : List ℕ) (o : Option TaskState)
         → MatchOption o (MatchOption (transaction_of old tran) (OnlyAnswers key.NoSuchTransaction old r a) (λ program. MatchOption (program_of old program) (OnlyAnswers key.NoSuchTransaction old r a) (λ loaded. Attaches old name t input tran program loaded r a)))
@@ -191,7 +191,7 @@ key_decides old name input r s a b h k = at_terminal (terminal_of old name) h k
     at_terminal : (o : Option TerminalState)
         → MatchOption o (OnlyAnswers key.NoSuchTerminal old r a) (λ t. MatchOption t.task (Starts old name t input (transaction_named t.following input.bytes) r a) (λ task. Gives old name t input r a))
         → MatchOption o (OnlyAnswers key.NoSuchTerminal old s b) (λ t. MatchOption t.task (Starts old name t input (transaction_named t.following input.bytes) s b) (λ task. Gives old name t input s b)) → Alike r s a b
-    at_terminal None one two = told r s key.NoSuchTerminal a b old one two
+    at_terminal None one two = same_answers r s key.NoSuchTerminal a b old one two
     at_terminal (Some t) one two = at_task t (transaction_named t.following input.bytes) t.task one two
 
 -- ---- turns
@@ -213,14 +213,14 @@ unfolding TakesTurn
 turn_decides law old name r s a b h k = at_terminal (terminal_of old name) h k
   where
     at_task : (terminal : TerminalState) (o : Option TaskState) → MatchTask old name r a terminal o → MatchTask old name s b terminal o → Alike r s a b
-    at_task terminal None one two = told r s turn.Idle a b old one two
+    at_task terminal None one two = same_answers r s turn.Idle a b old one two
     at_task terminal (Some task) one two = task_turn_decides law old name terminal task r s a b one two
 
     at_terminal : (o : Option TerminalState)
         → MatchOption o ((r ≡ turn.NoSuchTerminal) × (a ≡ old)) (λ terminal. MatchTask old name r a terminal terminal.task)
         → MatchOption o ((s ≡ turn.NoSuchTerminal) × (b ≡ old)) (λ terminal. MatchTask old name s b terminal terminal.task)
         → Alike r s a b
-    at_terminal None one two = told r s turn.NoSuchTerminal a b old one two
+    at_terminal None one two = same_answers r s turn.NoSuchTerminal a b old one two
     at_terminal (Some terminal) one two = at_task terminal terminal.task one two
 
 -- ---- events
@@ -281,7 +281,7 @@ events_decide loading runs old (event.Terminal name) r s a b h k =
     let same = terminal_decides old name one.0 two.0 a b one.2 two.2 in
     (replies_same (λ x. reply.Terminal x) r s one.0 two.0 one.1 two.1 same.0, same.1)
 events_decide loading runs old (event.Clock time date) r s a b h k =
-    told r s reply.Clock a b (record old { time = time; date = date }) (clock_reply old time date r a h) (clock_reply old time date s b k)
+    same_answers r s reply.Clock a b (record old { time = time; date = date }) (clock_reply old time date r a h) (clock_reply old time date s b k)
 events_decide loading runs old (event.Key name aid bytes) r s a b h k =
     let one = key_reply old name aid bytes r a h in
     let two = key_reply old name aid bytes s b k in

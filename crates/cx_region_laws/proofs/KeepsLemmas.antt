@@ -170,7 +170,7 @@ still_turns_leave stay law old name reply new h still = at_terminal (terminal_of
         ∙ ap (λ (x : TaskContext). put_back old name x (task_after turn.Waiting x.task)) same ∙ put_back_same old name terminal task found has
 
     by_reply : (terminal : TerminalState) (task : TaskState) → terminal_of old name ≡ Some terminal → terminal.task ≡ Some task → TaskTakesTurn old name terminal task reply new
-        → (told : TurnReply) → reply ≡ told → changes_nothing told ≡ true → is_of_task told ≡ true → new ≡ old
+        → (reported : TurnReply) → reply ≡ reported → changes_nothing reported ≡ true → is_of_task reported ≡ true → new ≡ old
     by_reply terminal task found has h turn.Idle is nothing of = absurd (true≢false (sym of))
     by_reply terminal task found has h turn.NoSuchTerminal is nothing of = absurd (true≢false (sym of))
     by_reply terminal task found has h turn.AtCommand is nothing of = absurd (true≢false (sym nothing))

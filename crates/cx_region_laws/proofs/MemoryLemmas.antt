@@ -19,7 +19,7 @@ same_answer decide old new after e (Err fault) reply h k = tt
 pub refused_events_are_none : EventsDecide → RefusedEventsAreNone
 refused_events_are_none decide old mid new refused next fault result first second =
     let done : IsDone old next result new = subst (λ (r : RegionState). IsDone r next result new) first.err second in
-    record { done = done; answer = λ reply after h. same_answer decide old new after next result reply done.happens h }
+    record { done = done; answer = λ reply after h. same_answer decide old new after next result reply done.applies h }
 
 pub stopped_runs_go_on : StoppedRunsGoOn
 stopped_runs_go_on old mid new events done others stopped rest =

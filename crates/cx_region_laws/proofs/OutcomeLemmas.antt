@@ -209,45 +209,45 @@ abends_somehow code cancel before =
     let end = abends_at exit.0 code before in
     (end.0, end.1, record { exit = exit.0; takes = exit.1; ends = end.2 })
 
-goes_somehow : (continuation : Continuation) (condition : Condition) (settled : TaskContext) → Ended (Goes continuation condition settled)
+goes_somehow : (continuation : Continuation) (condition : Condition) (committed : TaskContext) → Ended (Goes continuation condition committed)
 unfolding Goes
-goes_somehow GoesOn condition settled = (turn.Performed condition, on_its_way settled, (refl, refl))
-goes_somehow (TakesLabel label) condition settled = (turn.TookLabel condition, at_label label settled, (refl, refl))
-goes_somehow Waits condition settled = (turn.Waiting, settled, (refl, refl))
-goes_somehow (Abends code cancel) condition settled = abends_somehow code cancel settled
-goes_somehow (WayEnters level) condition settled = (turn.Entered, enter_level level settled, (refl, refl))
-goes_somehow (WayReplaces level) condition settled = (turn.Entered, replace_level level settled, (refl, refl))
-goes_somehow WayLevelEnds condition settled = (turn.Returned, return_to_caller settled, (refl, refl))
-goes_somehow WayTaskEnds condition settled = (turn.Ended, task_ended settled, (refl, refl))
+goes_somehow GoesOn condition committed = (turn.Performed condition, on_its_way committed, (refl, refl))
+goes_somehow (TakesLabel label) condition committed = (turn.TookLabel condition, at_label label committed, (refl, refl))
+goes_somehow Waits condition committed = (turn.Waiting, committed, (refl, refl))
+goes_somehow (Abends code cancel) condition committed = abends_somehow code cancel committed
+goes_somehow (WayEnters level) condition committed = (turn.Entered, enter_level level committed, (refl, refl))
+goes_somehow (WayReplaces level) condition committed = (turn.Entered, replace_level level committed, (refl, refl))
+goes_somehow WayLevelEnds condition committed = (turn.Returned, return_to_caller committed, (refl, refl))
+goes_somehow WayTaskEnds condition committed = (turn.Ended, task_ended committed, (refl, refl))
 
 -- what a change that may take memory makes
 made_somehow : (it : Made) (before : TaskContext) → change_takes_memory (Makes it) ≡ true → (after : TaskContext) × AppliesBefore (Makes it) before after
 unfolding AppliesBefore
-made_somehow (made.ItemLast name piece) before grows = (_, refl)
-made_somehow (made.ItemAt name n piece) before grows = (_, refl)
-made_somehow (made.Enqueues resource) before grows = (_, refl)
-made_somehow (made.Shows piece erase) before grows = absurd (true≢false (sym grows))
-made_somehow (made.Handles request) before grows = absurd (true≢false (sym grows))
+made_somehow (made.ItemLast name piece) before taken = (_, refl)
+made_somehow (made.ItemAt name n piece) before taken = (_, refl)
+made_somehow (made.Enqueues resource) before taken = (_, refl)
+made_somehow (made.Shows piece erase) before taken = absurd (true≢false (sym taken))
+made_somehow (made.Handles request) before taken = absurd (true≢false (sym taken))
 
-grown_somehow : (change : TaskChange) (before : TaskContext) → change_takes_memory change ≡ true → (after : TaskContext) × AppliesBefore change before after
+applied_somehow : (change : TaskChange) (before : TaskContext) → change_takes_memory change ≡ true → (after : TaskContext) × AppliesBefore change before after
 unfolding AppliesBefore
-grown_somehow (Makes it) before grows = made_somehow it before grows
-grown_somehow (Gets got) before grows = (_, refl)
-grown_somehow (Enters level) before grows = (_, refl)
-grown_somehow (Replaces copying level) before grows = (_, refl)
-grown_somehow (TaskEnds next) before grows = (_, refl)
-grown_somehow Nothing before grows = absurd (true≢false (sym grows))
-grown_somehow (Ends it) before grows = absurd (true≢false (sym grows))
-grown_somehow LevelEnds before grows = absurd (true≢false (sym grows))
-grown_somehow (AbendsWith code cancel) before grows = absurd (true≢false (sym grows))
+applied_somehow (Makes it) before taken = made_somehow it before taken
+applied_somehow (Gets got) before taken = (_, refl)
+applied_somehow (Enters level) before taken = (_, refl)
+applied_somehow (Replaces copying level) before taken = (_, refl)
+applied_somehow (TaskEnds next) before taken = (_, refl)
+applied_somehow Nothing before taken = absurd (true≢false (sym taken))
+applied_somehow (Ends it) before taken = absurd (true≢false (sym taken))
+applied_somehow LevelEnds before taken = absurd (true≢false (sym taken))
+applied_somehow (AbendsWith code cancel) before taken = absurd (true≢false (sym taken))
 
 does_somehow : (call : Call) (condition : Condition) (outputs : List Output) (change : TaskChange) (before : TaskContext) → change_takes_memory change ≡ true
     → Ended (Does call condition outputs change before)
-does_somehow call condition outputs change before grows =
-    let made = grown_somehow change before grows in
-    let settled = apply_after change (write_report call (report_of call condition change before) (write_outputs call outputs change made.0)) in
-    let end = goes_somehow (continuation_at call condition change before) condition settled in
-    (end.0, end.1, record { settled = settled; settles = record { made = made.0; grown = made.1; settled = refl }; goes = end.2 })
+does_somehow call condition outputs change before taken =
+    let made = applied_somehow change before taken in
+    let committed = apply_after change (write_report call (report_of call condition change before) (write_outputs call outputs change made.0)) in
+    let end = goes_somehow (continuation_at call condition change before) condition committed in
+    (end.0, end.1, record { committed = committed; commits = record { made = made.0; applied = made.1; committed = refl }; goes = end.2 })
 
 both : (a b c : Bool) → (a && b && not c) ≡ true → (a ≡ true) × (b ≡ true) × (c ≡ false)
 both true true false e = (refl, refl, refl)
@@ -263,21 +263,21 @@ met_somehow call condition outputs change before room goes end = (end.0, end.1, 
 
 answers_somehow : (verdict : Verdict) (call : Call) (before : TaskContext) → may_take_memory verdict call before ≡ true → Ended (Answers verdict call before)
 unfolding Answers may_take_memory
-answers_somehow (Refuses abend) call before grows = absurd (true≢false (sym grows))
-answers_somehow VerdictWaits call before grows = absurd (true≢false (sym grows))
-answers_somehow (Meets condition outputs change) call before grows =
-    let parts = both (change_takes_memory change) (has_room call outputs change before) (is_wait (continuation_at call condition change before)) grows in
+answers_somehow (Refuses abend) call before taken = absurd (true≢false (sym taken))
+answers_somehow VerdictWaits call before taken = absurd (true≢false (sym taken))
+answers_somehow (Meets condition outputs change) call before taken =
+    let parts = both (change_takes_memory change) (has_room call outputs change before) (is_wait (continuation_at call condition change before)) taken in
     met_somehow call condition outputs change before parts.1 parts.2 (does_somehow call condition outputs change before parts.0)
 
 pub half_turns_have_ends : HalfTurnsHaveEnds
 unfolding HalfTurn PerformsCommand PerformsCall
-half_turns_have_ends before grows =
-    let end = answers_somehow grows.verdict grows.call before grows.takes in
+half_turns_have_ends before taken =
+    let end = answers_somehow taken.verdict taken.call before taken.takes in
     record {
       reply = end.0;
       after = end.1;
-      half_turn = by_true _ _ before.task.due grows.due (by_ok _ _ (call_of before.shared.storage (list_of before.task)) grows.call grows.reads
-          (by_true _ _ (are_inputs_there before.shared.storage grows.call) grows.inputs (record { verdict = grows.verdict; judged = grows.judged; answers = end.2 })));
+      half_turn = by_true _ _ before.task.due taken.due (by_ok _ _ (call_of before.shared.storage (list_of before.task)) taken.call taken.reads
+          (by_true _ _ (are_inputs_there before.shared.storage taken.call) taken.inputs (record { verdict = taken.verdict; judged = taken.judged; answers = end.2 })));
     }
 
 -- ---- an event's
@@ -358,7 +358,7 @@ attaches_somehow old name terminal input tran program loaded =
 starts_somehow : (old : RegionState) (name : List ℕ) (terminal : TerminalState) (input : Input) (tran : List ℕ)
     → IsSomeAnd (option_and_then (program_of old) (transaction_of old tran)) (λ loaded. IsTaskPlace old.storage eib_len None → ⊥)
     → Answered (Starts old name terminal input tran)
-starts_somehow old name terminal input tran grows = by_transaction (transaction_of old tran) refl grows
+starts_somehow old name terminal input tran taken = by_transaction (transaction_of old tran) refl taken
   where
     by_program : (program : List ℕ) (found : Option Loaded) → program_of old program ≡ found → transaction_of old tran ≡ Some program
         → IsSomeAnd found (λ loaded. IsTaskPlace old.storage eib_len None → ⊥) → Answered (Starts old name terminal input tran)
@@ -372,17 +372,17 @@ starts_somehow old name terminal input tran grows = by_transaction (transaction_
     by_transaction (Some program) named due = by_program program (program_of old program) refl named due
 
 -- what a key of a terminal needs to take memory
-abbrev TerminalGrows : RegionState → TerminalState → List ℕ → Option TaskState → Type 0
-TerminalGrows old terminal bytes task =
+abbrev TerminalTakesMemory : RegionState → TerminalState → List ℕ → Option TaskState → Type 0
+TerminalTakesMemory old terminal bytes task =
     MatchOption task (IsSomeAnd (option_and_then (program_of old) (transaction_of old (transaction_named terminal.following bytes))) (λ loaded. IsTaskPlace old.storage eib_len None → ⊥))
     (λ t. terminal.input ≡ None)
 
-terminal_keyed : (old : RegionState) (name : List ℕ) (input : Input) (terminal : TerminalState) → TerminalGrows old terminal input.bytes terminal.task
+terminal_keyed : (old : RegionState) (name : List ℕ) (input : Input) (terminal : TerminalState) → TerminalTakesMemory old terminal input.bytes terminal.task
     → Answered (λ reply new. MatchOption terminal.task (Starts old name terminal input (transaction_named terminal.following input.bytes) reply new) (λ task. Gives old name terminal input reply new))
-terminal_keyed old name input terminal grows = go terminal.task refl grows
+terminal_keyed old name input terminal taken = go terminal.task refl taken
   where
     go : (task : Option TaskState) → terminal.task ≡ task
-        → TerminalGrows old terminal input.bytes task
+        → TerminalTakesMemory old terminal input.bytes task
         → Answered (λ reply new. MatchOption terminal.task (Starts old name terminal input (transaction_named terminal.following input.bytes) reply new) (λ task. Gives old name terminal input reply new))
     go None is due =
         let end = starts_somehow old name terminal input (transaction_named terminal.following input.bytes) due in
@@ -391,11 +391,11 @@ terminal_keyed old name input terminal grows = go terminal.task refl grows
         (key.Given, with_terminal old name (record terminal { input = Some input }), by_some _ _ terminal.task task is (by_none _ _ terminal.input due (refl, refl)))
 
 keyed_somehow : (old : RegionState) (name : List ℕ) (input : Input)
-    → IsSomeAnd (terminal_of old name) (λ terminal. TerminalGrows old terminal input.bytes terminal.task) → Answered (TakesKey old name input)
+    → IsSomeAnd (terminal_of old name) (λ terminal. TerminalTakesMemory old terminal input.bytes terminal.task) → Answered (TakesKey old name input)
 unfolding TakesKey
-keyed_somehow old name input grows = go (terminal_of old name) refl grows
+keyed_somehow old name input taken = go (terminal_of old name) refl taken
   where
-    go : (found : Option TerminalState) → terminal_of old name ≡ found → IsSomeAnd found (λ terminal. TerminalGrows old terminal input.bytes terminal.task) → Answered (TakesKey old name input)
+    go : (found : Option TerminalState) → terminal_of old name ≡ found → IsSomeAnd found (λ terminal. TerminalTakesMemory old terminal input.bytes terminal.task) → Answered (TakesKey old name input)
     go None is due = absurd due
     go (Some terminal) is due =
         let end = terminal_keyed old name input terminal due in
@@ -407,7 +407,7 @@ TurnEnds old name = (reply : TurnReply) × (new : RegionState) × TakesTurn old 
 turned_somehow : (old : RegionState) (name : List ℕ)
     → IsSomeAnd (terminal_of old name) (λ terminal. IsSomeAnd terminal.task (λ task. TakesMemory (context_of old terminal task))) → TurnEnds old name
 unfolding TakesTurn
-turned_somehow old name grows = go (terminal_of old name) refl grows
+turned_somehow old name taken = go (terminal_of old name) refl taken
   where
     by_task : (terminal : TerminalState) (task : Option TaskState) → terminal.task ≡ task → terminal_of old name ≡ Some terminal
         → IsSomeAnd task (λ t. TakesMemory (context_of old terminal t)) → TurnEnds old name
@@ -430,24 +430,24 @@ program_somehow loading old name image fit sound some = go (found_place old.stor
     go (None, none) = absurd (some none)
     go (Some at, place) =
         let made = loading old.storage image at fit place in
-        record { reply = reply.Program (Ok made.0); new = record old { programs = insert_entry is_name old.programs name made.0; storage = made.1 }; happens = rw sound (made.2, refl) }
+        record { reply = reply.Program (Ok made.0); new = record old { programs = insert_entry is_name old.programs name made.0; storage = made.1 }; applies = rw sound (made.2, refl) }
 
 may_take_outcome : ImagesAreLoaded → (old : RegionState) (e : Event) → IsChecked e → MayTakeMemory old e → HasOutcome old e
 unfolding MayTakeMemory Applies DefinesTransaction DefinesTerminal
 may_take_outcome loading old (event.Program name image) fit due = program_somehow loading old name image fit due.0 due.1
 may_take_outcome loading old (event.Transaction tran program) fit due =
-    record { reply = reply.Transaction (Ok tt); new = record old { transactions = insert_entry is_name old.transactions tran program }; happens = rw due (refl, refl) }
+    record { reply = reply.Transaction (Ok tt); new = record old { transactions = insert_entry is_name old.transactions tran program }; applies = rw due (refl, refl) }
 may_take_outcome loading old (event.Terminal name) fit due =
-    record { reply = reply.Terminal (Ok tt); new = record old { terminals = insert_entry is_name old.terminals name (fresh_terminal (length old.terminals + 1)) }; happens = rw due (refl, refl) }
+    record { reply = reply.Terminal (Ok tt); new = record old { terminals = insert_entry is_name old.terminals name (fresh_terminal (length old.terminals + 1)) }; applies = rw due (refl, refl) }
 may_take_outcome loading old (event.Clock time date) fit due = absurd due
 may_take_outcome loading old (event.Key name aid bytes) fit due =
     let end = keyed_somehow old name (input_from aid bytes) due in
-    record { reply = reply.Key end.0; new = end.1; happens = end.2 }
+    record { reply = reply.Key end.0; new = end.1; applies = end.2 }
 may_take_outcome loading old (event.Turn name) fit due =
     let end = turned_somehow old name due in
-    record { reply = reply.Turn end.0; new = end.1; happens = end.2 }
+    record { reply = reply.Turn end.0; new = end.1; applies = end.2 }
 may_take_outcome loading old (event.Alter name change) fit due = absurd due
 
 pub events_have_outcomes : ImagesAreLoaded → EventsHaveOutcomes
-events_have_outcomes loading old new e (Ok given) fit done = record { reply = given; new = new; happens = done.happens }
+events_have_outcomes loading old new e (Ok given) fit done = record { reply = given; new = new; applies = done.applies }
 events_have_outcomes loading old new e (Err fault) fit done = may_take_outcome loading old e fit done.memory

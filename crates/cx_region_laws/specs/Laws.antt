@@ -1,4 +1,9 @@
 -- What the definitions of a region come to; each is the contract of a public function.
+pub mod Bytes
+pub mod Exits
+pub mod Levels
+pub mod TaskMemory
+pub mod Pointers
 pub mod Regions
 pub mod Alterations
 pub mod Sound

@@ -32,7 +32,13 @@ impl<S: Store + Drop> Model for Shared<S> {
 
     ghost Value = { SharedState };
 
-    ghost view = { λ shared. record { storage = S.storage shared.store; programs = shared.programs.entries; queues = shared.queues; resources = shared.enqueues } };
+    ghost view = { λ shared.
+        record {
+          storage = S.storage shared.store;
+          programs = shared.programs.entries;
+          queues = shared.queues;
+          resources = shared.enqueues;
+        } };
 }
 
 /// What a terminal's operator sent, with the key that sent it: at most 1,920 bytes.
@@ -94,7 +100,13 @@ impl Model for TerminalEntry {
 
     ghost Value = { TerminalEntryState };
 
-    ghost view = { λ terminal_entry. record { slot = terminal_entry.slot; screen = terminal_entry.screen; input = terminal_entry.input; following = terminal_entry.following } };
+    ghost view = { λ terminal_entry.
+        record {
+          slot = terminal_entry.slot;
+          screen = terminal_entry.screen;
+          input = terminal_entry.input;
+          following = terminal_entry.following;
+        } };
 }
 
 impl TerminalEntry {
@@ -136,7 +148,17 @@ impl Model for Task {
 
     ghost Value = { TaskState };
 
-    ghost view = { λ task. record { tran = task.tran; number = task.number; eib = task.eib; levels = task.levels.value; regs = task.cpu.regs; cc = task.cpu.cc; next = task.cpu.next; due = task.due } };
+    ghost view = { λ task.
+        record {
+          tran = task.tran;
+          number = task.number;
+          eib = task.eib;
+          levels = task.levels.value;
+          regs = task.cpu.regs;
+          cc = task.cpu.cc;
+          next = task.cpu.next;
+          due = task.due;
+        } };
 
     ghost invariant = { λ task. task.eib < 2 ^ 24 };
 }

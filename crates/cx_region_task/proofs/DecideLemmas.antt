@@ -32,16 +32,16 @@ never code cancel mid after before it = go it.exit it.ends
     go None over = absurd (let no : turn.Waiting ≡ turn.Abended code = over.0 in cc)
     go (Some index) over = absurd (let no : turn.Waiting ≡ turn.TookExit code = over.0 in cc)
 
-goes_wait : (gone : Continuation) (condition : Condition) (settled after before : TaskContext) → is_wait gone ≡ false → Goes gone condition settled turn.Waiting after → after ≡ before
+goes_wait : (gone : Continuation) (condition : Condition) (committed after before : TaskContext) → is_wait gone ≡ false → Goes gone condition committed turn.Waiting after → after ≡ before
 unfolding Goes
-goes_wait continuation.GoesOn condition settled after before moves goes = absurd (let no : turn.Waiting ≡ turn.Performed condition = goes.0 in cc)
-goes_wait (continuation.TakesLabel label) condition settled after before moves goes = absurd (let no : turn.Waiting ≡ turn.TookLabel condition = goes.0 in cc)
-goes_wait continuation.Waits condition settled after before moves goes = absurd (let no : true ≡ false = moves in cc)
-goes_wait (continuation.Abends code cancel) condition settled after before moves goes = never code cancel settled after before goes
-goes_wait (continuation.Enters level) condition settled after before moves goes = absurd (let no : turn.Waiting ≡ turn.Entered = goes.0 in cc)
-goes_wait (continuation.Replaces level) condition settled after before moves goes = absurd (let no : turn.Waiting ≡ turn.Entered = goes.0 in cc)
-goes_wait continuation.LevelEnds condition settled after before moves goes = absurd (let no : turn.Waiting ≡ turn.Returned = goes.0 in cc)
-goes_wait continuation.TaskEnds condition settled after before moves goes = absurd (let no : turn.Waiting ≡ turn.Ended = goes.0 in cc)
+goes_wait continuation.GoesOn condition committed after before moves goes = absurd (let no : turn.Waiting ≡ turn.Performed condition = goes.0 in cc)
+goes_wait (continuation.TakesLabel label) condition committed after before moves goes = absurd (let no : turn.Waiting ≡ turn.TookLabel condition = goes.0 in cc)
+goes_wait continuation.Waits condition committed after before moves goes = absurd (let no : true ≡ false = moves in cc)
+goes_wait (continuation.Abends code cancel) condition committed after before moves goes = never code cancel committed after before goes
+goes_wait (continuation.Enters level) condition committed after before moves goes = absurd (let no : turn.Waiting ≡ turn.Entered = goes.0 in cc)
+goes_wait (continuation.Replaces level) condition committed after before moves goes = absurd (let no : turn.Waiting ≡ turn.Entered = goes.0 in cc)
+goes_wait continuation.LevelEnds condition committed after before moves goes = absurd (let no : turn.Waiting ≡ turn.Returned = goes.0 in cc)
+goes_wait continuation.TaskEnds condition committed after before moves goes = absurd (let no : turn.Waiting ≡ turn.Ended = goes.0 in cc)
 
 meets_wait : (call : Call) (condition : Condition) (outputs : List Output) (change : TaskChange) (before after : TaskContext) → MeetsWith call condition outputs change before turn.Waiting after → after ≡ before
 unfolding MeetsWith
@@ -49,7 +49,7 @@ meets_wait call condition outputs change before after meets = by_room (has_room 
   where
     by_wait : (b : Bool) → is_wait (continuation_at call condition change before) ≡ b → MatchBool b (LeavesAll before turn.Waiting after) (Does call condition outputs change before turn.Waiting after) → after ≡ before
     by_wait true e leaves = leaves.same
-    by_wait false e it = goes_wait (continuation_at call condition change before) condition it.settled after before e it.goes
+    by_wait false e it = goes_wait (continuation_at call condition change before) condition it.committed after before e it.goes
 
     by_room : (b : Bool) → MatchBool b (MatchBool (is_wait (continuation_at call condition change before)) (LeavesAll before turn.Waiting after) (Does call condition outputs change before turn.Waiting after))
         (Abends (abend_code abend.Xarg) false before turn.Waiting after) → after ≡ before

@@ -116,12 +116,12 @@ pub record Grew (change : TaskChange) (start mid : TaskContext) : Type 0 where
 
 made_keeps : (it : Made) (start after : TaskContext) → FitsMade it start → Mid start start → AppliesBefore (Makes it) start after → Mid start after
 unfolding AppliesBefore
-made_keeps (made.ItemLast name piece) start after fits held grown =
-    rw grown (record { slot = refl; programs = refl; resources = refl; storage = held.storage; sound = held.sound; same = held.same; others = held.others; task = held.task })
-made_keeps (made.ItemAt name n piece) start after fits held grown =
-    rw grown (record { slot = refl; programs = refl; resources = refl; storage = held.storage; sound = held.sound; same = held.same; others = held.others; task = held.task })
-made_keeps (made.Enqueues resource) start after fits held grown =
-    rw grown (record {
+made_keeps (made.ItemLast name piece) start after fits held applied =
+    rw applied (record { slot = refl; programs = refl; resources = refl; storage = held.storage; sound = held.sound; same = held.same; others = held.others; task = held.task })
+made_keeps (made.ItemAt name n piece) start after fits held applied =
+    rw applied (record { slot = refl; programs = refl; resources = refl; storage = held.storage; sound = held.sound; same = held.same; others = held.others; task = held.task })
+made_keeps (made.Enqueues resource) start after fits held applied =
+    rw applied (record {
       slot = refl;
       programs = refl;
       resources = enqueued_keeps start.shared.resources start.terminal_entry.slot resource fits;
@@ -131,11 +131,11 @@ made_keeps (made.Enqueues resource) start after fits held grown =
       others = held.others;
       task = held.task;
     })
-made_keeps (made.Shows piece erase) start after fits held grown =
-    rw grown.others (record { slot = refl; programs = refl; resources = refl; storage = held.storage; sound = held.sound; same = held.same; others = held.others; task = held.task })
-made_keeps (made.Handles asked) start after fits held grown =
+made_keeps (made.Shows piece erase) start after fits held applied =
+    rw applied.others (record { slot = refl; programs = refl; resources = refl; storage = held.storage; sound = held.sound; same = held.same; others = held.others; task = held.task })
+made_keeps (made.Handles asked) start after fits held applied =
     let own = held.task in
-    rw grown (record {
+    rw applied (record {
       slot = refl;
       programs = refl;
       resources = refl;
@@ -204,21 +204,21 @@ unfolding with_copy_area
 copy_stay s slot None ok fits = λ start len there. there
 copy_stay s slot (Some copying) ok fits = put_stay slot s copying.from.len copying.to (system_owner slot) ok fits.some fits.place
 
-pub grown_keeps : (change : TaskChange) (start mid : TaskContext) → IsSoundStorage start.shared.storage → IsSoundTask start.shared.storage start.terminal_entry.slot start.task → FitsChange change start
+pub applied_keeps : (change : TaskChange) (start mid : TaskContext) → IsSoundStorage start.shared.storage → IsSoundTask start.shared.storage start.terminal_entry.slot start.task → FitsChange change start
     → AppliesBefore change start mid → Grew change start mid
 unfolding AppliesBefore with_got with_filled with_stg with_replacement
-grown_keeps Nothing start mid ok own fits grown = rw grown (record { held = begins start ok own; stands = tt })
-grown_keeps (Makes it) start mid ok own fits grown = record { held = made_keeps it start mid fits (begins start ok own) grown; stands = tt }
-grown_keeps (Ends it) start mid ok own fits grown = rw grown (record { held = begins start ok own; stands = tt })
-grown_keeps LevelEnds start mid ok own fits grown = rw grown (record { held = begins start ok own; stands = tt })
-grown_keeps (AbendsWith code cancel) start mid ok own fits grown = rw grown (record { held = begins start ok own; stands = tt })
-grown_keeps (TaskEnds next) start mid ok own fits grown =
-    rw grown (record { held = record { slot = refl; programs = refl; resources = refl; storage = start.shared.storage; sound = ok; same = refl; others = refl; task = own }; stands = tt })
-grown_keeps (Gets got) start mid ok own fits grown =
+applied_keeps Nothing start mid ok own fits applied = rw applied (record { held = begins start ok own; stands = tt })
+applied_keeps (Makes it) start mid ok own fits applied = record { held = made_keeps it start mid fits (begins start ok own) applied; stands = tt }
+applied_keeps (Ends it) start mid ok own fits applied = rw applied (record { held = begins start ok own; stands = tt })
+applied_keeps LevelEnds start mid ok own fits applied = rw applied (record { held = begins start ok own; stands = tt })
+applied_keeps (AbendsWith code cancel) start mid ok own fits applied = rw applied (record { held = begins start ok own; stands = tt })
+applied_keeps (TaskEnds next) start mid ok own fits applied =
+    rw applied (record { held = record { slot = refl; programs = refl; resources = refl; storage = start.shared.storage; sound = ok; same = refl; others = refl; task = own }; stands = tt })
+applied_keeps (Gets got) start mid ok own fits applied =
     let s = start.shared.storage in
     let slot = start.terminal_entry.slot in
     let t = with_area s (Some got.place) got.len (got_owner slot) in
-    rw grown (record {
+    rw applied (record {
       held = record {
         slot = refl;
         programs = refl;
@@ -232,14 +232,14 @@ grown_keeps (Gets got) start mid ok own fits grown =
       };
       stands = tt;
     })
-grown_keeps (Enters level) start mid ok own fits grown =
+applied_keeps (Enters level) start mid ok own fits applied =
     let s = start.shared.storage in
     let slot = start.terminal_entry.slot in
     let t = with_stg_area s slot level in
     let few = fits.few in
     let low = fits.begins.program.stg_low in
     let owns = owns_of slot s start.task own in
-    rw grown (record {
+    rw applied (record {
       held = record {
         slot = refl;
         programs = refl;
@@ -253,7 +253,7 @@ grown_keeps (Enters level) start mid ok own fits grown =
       };
       stands = level_begins 15 s slot level start.task ok fits.begins owns (omega (arith, few));
     })
-grown_keeps (Replaces copying level) start mid ok own fits grown =
+applied_keeps (Replaces copying level) start mid ok own fits applied =
     let s = start.shared.storage in
     let slot = start.terminal_entry.slot in
     let c = with_copy_area s slot copying in
@@ -262,7 +262,7 @@ grown_keeps (Replaces copying level) start mid ok own fits grown =
     let low = fits.begins.program.stg_low in
     let copy_ok = copy_sound s slot copying ok fits.copy in
     let owns = owns_stay 15 slot s c start.task.eib start.task.levels.callers start.task.levels.current (copy_stay s slot copying ok fits.copy) (owns_of slot s start.task own) in
-    rw grown (record {
+    rw applied (record {
       held = record {
         slot = refl;
         programs = refl;

@@ -14,6 +14,6 @@ mod TurnLemmas
 mod HalfLemmas
 mod DecideLemmas
 mod TurnDecide
-mod TroubleLemmas
+mod AbendRecordLemmas
 pub mod StayLemmas
 pub mod DueLemmas

@@ -41,20 +41,20 @@ same_queues : (call : Call) (outputs : List Output) (change : TaskChange) (answe
 unfolding write_outputs write_report
 same_queues call outputs change answer made given_r after gives reports = rw (reports, gives) refl
 
-grown_can : (change : TaskChange) (before made : TaskContext) → FitsChange change before → AppliesBefore change before made → MatchFinished change made.shared.queues
+applied_can : (change : TaskChange) (before made : TaskContext) → FitsChange change before → AppliesBefore change before made → MatchFinished change made.shared.queues
 unfolding AppliesBefore
-grown_can Nothing before made fits grown = tt
-grown_can (Makes it) before made fits grown = tt
-grown_can (Ends it) before made fits grown = rw grown (ended_can it before fits)
-grown_can (Gets got) before made fits grown = rw grown (fill_can got.fill got.len before fits.fill)
-grown_can (Enters level) before made fits grown = tt
-grown_can (Replaces copying level) before made fits grown = tt
-grown_can LevelEnds before made fits grown = tt
-grown_can (TaskEnds next) before made fits grown = tt
-grown_can (AbendsWith code cancel) before made fits grown = tt
+applied_can Nothing before made fits applied = tt
+applied_can (Makes it) before made fits applied = tt
+applied_can (Ends it) before made fits applied = rw applied (ended_can it before fits)
+applied_can (Gets got) before made fits applied = rw applied (fill_can got.fill got.len before fits.fill)
+applied_can (Enters level) before made fits applied = tt
+applied_can (Replaces copying level) before made fits applied = tt
+applied_can LevelEnds before made fits applied = tt
+applied_can (TaskEnds next) before made fits applied = tt
+applied_can (AbendsWith code cancel) before made fits applied = tt
 
 pub fits_finished : (call : Call) (outputs : List Output) (change : TaskChange) (answer : Answer) (before made given_r after : TaskContext)
     → FitsChange change before → AppliesBefore change before made → given_r ≡ write_outputs call outputs change made → after ≡ write_report call answer given_r
     → MatchFinished change after.shared.queues
-fits_finished call outputs change answer before made given_r after fits grown gives reports =
-    subst (λ (queues : Queues). MatchFinished change queues) (sym (same_queues call outputs change answer made given_r after gives reports)) (grown_can change before made fits grown)
+fits_finished call outputs change answer before made given_r after fits applied gives reports =
+    subst (λ (queues : Queues). MatchFinished change queues) (sym (same_queues call outputs change answer made given_r after gives reports)) (applied_can change before made fits applied)

@@ -47,8 +47,8 @@ same_at before to after e same =
 joined : (before between after : TaskContext) → Same before between → Same between after → Same before after
 joined before between after one two = record { slot = two.slot ∙ one.slot; programs = two.programs ∙ one.programs }
 
-stays_at : (before after : TaskContext) (reply told : TurnReply) → Same before after → reply ≡ told → is_of_task told ≡ true → HalfTurnStays before reply after
-stays_at before after reply told same e of =
+stays_at : (before after : TaskContext) (reply reported : TurnReply) → Same before after → reply ≡ reported → is_of_task reported ≡ true → HalfTurnStays before reply after
+stays_at before after reply reported same e of =
     record { slot = same.slot; programs = same.programs; answers = ap is_of_task e ∙ of }
 
 -- ---- abends
@@ -65,44 +65,44 @@ returned_same : (callers : List Level) (r : TaskContext) → Same r (returned_to
 returned_same [] r = record { slot = refl; programs = refl }
 returned_same (caller ∷ callers) r = record { slot = refl; programs = refl }
 
-goes_stay : (gone : Continuation) (condition : Condition) (before settled after : TaskContext) (reply : TurnReply) → Same before settled → Goes gone condition settled reply after → HalfTurnStays before reply after
+goes_stay : (gone : Continuation) (condition : Condition) (before committed after : TaskContext) (reply : TurnReply) → Same before committed → Goes gone condition committed reply after → HalfTurnStays before reply after
 unfolding Goes enter_level replace_level return_to_caller
-goes_stay continuation.GoesOn condition before settled after reply same goes =
+goes_stay continuation.GoesOn condition before committed after reply same goes =
     stays_at before after reply (turn.Performed condition) (same_at before _ after goes.1 (record { slot = same.slot; programs = same.programs })) goes.0 refl
-goes_stay (continuation.TakesLabel label) condition before settled after reply same goes =
+goes_stay (continuation.TakesLabel label) condition before committed after reply same goes =
     stays_at before after reply (turn.TookLabel condition) (same_at before _ after goes.1 (record { slot = same.slot; programs = same.programs })) goes.0 refl
-goes_stay continuation.Waits condition before settled after reply same goes =
+goes_stay continuation.Waits condition before committed after reply same goes =
     stays_at before after reply turn.Waiting (same_at before _ after goes.1 same) goes.0 refl
-goes_stay (continuation.Abends code cancel) condition before settled after reply same goes = abends_stay before settled after reply code cancel same goes
-goes_stay (continuation.Enters level) condition before settled after reply same goes =
+goes_stay (continuation.Abends code cancel) condition before committed after reply same goes = abends_stay before committed after reply code cancel same goes
+goes_stay (continuation.Enters level) condition before committed after reply same goes =
     stays_at before after reply turn.Entered (same_at before _ after goes.1 (record { slot = same.slot; programs = same.programs })) goes.0 refl
-goes_stay (continuation.Replaces level) condition before settled after reply same goes =
+goes_stay (continuation.Replaces level) condition before committed after reply same goes =
     stays_at before after reply turn.Entered (same_at before _ after goes.1 (record { slot = same.slot; programs = same.programs })) goes.0 refl
-goes_stay continuation.LevelEnds condition before settled after reply same goes =
-    stays_at before after reply turn.Returned (same_at before _ after goes.1 (joined before settled _ same (returned_same settled.task.levels.callers settled))) goes.0 refl
-goes_stay continuation.TaskEnds condition before settled after reply same goes =
+goes_stay continuation.LevelEnds condition before committed after reply same goes =
+    stays_at before after reply turn.Returned (same_at before _ after goes.1 (joined before committed _ same (returned_same committed.task.levels.callers committed))) goes.0 refl
+goes_stay continuation.TaskEnds condition before committed after reply same goes =
     stays_at before after reply turn.Ended (same_at before _ after goes.1 (record { slot = same.slot; programs = same.programs })) goes.0 refl
 
 -- ---- what the command does
 made_same : (it : Made) (before after : TaskContext) → AppliesBefore (Makes it) before after → Same before after
 unfolding AppliesBefore
-made_same (made.ItemLast name piece) before after grown = same_at before _ after grown (record { slot = refl; programs = refl })
-made_same (made.ItemAt name n piece) before after grown = same_at before _ after grown (record { slot = refl; programs = refl })
-made_same (made.Enqueues resource) before after grown = same_at before _ after grown (record { slot = refl; programs = refl })
-made_same (made.Shows piece erase) before after grown = same_at before _ after grown.others (record { slot = refl; programs = refl })
-made_same (made.Handles request) before after grown = same_at before _ after grown (record { slot = refl; programs = refl })
+made_same (made.ItemLast name piece) before after applied = same_at before _ after applied (record { slot = refl; programs = refl })
+made_same (made.ItemAt name n piece) before after applied = same_at before _ after applied (record { slot = refl; programs = refl })
+made_same (made.Enqueues resource) before after applied = same_at before _ after applied (record { slot = refl; programs = refl })
+made_same (made.Shows piece erase) before after applied = same_at before _ after applied.others (record { slot = refl; programs = refl })
+made_same (made.Handles request) before after applied = same_at before _ after applied (record { slot = refl; programs = refl })
 
-grown_same : (change : TaskChange) (before after : TaskContext) → AppliesBefore change before after → Same before after
+applied_same : (change : TaskChange) (before after : TaskContext) → AppliesBefore change before after → Same before after
 unfolding AppliesBefore
-grown_same Nothing before after grown = same_at before _ after grown (record { slot = refl; programs = refl })
-grown_same (Makes it) before after grown = made_same it before after grown
-grown_same (Ends it) before after grown = same_at before _ after grown (record { slot = refl; programs = refl })
-grown_same (Gets got) before after grown = same_at before _ after grown (record { slot = refl; programs = refl })
-grown_same (Enters level) before after grown = same_at before _ after grown (record { slot = refl; programs = refl })
-grown_same (Replaces copying level) before after grown = same_at before _ after grown (record { slot = refl; programs = refl })
-grown_same LevelEnds before after grown = same_at before _ after grown (record { slot = refl; programs = refl })
-grown_same (TaskEnds next) before after grown = same_at before _ after grown (record { slot = refl; programs = refl })
-grown_same (AbendsWith code cancel) before after grown = same_at before _ after grown (record { slot = refl; programs = refl })
+applied_same Nothing before after applied = same_at before _ after applied (record { slot = refl; programs = refl })
+applied_same (Makes it) before after applied = made_same it before after applied
+applied_same (Ends it) before after applied = same_at before _ after applied (record { slot = refl; programs = refl })
+applied_same (Gets got) before after applied = same_at before _ after applied (record { slot = refl; programs = refl })
+applied_same (Enters level) before after applied = same_at before _ after applied (record { slot = refl; programs = refl })
+applied_same (Replaces copying level) before after applied = same_at before _ after applied (record { slot = refl; programs = refl })
+applied_same LevelEnds before after applied = same_at before _ after applied (record { slot = refl; programs = refl })
+applied_same (TaskEnds next) before after applied = same_at before _ after applied (record { slot = refl; programs = refl })
+applied_same (AbendsWith code cancel) before after applied = same_at before _ after applied (record { slot = refl; programs = refl })
 
 ended_same : (it : Ended) (r : TaskContext) → Same r (apply_after (Ends it) r)
 unfolding apply_after
@@ -131,8 +131,8 @@ finished_same (AbendsWith code cancel) r = record { slot = refl; programs = refl
 settled_same : (call : Call) (condition : Condition) (outputs : List Output) (change : TaskChange) (before after : TaskContext) → Commits call condition outputs change before after → Same before after
 unfolding write_outputs write_report
 settled_same call condition outputs change before after it =
-    let first = grown_same change before it.made it.grown in
-    same_at before _ after it.settled (joined before _ _ (record { slot = first.slot; programs = first.programs }) (finished_same change _))
+    let first = applied_same change before it.made it.applied in
+    same_at before _ after it.committed (joined before _ _ (record { slot = first.slot; programs = first.programs }) (finished_same change _))
 
 -- ---- a half-turn
 leaves_stay : (before after : TaskContext) (reply : TurnReply) → LeavesAll before reply after → HalfTurnStays before reply after
@@ -145,7 +145,7 @@ meets_stay call condition outputs change before after reply meets = by_room (has
   where
     by_wait : (b : Bool) → MatchBool b (LeavesAll before reply after) (Does call condition outputs change before reply after) → HalfTurnStays before reply after
     by_wait true leaves = leaves_stay before after reply leaves
-    by_wait false it = goes_stay (continuation_at call condition change before) condition before it.settled after reply (settled_same call condition outputs change before it.settled it.settles) it.goes
+    by_wait false it = goes_stay (continuation_at call condition change before) condition before it.committed after reply (settled_same call condition outputs change before it.committed it.commits) it.goes
 
     by_room : (b : Bool) → MatchBool b (MatchBool (is_wait (continuation_at call condition change before)) (LeavesAll before reply after) (Does call condition outputs change before reply after))
         (Abends (abend_code abend.Xarg) false before reply after) → HalfTurnStays before reply after

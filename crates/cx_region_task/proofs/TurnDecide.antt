@@ -41,8 +41,8 @@ Same p q a b = (p ≡ q) × (a ≡ b)
 abbrev ShownOnce : Type 0
 ShownOnce = (old : List (List ℕ)) (text : List ℕ) (erase : Bool) (one other : List (List ℕ)) → ShowsText old text erase one → ShowsText old text erase other → one ≡ other
 
-told : (p q x : TurnReply) (a b y : TaskContext) → (p ≡ x) × (a ≡ y) → (q ≡ x) × (b ≡ y) → Same p q a b
-told p q x a b y one two = (one.0 ∙ sym two.0, one.1 ∙ sym two.1)
+same_answers : (p q x : TurnReply) (a b y : TaskContext) → (p ≡ x) × (a ≡ y) → (q ≡ x) × (b ≡ y) → Same p q a b
+same_answers p q x a b y one two = (one.0 ∙ sym two.0, one.1 ∙ sym two.1)
 
 exits_decide : (cancel : Bool) (levels : Levels) (one other : Option ℕ) → IsExit cancel levels one → IsExit cancel levels other → one ≡ other
 exits_decide true levels one other p q = p ∙ sym q
@@ -54,8 +54,8 @@ abends_decide code cancel before p q a b h k =
     by_exit k.exit (subst (λ (exit : Option ℕ). AbendsAt exit code before p a) (exits_decide cancel before.task.levels h.exit k.exit h.takes k.takes) h.ends) k.ends
   where
     by_exit : (exit : Option ℕ) → AbendsAt exit code before p a → AbendsAt exit code before q b → Same p q a b
-    by_exit None one two = told p q _ a b _ one two
-    by_exit (Some index) one two = told p q _ a b _ one two
+    by_exit None one two = same_answers p q _ a b _ one two
+    by_exit (Some index) one two = same_answers p q _ a b _ one two
 
 made_decides : ShownOnce → (it : Made) (before a b : TaskContext) → AppliesBefore (Makes it) before a → AppliesBefore (Makes it) before b → a ≡ b
 unfolding AppliesBefore
@@ -66,37 +66,37 @@ made_decides shown (made.Handles request) before a b h k = h ∙ sym k
 made_decides shown (made.Shows piece erase) before a b h k =
     h.others ∙ ap (λ (screen : List (List ℕ)). record before { terminal_entry = record before.terminal_entry { screen = screen } }) (shown before.terminal_entry.screen (bytes_in before.shared.storage piece) erase a.terminal_entry.screen b.terminal_entry.screen h.text k.text) ∙ sym k.others
 
-grown_decides : ShownOnce → (change : TaskChange) (before a b : TaskContext) → AppliesBefore change before a → AppliesBefore change before b → a ≡ b
+applied_decides : ShownOnce → (change : TaskChange) (before a b : TaskContext) → AppliesBefore change before a → AppliesBefore change before b → a ≡ b
 unfolding AppliesBefore
-grown_decides shown Nothing before a b h k = h ∙ sym k
-grown_decides shown (Makes it) before a b h k = made_decides shown it before a b h k
-grown_decides shown (Ends it) before a b h k = h ∙ sym k
-grown_decides shown (Gets got) before a b h k = h ∙ sym k
-grown_decides shown (Enters level) before a b h k = h ∙ sym k
-grown_decides shown (Replaces copying level) before a b h k = h ∙ sym k
-grown_decides shown LevelEnds before a b h k = h ∙ sym k
-grown_decides shown (TaskEnds next) before a b h k = h ∙ sym k
-grown_decides shown (AbendsWith code cancel) before a b h k = h ∙ sym k
+applied_decides shown Nothing before a b h k = h ∙ sym k
+applied_decides shown (Makes it) before a b h k = made_decides shown it before a b h k
+applied_decides shown (Ends it) before a b h k = h ∙ sym k
+applied_decides shown (Gets got) before a b h k = h ∙ sym k
+applied_decides shown (Enters level) before a b h k = h ∙ sym k
+applied_decides shown (Replaces copying level) before a b h k = h ∙ sym k
+applied_decides shown LevelEnds before a b h k = h ∙ sym k
+applied_decides shown (TaskEnds next) before a b h k = h ∙ sym k
+applied_decides shown (AbendsWith code cancel) before a b h k = h ∙ sym k
 
-goes_decides : (gone : Continuation) (condition : Condition) (settled : TaskContext) (p q : TurnReply) (a b : TaskContext) → Goes gone condition settled p a → Goes gone condition settled q b → Same p q a b
+goes_decides : (gone : Continuation) (condition : Condition) (committed : TaskContext) (p q : TurnReply) (a b : TaskContext) → Goes gone condition committed p a → Goes gone condition committed q b → Same p q a b
 unfolding Goes
-goes_decides continuation.GoesOn condition settled p q a b h k = told p q _ a b _ h k
-goes_decides (continuation.TakesLabel label) condition settled p q a b h k = told p q _ a b _ h k
-goes_decides continuation.Waits condition settled p q a b h k = told p q _ a b _ h k
-goes_decides (continuation.Abends code cancel) condition settled p q a b h k = abends_decide code cancel settled p q a b h k
-goes_decides (continuation.Enters level) condition settled p q a b h k = told p q _ a b _ h k
-goes_decides (continuation.Replaces level) condition settled p q a b h k = told p q _ a b _ h k
-goes_decides continuation.LevelEnds condition settled p q a b h k = told p q _ a b _ h k
-goes_decides continuation.TaskEnds condition settled p q a b h k = told p q _ a b _ h k
+goes_decides continuation.GoesOn condition committed p q a b h k = same_answers p q _ a b _ h k
+goes_decides (continuation.TakesLabel label) condition committed p q a b h k = same_answers p q _ a b _ h k
+goes_decides continuation.Waits condition committed p q a b h k = same_answers p q _ a b _ h k
+goes_decides (continuation.Abends code cancel) condition committed p q a b h k = abends_decide code cancel committed p q a b h k
+goes_decides (continuation.Enters level) condition committed p q a b h k = same_answers p q _ a b _ h k
+goes_decides (continuation.Replaces level) condition committed p q a b h k = same_answers p q _ a b _ h k
+goes_decides continuation.LevelEnds condition committed p q a b h k = same_answers p q _ a b _ h k
+goes_decides continuation.TaskEnds condition committed p q a b h k = same_answers p q _ a b _ h k
 
 does_decides : ShownOnce → (call : Call) (condition : Condition) (outputs : List Output) (change : TaskChange) (before : TaskContext) (p q : TurnReply) (a b : TaskContext)
     → Does call condition outputs change before p a → Does call condition outputs change before q b → Same p q a b
 does_decides shown call condition outputs change before p q a b h k =
-    let made = grown_decides shown change before h.settles.made k.settles.made h.settles.grown k.settles.grown in
-    let settled : h.settled ≡ k.settled =
-    h.settles.settled ∙ ap (λ (r : TaskContext). apply_after change (write_report call (report_of call condition change before) (write_outputs call outputs change r))) made ∙ sym k.settles.settled in
-    goes_decides (continuation_at call condition change before) condition k.settled p q a b
-    (subst (λ (r : TaskContext). Goes (continuation_at call condition change before) condition r p a) settled h.goes) k.goes
+    let made = applied_decides shown change before h.commits.made k.commits.made h.commits.applied k.commits.applied in
+    let committed : h.committed ≡ k.committed =
+    h.commits.committed ∙ ap (λ (r : TaskContext). apply_after change (write_report call (report_of call condition change before) (write_outputs call outputs change r))) made ∙ sym k.commits.committed in
+    goes_decides (continuation_at call condition change before) condition k.committed p q a b
+    (subst (λ (r : TaskContext). Goes (continuation_at call condition change before) condition r p a) committed h.goes) k.goes
 
 meets_decide : ShownOnce → (call : Call) (condition : Condition) (outputs : List Output) (change : TaskChange) (before : TaskContext) (p q : TurnReply) (a b : TaskContext)
     → MeetsWith call condition outputs change before p a → MeetsWith call condition outputs change before q b → Same p q a b
@@ -104,7 +104,7 @@ unfolding MeetsWith
 meets_decide shown call condition outputs change before p q a b h k = by_room (has_room call outputs change before) h k
   where
     by_wait : (w : Bool) → MatchBool w (LeavesAll before p a) (Does call condition outputs change before p a) → MatchBool w (LeavesAll before q b) (Does call condition outputs change before q b) → Same p q a b
-    by_wait true one two = told p q _ a b _ (one.waiting, one.same) (two.waiting, two.same)
+    by_wait true one two = same_answers p q _ a b _ (one.waiting, one.same) (two.waiting, two.same)
     by_wait false one two = does_decides shown call condition outputs change before p q a b one two
 
     by_room : (r : Bool)
@@ -117,7 +117,7 @@ meets_decide shown call condition outputs change before p q a b h k = by_room (h
 answers_decide : ShownOnce → (verdict : Verdict) (call : Call) (before : TaskContext) (p q : TurnReply) (a b : TaskContext) → Answers verdict call before p a → Answers verdict call before q b → Same p q a b
 unfolding Answers
 answers_decide shown (Refuses code) call before p q a b h k = abends_decide (abend_code code) false before p q a b h k
-answers_decide shown Waits call before p q a b h k = told p q _ a b _ (h.waiting, h.same) (k.waiting, k.same)
+answers_decide shown Waits call before p q a b h k = same_answers p q _ a b _ (h.waiting, h.same) (k.waiting, k.same)
 answers_decide shown (Meets condition outputs change) call before p q a b h k = meets_decide shown call condition outputs change before p q a b h k
 
 performs_decide : ShownOnce → JudgedOnce → (call : Call) (before : TaskContext) (p q : TurnReply) (a b : TaskContext) → Performs call before p a → Performs call before q b → Same p q a b
@@ -127,7 +127,7 @@ performs_decide shown judged call before p q a b h k =
 
 halts_decide : (how : Halt) (before : TaskContext) (p q : TurnReply) (a b : TaskContext) → EndsRun how before p a → EndsRun how before q b → Same p q a b
 unfolding EndsRun
-halts_decide halt.AtEntry before p q a b h k = told p q _ a b _ h k
+halts_decide halt.AtEntry before p q a b h k = same_answers p q _ a b _ h k
 halts_decide (halt.Interrupt cause place) before p q a b h k = abends_decide _ false before p q a b h k
 halts_decide halt.Limit before p q a b h k = abends_decide _ false before p q a b h k
 

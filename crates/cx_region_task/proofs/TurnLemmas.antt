@@ -36,9 +36,9 @@ use Rattle.cx_region_task.specs.Answers.{Answers, Does, LeavesAll, MeetsWith, ha
 use Rattle.cx_region_task.specs.Changes.{AppliesBefore, Commits, apply_after, write_outputs, read_for, report_of, write_report}
 use Rattle.cx_region_task.specs.Laws.HalfTurns.{HalfTurnKeeps}
 use Rattle.cx_region_task.specs.Sound.{IsSoundTask}
-use Rattle.cx_region_task.specs.Continuations.{choice_for, is_normal, is_wait, way_by, way_chosen, continuation_of}
+use Rattle.cx_region_task.specs.Continuations.{choice_for, is_normal, is_wait, continuation_by, continuation_chosen, continuation_of}
 use Rattle.cx_region_task.proofs.GoLemmas.{Stands, goes_keeps}
-use Rattle.cx_region_task.proofs.GrowLemmas.{Grew, Standing, answered_areas, grown_keeps, put_out_areas}
+use Rattle.cx_region_task.proofs.GrowLemmas.{Grew, Standing, answered_areas, applied_keeps, put_out_areas}
 use Rattle.cx_region_task.proofs.MidLemmas.{Mid, abend_keeps, begins, goes_on}
 use Rattle.cx_region_task.proofs.OwnAreas.{areas_filtered, freed_own}
 use Rattle.cx_region_task.proofs.ReleaseLemmas.{dequeued_keeps}
@@ -149,26 +149,26 @@ finished_grew (AbendsWith code cancel) start mid fits areas grew = grew
 -- where something ends, nothing is made
 ends_alone : (it : Ended) (start made : TaskContext) → AppliesBefore (Ends it) start made → made ≡ start
 unfolding AppliesBefore
-ends_alone it start made grown = grown
+ends_alone it start made applied = applied
 
 ends_areas : (call : Call) (outputs : List Output) (answer : Answer) (change : TaskChange) (start made : TaskContext) → AppliesBefore change start made → (it : Ended) → change ≡ Ends it
     → areas_of (write_report call answer (write_outputs call outputs change made)).shared.storage ≡ areas_of start.shared.storage
 unfolding write_report write_outputs
-ends_areas call outputs answer change start made grown it is =
-    let same : made ≡ start = ends_alone it start made (subst (λ (x : TaskChange). AppliesBefore x start made) is grown) in
+ends_areas call outputs answer change start made applied it is =
+    let same : made ≡ start = ends_alone it start made (subst (λ (x : TaskChange). AppliesBefore x start made) is applied) in
     answered_areas _ _ call answer ∙ put_out_areas made.shared.storage call (handed_over change made) outputs ∙ ap (λ (r : TaskContext). areas_of r.shared.storage) same
 
 settled_grew : (call : Call) (condition : Condition) (outputs : List Output) (change : TaskChange) (start after : TaskContext) → IsSoundStorage start.shared.storage
     → IsSoundTask start.shared.storage start.terminal_entry.slot start.task → FitsChange change start → Commits call condition outputs change start after → Grew change start after
-settled_grew call condition outputs change start after ok own fits settles =
+settled_grew call condition outputs change start after ok own fits commits =
     let answer = report_of call condition change start in
-    let grew = grown_keeps change start settles.made ok own fits settles.grown in
-    let written = reported_grew call answer change start (write_outputs call outputs change settles.made) (given_grew call outputs change start settles.made grew) in
-    rw (settles.settled) (finished_grew change start (write_report call answer (write_outputs call outputs change settles.made)) fits
-    (ends_areas call outputs answer change start settles.made settles.grown) written)
+    let grew = applied_keeps change start commits.made ok own fits commits.applied in
+    let written = reported_grew call answer change start (write_outputs call outputs change commits.made) (given_grew call outputs change start commits.made grew) in
+    rw (commits.committed) (finished_grew change start (write_report call answer (write_outputs call outputs change commits.made)) fits
+    (ends_areas call outputs answer change start commits.made commits.applied) written)
 
 -- ---- the way
-by_change : (change : TaskChange) (slot : ℕ) (s : Storage) (task : TaskState) → Standing change slot s task → Stands (way_by change) slot s task
+by_change : (change : TaskChange) (slot : ℕ) (s : Storage) (task : TaskState) → Standing change slot s task → Stands (continuation_by change) slot s task
 by_change Nothing slot s task stands = tt
 by_change (Makes it) slot s task stands = tt
 by_change (Ends it) slot s task stands = tt
@@ -179,7 +179,7 @@ by_change LevelEnds slot s task stands = tt
 by_change (TaskEnds next) slot s task stands = tt
 by_change (AbendsWith code cancel) slot s task stands = tt
 
-by_choice : (chosen : Choice) (slot : ℕ) (s : Storage) (task : TaskState) → Stands (way_chosen chosen) slot s task
+by_choice : (chosen : Choice) (slot : ℕ) (s : Storage) (task : TaskState) → Stands (continuation_chosen chosen) slot s task
 by_choice (choice.Label label) slot s task = tt
 by_choice choice.GoOn slot s task = tt
 by_choice choice.Wait slot s task = tt
@@ -190,7 +190,7 @@ way_stands : (call : Call) (entries : Entries) (condition : Condition) (change :
 unfolding continuation_of
 way_stands call entries condition change slot s task stands = either (is_normal condition)
   where
-    either : (normal : Bool) → Stands (if normal then way_by change else way_chosen (choice_for call entries condition)) slot s task
+    either : (normal : Bool) → Stands (if normal then continuation_by change else continuation_chosen (choice_for call entries condition)) slot s task
     either true = by_change change slot s task stands
     either false = by_choice (choice_for call entries condition) slot s task
 
@@ -206,9 +206,9 @@ meets_keeps call condition outputs change start after reply ok own fits meets = 
   where
     does : Does call condition outputs change start reply after → HalfTurnKeeps start reply after
     does it =
-        let grew = settled_grew call condition outputs change start it.settled ok own fits it.settles in
-        goes_keeps (continuation_at call condition change start) condition start it.settled after reply grew.held
-        (way_stands call start.task.levels.current.handles.active.entries condition change start.terminal_entry.slot grew.held.storage it.settled.task grew.stands) it.goes
+        let grew = settled_grew call condition outputs change start it.committed ok own fits it.commits in
+        goes_keeps (continuation_at call condition change start) condition start it.committed after reply grew.held
+        (way_stands call start.task.levels.current.handles.active.entries condition change start.terminal_entry.slot grew.held.storage it.committed.task grew.stands) it.goes
 
     by_wait : (b : Bool) → MatchBool b (LeavesAll start reply after) (Does call condition outputs change start reply after) → HalfTurnKeeps start reply after
     by_wait true leaves = waits_keeps start after reply (begins start ok own) leaves

@@ -22,28 +22,28 @@ use Rattle.cx_region_task.specs.declared.continuation.Continuation.{Continuation
 use Rattle.cx_region_task.specs.declared.continuation.Continuation.TheVariants as continuation
 use Rattle.cx_region_task.specs.Changes.{AppliesBefore, Commits, apply_after, write_outputs, read_for, write_report}
 use Rattle.cx_region_task.specs.Parts.Making.{MatchWay}
-use Rattle.cx_region_task.specs.Continuations.{is_normal, way_by, way_chosen, continuation_of, choice_for}
+use Rattle.cx_region_task.specs.Continuations.{is_normal, continuation_by, continuation_chosen, continuation_of, choice_for}
 
 -- no command changes the callers before the task goes its way
 made_callers : (it : Made) (before after : TaskContext) → AppliesBefore (Makes it) before after → after.task.levels.callers ≡ before.task.levels.callers
 unfolding AppliesBefore
-made_callers (made.ItemLast name piece) before after grown = rw grown refl
-made_callers (made.ItemAt name n piece) before after grown = rw grown refl
-made_callers (made.Enqueues resource) before after grown = rw grown refl
-made_callers (made.Shows piece erase) before after grown = rw grown.others refl
-made_callers (made.Handles request) before after grown = rw grown refl
+made_callers (made.ItemLast name piece) before after applied = rw applied refl
+made_callers (made.ItemAt name n piece) before after applied = rw applied refl
+made_callers (made.Enqueues resource) before after applied = rw applied refl
+made_callers (made.Shows piece erase) before after applied = rw applied.others refl
+made_callers (made.Handles request) before after applied = rw applied refl
 
-grown_callers : (change : TaskChange) (before after : TaskContext) → AppliesBefore change before after → after.task.levels.callers ≡ before.task.levels.callers
+applied_callers : (change : TaskChange) (before after : TaskContext) → AppliesBefore change before after → after.task.levels.callers ≡ before.task.levels.callers
 unfolding AppliesBefore
-grown_callers Nothing before after grown = rw grown refl
-grown_callers (Makes it) before after grown = made_callers it before after grown
-grown_callers (Ends it) before after grown = rw grown refl
-grown_callers (Gets got) before after grown = rw grown refl
-grown_callers (Enters level) before after grown = rw grown refl
-grown_callers (Replaces copying level) before after grown = rw grown refl
-grown_callers LevelEnds before after grown = rw grown refl
-grown_callers (TaskEnds next) before after grown = rw grown refl
-grown_callers (AbendsWith code cancel) before after grown = rw grown refl
+applied_callers Nothing before after applied = rw applied refl
+applied_callers (Makes it) before after applied = made_callers it before after applied
+applied_callers (Ends it) before after applied = rw applied refl
+applied_callers (Gets got) before after applied = rw applied refl
+applied_callers (Enters level) before after applied = rw applied refl
+applied_callers (Replaces copying level) before after applied = rw applied refl
+applied_callers LevelEnds before after applied = rw applied refl
+applied_callers (TaskEnds next) before after applied = rw applied refl
+applied_callers (AbendsWith code cancel) before after applied = rw applied refl
 
 ended_task : (it : Ended) (r : TaskContext) → (apply_after (Ends it) r).task ≡ r.task
 unfolding apply_after
@@ -72,10 +72,10 @@ finished_task (AbendsWith code cancel) r = refl
 settled_callers : (call : Call) (condition : Condition) (outputs : List Output) (change : TaskChange) (before after : TaskContext) → Commits call condition outputs change before after
     → after.task.levels.callers ≡ before.task.levels.callers
 unfolding write_outputs write_report
-settled_callers call condition outputs change before after settles =
-    rw (settles.settled, finished_task change (write_report call _ (write_outputs call outputs change settles.made))) (grown_callers change before settles.made settles.grown)
+settled_callers call condition outputs change before after commits =
+    rw (commits.committed, finished_task change (write_report call _ (write_outputs call outputs change commits.made))) (applied_callers change before commits.made commits.applied)
 
-by_change : (change : TaskChange) (before : TaskContext) → FitsChange change before → MatchWay (way_by change) before.task.levels
+by_change : (change : TaskChange) (before : TaskContext) → FitsChange change before → MatchWay (continuation_by change) before.task.levels
 by_change Nothing before fits = tt
 by_change (Makes it) before fits = tt
 by_change (Ends it) before fits = tt
@@ -86,14 +86,14 @@ by_change LevelEnds before fits = tt
 by_change (TaskEnds next) before fits = tt
 by_change (AbendsWith code cancel) before fits = tt
 
-by_choice : (chosen : Choice) (levels : Levels) → MatchWay (way_chosen chosen) levels
+by_choice : (chosen : Choice) (levels : Levels) → MatchWay (continuation_chosen chosen) levels
 by_choice (choice.Label label) levels = tt
 by_choice choice.GoOn levels = tt
 by_choice choice.Wait levels = tt
 by_choice (choice.Abend code) levels = tt
 
 either : (normal : Bool) (chosen : Choice) (change : TaskChange) (before : TaskContext) → FitsChange change before
-    → MatchWay (if normal then way_by change else way_chosen chosen) before.task.levels
+    → MatchWay (if normal then continuation_by change else continuation_chosen chosen) before.task.levels
 either true chosen change before fits = by_change change before fits
 either false chosen change before fits = by_choice chosen before.task.levels
 
@@ -110,6 +110,6 @@ few_callers continuation.TaskEnds one other same fits = tt
 pub fits_way : (call : Call) (entries : Entries) (condition : Condition) (outputs : List Output) (change : TaskChange) (before after : TaskContext) (gone : Continuation) → FitsChange change before
     → gone ≡ continuation_of call entries condition change → Commits call condition outputs change before after → MatchWay gone after.task.levels
 unfolding continuation_of
-fits_way call entries condition outputs change before after gone fits is settles =
-    few_callers gone before.task.levels after.task.levels (settled_callers call condition outputs change before after settles)
+fits_way call entries condition outputs change before after gone fits is commits =
+    few_callers gone before.task.levels after.task.levels (settled_callers call condition outputs change before after commits)
     (rw is (either (is_normal condition) (choice_for call entries condition) change before fits))

@@ -34,9 +34,9 @@ pub record LeavesAll (before : TaskContext) (reply : TurnReply) (after : TaskCon
 
 -- all that the command does is done, and from there the task goes its way
 pub record Does (call : Call) (condition : Condition) (outputs : List Output) (change : TaskChange) (before : TaskContext) (reply : TurnReply) (after : TaskContext) : Type 0 where
-  pub settled : TaskContext
-  pub settles : Commits call condition outputs change before settled
-  pub goes : Goes (continuation_at call condition change before) condition settled reply after
+  pub committed : TaskContext
+  pub commits : Commits call condition outputs change before committed
+  pub goes : Goes (continuation_at call condition change before) condition committed reply after
 
 -- The condition is met: where an output's byte isn't in storage the task abends, and nothing is done.
 unfoldable pub MeetsWith : Call → Condition → List Output → TaskChange → TaskContext → TurnReply → TaskContext → Type 0

@@ -20,7 +20,7 @@ use Rattle.cx_region_state.specs.State.{TaskContext}
 use Rattle.cx_region_commands.specs.CommandVerdicts.{HasVerdict}
 use Rattle.cx_region_task.specs.declared.cause.Cause.{Cause}
 use Rattle.cx_region_task.specs.declared.cause.Cause.TheVariants as cause
-use Rattle.cx_region_task.specs.declared.cause.Trouble.{Trouble}
+use Rattle.cx_region_task.specs.declared.cause.AbendRecord.{AbendRecord}
 use Rattle.cx_region_task.specs.declared.continuation.Continuation.{Continuation}
 use Rattle.cx_region_task.specs.declared.continuation.Continuation.TheVariants as continuation
 use Rattle.cx_region_task.specs.Answers.{has_room, continuation_at}
@@ -29,8 +29,8 @@ use Rattle.cx_region_task.specs.Turn.{machine_of, most_steps}
 use Rattle.cx_region_task.specs.Continuations.{is_normal}
 
 -- a cause, with what the machine has, and the six bytes from its next address on, each where it is in storage
-abbrev pub trouble_with : Option Command → Machine → Cause → Trouble
-trouble_with command m why =
+abbrev pub abend_record_with : Option Command → Machine → Cause → AbendRecord
+abend_record_with command m why =
     let bytes = map (λ k. byte_at m.storage (address_after m.next k)) (0 ∷ 1 ∷ 2 ∷ 3 ∷ 4 ∷ 5 ∷ []) in
     record { cause = why; command = command; regs = m.regs; cc = m.cc; next = m.next; bytes = bytes }
 
@@ -42,16 +42,16 @@ halt_cause (halt.Interrupt interruption place) = Some (cause.Interrupted interru
 halt_cause halt.Limit = Some cause.Limit
 
 -- by the way of the task: an abend without a condition is one that the program asked for
-abbrev pub way_cause : Continuation → Condition → Option Cause
-way_cause (continuation.Abends code cancel) condition = Some (if is_normal condition then cause.Asked else cause.Met condition)
-way_cause _ condition = None
+abbrev pub continuation_cause : Continuation → Condition → Option Cause
+continuation_cause (continuation.Abends code cancel) condition = Some (if is_normal condition then cause.Asked else cause.Met condition)
+continuation_cause _ condition = None
 
 -- by the verdict; an output whose bytes aren't in storage refuses the command
 unfoldable pub verdict_cause : Verdict → Call → TaskContext → Option Cause
 verdict_cause (Refuses abend) call r = Some (cause.Refused abend)
 verdict_cause Waits call r = None
 verdict_cause (Meets condition outputs change) call r =
-    if has_room call outputs change r then way_cause (continuation_at call condition change r) condition else Some (cause.Refused abend.Xarg)
+    if has_room call outputs change r then continuation_cause (continuation_at call condition change r) condition else Some (cause.Refused abend.Xarg)
 
 pub record CauseOfVerdict (call : Call) (before : TaskContext) (why : Option Cause) : Type 0 where
   pub verdict : Verdict
@@ -63,27 +63,27 @@ unfoldable pub CauseOfCall : Call → TaskContext → Option Cause → Type 0
 CauseOfCall call before why =
     MatchBool (are_inputs_there before.shared.storage call) (CauseOfVerdict call before why) (why ≡ Some (cause.Refused abend.Xarg))
 
--- ---- troubles
+-- ---- records of abends
 -- the command that is due as its argument list is read
 abbrev pub read_of : TaskContext → Result Call CallFault
 read_of r = call_of r.shared.storage (list_of r.task)
 
 -- of a command that is due: an argument list that can't be read refuses it, and then it has no name
-pub record CommandHasTrouble (before : TaskContext) (trouble : Option Trouble) : Type 0 where
+pub record CommandHasAbendRecord (before : TaskContext) (abend_record : Option AbendRecord) : Type 0 where
   pub why : Option Cause
   pub causes :
       MatchResult (read_of before) (λ call. CauseOfCall call before why)
       (λ fault. why ≡ Some (cause.Refused (fault_abend fault)))
   pub is :
-      trouble ≡ option_map (trouble_with (option_map (λ call. call.command) (result_ok (read_of before))) (machine_of before)) why
+      abend_record ≡ option_map (abend_record_with (option_map (λ call. call.command) (result_ok (read_of before))) (machine_of before)) why
 
 -- of instructions that run
-pub record RunHasTrouble (before : TaskContext) (trouble : Option Trouble) : Type 0 where
+pub record RunHasAbendRecord (before : TaskContext) (abend_record : Option AbendRecord) : Type 0 where
   pub how : Halt
   pub between : Machine
   pub advances : Advances most_steps (machine_of before) how between
-  pub is : trouble ≡ option_map (trouble_with None between) (halt_cause how)
+  pub is : abend_record ≡ option_map (abend_record_with None between) (halt_cause how)
 
 -- Why a half-turn leads to an abend, and what the task had before that was dealt with; None where it leads to none.
-unfoldable pub HasTrouble : TaskContext → Option Trouble → Type 0
-HasTrouble before trouble = MatchBool before.task.due (CommandHasTrouble before trouble) (RunHasTrouble before trouble)
+unfoldable pub HasAbendRecord : TaskContext → Option AbendRecord → Type 0
+HasAbendRecord before abend_record = MatchBool before.task.due (CommandHasAbendRecord before abend_record) (RunHasAbendRecord before abend_record)

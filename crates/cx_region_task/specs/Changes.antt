@@ -166,8 +166,8 @@ apply_after _ r = r
 -- ---- all of it, in its order: the inputs and the report's resource are those that the command found
 pub record Commits (call : Call) (condition : Condition) (outputs : List Output) (change : TaskChange) (before after : TaskContext) : Type 0 where
   pub made : TaskContext
-  pub grown : AppliesBefore change before made
-  pub settled : after ≡ apply_after change (write_report call (report_of call condition change before) (write_outputs call outputs change made))
+  pub applied : AppliesBefore change before made
+  pub committed : after ≡ apply_after change (write_report call (report_of call condition change before) (write_outputs call outputs change made))
 
 -- ---- memory: the changes that take some
 abbrev pub change_takes_memory : TaskChange → Bool

@@ -40,27 +40,27 @@ choice_for call entries condition =
     (if has_nohandle call.second || is_some (resp_place call) then choice_unhandled condition else choice_by entries condition)
 
 -- ---- the way
-abbrev pub way_chosen : Choice → Continuation
-way_chosen (choice.Label label) = TakesLabel label
-way_chosen choice.GoOn = GoesOn
-way_chosen choice.Wait = Waits
-way_chosen (choice.Abend code) = Abends code false
+abbrev pub continuation_chosen : Choice → Continuation
+continuation_chosen (choice.Label label) = TakesLabel label
+continuation_chosen choice.GoOn = GoesOn
+continuation_chosen choice.Wait = Waits
+continuation_chosen (choice.Abend code) = Abends code false
 
 -- where no condition is met, the way is the change's
-abbrev pub way_by : TaskChange → Continuation
-way_by (change.Enters level) = Enters level
-way_by (change.Replaces copying level) = Replaces level
-way_by change.LevelEnds = LevelEnds
-way_by (change.TaskEnds next) = TaskEnds
-way_by (change.AbendsWith code cancel) = Abends code cancel
-way_by _ = GoesOn
+abbrev pub continuation_by : TaskChange → Continuation
+continuation_by (change.Enters level) = Enters level
+continuation_by (change.Replaces copying level) = Replaces level
+continuation_by change.LevelEnds = LevelEnds
+continuation_by (change.TaskEnds next) = TaskEnds
+continuation_by (change.AbendsWith code cancel) = Abends code cancel
+continuation_by _ = GoesOn
 
 abbrev pub is_normal : Condition → Bool
 is_normal Normal = true
 is_normal _ = false
 
 unfoldable pub continuation_of : Call → Entries → Condition → TaskChange → Continuation
-continuation_of call entries condition change = if is_normal condition then way_by change else way_chosen (choice_for call entries condition)
+continuation_of call entries condition change = if is_normal condition then continuation_by change else continuation_chosen (choice_for call entries condition)
 
 abbrev pub is_wait : Continuation → Bool
 is_wait Waits = true
@@ -115,11 +115,11 @@ return_to_caller r = returned_to r.task.levels.callers r
 
 -- the task goes its way, with a condition, from the state in which all that the command does is done
 unfoldable pub Goes : Continuation → Condition → TaskContext → TurnReply → TaskContext → Type 0
-Goes GoesOn condition settled reply after = (reply ≡ turn.Performed condition) × (after ≡ on_its_way settled)
-Goes (TakesLabel label) condition settled reply after = (reply ≡ turn.TookLabel condition) × (after ≡ at_label label settled)
-Goes Waits condition settled reply after = (reply ≡ turn.Waiting) × (after ≡ settled)
-Goes (Abends code cancel) condition settled reply after = AbendsWith code cancel settled reply after
-Goes (Enters level) condition settled reply after = (reply ≡ turn.Entered) × (after ≡ enter_level level settled)
-Goes (Replaces level) condition settled reply after = (reply ≡ turn.Entered) × (after ≡ replace_level level settled)
-Goes LevelEnds condition settled reply after = (reply ≡ turn.Returned) × (after ≡ return_to_caller settled)
-Goes TaskEnds condition settled reply after = (reply ≡ turn.Ended) × (after ≡ task_ended settled)
+Goes GoesOn condition committed reply after = (reply ≡ turn.Performed condition) × (after ≡ on_its_way committed)
+Goes (TakesLabel label) condition committed reply after = (reply ≡ turn.TookLabel condition) × (after ≡ at_label label committed)
+Goes Waits condition committed reply after = (reply ≡ turn.Waiting) × (after ≡ committed)
+Goes (Abends code cancel) condition committed reply after = AbendsWith code cancel committed reply after
+Goes (Enters level) condition committed reply after = (reply ≡ turn.Entered) × (after ≡ enter_level level committed)
+Goes (Replaces level) condition committed reply after = (reply ≡ turn.Entered) × (after ≡ replace_level level committed)
+Goes LevelEnds condition committed reply after = (reply ≡ turn.Returned) × (after ≡ return_to_caller committed)
+Goes TaskEnds condition committed reply after = (reply ≡ turn.Ended) × (after ≡ task_ended committed)

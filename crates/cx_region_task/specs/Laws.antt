@@ -1,3 +1,3 @@
 -- What the definitions come to; each is the contract of a public function.
 pub mod HalfTurns
-pub mod Troubles
+pub mod AbendRecords

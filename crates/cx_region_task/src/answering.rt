@@ -35,7 +35,7 @@ fn commit<S: Store + Drop>(
         OnOk result (Commits call.now condition outputs.now change.now before after) }
     ensures err { OnErr result
         (context shared.new terminal_entry.new task.new ≡ context shared.old terminal_entry.old task.old) }
-    ensures grows { OnErr result (change_takes_memory change.now ≡ true) }
+    ensures memory { OnErr result (change_takes_memory change.now ≡ true) }
 {
     let answer = report_of(call, condition, change, shared, terminal_entry, task);
     apply_before(change, shared, terminal_entry, task)?;
@@ -63,7 +63,7 @@ fn meet<S: Store + Drop>(
         IfOk result (λ reply. MeetsWith call.now condition outputs.now change.now before reply after) }
     ensures err { OnErr result
         (context shared.new terminal_entry.new task.new ≡ context shared.old terminal_entry.old task.old) }
-    ensures grows { let before = context shared.old terminal_entry.old task.old in
+    ensures memory { let before = context shared.old terminal_entry.old task.old in
         OnErr result (may_take_memory (Verdict.Meets condition outputs.now change.now) call.now before ≡ true) }
 {
     if !has_room(call, outputs, change, shared, terminal_entry, task) {
@@ -110,7 +110,7 @@ pub(crate) fn answer<S: Store + Drop>(
         IfOk result (λ reply. Answers verdict.now call.now before reply after) }
     ensures err { OnErr result
         (context shared.new terminal_entry.new task.new ≡ context shared.old terminal_entry.old task.old) }
-    ensures grows { OnErr result
+    ensures memory { OnErr result
         (may_take_memory verdict.now call.now (context shared.old terminal_entry.old task.old) ≡ true) }
 {
     match verdict {

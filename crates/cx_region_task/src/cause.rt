@@ -20,7 +20,7 @@ pub enum Cause {
 /// Why a task abends, and what it had then: before an exit took the abend, or the task ended. Of a command it is what the
 /// task had when the command was due; the address of the argument list is in bits 8 to 31 of register 1.
 #[derive(Clone, Copy, Debug, PartialEq, Eq)]
-pub struct Trouble {
+pub struct AbendRecord {
     pub cause: Cause,
     /// The command that was due; None where none was, or its argument list can't be read.
     pub command: Option<Command>,

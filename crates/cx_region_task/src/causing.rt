@@ -4,14 +4,14 @@ ghost use Rattle.std.specs.Option.{option_map};
 ghost use Rattle.cx_region_commands.specs.Common.{AreSoundPrograms};
 ghost use Rattle.cx_region_state.specs.State.{context};
 ghost use Rattle.cx_region_state.specs.Parts.Fits.{Fits};
-ghost use Rattle.cx_region_task.specs.Causes.{CauseOfCall, CommandHasTrouble, RunHasTrouble, HasTrouble, halt_cause, read_of, trouble_with, verdict_cause, way_cause};
+ghost use Rattle.cx_region_task.specs.Causes.{CauseOfCall, CommandHasAbendRecord, RunHasAbendRecord, HasAbendRecord, halt_cause, read_of, abend_record_with, verdict_cause, continuation_cause};
 ghost use Rattle.cx_region_task.specs.Parts.Due.{IsDue};
 ghost use Rattle.cx_region_task.specs.Turn.{TakesMemory, HalfTurn, EndsRun, RunsOn, machine_of};
 ghost use Rattle.cx_region_task.specs.Performing.{fault_abend};
 ghost use Rattle.cx_storage.specs.Address.{address_after};
 ghost use Rattle.cx_storage.specs.Storage.{byte_at};
 
-use crate::cause::{Cause, Trouble};
+use crate::cause::{AbendRecord, Cause};
 use crate::continuation::Continuation;
 use crate::due::{PendingCommand, fault_abend, perform};
 use crate::finishing::has_room;
@@ -25,8 +25,8 @@ use cx_storage::{Store, along};
 use std::alloc::AllocError;
 
 /// The cause by the way of a task after a command.
-fn way_cause(continuation: &Continuation, condition: Condition) -> Option<Cause>
-    ensures { result ≡ way_cause continuation.now condition }
+fn continuation_cause(continuation: &Continuation, condition: Condition) -> Option<Cause>
+    ensures { result ≡ continuation_cause continuation.now condition }
 {
     match continuation {
         Continuation::Abends(_code, _cancel) if condition == Condition::Normal => Some(
@@ -56,7 +56,7 @@ fn verdict_cause<S: Store + Drop>(
             if !has_room(call, outputs, change, shared, terminal_entry, task) {
                 return Some(Cause::Refused(Abend::Xarg));
             }
-            way_cause(&continuation_at(call, *condition, change, task), *condition)
+            continuation_cause(&continuation_at(call, *condition, change, task), *condition)
         }
     }
 }
@@ -90,7 +90,8 @@ fn cause_of<S: Store + Drop>(
 /// The bytes from an address on.
 fn bytes_from<S: Store>(store: &S, next: u32) -> [Option<u8>; 6]
     requires { next < 2 ^ 24 }
-    ensures { result ≡ map (λ k. byte_at (S.storage store.now) (address_after next k)) (0 ∷ 1 ∷ 2 ∷ 3 ∷ 4 ∷ 5 ∷ []) }
+    ensures { result ≡ map
+        (λ k. byte_at (S.storage store.now) (address_after next k)) (0 ∷ 1 ∷ 2 ∷ 3 ∷ 4 ∷ 5 ∷ []) }
 {
     [
         store.byte(along(next, 0)),
@@ -103,18 +104,18 @@ fn bytes_from<S: Store>(store: &S, next: u32) -> [Option<u8>; 6]
 }
 
 /// What a task has, with a cause, where there is one.
-fn trouble_with<S: Store + Drop>(
+fn abend_record_with<S: Store + Drop>(
     cause: Option<Cause>,
     command: Option<Command>,
     shared: &Shared<S>,
     terminal_entry: &TerminalEntry,
     task: &Task,
-) -> Option<Trouble>
+) -> Option<AbendRecord>
     ensures { result ≡ option_map
-        (trouble_with command (machine_of (context shared.now terminal_entry.now task.now))) cause }
+        (abend_record_with command (machine_of (context shared.now terminal_entry.now task.now))) cause }
 {
     let cause = cause?;
-    Some(Trouble {
+    Some(AbendRecord {
         cause,
         command,
         regs: task.cpu.regs,
@@ -126,17 +127,17 @@ fn trouble_with<S: Store + Drop>(
 
 /// Why the command that is due leads to an abend, before anything is done.
 #[tactic(auto, using(crate::proofs::DueLemmas::command_read))]
-fn command_trouble<S: Store + Drop>(
+fn command_abend_record<S: Store + Drop>(
     due: &PendingCommand,
     shared: &Shared<S>,
     terminal_entry: &TerminalEntry,
     task: &Task,
-) -> Option<Trouble>
+) -> Option<AbendRecord>
     requires { IsDue due.now (context shared.now terminal_entry.now task.now) }
-    ensures { CommandHasTrouble (context shared.now terminal_entry.now task.now) result }
+    ensures { CommandHasAbendRecord (context shared.now terminal_entry.now task.now) result }
 {
     let cause = cause_of(due, shared, terminal_entry, task);
-    trouble_with(cause, due.command(), shared, terminal_entry, task)
+    abend_record_with(cause, due.command(), shared, terminal_entry, task)
 }
 
 /// The cause where instructions ended so.
@@ -155,41 +156,42 @@ fn run_with_cause<S: Store + Drop>(
     shared: &mut Shared<S>,
     terminal_entry: &mut TerminalEntry,
     task: &mut Task,
-) -> (TurnReply, Option<Trouble>)
+) -> (TurnReply, Option<AbendRecord>)
     ensures runs { RunsOn (context shared.old terminal_entry.old task.old) result.0
         (context shared.new terminal_entry.new task.new) }
-    ensures troubled { RunHasTrouble (context shared.old terminal_entry.old task.old) result.1 }
+    ensures abend_record { RunHasAbendRecord (context shared.old terminal_entry.old task.old) result.1 }
 {
     let how = advance(&mut task.cpu, &mut shared.store, MOST_STEPS);
-    let trouble = trouble_with(halt_cause(&how), None, shared, terminal_entry, task);
+    let abend_record = abend_record_with(halt_cause(&how), None, shared, terminal_entry, task);
     let reply = halt(how, shared, terminal_entry, task);
-    (reply, trouble)
+    (reply, abend_record)
 }
 
 /// One half-turn of a live task, as `half_turn`, that reports why it leads to an abend, where it does.
 ///
 /// An error comes only where an allocation failed, and only where a command is due whose verdict takes memory; then all
 /// is as before.
-#[tactic(auto, unfolding(crate::specs::Turn::HalfTurn, crate::specs::Causes::HasTrouble))]
+#[tactic(auto, unfolding(crate::specs::Turn::HalfTurn, crate::specs::Causes::HasAbendRecord))]
 pub fn half_turn_with_cause<S: Store + Drop>(
     shared: &mut Shared<S>,
     terminal_entry: &mut TerminalEntry,
     task: &mut Task,
-) -> Result<(TurnReply, Option<Trouble>), AllocError>
+) -> Result<(TurnReply, Option<AbendRecord>), AllocError>
     requires { AreSoundPrograms shared.old.programs }
     ensures turned { let before = context shared.old terminal_entry.old task.old in
         let after = context shared.new terminal_entry.new task.new in
-        IfOk result (λ told. HalfTurn before told.0 after) }
-    ensures troubled { IfOk result (λ told. HasTrouble (context shared.old terminal_entry.old task.old) told.1) }
+        IfOk result (λ both. HalfTurn before both.0 after) }
+    ensures abend_record { IfOk result
+        (λ both. HasAbendRecord (context shared.old terminal_entry.old task.old) both.1) }
     ensures err { OnErr result
         (context shared.new terminal_entry.new task.new ≡ context shared.old terminal_entry.old task.old) }
-    ensures grows { OnErr result (TakesMemory (context shared.old terminal_entry.old task.old)) }
+    ensures memory { OnErr result (TakesMemory (context shared.old terminal_entry.old task.old)) }
 {
     if !task.due {
         return Ok(run_with_cause(shared, terminal_entry, task));
     }
     let due = PendingCommand::find(shared, terminal_entry, task);
-    let trouble = command_trouble(&due, shared, terminal_entry, task);
+    let abend_record = command_abend_record(&due, shared, terminal_entry, task);
     let reply = perform(&due, shared, terminal_entry, task)?;
-    Ok((reply, trouble))
+    Ok((reply, abend_record))
 }

@@ -100,7 +100,7 @@ pub(crate) fn perform<S: Store + Drop>(
         IfOk result (λ reply. PerformsCommand before reply after) }
     ensures err { OnErr result
         (context shared.new terminal_entry.new task.new ≡ context shared.old terminal_entry.old task.old) }
-    ensures grows { OnErr result (TakesMemory (context shared.old terminal_entry.old task.old)) }
+    ensures memory { OnErr result (TakesMemory (context shared.old terminal_entry.old task.old)) }
 {
     match due {
         PendingCommand::Unread(fault) => {

@@ -8,7 +8,7 @@ ghost use Rattle.cx_program.specs.Levels.{with_called_level};
 ghost use Rattle.cx_region_state.specs.Areas.{IsSoundProgram};
 ghost use Rattle.cx_region_state.specs.State.{context};
 ghost use Rattle.cx_region_task.specs.Abends.{task_ended, without_stg};
-ghost use Rattle.cx_region_task.specs.Continuations.{Goes, at_entry, at_label, at_next, choice_for, choice_unhandled, enter_level, gone_on, is_normal, is_wait, on_its_way, replace_level, return_to_caller, returned_to, way_by, way_chosen, continuation_of, without_wait};
+ghost use Rattle.cx_region_task.specs.Continuations.{Goes, at_entry, at_label, at_next, choice_for, choice_unhandled, enter_level, gone_on, is_normal, is_wait, on_its_way, replace_level, return_to_caller, returned_to, continuation_by, continuation_chosen, continuation_of, without_wait};
 ghost use Rattle.cx_region_task.specs.Parts.Making.{MatchWay, with_kept};
 
 use crate::abending::{abend, end_task, free_stg};
@@ -51,8 +51,8 @@ fn choice_for(call: &Call, handles: &HandleTable, condition: Condition) -> Choic
 }
 
 /// The way of a change where no condition is met.
-fn way_by(change: &TaskChange) -> Continuation
-    ensures { result ≡ way_by change.now }
+fn continuation_by(change: &TaskChange) -> Continuation
+    ensures { result ≡ continuation_by change.now }
 {
     match change {
         TaskChange::Enters(level) => Continuation::Enters(*level),
@@ -77,7 +77,7 @@ pub fn continuation_at(
     ensures { result ≡ continuation_of call.now task.now.levels.current.handles.active.entries condition change.now }
 {
     if condition == Condition::Normal {
-        return way_by(change);
+        return continuation_by(change);
     }
     let level = task.levels.current();
     match choice_for(call, &level.handles, condition) {

@@ -1,6 +1,6 @@
 //! What holds of every half-turn.
 ghost use Rattle.cx_region_task.specs.Laws.HalfTurns.{HalfTurnsDecide, HalfTurnsKeep, HalfTurnsStay, WaitsLeave};
-ghost use Rattle.cx_region_task.specs.Laws.Troubles.{TroublesDecide, TroublesExplain};
+ghost use Rattle.cx_region_task.specs.Laws.AbendRecords.{AbendRecordsDecide, AbendRecordsExplain};
 
 /// What was reached before a half-turn decides its reply and all that is reached after it.
 pub fn half_turns_decide()
@@ -34,9 +34,9 @@ pub fn waits_leave()
 /// What was reached before a half-turn decides why it leads to an abend, and what the task had then. That is reported
 /// exactly where the reply is an abend, whether an exit took it or the task ended; and the abend's code is that which
 /// the cause leads to.
-pub fn troubles_explain()
-    ensures decide { TroublesDecide }
-    ensures explain { TroublesExplain }
+pub fn abend_records_explain()
+    ensures decide { AbendRecordsDecide }
+    ensures explain { AbendRecordsExplain }
 {
     cx_exec_laws::laws::runs_decide();
     cx_region_commands::laws::a_call_is_judged_once();

@@ -17,7 +17,7 @@ mod turning;
 pub use abending::end_by_abend;
 pub use answering::is_wait;
 pub use areas::{entry_level, entry_registers, get_at, get_filled, get_stg, put_cap, system_owner};
-pub use cause::{Cause, Trouble};
+pub use cause::{AbendRecord, Cause};
 pub use causing::half_turn_with_cause;
 #[doc(hidden)]
 pub use continuation::Continuation;

@@ -114,7 +114,8 @@ fn show<S: Store>(store: &S, screen: &mut Screen, piece: StorageSpan, erase: boo
 
 /// HANDLE CONDITION of one condition.
 fn handle_one(table: &mut HandleTable, listed: Listed)
-    ensures { table.new ≡ put_entry table.old listed.condition (option_map_or Entry.Label listed.label Entry.NoEntry) }
+    ensures { table.new ≡ put_entry table.old listed.condition
+        (option_map_or Entry.Label listed.label Entry.NoEntry) }
 {
     match listed.label {
         Some(label) => table.set(listed.condition, label),
@@ -205,7 +206,7 @@ fn make<S: Store + Drop>(
         OnOk result (AppliesBefore (TaskChange.Makes made.now) before after) }
     ensures err { OnErr result
         (context shared.new terminal_entry.new task.new ≡ context shared.old terminal_entry.old task.old) }
-    ensures grows { OnErr result (change_takes_memory (TaskChange.Makes made.now) ≡ true) }
+    ensures memory { OnErr result (change_takes_memory (TaskChange.Makes made.now) ≡ true) }
 {
     match made {
         Made::ItemLast(name, piece) => {
@@ -237,7 +238,7 @@ pub(crate) fn item_bytes(queues: &Queues, name: Name8, n: usize) -> &[u8]
 const MOST_GOT: usize = 65_520;
 
 /// The first `len` bytes.
-fn front(bytes: &[u8; MOST_GOT], len: usize) -> &[u8]
+fn first_bytes(bytes: &[u8; MOST_GOT], len: usize) -> &[u8]
     requires { len ≤ 65520 }
     ensures value { result.now ≡ take len bytes.now }
     ensures few { length result.now ≡ len }
@@ -261,7 +262,7 @@ fn get_of_byte<S: Store>(
     ensures err { OnErr result (S.storage store.new ≡ S.storage store.old) }
 {
     let buffer = [byte; MOST_GOT];
-    get_filled(store, place, len, owner, front(&buffer, len as usize))?;
+    get_filled(store, place, len, owner, first_bytes(&buffer, len as usize))?;
     Ok(())
 }
 
@@ -368,7 +369,7 @@ fn kept_bytes<S: Store>(
     requires { FitsPiece commarea (S.storage store.now) }
     ensures bytes { IfOk result (λ bytes. bytes ≡ option_map_or (bytes_in (S.storage store.now)) commarea []) }
     ensures few { IfOk result (λ bytes. length bytes ≤ 32767) }
-    ensures grows { OnErr result (is_some commarea ≡ true) }
+    ensures memory { OnErr result (is_some commarea ≡ true) }
 {
     let Some(piece) = commarea else {
         return Ok(List::from_vec(Vec::new(alloc)));
@@ -386,7 +387,7 @@ fn keep_next<S: Store>(
 ) -> Result<Option<Following>, AllocError>
     requires { MatchOption next ⊤ (λ it. FitsPiece it.commarea (S.storage store.now)) }
     ensures kept { IfOk result (λ following. following ≡ kept_next (S.storage store.now) next) }
-    ensures grows { OnErr result (change_takes_memory (TaskChange.TaskEnds next) ≡ true) }
+    ensures memory { OnErr result (change_takes_memory (TaskChange.TaskEnds next) ≡ true) }
 {
     let Some(next) = next else {
         return Ok(None);
@@ -408,7 +409,7 @@ fn leave_next<S: Store + Drop>(
     ensures ok { OnOk result
         (terminal_entry.new ≡ record terminal_entry.old { following = kept_next shared.now.storage next }) }
     ensures err { OnErr result (terminal_entry.new ≡ terminal_entry.old) }
-    ensures grows { OnErr result (change_takes_memory (TaskChange.TaskEnds next) ≡ true) }
+    ensures memory { OnErr result (change_takes_memory (TaskChange.TaskEnds next) ≡ true) }
 {
     let following = keep_next(shared.alloc, &shared.store, next)?;
     terminal_entry.following = following;
@@ -431,7 +432,7 @@ pub(crate) fn apply_before<S: Store + Drop>(
         OnOk result (AppliesBefore change.now before after) }
     ensures err { OnErr result
         (context shared.new terminal_entry.new task.new ≡ context shared.old terminal_entry.old task.old) }
-    ensures grows { OnErr result (change_takes_memory change.now ≡ true) }
+    ensures memory { OnErr result (change_takes_memory change.now ≡ true) }
 {
     match change {
         TaskChange::Makes(made) => make(made, shared, terminal_entry, task)?,

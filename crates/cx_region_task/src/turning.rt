@@ -66,7 +66,7 @@ fn run_on<S: Store + Drop>(
 
 /// One half-turn of a live task: its instructions run up to the next command, an interruption or the limit of 65,536;
 /// or the command that is due is performed. After a reply that is over the task has ended: its areas are freed, its
-/// resources released, its held input dropped, and the station has the next transaction that it left.
+/// resources released, its held input dropped, and the terminal has the next transaction that it left.
 ///
 /// An error comes only where an allocation failed, and only where a command is due whose verdict takes memory; then all
 /// is as before.
@@ -82,7 +82,7 @@ pub fn half_turn<S: Store + Drop>(
         IfOk result (λ reply. HalfTurn before reply after) }
     ensures err { OnErr result
         (context shared.new terminal_entry.new task.new ≡ context shared.old terminal_entry.old task.old) }
-    ensures grows { OnErr result (TakesMemory (context shared.old terminal_entry.old task.old)) }
+    ensures memory { OnErr result (TakesMemory (context shared.old terminal_entry.old task.old)) }
 {
     if !task.due {
         return Ok(run_on(shared, terminal_entry, task));

@@ -12,7 +12,7 @@ use Rattle.cx_edf.specs.Runs.{EdfRun, Trace, last_state}
 use Rattle.cx_script_actions.specs.Effects.{Performs, Replies, ByFault}
 use Rattle.cx_script_actions.specs.Texts.{answer_text}
 use Rattle.cx_script.specs.Transcript.{Runs}
-use Rattle.cx_script.specs.Laws.Events.{AreTold, IsRun, IsToldBy, ScriptsRunTheirEvents, event_of, events_of, program_event, written_before}
+use Rattle.cx_script.specs.Laws.Events.{AreReported, IsRun, IsReportedBy, ScriptsRunTheirEvents, event_of, events_of, program_event, written_before}
 use Rattle.cx_script_actions.specs.declared.actions.Action.{Action}
 use Rattle.cx_script_actions.specs.declared.actions.Action.TheVariants as action
 
@@ -65,14 +65,14 @@ gives old (action.Previous name k) text new p = p.1
 -- one action in front of a run
 runs_on : TracesAreRuns → (given : Option EdfEvent) (a : Action) (actions : List Action) (old between new : EdfState) (first rest : List ℕ) → event_of a ≡ given
     → Gives given (written_before a) old first between → IsRun between actions rest new → IsRun old (a ∷ actions) (first ++ rest) new
-unfolding AreTold Trace last_state
+unfolding AreReported Trace last_state
 runs_on law None a actions old between new first rest e p r =
     record {
       answers = r.answers;
       run = rw e (subst (λ (s : EdfState). EdfRun s (events_of actions) r.answers new) p r.run);
       texts = first ∷ r.texts;
       whole = ap (λ (l : List ℕ). first ++ l) r.whole;
-      told = subst (λ (o : Option EdfEvent). IsToldBy o (written_before a) r.answers first (λ left. AreTold actions left r.texts)) (sym e) r.told;
+      reported = subst (λ (o : Option EdfEvent). IsReportedBy o (written_before a) r.answers first (λ left. AreReported actions left r.texts)) (sym e) r.reported;
     }
 runs_on law (Some event) a actions old between new first rest e p r =
     record {
@@ -80,12 +80,12 @@ runs_on law (Some event) a actions old between new first rest e p r =
       run = rw e (law old (event ∷ events_of actions) (p.0 ∷ r.answers) (between ∷ r.run.states) new (p.1, r.run.trace) r.run.ends).0;
       texts = first ∷ r.texts;
       whole = ap (λ (l : List ℕ). first ++ l) r.whole;
-      told = subst (λ (o : Option EdfEvent). IsToldBy o (written_before a) (p.0 ∷ r.answers) first (λ left. AreTold actions left r.texts)) (sym e) (p.2, r.told);
+      reported = subst (λ (o : Option EdfEvent). IsReportedBy o (written_before a) (p.0 ∷ r.answers) first (λ left. AreReported actions left r.texts)) (sym e) (p.2, r.reported);
     }
 
 pub scripts_run_their_events : TracesAreRuns → ScriptsRunTheirEvents
-unfolding Runs AreTold Trace last_state
-scripts_run_their_events law old [] text new p = record { answers = []; run = (law old [] [] [] new tt (sym p.1)).0; texts = []; whole = p.0; told = tt }
+unfolding Runs AreReported Trace last_state
+scripts_run_their_events law old [] text new p = record { answers = []; run = (law old [] [] [] new tt (sym p.1)).0; texts = []; whole = p.0; reported = tt }
 scripts_run_their_events law old (a ∷ actions) text new p =
     let rest = scripts_run_their_events law p.0 actions p.2 new p.4 in
     let all = runs_on law (event_of a) a actions old p.0 new p.1 p.2 refl (gives old a p.1 p.0 p.3) rest in

@@ -28,52 +28,52 @@ use Rattle.cx_script_io.specs.declared.input.Ending.TheVariants.{AtEnd, Failed, 
 use Rattle.cx_script.proofs.FaultLemmas.{fault_before, is_own, led_own, MayBeLed}
 
 -- ---- a line that leads to BadLine is bad at its place
-abbrev Told : {A : Type 0} → Language A → ℕ → Option Block → List ℕ → RunFault → Type 0
-Told language number block text (BadLine n) = (n ≡ number) × IsBadIn language block text
-Told language number block text _ = Unit {0}
+abbrev Reported : {A : Type 0} → Language A → ℕ → Option Block → List ℕ → RunFault → Type 0
+Reported language number block text (BadLine n) = (n ≡ number) × IsBadIn language block text
+Reported language number block text _ = Unit {0}
 
-untold : {A B : Type 0} (o : Option B) (f : B → LineStep A) (number : ℕ) (fault : RunFault) → ok_or (option_map f o) (BadLine number) ≡ Err fault → (o ≡ None) × (fault ≡ BadLine number)
-untold None f number fault e = (refl, cc)
-untold (Some x) f number fault e = cc
+unreported : {A B : Type 0} (o : Option B) (f : B → LineStep A) (number : ℕ) (fault : RunFault) → ok_or (option_map f o) (BadLine number) ≡ Err fault → (o ≡ None) × (fault ≡ BadLine number)
+unreported None f number fault e = (refl, cc)
+unreported (Some x) f number fault e = cc
 
-told : {A : Type 0} (language : Language A) (number : ℕ) (block : Option Block) (text : List ℕ) (fault : RunFault) → fault ≡ BadLine number → IsBadIn language block text → Told language number block text fault
-told language number block text fault e h = subst (Told language number block text) (sym e) (refl, h)
+reported : {A : Type 0} (language : Language A) (number : ℕ) (block : Option Block) (text : List ℕ) (fault : RunFault) → fault ≡ BadLine number → IsBadIn language block text → Reported language number block text fault
+reported language number block text fault e h = subst (Reported language number block text) (sym e) (refl, h)
 
 -- an end has no BadLine
-source_told : {A : Type 0} (language : Language A) (number : ℕ) (block : Block) (text : List ℕ) (make : Prepared → LineStep A) (due : Result Prepared PrepareFault) (fault : RunFault)
-    → result_map_both make (fault_of_line block.line) due ≡ Err fault → Told language number (Some block) text fault
-source_told language number block text make (Ok prepared) fault e = cc
-source_told language number block text make (Err (prepare.At n k)) fault e =
-    let same : Source (block.line + n) k ≡ fault = cc in subst (Told language number (Some block) text) same tt
-source_told language number block text make (Err prepare.Memory) fault e =
-    let same : Memory ≡ fault = cc in subst (Told language number (Some block) text) same tt
+source_reported : {A : Type 0} (language : Language A) (number : ℕ) (block : Block) (text : List ℕ) (make : Prepared → LineStep A) (due : Result Prepared PrepareFault) (fault : RunFault)
+    → result_map_both make (fault_of_line block.line) due ≡ Err fault → Reported language number (Some block) text fault
+source_reported language number block text make (Ok prepared) fault e = cc
+source_reported language number block text make (Err (prepare.At n k)) fault e =
+    let same : Source (block.line + n) k ≡ fault = cc in subst (Reported language number (Some block) text) same tt
+source_reported language number block text make (Err prepare.Memory) fault e =
+    let same : Memory ≡ fault = cc in subst (Reported language number (Some block) text) same tt
 
-end_told : {A : Type 0} (language : Language A) (number : ℕ) (block : Block) (text : List ℕ) (has : Body) (fault : RunFault)
-    → block_end language block.line block.name has ≡ Err fault → Told language number (Some block) text fault
-end_told language number block text (kind.Image stg_len bytes) fault e = cc
-end_told language number block text (kind.Lines lines) fault e = cc
-end_told language number block text (kind.Source wanted lines) fault e =
-    source_told language number block text _ (prepared_of wanted.listing wanted.disassembly lines) fault e
+end_reported : {A : Type 0} (language : Language A) (number : ℕ) (block : Block) (text : List ℕ) (has : Body) (fault : RunFault)
+    → block_end language block.line block.name has ≡ Err fault → Reported language number (Some block) text fault
+end_reported language number block text (kind.Image stg_len bytes) fault e = cc
+end_reported language number block text (kind.Lines lines) fault e = cc
+end_reported language number block text (kind.Source wanted lines) fault e =
+    source_reported language number block text _ (prepared_of wanted.listing wanted.disassembly lines) fault e
 
-within_told : {A : Type 0} (language : Language A) (number : ℕ) (block : Block) (text : List ℕ) (end : Bool) (fault : RunFault) → bytes_eq text (codes "/*") ≡ end
-    → cond end (block_end language block.line block.name block.body) (ok_or (option_map block_step (with_line block text)) (BadLine number)) ≡ Err fault → Told language number (Some block) text fault
-within_told language number block text true fault b e = end_told language number block text block.body fault e
-within_told language number block text false fault b e =
-    let u = untold (with_line block text) block_step number fault e in
-    told language number (Some block) text fault u.1 (inr (b, u.0))
+within_reported : {A : Type 0} (language : Language A) (number : ℕ) (block : Block) (text : List ℕ) (end : Bool) (fault : RunFault) → bytes_eq text (codes "/*") ≡ end
+    → cond end (block_end language block.line block.name block.body) (ok_or (option_map block_step (with_line block text)) (BadLine number)) ≡ Err fault → Reported language number (Some block) text fault
+within_reported language number block text true fault b e = end_reported language number block text block.body fault e
+within_reported language number block text false fault b e =
+    let u = unreported (with_line block text) block_step number fault e in
+    reported language number (Some block) text fault u.1 (inr (b, u.0))
 
-in_told : {A : Type 0} (language : Language A) (number : ℕ) (block : Option Block) (text : List ℕ) (long : Bool) (fault : RunFault) → long ≡ is_too_long text
-    → cond long (Err (BadLine number)) (step_in language number block text) ≡ Err fault → Told language number block text fault
-in_told language number None text true fault l e = let same : fault ≡ BadLine number = cc in told language number None text fault same (inl (sym l))
-in_told language number (Some block) text true fault l e = let same : fault ≡ BadLine number = cc in told language number (Some block) text fault same (inl (sym l))
-in_told language number None text false fault l e =
-    let u = untold (language.line_of text) (step_of number) number fault e in
-    told language number None text fault u.1 (inr u.0)
-in_told language number (Some block) text false fault l e = within_told language number block text (bytes_eq text (codes "/*")) fault refl e
+in_reported : {A : Type 0} (language : Language A) (number : ℕ) (block : Option Block) (text : List ℕ) (long : Bool) (fault : RunFault) → long ≡ is_too_long text
+    → cond long (Err (BadLine number)) (step_in language number block text) ≡ Err fault → Reported language number block text fault
+in_reported language number None text true fault l e = let same : fault ≡ BadLine number = cc in reported language number None text fault same (inl (sym l))
+in_reported language number (Some block) text true fault l e = let same : fault ≡ BadLine number = cc in reported language number (Some block) text fault same (inl (sym l))
+in_reported language number None text false fault l e =
+    let u = unreported (language.line_of text) (step_of number) number fault e in
+    reported language number None text fault u.1 (inr u.0)
+in_reported language number (Some block) text false fault l e = within_reported language number block text (bytes_eq text (codes "/*")) fault refl e
 
-is_told : {A : Type 0} (language : Language A) (number : ℕ) (block : Option Block) (text : List ℕ) (fault : RunFault) → step_at language number block text ≡ Err fault → Told language number block text fault
+is_reported : {A : Type 0} (language : Language A) (number : ℕ) (block : Option Block) (text : List ℕ) (fault : RunFault) → step_at language number block text ≡ Err fault → Reported language number block text fault
 unfolding step_at
-is_told language number block text fault e = in_told language number block text (is_too_long text) fault refl e
+is_reported language number block text fault e = in_reported language number block text (is_too_long text) fault refl e
 
 -- ---- a block that a line leaves was begun by it, or is that which it was in
 abbrev Began : {A : Type 0} → ℕ → Option Block → LineStep A → Type 0
@@ -175,7 +175,7 @@ met_here {A} language ending number block text lines n due e f =
     let fault : (script_from language ending number block (text ∷ lines)).fault ≡ Some due = ap (λ (s : Script A). s.fault) bad in
     let none : (script_from language ending number block (text ∷ lines)).actions ≡ [] = ap (λ (s : Script A). s.actions) bad in
     let same : due ≡ BadLine n = cc in
-    let how : Told language number block text (BadLine n) = subst (Told language number block text) same (is_told language number block text due e) in
+    let how : Reported language number block text (BadLine n) = subst (Reported language number block text) same (is_reported language number block text due e) in
     record {
       k = 0;
       at = omega (arith, how.0);

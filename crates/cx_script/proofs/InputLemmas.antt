@@ -10,7 +10,7 @@ use Rattle.cx_script.specs.Transcript.{Ends, Wrote}
 use Rattle.cx_script_actions.specs.Language.{Language, edf_language}
 use Rattle.cx_script_actions.specs.Effects.{Performs, fresh_state}
 use Rattle.cx_script.specs.Outcome.{HasRead}
-use Rattle.cx_script.specs.Laws.Inputs.{was_stopped, InputsDecide, IsPastBound, IsTold, FailuresAreTold, PastTheBoundIsReadBound, ReadBoundIsPastTheBound, ReadIsAFailure}
+use Rattle.cx_script.specs.Laws.Inputs.{was_stopped, InputsDecide, IsPastBound, IsReported, FailuresAreReported, PastTheBoundIsReadBound, ReadBoundIsPastTheBound, ReadIsAFailure}
 use Rattle.cx_script_actions.specs.declared.actions.Action.{Action}
 use Rattle.cx_script_blocks.specs.declared.faults.RunFault.{RunFault}
 use Rattle.cx_script_blocks.specs.declared.faults.RunFault.TheVariants.{BadLine, Source, Read, Write, Memory, ReadBound}
@@ -67,11 +67,11 @@ own language performs old ending bytes Memory before after e s = cc
 own language performs old ending bytes ReadBound before after e s = s
 
 -- the fault of a run that was not stopped, and what it wrote
-pub told : (ending : Ending) (bytes : List ℕ) (answer : Result Summary RunFault) (before after : Option (List ℕ)) → was_stopped answer ≡ false
+pub reported : (ending : Ending) (bytes : List ℕ) (answer : Result Summary RunFault) (before after : Option (List ℕ)) → was_stopped answer ≡ false
     → Ends edf_language Performs fresh_state ending bytes answer before after → (result_err answer ≡ (script_in edf_language ending bytes).fault) × Wrote Appends Performs fresh_state (script_in edf_language ending bytes).actions before after
 unfolding Ends
-told ending bytes (Ok s) before after e h = (sym h.0, h.2)
-told ending bytes (Err fault) before after e h = let o = own edf_language Performs fresh_state ending bytes fault before after e h in (sym o.0, o.1)
+reported ending bytes (Ok s) before after e h = (sym h.0, h.2)
+reported ending bytes (Err fault) before after e h = let o = own edf_language Performs fresh_state ending bytes fault before after e h in (sym o.0, o.1)
 
 same_answer : (ending : Ending) (bytes : List ℕ) (answer other : Result Summary RunFault) (before after later : Option (List ℕ)) → was_stopped answer ≡ false → was_stopped other ≡ false
     → Ends edf_language Performs fresh_state ending bytes answer before after → Ends edf_language Performs fresh_state ending bytes other before later → answer ≡ other
@@ -103,8 +103,8 @@ module _ (decides : (old : EdfState) (action : Action) (text other : List ℕ) (
   both ending another bytes other answer second text after later e b f g p q =
       let moved = subst (λ (k : Ending). Ends edf_language Performs fresh_state k other second (Some text) later) (sym e) q in
       let there = subst (λ (l : List ℕ). Ends edf_language Performs fresh_state ending l second (Some text) later) (sym b) moved in
-      let first = told ending bytes answer (Some text) after f p in
-      let last = told ending bytes second (Some text) later g there in (
+      let first = reported ending bytes answer (Some text) after f p in
+      let last = reported ending bytes second (Some text) later g there in (
         same_answer ending bytes answer second (Some text) after later f g p there,
         same_text (script_in edf_language ending bytes).actions text after later first.1 last.1,
       )
@@ -142,7 +142,7 @@ bounded PastBound input bytes after failed p few f h = ap (λ (l : List ℕ). (s
 pub is_read_bound : PastTheBoundIsReadBound
 is_read_bound input after failed answer written written_after r h e =
     let fault = bounded r.ending input r.bytes after failed (read_of answer r.ending (Some input) after r.bytes e r.read) r.within r.failure h in
-    let t = told r.ending r.bytes answer written written_after e r.ends in
+    let t = reported r.ending r.bytes answer written written_after e r.ends in
     err_is answer ReadBound (t.0 ∙ fault)
 
 only_failed : (ending : Ending) → may_have ending (Some Read) ≡ true → is_failure ending ≡ true
@@ -155,13 +155,13 @@ read_is left after failed written written_after r =
     let o = own edf_language Performs fresh_state r.ending r.bytes Read written written_after refl r.ends in
     r.failure ∙ only_failed r.ending (has_this edf_language r.ending r.bytes (Some Read) o.0)
 
-told_by : (ending : Ending) (left after : Option (List ℕ)) (bytes : List ℕ) (answer : Result Summary RunFault) → Reads most_bytes ending left after bytes → true ≡ is_failure ending
-    → result_err answer ≡ (script_in edf_language ending bytes).fault → IsTold left after answer
-told_by AtEnd left after bytes answer p f e = cc
-told_by Failed left after bytes answer p f e = record { bytes = bytes; read = p; told = e }
-told_by PastBound left after bytes answer p f e = cc
+reported_by : (ending : Ending) (left after : Option (List ℕ)) (bytes : List ℕ) (answer : Result Summary RunFault) → Reads most_bytes ending left after bytes → true ≡ is_failure ending
+    → result_err answer ≡ (script_in edf_language ending bytes).fault → IsReported left after answer
+reported_by AtEnd left after bytes answer p f e = cc
+reported_by Failed left after bytes answer p f e = record { bytes = bytes; read = p; reported = e }
+reported_by PastBound left after bytes answer p f e = cc
 
-pub failures_told : FailuresAreTold
-failures_told left after answer written written_after r e =
-    let t = told r.ending r.bytes answer written written_after e r.ends in
-    told_by r.ending left after r.bytes answer (read_of answer r.ending left after r.bytes e r.read) r.failure t.0
+pub failures_reported : FailuresAreReported
+failures_reported left after answer written written_after r e =
+    let t = reported r.ending r.bytes answer written written_after e r.ends in
+    reported_by r.ending left after r.bytes answer (read_of answer r.ending left after r.bytes e r.read) r.failure t.0

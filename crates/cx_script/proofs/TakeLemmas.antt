@@ -30,7 +30,7 @@ module _ {A S : Type 0} (performs : S → A → List ℕ → S → Type 0) where
   line_faulty number due (Err ReadBound) fault old before block e h bad w = let same : ReadBound ≡ fault = cc in own number due ReadBound fault old before block same (sym (h refl), refl)
   line_faulty number due (Err Write) fault old before block e h bad w = cc
   line_faulty number due (Err Memory) fault old before block e h bad w =
-      let same : Memory ≡ fault = cc in own number due Memory fault old before block same ((λ is. let told = bad is in cc), refl)
+      let same : Memory ≡ fault = cc in own number due Memory fault old before block same ((λ is. let reported = bad is in cc), refl)
 
   pub line_acted : (number : ℕ) (due : Result (LineStep A) RunFault) (step : LineStep A) (old new : S) (before after : DeviceOutput) (r : Result (Unit {0}) RunFault)
       → due ≡ Ok step → Acted performs step.action old before r new after

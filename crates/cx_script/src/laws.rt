@@ -3,7 +3,7 @@
 ghost use Rattle.std.specs.Prelude.{◌≡◌, ℕ, List, Option, Ok, IfSome};
 ghost use Rattle.std.specs.Str.Lines.{lines};
 ghost use Rattle.cx_script_io.specs.Lines.{lines_met};
-ghost use Rattle.cx_asm_arrival.specs.Laws.Entry.{ReachesEntry};
+ghost use Rattle.cx_asm_execution.specs.Laws.Entry.{ReachesEntry};
 ghost use Rattle.cx_asm_execution.specs.Arrival.{CommandsArrive};
 ghost use Rattle.cx_script.specs.Outcome.{RanScript};
 ghost use Rattle.cx_edf.specs.State.{EdfState};
@@ -13,7 +13,7 @@ ghost use Rattle.cx_script.specs.Laws.WholeScripts.{OkIsTheWholeScript};
 ghost use Rattle.cx_script.specs.Laws.Fronts.{FrontsAreScripts};
 ghost use Rattle.cx_script.specs.Laws.BadLines.{BadLinesAreBad};
 ghost use Rattle.cx_script.specs.Laws.Events.{ScriptsRunTheirEvents};
-ghost use Rattle.cx_script.specs.Laws.Inputs.{FailuresAreTold, InputsDecide, PastTheBoundIsReadBound, ReadBoundIsPastTheBound, ReadIsAFailure};
+ghost use Rattle.cx_script.specs.Laws.Inputs.{FailuresAreReported, InputsDecide, PastTheBoundIsReadBound, ReadBoundIsPastTheBound, ReadIsAFailure};
 ghost use Rattle.cx_script_actions.specs.declared.actions.Action.{Action};
 ghost use Rattle.cx_script_blocks.specs.declared.faults.Summary.{Summary};
 ghost use Rattle.cx_script_io.specs.declared.input.Ending.TheVariants.{AtEnd};
@@ -41,7 +41,7 @@ pub fn the_input_decides()
     ensures bound { ReadBoundIsPastTheBound }
     ensures bounded { PastTheBoundIsReadBound }
     ensures read { ReadIsAFailure }
-    ensures told { FailuresAreTold }
+    ensures reported { FailuresAreReported }
 {
     an_action_has_one_outcome();
 }
@@ -88,7 +88,7 @@ pub fn a_script_runs_its_events()
 pub fn reaches_entry()
     ensures { ReachesEntry }
 {
-    cx_asm_arrival::laws::reaches_entry();
+    cx_asm_execution::laws::reaches_entry();
 }
 
 /// Each EXEC statement of a source that is translated, assembled and loaded arrives as its command: these instructions are

@@ -17,7 +17,7 @@ use std::alloc::{AllocError, Global};
 /// What a script of `cicsedf` is performed on: a region under EDF.
 pub type EdfStage = Debugged<PagedStore>;
 
-/// The stage on which a script of `cicsedf` begins: a fresh region, with EDF Off at each terminal.
+/// The performer of a script of `cicsedf` at its beginning: a fresh region, with EDF Off at each terminal.
 pub fn edf_stage(alloc: Global) -> Result<EdfStage, AllocError>
     ensures { IfOk result (λ performer. performer ≡ fresh_state) }
 {
@@ -25,7 +25,7 @@ pub fn edf_stage(alloc: Global) -> Result<EdfStage, AllocError>
     Ok(Debugged::new(alloc, region))
 }
 
-/// Runs a script: does what its lines ask, in order, on a stage that was to be made, and writes the transcript. It is read in pieces of at
+/// Runs a script: does what its lines ask, in order, on a performer that was to be made, and writes the transcript. It is read in pieces of at
 /// most 4,096 bytes. The lines that are complete in a piece are done, and their texts written, before more is read and before
 /// a fault is answered; at most 16,384 bytes of texts wait to be written in one. Of the script the unfinished line or block
 /// alone is held.

@@ -78,10 +78,10 @@ line_asked_for verb text =
     else None
 
 -- an empty line, or one that begins with an asterisk
-abbrev pub is_idle : List ℕ → Bool
-is_idle [] = true
-is_idle (c ∷ cs) = c == 42
+abbrev pub is_blank_or_comment : List ℕ → Bool
+is_blank_or_comment [] = true
+is_blank_or_comment (c ∷ cs) = c == 42
 
 -- What a line asks; None where it is a bad line.
 unfoldable pub line_of : List ℕ → Option (Line Action)
-line_of text = if is_idle text then Some line.Blank else option_and_then (line_asked_for (word text)) (after_first_blank text)
+line_of text = if is_blank_or_comment text then Some line.Blank else option_and_then (line_asked_for (word text)) (after_first_blank text)

@@ -6,7 +6,7 @@ ghost use Rattle.std.specs.Option.{option_copied};
 ghost use Rattle.cx_ebcdic.specs.Aids.{key_of};
 ghost use Rattle.std.specs.Str.{bytes_eq};
 ghost use Rattle.cx_script_actions.specs.Allowed.{IsAllowed, IsAllowedLine};
-ghost use Rattle.cx_script_actions.specs.Actions.{aid_of, line_asked_for, does, is_idle, key_with_text, line_of, switch_of, wanted_of};
+ghost use Rattle.cx_script_actions.specs.Actions.{aid_of, line_asked_for, does, is_blank_or_comment, key_with_text, line_of, switch_of, wanted_of};
 
 use crate::alterations::change_of;
 use crate::words::{codes_of_key, name4, name8, number, split_word};
@@ -280,8 +280,8 @@ fn asked(alloc: Global, verb: &[u8], text: &[u8]) -> Result<Option<Line<Action>>
 }
 
 /// Whether a line is empty or a comment.
-fn is_idle(text: &[u8]) -> bool
-    ensures { result ≡ is_idle text.now }
+fn is_blank_or_comment(text: &[u8]) -> bool
+    ensures { result ≡ is_blank_or_comment text.now }
 {
     text.is_empty() || text[0] == b'*'
 }
@@ -293,7 +293,7 @@ pub fn line_of(alloc: Global, text: &[u8]) -> Result<Option<Line<Action>>, Alloc
     ensures memory { OnErr result (is_some (line_of text.now) ≡ true) }
     ensures allowed { IfOk result (λ line. IfSome line (IsAllowedLine IsAllowed)) }
 {
-    if is_idle(text) {
+    if is_blank_or_comment(text) {
         return Ok(Some(Line::Blank));
     }
     let (word, rest) = split_word(text);

@@ -225,7 +225,8 @@ fn keep(text: &mut Vec<u8>)
 /// A text with the bytes that a line of hexadecimal digits spells, as far as they are kept; None where it isn't one.
 fn with_bytes(text: Bytes, line: &[u8]) -> Result<Option<Bytes>, AllocError>
     requires { length line.now ≤ 4096 }
-    ensures value { IfOk result (λ more. more ≡ option_map (λ bytes. kept_text (text ++ bytes)) (hex_bytes line.now)) }
+    ensures value { IfOk result
+        (λ more. more ≡ option_map (λ bytes. kept_text (text ++ bytes)) (hex_bytes line.now)) }
     ensures memory { OnErr result (is_some (hex_bytes line.now) ≡ true) }
 {
     let mut buffer = [0; MOST_IN_LINE];

@@ -26,7 +26,7 @@ impl<T> Std<T> {
 
     /// What the reader or writer answered, as the device reports it: an error is a failure of the device, and nothing
     /// else is.
-    fn told(&mut self, answer: io::Result<usize>) -> Result<usize, DeviceFault>
+    fn reported(&mut self, answer: io::Result<usize>) -> Result<usize, DeviceFault>
         ensures count { IfOk answer (λ n. result ≡ Ok n) }
         ensures fault { is_err result ≡ is_err answer }
         ensures failure { self.new.failed ≡ (self.old.failed || is_err answer) }
@@ -49,7 +49,7 @@ impl<T: Read> ScriptIn for Std<T> {
 
     fn read(&mut self, buffer: &mut [u8]) -> Result<usize, DeviceFault> {
         let answer = self.inner.read(buffer);
-        self.told(answer)
+        self.reported(answer)
     }
 
     fn failed(&self) -> bool {
@@ -64,7 +64,7 @@ impl<T: Write> ScriptOut for Std<T> {
 
     fn write(&mut self, bytes: &[u8]) -> Result<usize, DeviceFault> {
         let answer = self.inner.write(bytes);
-        let n = self.told(answer)?;
+        let n = self.reported(answer)?;
         if n == 0 && !bytes.is_empty() {
             self.failed = true;
         }

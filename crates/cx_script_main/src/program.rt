@@ -22,7 +22,7 @@ pub enum Refusal {
     Memory,
 }
 
-/// Runs the script that a reader has, on a stage that was to be made. A read has failed exactly where the answer is Read.
+/// Runs the script that a reader has, on a performer that was to be made. A read has failed exactly where the answer is Read.
 pub fn run_reader<P: Performer + Drop, F: Read, W: ScriptOut>(
     performer: Result<P, AllocError>,
     alloc: Global,

@@ -79,7 +79,7 @@ fn tell<R: Eprint>(rt: &R, usage: &str, outcome: &Result<Result<Summary, RunFaul
     };
 }
 
-/// Does what the words ask, on a stage that was to be made, and gives the status. `usage` is the line on standard error where the
+/// Does what the words ask, on a performer that was to be made, and gives the status. `usage` is the line on standard error where the
 /// words are refused.
 pub fn start<P: Performer + Drop, R: Env + Files + Input + Print + Eprint + AllocGlobal>(
     rt: &R,

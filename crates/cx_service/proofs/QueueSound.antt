@@ -81,7 +81,7 @@ data-insert queues name queue (Some old) there =
 few-insert : (queues : Queues) (name : List ℕ) (queue : Queue) (o : Option Queue) → queue_of queues name ≡ o → length queues ≤ 256 → is_none (option_map (λ (q : Queue). length q.items) o) && nat_le 256 (length queues) ≡ false → length (insert_entry is_name queues name queue) ≤ 256
 few-insert queues name queue None none few free =
     let room : length queues < 256 = leb-false _ _ free in
-    let grown : length (insert_entry is_name queues name queue) ≡ length queues + 1 =
+    let longer : length (insert_entry is_name queues name queue) ≡ length queues + 1 =
     ap length (insert_entry_absent is_name queues name queue none) ∙ length_push queues (name, queue) in
     omega arith
 few-insert queues name queue (Some old) there few free =

@@ -24,7 +24,7 @@ enqueued_keeps resources slot name sound none apart = by_hold (hold_of resources
         let room : length resources < 256 = leb-false _ _ (no_fault _ _ _ free).0 in
         let new : Hold = record { owner = slot; count = count_at (hold_of resources name) + 1 } in
         let none_yet : count_at (hold_of resources name) ≡ 0 = ap count_at is in
-        let grown : length (insert_entry is_resource resources name new) ≡ length resources + 1 =
+        let longer : length (insert_entry is_resource resources name new) ≡ length resources + 1 =
         ap length (insert_entry_absent is_resource resources name new is) ∙ length_push resources (name, new) in
         let one : IsSoundHold new = record { some = omega arith; few = omega arith } in
         record { distinct = distinct; few = omega arith; each = each-insert_entry IsSoundHold is_resource resources name new one sound.each }

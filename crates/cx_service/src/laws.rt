@@ -15,7 +15,8 @@ pub fn every_text_has_lines()
 
 /// A text has no two different lists of lines.
 pub fn lines_are_decided()
-    ensures { (text : List ℕ) (one other : List (List ℕ)) → AreLinesOf text one → AreLinesOf text other → one ≡ other }
+    ensures { (text : List ℕ) (one other : List (List ℕ)) → AreLinesOf text one → AreLinesOf text other
+        → one ≡ other }
 {}
 
 /// A text of at most 80 bytes without a new line is its one line.
@@ -57,7 +58,8 @@ pub fn a_deleted_queue_begins_anew()
 /// Memory is none of the conditions that are tested first.
 pub fn memory_is_no_condition()
     ensures write { (queues : Queues) (name : List ℕ) (len : ℕ) → write_fault queues name len ≢ Some Memory }
-    ensures rewrite { (queues : Queues) (name : List ℕ) (n len : ℕ) → rewrite_fault queues name n len ≢ Some Memory }
+    ensures rewrite { (queues : Queues) (name : List ℕ) (n len : ℕ)
+        → rewrite_fault queues name n len ≢ Some Memory }
     ensures enq { (resources : Resources) (slot : ℕ) (name : ResourceName)
         → enq_fault resources slot name ≢ Some Memory }
 {}

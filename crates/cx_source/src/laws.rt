@@ -28,7 +28,8 @@ pub fn reader_answers_the_source()
 /// So it doesn't matter in which pieces a source comes.
 #[tactic(auto, using(crate::proofs::ReaderLemmas::in_pieces))]
 pub fn pieces_do_not_matter()
-    ensures { (pieces : List (List ℕ)) → finish (fold (fold take_byte) at_start pieces) ≡ source_of (concat pieces) }
+    ensures { (pieces : List (List ℕ))
+        → finish (fold (fold take_byte) at_start pieces) ≡ source_of (concat pieces) }
 {}
 
 /// Nor whether it comes in bytes or line by line: lines that are fed one by one are the source that they make.
@@ -40,7 +41,8 @@ pub fn lines_one_by_one_are_the_source()
 /// A fault that a reader met is the source's, however it goes on.
 #[tactic(auto, using(crate::proofs::ReaderLemmas::early_fault))]
 pub fn an_early_fault_is_the_sources()
-    ensures { (front rest : List ℕ) (fault : SourceFault) → (fold take_byte at_start front).progress ≡ Faulty fault
+    ensures { (front rest : List ℕ) (fault : SourceFault)
+        → (fold take_byte at_start front).progress ≡ Faulty fault
         → source_of (front ++ rest) ≡ Err fault }
 {}
 

@@ -12,12 +12,12 @@ use Rattle.cx_storage_pages.specs.Parts.Reach.{Reaches, is_row}
 -- where the granule before one isn't full, no row goes on past it
 pub cut_short : (counts : List ℕ) (g : ℕ) → Reaches counts → 0 < g → slice_index counts (g - 1) < 16
     → Recounts (λ h. nat_lt h g) (λ h. min (slice_index counts h) (16 * (g - h))) counts counts
-cut_short counts g told some short = λ h. elim (cases_lt h g) [
+cut_short counts g holds some short = λ h. elim (cases_lt h g) [
   | inl before ↦
       let fits : slice_index counts h ≤ 16 * (g - h) = elim (cases_lt (16 * (g - h)) (slice_index counts h)) [
         | inl past ↦
             let place : h + (g - 1 - h) ≡ g - 1 = omega (arith, before) in
-            let full = rw place at (told.0 h (g - 1 - h) (omega (arith, past, before))) in
+            let full = rw place at (holds.0 h (g - 1 - h) (omega (arith, past, before))) in
             absurd (omega (arith, full, short))
         | inr within ↦ within
       ] in
@@ -30,13 +30,13 @@ cut_short counts g told some short = λ h. elim (cases_lt h g) [
 pub more_full : (counts : List ℕ) (from g : ℕ) → Reaches counts → 16 ≤ slice_index counts g → from ≤ g
     → ((j : ℕ) → from ≤ j → j < g → 16 ≤ slice_index counts j)
     → (from ≤ g + slice_index counts g / 16) × ((j : ℕ) → from ≤ j → j < g + slice_index counts g / 16 → 16 ≤ slice_index counts j)
-more_full counts from g told full low all = (
+more_full counts from g holds full low all = (
   omega (arith, low),
   λ j above below. elim (cases_lt j g) [
     | inl before ↦ all j above before
     | inr after ↦
         let place : g + (j - g) ≡ j = omega (arith, after) in
-        let follows = told.0 g (j - g) (omega (arith, below, after, full)) in
+        let follows = holds.0 g (j - g) (omega (arith, below, after, full)) in
         rw place at follows
   ],
 )
@@ -105,12 +105,12 @@ counts_marked old cut new first end to first_cut then_counted = record {
 
 -- what they go past is full then
 pub marked_reaches : (old new : List ℕ) (first end to : ℕ) → to ≤ 16 * end → MarkedTo old new first end to → Reaches old → Reaches new
-marked_reaches old new first end to few marked told = (
+marked_reaches old new first end to few marked holds = (
   λ g j more. elim (cases_lt g first) [
     | inl before ↦
         let here = marked.before g before in
         let there = marked.before (g + j) (omega (arith, before, here, more)) in
-        let full = told.0 g j (omega (arith, here, more)) in
+        let full = holds.0 g j (omega (arith, here, more)) in
         omega (arith, there, full, here, more, before)
     | inr from ↦ elim (cases_lt g end) [
       | inl inside ↦
@@ -120,15 +120,15 @@ marked_reaches old new first end to few marked told = (
       | inr past ↦
           let here = marked.after g from past in
           let there = marked.after (g + j) (omega (arith, from)) (omega (arith, past)) in
-          let full = told.0 g j (rw here at more) in
+          let full = holds.0 g j (rw here at more) in
           omega (arith, there, full)
     ]
   ],
   λ g. elim (cases_lt g first) [
-    | inl before ↦ let here = marked.before g before in let most = told.1 g in omega (arith, here, most)
+    | inl before ↦ let here = marked.before g before in let most = holds.1 g in omega (arith, here, most)
     | inr from ↦ elim (cases_lt g end) [
       | inl inside ↦ let here = marked.inside g from inside in omega (arith, here)
-      | inr past ↦ let here = marked.after g from past in let most = told.1 g in omega (arith, here, most)
+      | inr past ↦ let here = marked.after g from past in let most = holds.1 g in omega (arith, here, most)
     ]
   ],
 )
@@ -186,13 +186,13 @@ marked_shows bytes zeroed old new first end to marked zero few = λ j. elim (cas
 ]
 
 -- bytes are present where the row from the first granule on comes to the last one, and that counts the last byte
-pub has_told : (frame : Frame) (from to : ℕ) → to ≤ length frame.bytes → from < to → (to - 1) / 16 - from / 16 ≤ slice_index frame.counts (from / 16) / 16
+pub has_by_reach : (frame : Frame) (from to : ℕ) → to ≤ length frame.bytes → from < to → (to - 1) / 16 - from / 16 ≤ slice_index frame.counts (from / 16) / 16
     → (to - 1) % 16 < slice_index frame.counts ((to - 1) / 16) → HasAll (frame_byte frame) from to
-has_told frame from to within some told counted =
+has_by_reach frame from to within some holds counted =
     has_all frame from to within some
     (λ j low high.
     let place : from / 16 + (j - from / 16) ≡ j = omega (arith, low) in
-    let follows = frame.reached.0 (from / 16) (j - from / 16) (omega (arith, told, low, high)) in
+    let follows = frame.reached.0 (from / 16) (j - from / 16) (omega (arith, holds, low, high)) in
     rw place at follows)
     counted
 
@@ -228,20 +228,20 @@ pub row_all : (frame : Frame) (from to : ℕ) → to ≤ length frame.bytes → 
     → is_row frame.counts from to ≡ true → HasAll (frame_byte frame) from to
 row_all frame from to within some row = elim (cases_lt (slice_index frame.counts (from / 16) / 16) ((to - 1) / 16 - from / 16)) [
   | inl short ↦ absurd (false≢true (rw (lt-leb _ _ short) at row))
-  | inr told ↦
-      let counted = rw (le-leb _ _ told) at row in
-      has_told frame from to within some told (ltb-true _ _ counted)
+  | inr holds ↦
+      let counted = rw (le-leb _ _ holds) at row in
+      has_by_reach frame from to within some holds (ltb-true _ _ counted)
 ]
 
 -- and of two granules it says so where they are
 pub row_gap : (frame : Frame) (from to : ℕ) → from < to → to - from ≤ 16 → HasAll (frame_byte frame) from to → is_row frame.counts from to ≡ true
 row_gap frame from to some few all =
     let counted = has_last frame from to some all in
-    let told : (to - 1) / 16 - from / 16 ≤ slice_index frame.counts (from / 16) / 16 = elim (cases_lt (from / 16) ((to - 1) / 16)) [
+    let holds : (to - 1) / 16 - from / 16 ≤ slice_index frame.counts (from / 16) / 16 = elim (cases_lt (from / 16) ((to - 1) / 16)) [
       | inr one ↦ omega (arith, one)
       | inl two ↦ elim (cases_lt (slice_index frame.counts (from / 16)) 16) [
         | inl short ↦ absurd (false≢true (has_short frame from to (from / 16) (omega arith) two short all))
         | inr full ↦ omega (arith, few, full)
       ]
     ] in
-    rw (le-leb _ _ told, lt-ltb _ _ counted) refl
+    rw (le-leb _ _ holds, lt-ltb _ _ counted) refl

@@ -100,7 +100,8 @@ pub(crate) fn part_in(pages: &Vec<Page>, a: u32, n: usize) -> Option<&[u8]>
     ensures there { IfSome result (λ part. Holds (byte_in_pages pages.now.items) a n part.now) }
     ensures len { IfSome result (λ part. length part.now ≡ n) }
     ensures together { OnSome result (a % 4096 + n ≤ 4096) }
-    ensures gap { 0 < n → a % 4096 + n ≤ 4096 → HasAll (byte_in_pages pages.now.items) a (a + n) → IsSome result }
+    ensures gap { 0 < n → a % 4096 + n ≤ 4096 → HasAll (byte_in_pages pages.now.items) a (a + n)
+        → IsSome result }
 {
     let i = a as usize / 4096;
     if i < pages.len() {
@@ -113,7 +114,8 @@ pub(crate) fn part_in(pages: &Vec<Page>, a: u32, n: usize) -> Option<&[u8]>
 /// Writes bytes from `a` on, where all of the addresses are in one page and present; else it changes nothing.
 #[inline(always)]
 pub(crate) fn write_in(pages: &mut Vec<Page>, a: u32, source: &[u8]) -> bool
-    ensures gap { result ≡ false → (x : ℕ) → byte_in_pages pages.new.items x ≡ byte_in_pages pages.old.items x }
+    ensures gap { result ≡ false → (x : ℕ)
+        → byte_in_pages pages.new.items x ≡ byte_in_pages pages.old.items x }
     ensures after { result ≡ true
         → Writes a source.now (byte_in_pages pages.old.items) (byte_in_pages pages.new.items) }
     ensures present { result ≡ true → HasAll (byte_in_pages pages.old.items) a (a + length source.now) }
@@ -133,7 +135,8 @@ pub(crate) fn zero_in(pages: &mut Vec<Page>, start: usize, end: usize)
     requires granule { start % 16 ≡ 0 }
     requires order { start < end }
     requires low { end ≤ 2 ^ 24 }
-    requires made { (i : ℕ) → start / 4096 ≤ i → i ≤ (end - 1) / 4096 → has_page pages.old.items i ≡ true }
+    requires made { (i : ℕ) → start / 4096 ≤ i → i ≤ (end - 1) / 4096
+        → has_page pages.old.items i ≡ true }
     ensures { Fills (start / 16) ((end + 15) / 16) (zero_to end) (byte_in_pages pages.old.items)
         (byte_in_pages pages.new.items) }
 {

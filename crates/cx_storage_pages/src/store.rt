@@ -88,7 +88,8 @@ pub(crate) fn get_of(
     requires last { last < 2 ^ 24 }
     requires len { 0 < len }
     ensures placed { IfOk result (IsLeastPlace (stored areas.old pages.old) first last len) }
-    ensures after { IfOk result (λ a. stored areas.new pages.new ≡ with_area (stored areas.old pages.old) a len owner) }
+    ensures after { IfOk result
+        (λ a. stored areas.new pages.new ≡ with_area (stored areas.old pages.old) a len owner) }
     ensures no_place { IsLeastPlace (stored areas.old pages.old) first last len None → result ≡ Ok None }
     ensures err { OnErr result (stored areas.new pages.new ≡ stored areas.old pages.old) }
     ensures shown { IsShown areas.new.items pages.new.items }
@@ -110,7 +111,8 @@ pub(crate) fn get_of(
 pub(crate) fn free_area_of(areas: &mut Vec<Area>, pages: &mut Vec<Page>, start: u32) -> bool
     requires { IsShown areas.old.items pages.old.items }
     ensures found { result ≡ is_some (area_at (stored areas.old pages.old) start) }
-    ensures after { stored areas.new pages.new ≡ with_areas_kept (starts_elsewhere start) (stored areas.old pages.old) }
+    ensures after { stored areas.new pages.new
+        ≡ with_areas_kept (starts_elsewhere start) (stored areas.old pages.old) }
     ensures shown { IsShown areas.new.items pages.new.items }
 {
     let i = spot_of(areas, pages, start);
@@ -129,7 +131,8 @@ pub(crate) fn free_area_of(areas: &mut Vec<Area>, pages: &mut Vec<Page>, start: 
 /// Frees the areas of a slot.
 pub(crate) fn free_slot_of(areas: &mut Vec<Area>, pages: &mut Vec<Page>, slot: u8)
     requires { IsShown areas.old.items pages.old.items }
-    ensures after { stored areas.new pages.new ≡ with_areas_kept (is_of_other_slot slot) (stored areas.old pages.old) }
+    ensures after { stored areas.new pages.new
+        ≡ with_areas_kept (is_of_other_slot slot) (stored areas.old pages.old) }
     ensures shown { IsShown areas.new.items pages.new.items }
 {
     for area in areas.iter() {

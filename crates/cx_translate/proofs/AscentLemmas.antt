@@ -130,8 +130,8 @@ put_after_ascends p n made place items f e w =
     let done = after_in (take place items) n made x (continued (slice_get items place)) tail (f x at.1) (subst (Ascend n) whole w) in
     let front : take (place + 1 + c) items ≡ (take place items ++ x ∷ []) ++ take c tail = take-add (place + 1) c items ∙ ap (λ l. l ++ take c tail) (take_more items place some_item at.0) in
     let back : drop (place + 1 + c) items ≡ drop c tail = sym (drop-drop c (place + 1) items) in
-    let told : line_of (slice_get items place) ≡ x.line = ap line_of got in
-    subst (Ascend n) (sym (λ i. front i ++ lines (told i) made ++ back i)) done
+    let same_place : line_of (slice_get items place) ≡ x.line = ap line_of got in
+    subst (Ascend n) (sym (λ i. front i ++ lines (same_place i) made ++ back i)) done
 
 -- ---- the sections
 

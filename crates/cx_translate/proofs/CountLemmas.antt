@@ -15,9 +15,9 @@ use Rattle.cx_base_commands.specs.Facts.Commands.{each_command}
 use Rattle.cx_base_commands.specs.Conditions.{entry_of, handled_conditions}
 use Rattle.cx_base_commands.specs.Options.{common_of, option_name}
 use Rattle.cx_base_commands.specs.Legal.{lists_conditions}
-use Rattle.cx_translate.specs.declared.due.DueStatement.{DueStatement}
+use Rattle.cx_translate.specs.declared.due_arguments.DueArgument.{DueArgument}
 use Rattle.cx_translate.specs.declared.words.Word.{Word}
-use Rattle.cx_translate.specs.PendingStatements.{common_due, condition_called, condition_due, due_of, due_of_mark, option_called}
+use Rattle.cx_translate.specs.DueArguments.{common_due, condition_called, condition_due, due_of, due_by_kind, option_called}
 use Rattle.cx_translate.specs.Refusals.{conditions_in, fault_in, first_byte, has_too_many, has_unknown}
 use Rattle.cx_translate.proofs.RefusalLemmas.{few_conditions, known}
 use Rattle.cx_base_commands.specs.declared.options.CommonOption.TheVariants.{Resp}
@@ -52,8 +52,8 @@ within c = cond (lists_conditions c) (nat_eq (length (row_of c).options) 0) (nat
 all_within : (c : Command) → within c ≡ true
 all_within = each_command within refl
 
-gone : (a : Option CommandOption) (b : Option DueStatement) (l some : Bool) (d : DueStatement) → (is_none a && is_none b) ≡ true → l ≡ false
-    → is_none (option_or (option_map (λ option. due_of_mark option.mark) a) (option_or b (cond (l && some) (Some d) None))) ≡ true
+gone : (a : Option CommandOption) (b : Option DueArgument) (l some : Bool) (d : DueArgument) → (is_none a && is_none b) ≡ true → l ≡ false
+    → is_none (option_or (option_map (λ option. due_by_kind option.kind) a) (option_or b (cond (l && some) (Some d) None))) ≡ true
 gone None None l some d h e = rw e refl
 gone None (Some y) l some d h e = absurd (cc)
 gone (Some x) b l some d h e = absurd (cc)
@@ -104,7 +104,7 @@ few_labels (word ∷ rest) =
     let l = length-append (option_to_list (option_and (condition_called word.name) (text_in word.argument))) (labels_of rest) in
     omega (arith, a, b, s, l)
 
-one_by : (o : CommandOption) (t : Option (List ℕ)) → length (operand_by o.mark t) ≤ 1
+one_by : (o : CommandOption) (t : Option (List ℕ)) → length (operand_by o.kind t) ≤ 1
 one_by o None = omega arith
 one_by o (Some t) = omega arith
 
@@ -114,7 +114,7 @@ few_operands [] words = omega arith
 few_operands (option ∷ rest) words =
     let a = one_by option (argument_of words (option_name option.name)) in
     let b = few_operands rest words in
-    let l = length-append (operand_by option.mark (argument_of words (option_name option.name))) (operands_of rest words) in
+    let l = length-append (operand_by option.kind (argument_of words (option_name option.name))) (operands_of rest words) in
     omega (arith, a, b, l)
 
 one_response : (o : Option (List ℕ)) → length (option_to_list o) ≤ 1

@@ -12,12 +12,12 @@ use Rattle.cx_base_commands.specs.declared.options.CommandOption.{CommandOption}
 use Rattle.cx_base_commands.specs.Commands.{row_of}
 use Rattle.cx_base_commands.specs.Conditions.{entry_of, handled_conditions}
 use Rattle.cx_base_commands.specs.Legal.{is_handle, is_handled_number, is_legal_list, is_listed, lists_conditions, may_list}
-use Rattle.cx_translate.specs.declared.due.DueStatement.{DueStatement}
-use Rattle.cx_translate.specs.declared.due.DueStatement.TheVariants.{Nothing, Label}
+use Rattle.cx_translate.specs.declared.due_arguments.DueArgument.{DueArgument}
+use Rattle.cx_translate.specs.declared.due_arguments.DueArgument.TheVariants.{Nothing, Label}
 use Rattle.cx_translate.specs.declared.words.Argument.{Argument}
 use Rattle.cx_translate.specs.declared.words.Argument.TheVariants.{Absent, Given, Bad}
 use Rattle.cx_translate.specs.declared.words.Word.{Word}
-use Rattle.cx_translate.specs.PendingStatements.{common_due, condition_called, condition_due, due_of, due_of_mark, option_called, suits}
+use Rattle.cx_translate.specs.DueArguments.{common_due, condition_called, condition_due, due_of, due_by_kind, option_called, suits}
 use Rattle.cx_translate.specs.Refusals.{fault_in, has_twice, has_wrong, is_given}
 use Rattle.cx_translate.specs.Facts.Found.{is_wrong, listed_by}
 use Rattle.cx_translate.specs.Call.{listed_of, text_in}
@@ -133,8 +133,8 @@ unfolding is_handled_number
 all_handled = refl
 
 -- what is due with a condition where conditions are listed
-with_label : (a : Option CommandOption) (b : Option DueStatement) (l some : Bool) (d : DueStatement) → (is_none a && is_none b) ≡ true → l ≡ true → some ≡ true
-    → option_or (option_map (λ option. due_of_mark option.mark) a) (option_or b (cond (l && some) (Some d) None)) ≡ Some d
+with_label : (a : Option CommandOption) (b : Option DueArgument) (l some : Bool) (d : DueArgument) → (is_none a && is_none b) ≡ true → l ≡ true → some ≡ true
+    → option_or (option_map (λ option. due_by_kind option.kind) a) (option_or b (cond (l && some) (Some d) None)) ≡ Some d
 with_label None None l some d h e f = rw (e, f) refl
 with_label None (Some y) l some d h e f = absurd (cc)
 with_label (Some x) b l some d h e f = absurd (cc)

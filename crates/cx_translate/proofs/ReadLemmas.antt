@@ -15,18 +15,18 @@ use Rattle.cx_base_commands.specs.declared.conditions.Condition.{Condition}
 use Rattle.cx_base_commands.specs.declared.options.CommandOption.{CommandOption}
 use Rattle.cx_base_commands.specs.declared.options.CommonOption.TheVariants.{Nohandle, Resp}
 use Rattle.cx_base_commands.specs.declared.options.ArgumentKind.{ArgumentKind}
-use Rattle.cx_base_commands.specs.declared.options.ArgumentKind.TheVariants as mark
+use Rattle.cx_base_commands.specs.declared.options.ArgumentKind.TheVariants as kind
 use Rattle.cx_base_commands.specs.Arguments.{arguments_in, is_argument, takes_argument}
 use Rattle.cx_base_commands.specs.Commands.{row_of}
 use Rattle.cx_base_commands.specs.Facts.Commands.{each_command}
 use Rattle.cx_base_commands.specs.Options.{common_of, option_name}
 use Rattle.cx_base_commands.specs.Legal.{has_bit}
-use Rattle.cx_translate.specs.declared.due.DueStatement.{DueStatement}
-use Rattle.cx_translate.specs.declared.due.DueStatement.TheVariants.{Nothing, Name, Value, Label}
+use Rattle.cx_translate.specs.declared.due_arguments.DueArgument.{DueArgument}
+use Rattle.cx_translate.specs.declared.due_arguments.DueArgument.TheVariants.{Nothing, Name, Value, Label}
 use Rattle.cx_translate.specs.declared.words.Argument.{Argument}
 use Rattle.cx_translate.specs.declared.words.Argument.TheVariants.{Absent, Given, Bad}
 use Rattle.cx_translate.specs.declared.words.Word.{Word}
-use Rattle.cx_translate.specs.PendingStatements.{common_due, condition_called, condition_due, due_of, option_called, suits}
+use Rattle.cx_translate.specs.DueArguments.{common_due, condition_called, condition_due, due_of, option_called, suits}
 use Rattle.cx_translate.specs.Refusals.{fault_in, first_byte, has_wrong, is_given, second_byte}
 use Rattle.cx_translate.specs.Facts.Found.{is_wrong, listed_by, operand_by, with_option}
 use Rattle.cx_translate.specs.Call.{argument_of, labels_of, list_of, listed_condition, listed_of, operands_of, text_in}
@@ -119,16 +119,16 @@ given_by words m name (p ∷ rest) h =
     go true false d e f more = absurd (cc)
     go false b d e f more = skipped (is_given words (option_name p.name)) (is_given words name) _ _ (more f)
 
--- what is due with an option agrees with its mark
-abbrev fits : Option DueStatement → ArgumentKind → Bool
-fits (Some Nothing) mark = not (takes_argument mark)
-fits (Some (Name n)) mark = takes_argument mark
-fits (Some Value) mark = takes_argument mark
-fits due mark = false
+-- what is due with an option agrees with its kind
+abbrev fits : Option DueArgument → ArgumentKind → Bool
+fits (Some Nothing) kind = not (takes_argument kind)
+fits (Some (Name n)) kind = takes_argument kind
+fits (Some Value) kind = takes_argument kind
+fits due kind = false
 
 -- the option's bit is its own, and what is due with its name is its own
 abbrev own : Command → List CommandOption → CommandOption → Bool
-own c options o = fits (due_of c (option_name o.name)) o.mark && (list_all (alike o.bit (option_name o.name)) options && list_any (λ p. has_bit p.bit o.bit) options)
+own c options o = fits (due_of c (option_name o.name)) o.kind && (list_all (alike o.bit (option_name o.name)) options && list_any (λ p. has_bit p.bit o.bit) options)
 
 all_own : (c : Command) → list_all (own c (row_of c).options) (row_of c).options ≡ true
 unfolding due_of option_called common_due condition_due has_bit
@@ -136,7 +136,7 @@ all_own = each_command (λ c. list_all (own c (row_of c).options) (row_of c).opt
 
 -- ---- the arguments given
 
-suited : (d : DueStatement) (a : Argument) (m : ArgumentKind) → fits (Some d) m ≡ true → suits d a ≡ true → is_some (text_in a) ≡ takes_argument m
+suited : (d : DueArgument) (a : Argument) (m : ArgumentKind) → fits (Some d) m ≡ true → suits d a ≡ true → is_some (text_in a) ≡ takes_argument m
 unfolding suits
 suited Nothing Absent m f s = not_so (takes_argument m) f
   where
@@ -153,7 +153,7 @@ suited Value (Given text) m f s = sym f
 suited Value Bad m f s = absurd (cc)
 suited Label a m f s = absurd (cc)
 
-right_by : (d : Option DueStatement) (a : Argument) (m : ArgumentKind) → fits d m ≡ true → is_wrong d a ≡ false → is_some (text_in a) ≡ takes_argument m
+right_by : (d : Option DueArgument) (a : Argument) (m : ArgumentKind) → fits d m ≡ true → is_wrong d a ≡ false → is_some (text_in a) ≡ takes_argument m
 right_by None a m f w = absurd (cc)
 right_by (Some d) a m f w = suited d a m f (truth (suits d a) w)
   where
@@ -179,7 +179,7 @@ argued c (word ∷ rest) name m f w =
         right_by (due_of c word.name) word.argument m (rw same f) d
     go false e false d v more = more v
 
-one_operand : (o : CommandOption) (t : Option (List ℕ)) → length (operand_by o.mark t) ≡ cond (is_some t) 1 0
+one_operand : (o : CommandOption) (t : Option (List ℕ)) → length (operand_by o.kind t) ≡ cond (is_some t) 1 0
 one_operand o None = refl
 one_operand o (Some t) = refl
 
@@ -223,12 +223,12 @@ operands_read : (c : Command) (words : List Word) (options rest : List CommandOp
 operands_read c words options [] h w = refl
 operands_read c words options (o ∷ rest) h w =
     let p = and_parts (own c options o) (list_all (own c options) rest) h in
-    let q = and_parts (fits (due_of c (option_name o.name)) o.mark) (list_all (alike o.bit (option_name o.name)) options && list_any (λ p. has_bit p.bit o.bit) options) p.0 in
+    let q = and_parts (fits (due_of c (option_name o.name)) o.kind) (list_all (alike o.bit (option_name o.name)) options && list_any (λ p. has_bit p.bit o.bit) options) p.0 in
     let r = and_parts (list_all (alike o.bit (option_name o.name)) options) (list_any (λ p. has_bit p.bit o.bit) options) q.1 in
     let bit = own_bit words o options r.0 r.1 in
-    let text = argued c words (option_name o.name) o.mark q.0 w in
+    let text = argued c words (option_name o.name) o.kind q.0 w in
     let more = operands_read c words options rest p.1 w in
-    length-append (operand_by o.mark (argument_of words (option_name o.name))) (operands_of rest words)
+    length-append (operand_by o.kind (argument_of words (option_name o.name))) (operands_of rest words)
     ∙ rw (one_operand o (argument_of words (option_name o.name)), text, more, ← bit) refl
     ∙ sym (one_option (fold (with_option words) 0 options) o rest)
 
@@ -322,7 +322,7 @@ response_read : (c : Command) (words : List Word) → has_wrong c words ≡ fals
     → length (option_to_list (argument_of words (common_of Resp).name)) ≡ cond (has_bit (second_byte words) (common_of Resp).bit) 1 0
 response_read c words w =
     one_text (argument_of words (common_of Resp).name)
-    ∙ ap (λ b. cond b 1 0) (argued c words (common_of Resp).name mark.Halfword (rw (response_due c) refl) w ∙ and_true (is_given words (common_of Resp).name) ∙ sym (response_bit words))
+    ∙ ap (λ b. cond b 1 0) (argued c words (common_of Resp).name kind.Halfword (rw (response_due c) refl) w ∙ and_true (is_given words (common_of Resp).name) ∙ sym (response_bit words))
 
 -- the block, the options' arguments, the labels and RESP's argument
 pub all_read : (line : ℕ) (c : Command) (cics named words : List Word) → fault_in line c cics named words ≡ None

@@ -19,7 +19,7 @@ use Rattle.cx_translate.specs.declared.words.Argument.{Argument}
 use Rattle.cx_translate.specs.declared.words.Argument.TheVariants.{Given}
 use Rattle.cx_translate.specs.declared.words.Word.{Word}
 use Rattle.cx_translate.specs.Names.{bare_argument, is_quoted}
-use Rattle.cx_translate.specs.PendingStatements.{condition_called}
+use Rattle.cx_translate.specs.DueArguments.{condition_called}
 use Rattle.cx_translate.specs.Refusals.{first_byte, second_byte}
 
 abbrev pub text_in : Argument → Option (List ℕ)
@@ -40,12 +40,12 @@ unfoldable pub operand_of : ArgumentKind → List ℕ → List ℕ
 operand_of Pointer text = codes "DFHEITP"
 operand_of Name4 text = name_operand (codes "=CL4") text
 operand_of Name8 text = name_operand (codes "=CL8") text
-operand_of mark text = text
+operand_of kind text = text
 
 -- the arguments of the options given, in the order of the command's options
 abbrev pub operands_of : List CommandOption → List Word → List (List ℕ)
 operands_of options words =
-    flat_map (λ o. option_to_list (option_map (operand_of o.mark) (argument_of words (option_name o.name)))) options
+    flat_map (λ o. option_to_list (option_map (operand_of o.kind) (argument_of words (option_name o.name)))) options
 
 -- the labels of the conditions listed, in the order written
 abbrev pub labels_of : List Word → List (List ℕ)
@@ -82,8 +82,8 @@ list_of command words =
 
 abbrev pub pointer_by : ArgumentKind → Option (List ℕ) → List (List ℕ)
 pointer_by Pointer (Some register) = register ∷ []
-pointer_by mark argument = []
+pointer_by kind argument = []
 
 -- the registers that the command's pointers are loaded into
 abbrev pub pointers_of : List CommandOption → List Word → List (List ℕ)
-pointers_of options words = flat_map (λ option. pointer_by option.mark (argument_of words (option_name option.name))) options
+pointers_of options words = flat_map (λ option. pointer_by option.kind (argument_of words (option_name option.name))) options

@@ -2,7 +2,7 @@
 pub mod Pieces
 pub mod Words
 pub mod Names
-pub mod PendingStatements
+pub mod DueArguments
 pub mod Refusals
 pub mod Call
 pub mod Expansion

@@ -12,10 +12,10 @@ use Rattle.cx_base_commands.specs.Options.{common_of, option_name}
 use Rattle.cx_base_commands.specs.Commands.{row_of, command_named}
 use Rattle.cx_base_commands.specs.Legal.{has_bit, is_legal, lists_conditions}
 use Rattle.cx_translate.specs.declared.words.Word.{Word}
-use Rattle.cx_translate.specs.declared.due.DueStatement.TheVariants.{Nothing}
+use Rattle.cx_translate.specs.declared.due_arguments.DueArgument.TheVariants.{Nothing}
 use Rattle.cx_translate.specs.declared.faults.TransFault.{TransFault}
 use Rattle.cx_translate.specs.declared.faults.TransFault.TheVariants.{UnknownCommand, UnknownOption, MissingOption, Conflict, TooManyConditions, BadArgument, Memory}
-use Rattle.cx_translate.specs.PendingStatements.{condition_called, due_of, suits}
+use Rattle.cx_translate.specs.DueArguments.{condition_called, due_of, suits}
 
 -- a fault's name
 abbrev pub fault_name : TransFault → List ℕ

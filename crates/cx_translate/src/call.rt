@@ -5,7 +5,7 @@ ghost use Rattle.std.specs.List.{flat_map};
 ghost use Rattle.std.specs.Option.{option_to_list, option_and};
 ghost use Rattle.cx_base_commands.specs.Options.{option_name};
 ghost use Rattle.cx_base_commands.specs.declared.legal.ListedCondition.{ListedCondition};
-ghost use Rattle.cx_translate.specs.PendingStatements.{condition_called};
+ghost use Rattle.cx_translate.specs.DueArguments.{condition_called};
 ghost use Rattle.cx_translate.specs.Refusals.{has_too_many};
 ghost use Rattle.cx_translate.specs.Call.{
   argument_of,
@@ -24,7 +24,7 @@ ghost use Rattle.cx_translate.specs.Call.{
   text_in,
 };
 
-use crate::due::condition_called;
+use crate::due_arguments::condition_called;
 use crate::names::{bare, is_quoted};
 use crate::refusals::{first_byte, second_byte};
 use crate::words::{Argument, Word};
@@ -67,12 +67,12 @@ fn name_operand(alloc: Global, literal: &[u8], text: &[u8]) -> Result<Text, Allo
     Ok(Text::from_vec(operand))
 }
 
-/// What the argument of an option with this mark is in the list.
+/// What the argument of an option with this kind is in the list.
 #[tactic(auto, unfolding(crate::specs::Call::operand_of))]
-fn operand_of(alloc: Global, mark: ArgumentKind, text: &[u8]) -> Result<Text, AllocError>
-    ensures { IfOk result (λ operand. operand ≡ operand_of mark text.now) }
+fn operand_of(alloc: Global, kind: ArgumentKind, text: &[u8]) -> Result<Text, AllocError>
+    ensures { IfOk result (λ operand. operand ≡ operand_of kind text.now) }
 {
-    match mark {
+    match kind {
         ArgumentKind::Pointer => Text::from_slice(alloc, b"DFHEITP"),
         ArgumentKind::Name4 => name_operand(alloc, b"=CL4", text),
         ArgumentKind::Name8 => name_operand(alloc, b"=CL8", text),
@@ -87,11 +87,11 @@ fn push_operand(
     option: CommandOption,
     words: &[Word],
 ) -> Result<(), AllocError>
-    ensures { let operand = option_map (operand_of option.mark) (argument_of words.now (option_name option.name)) in
+    ensures { let operand = option_map (operand_of option.kind) (argument_of words.now (option_name option.name)) in
         OnOk result (list.new.items ≡ list.old.items ++ option_to_list operand) }
 {
     if let Some(text) = argument_of(words, option.name.name().as_bytes()) {
-        list.push(operand_of(alloc, option.mark, text)?)?;
+        list.push(operand_of(alloc, option.kind, text)?)?;
     }
     Ok(())
 }
@@ -245,9 +245,9 @@ fn push_pointer(
     words: &[Word],
 ) -> Result<(), AllocError>
     ensures { let argument = argument_of words.now (option_name option.name) in
-        OnOk result (registers.new.items ≡ registers.old.items ++ pointer_by option.mark argument) }
+        OnOk result (registers.new.items ≡ registers.old.items ++ pointer_by option.kind argument) }
 {
-    if let ArgumentKind::Pointer = option.mark {
+    if let ArgumentKind::Pointer = option.kind {
         if let Some(text) = argument_of(words, option.name.name().as_bytes()) {
             registers.push(Text::from_slice(alloc, text)?)?;
         }

@@ -20,13 +20,15 @@ ghost use Rattle.cx_translate.specs.declared.words.Word.{Word};
 /// An operand's words and arguments, joined again, are the operand without the blanks between them.
 #[tactic(auto, using(crate::proofs::PieceLemmas::joined_again))]
 pub fn pieces_are_the_operand()
-    ensures { (operand : List ℕ) → joined (pieces_of operand) ≡ unblanked_from 0 (outside_apostrophes operand) operand }
+    ensures { (operand : List ℕ)
+        → joined (pieces_of operand) ≡ unblanked_from 0 (outside_apostrophes operand) operand }
 {}
 
 /// The option bytes of an accepted statement are legal for its command.
 #[tactic(auto, using(crate::proofs::RefusalLemmas::legal_bytes))]
 pub fn accepted_bytes_are_legal()
-    ensures { (n : ℕ) (command : Command) (cics named words : List Word) → fault_in n command cics named words ≡ None
+    ensures { (n : ℕ) (command : Command) (cics named words : List Word)
+        → fault_in n command cics named words ≡ None
         → is_legal command (first_byte command words) (second_byte words) ≡ true }
 {}
 
@@ -42,21 +44,24 @@ pub fn accepted_conditions_are_legal()
 pub fn accepted_conditions_are_counted()
     ensures number { (command : Command) (words : List Word) → lists_conditions command ≡ true
         → first_byte command words ≡ length (listed_of words) }
-    ensures others { (line : ℕ) (command : Command) (cics named words : List Word) → lists_conditions command ≡ false
+    ensures others { (line : ℕ) (command : Command) (cics named words : List Word)
+        → lists_conditions command ≡ false
         → fault_in line command cics named words ≡ None → length (listed_of words) ≡ 0 }
 {}
 
 /// The argument list of an accepted statement has at most the eighteen words that DFHEIPL has.
 #[tactic(auto, using(crate::proofs::CountLemmas::at_most_18))]
 pub fn accepted_lists_have_room()
-    ensures { (n : ℕ) (command : Command) (cics named words : List Word) → fault_in n command cics named words ≡ None
+    ensures { (n : ℕ) (command : Command) (cics named words : List Word)
+        → fault_in n command cics named words ≡ None
         → length (list_of command words) ≤ 18 }
 {}
 
 /// It has exactly the words that the command reads of it.
 #[tactic(auto, using(crate::proofs::ReadLemmas::all_read))]
 pub fn accepted_lists_are_read()
-    ensures { (n : ℕ) (command : Command) (cics named words : List Word) → fault_in n command cics named words ≡ None
+    ensures { (n : ℕ) (command : Command) (cics named words : List Word)
+        → fault_in n command cics named words ≡ None
         → let read = words_read command (first_byte command words) (second_byte words) (listed_of words) in
         length (list_of command words) ≡ read }
 {}
@@ -64,18 +69,21 @@ pub fn accepted_lists_are_read()
 /// A source without an EXEC statement stays as it is.
 #[tactic(auto, using(crate::proofs::RefusalLemmas::no_exec))]
 pub fn a_source_without_exec_stays()
-    ensures { (source : Source) → list_any begins_exec source.items ≡ false → translation_of source ≡ Ok source }
+    ensures { (source : Source) → list_any begins_exec source.items ≡ false
+        → translation_of source ≡ Ok source }
 {}
 
 /// Each line that is no part of an EXEC statement is in the translation, in the same order.
 #[tactic(auto, using(crate::proofs::KeptLemmas::lines_stay))]
 pub fn other_lines_stay()
-    ensures { (source made : Source) → translation_of source ≡ Ok made → AreAmong (kept false source.items) made.items }
+    ensures { (source made : Source) → translation_of source ≡ Ok made
+        → AreAmong (kept false source.items) made.items }
 {}
 
 /// The lines on which statements begin ascend where they did in the source.
 #[tactic(auto, using(crate::proofs::AscentLemmas::lines_ascend))]
 pub fn lines_ascend_where_they_did()
-    ensures { (source made : Source) → AscendFrom 0 (statement_lines source.items) → translation_of source ≡ Ok made
+    ensures { (source made : Source) → AscendFrom 0 (statement_lines source.items)
+        → translation_of source ≡ Ok made
         → AscendFrom 0 (statement_lines made.items) }
 {}

@@ -2,10 +2,10 @@
 #![tactic(auto)]
 
 mod call;
-mod due;
+mod due_arguments;
+mod expansion;
 mod faults;
 pub mod laws;
-mod made;
 mod names;
 mod pieces;
 mod refusals;
@@ -13,7 +13,7 @@ mod sections;
 mod translation;
 mod words;
 
-pub use due::DueStatement;
+pub use due_arguments::DueArgument;
 pub use faults::TransFault;
 pub use pieces::Token;
 pub use translation::{translate, translate_or_faults};

@@ -21,9 +21,9 @@ ghost use Rattle.cx_translate.specs.Refusals.{
 };
 ghost use Rattle.cx_base_commands.specs.Legal.{has_bit};
 ghost use Rattle.cx_base_commands.specs.Options.{common_of, option_name};
-ghost use Rattle.cx_translate.specs.PendingStatements.{due_of, suits};
+ghost use Rattle.cx_translate.specs.DueArguments.{due_of, suits};
 
-use crate::due::{DueStatement, condition_called, due_of, suits};
+use crate::due_arguments::{DueArgument, condition_called, due_of, suits};
 use crate::faults::TransFault;
 use crate::words::Word;
 use cx_base_commands::{Command, CommandOption, CommonOption, Rule, has_bit};
@@ -59,7 +59,7 @@ fn has_argument(words: &[Word]) -> bool
 {
     words
         .iter()
-        .any(|word| !suits(DueStatement::Nothing, &word.argument))
+        .any(|word| !suits(DueArgument::Nothing, &word.argument))
 }
 
 /// Whether some word is of a name.

@@ -26,7 +26,7 @@ ghost use Rattle.cx_translate.specs.Sections.{
   with_storage,
 };
 
-use crate::made::{made_item, stmt};
+use crate::expansion::{made_item, stmt};
 use cx_base_commands::{EibField, EibPiece, EistgField, eib_pieces};
 use cx_source::{Item, Stmt, is_continued};
 use std::alloc::{AllocError, Global};
@@ -162,7 +162,8 @@ fn field(alloc: Global, piece: EibPiece) -> Result<Stmt, AllocError>
 
 /// The EIB.
 fn eib_section(alloc: Global) -> Result<Vec<Stmt>, AllocError>
-    ensures { IfOk result (λ made. made.items ≡ stmt (codes "DFHEIBLK") (codes "DSECT") [] ∷ map field eib_pieces) }
+    ensures { IfOk result
+        (λ made. made.items ≡ stmt (codes "DFHEIBLK") (codes "DSECT") [] ∷ map field eib_pieces) }
 {
     let mut made = Vec::new(alloc);
     made.push(stmt(alloc, b"DFHEIBLK", b"DSECT", b"")?)?;

@@ -19,8 +19,8 @@ ghost use Rattle.cx_translate.specs.Translation.{
   translation_or_faults,
 };
 
+use crate::expansion::statements_of;
 use crate::faults::TransFault;
-use crate::made::statements_of;
 use crate::sections::{begins_exec, lines, put_bases, put_eib, put_storage};
 use cx_base_lists::List;
 use cx_source::{Item, Items, Source, is_continued};
@@ -68,7 +68,8 @@ fn expansion(alloc: Global, continues: bool, item: &Item) -> Result<Vec<Item>, T
 fn expanded(alloc: Global, items: &[Item]) -> Result<Vec<Item>, TransFault>
     ensures sound { OnOk result (statement_faults items.now ≡ []) }
     ensures made { IfOk result (λ made. made.items ≡ expanded_items false items.now) }
-    ensures fault { IfErr result (λ fault. fault ≢ Memory → slice_get (statement_faults items.now) 0 ≡ Some fault) }
+    ensures fault { IfErr result
+        (λ fault. fault ≢ Memory → slice_get (statement_faults items.now) 0 ≡ Some fault) }
 {
     let mut made = Vec::new(alloc);
     let mut continues = false;
@@ -167,7 +168,8 @@ fn expand_all(
 ) -> Result<Vec<Item>, AllocError>
     requires { faults.old.items ≡ [] }
     ensures faults { OnOk result (faults.new.items ≡ statement_faults items.now) }
-    ensures made { IfOk result (λ made. statement_faults items.now ≡ [] → made.items ≡ expanded_items false items.now) }
+    ensures made { IfOk result
+        (λ made. statement_faults items.now ≡ [] → made.items ≡ expanded_items false items.now) }
 {
     let mut made = Vec::new(alloc);
     let mut continues = false;

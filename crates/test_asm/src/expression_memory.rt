@@ -5,19 +5,19 @@ use cx_asm_expressions::{Constant, FaultKind, SymbolTable, TermFault, Value, val
 use std::alloc::{AllocError, Global};
 use std::test::Fail;
 
-/// Whether an expression is worth a number, or has a fault. An error means out of memory.
-fn is_worth(
+/// Whether an expression has this value, or this fault. An error means out of memory.
+fn has_value(
     alloc: Global,
     symbols: &SymbolTable,
     text: &[u8],
-    worth: Result<i128, FaultKind>,
+    due: Result<i128, FaultKind>,
 ) -> Result<bool, AllocError> {
     match value_of(alloc, text, symbols, None) {
-        Ok(value) => Ok(match worth {
+        Ok(value) => Ok(match due {
             Ok(number) => value == Value::absolute(number),
             Err(_) => false,
         }),
-        Err(TermFault::Refused(fault)) => Ok(worth == Err(fault)),
+        Err(TermFault::Refused(fault)) => Ok(due == Err(fault)),
         Err(TermFault::Memory) => Err(AllocError),
     }
 }
@@ -42,9 +42,9 @@ fn is_made(
 /// Whether expressions and constants over the tests' symbols are answered as they should be, each by itself.
 fn answers(alloc: Global, symbols: &SymbolTable) -> [Result<bool, AllocError>; 6] {
     [
-        is_worth(alloc, symbols, b"1+2-B'1'", Ok(2)),
-        is_worth(alloc, symbols, b"X-Z", Err(FaultKind::NotRelocatable)),
-        is_worth(alloc, symbols, b"X-NONE", Err(FaultKind::UndefinedSymbol)),
+        has_value(alloc, symbols, b"1+2-B'1'", Ok(2)),
+        has_value(alloc, symbols, b"X-Z", Err(FaultKind::NotRelocatable)),
+        has_value(alloc, symbols, b"X-NONE", Err(FaultKind::UndefinedSymbol)),
         is_made(alloc, symbols, b"CL3'A'", b"\xC1\x40\x40"),
         is_made(
             alloc,
@@ -57,7 +57,7 @@ fn answers(alloc: Global, symbols: &SymbolTable) -> [Result<bool, AllocError>; 6
 }
 
 #[test]
-fn a_refused_growth_is_no_other_answer(rt: HostRuntime) {
+fn a_refused_allocation_is_no_other_answer(rt: HostRuntime) {
     let alloc = rt.alloc();
     let mut symbols = match table(alloc) {
         Ok(symbols) => symbols,

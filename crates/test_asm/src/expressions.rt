@@ -3,7 +3,7 @@ use crate::symbols::{name, table};
 use cx_asm_expressions::{FaultKind, SymbolTable, TermFault, Value, value_of};
 use std::alloc::Global;
 
-/// Expressions with what they are worth: section, number, length attribute. `*` is P+20 with the length 6.
+/// Expressions with their values: section, number, length attribute. `*` is P+20 with the length 6.
 const WORTH: &[(&[u8], &[u8], i128, u128)] = &[
     (b"L'X+1", b"", 5, 1),
     (b"X-Y", b"", 8, 4),
@@ -51,7 +51,7 @@ const FAULTS: &[(&[u8], FaultKind)] = &[
     (b"NONE+1A", FaultKind::BadOperand),
 ];
 
-fn is_worth(alloc: Global, symbols: &SymbolTable, row: (&[u8], &[u8], i128, u128)) -> bool {
+fn has_value(alloc: Global, symbols: &SymbolTable, row: (&[u8], &[u8], i128, u128)) -> bool {
     let here = Value {
         section: name(b"P"),
         number: 20,
@@ -70,11 +70,11 @@ fn is_fault(alloc: Global, symbols: &SymbolTable, text: &[u8], fault: FaultKind)
 }
 
 #[test]
-fn expressions_are_worth_their_rows(rt: HostRuntime) {
+fn expressions_have_their_values(rt: HostRuntime) {
     let alloc = rt.alloc();
     let symbols = table(alloc).expect(&rt, "the symbols");
     for &row in WORTH {
-        assert!(rt; is_worth(alloc, &symbols, row));
+        assert!(rt; has_value(alloc, &symbols, row));
     }
 }
 

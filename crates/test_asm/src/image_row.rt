@@ -94,7 +94,7 @@ fn expect_answers<R: Abort + AllocGlobal>(rt: &R) -> Result<(), AllocError> {
 
 /// No other answer takes the place of a refusal; `examples/refuse-tests` refuses each allocation in turn.
 #[test]
-fn a_refused_growth_is_no_other_answer(rt: HostRuntime) {
+fn a_refused_allocation_is_no_other_answer(rt: HostRuntime) {
     let _answer = expect_answers(&rt);
 }
 

@@ -63,7 +63,7 @@ fn answers(alloc: Global, symbols: &SymbolTable, bases: &Bases) -> [Result<bool,
 }
 
 #[test]
-fn a_refused_growth_is_no_other_answer(rt: HostRuntime) {
+fn a_refused_allocation_is_no_other_answer(rt: HostRuntime) {
     let alloc = rt.alloc();
     let symbols = match table(alloc) {
         Ok(symbols) => symbols,

@@ -1,5 +1,5 @@
 //! Where statements and literals are.
-use crate::pass1_texts::{placed, worth};
+use crate::pass1_texts::{placed, value_of_symbol};
 use std::test::Fail;
 
 #[rattlefmt::skip]
@@ -63,12 +63,12 @@ const WORTH: &[(&[u8], &str)] = &[
 ];
 
 #[test]
-fn symbols_are_worth_that(rt: HostRuntime) -> Result<(), Fail> {
+fn symbols_have_their_values(rt: HostRuntime) -> Result<(), Fail> {
     for &(name, value) in WORTH {
-        let found = worth(rt.alloc(), SYMBOLS, name)?;
+        let found = value_of_symbol(rt.alloc(), SYMBOLS, name)?;
         assert!(rt; found.as_str() == value, "{}", found.as_str());
     }
-    let difference = worth(
+    let difference = value_of_symbol(
         rt.alloc(),
         b"D DSECT\nA DS 4294967295XL8192\nB DS X\nC EQU B-A-B+A+1\nP CSECT\n END\n",
         b"C",

@@ -51,8 +51,8 @@ pub(crate) fn placed(alloc: Global, source: &[u8]) -> Result<String, Fail> {
     }
 }
 
-/// What a symbol of a source is worth: its number, its length attribute, and `+` where it is in a section.
-pub(crate) fn worth(alloc: Global, source: &[u8], name: &[u8]) -> Result<String, Fail> {
+/// The value of a symbol of a source: its number, its length attribute, and `+` where it is in a section.
+pub(crate) fn value_of_symbol(alloc: Global, source: &[u8], name: &[u8]) -> Result<String, Fail> {
     let source = read_source(alloc, source)?;
     let Ok(places) = place_all(alloc, &source)? else {
         return Ok(format!(in alloc; "refused")?);

@@ -98,10 +98,10 @@ fn abends_have_codes(rt: HostRuntime) {
     }
 }
 
-/// An option of a command: its bit, its name, its mark, and whether it is required.
+/// An option of a command: its bit, its name, its kind, and whether it is required.
 fn option_of(command: Command, place: usize) -> Option<(u8, OptionName, ArgumentKind, bool)> {
     let option = command.options().get(place)?;
-    Some((option.bit, option.name, option.mark, option.required))
+    Some((option.bit, option.name, option.kind, option.required))
 }
 
 #[test]
@@ -152,7 +152,7 @@ fn common_options_have_bits_of_option_byte_2(rt: HostRuntime) {
 /// The bit and the mark of a command's option of this name.
 fn marked(command: Command, name: OptionName) -> Option<(u8, ArgumentKind)> {
     let option = command.option(name)?;
-    Some((option.bit, option.mark))
+    Some((option.bit, option.kind))
 }
 
 #[test]
@@ -220,13 +220,13 @@ fn arguments_stand_in_the_order_of_their_options(rt: HostRuntime) {
 }
 
 /// How many bytes a command reads at an argument.
-fn input(command: Command, first: u8, mark: ArgumentKind, length: Option<u16>) -> u16 {
-    command.input_len(first, mark, length)
+fn input(command: Command, first: u8, kind: ArgumentKind, length: Option<u16>) -> u16 {
+    command.input_len(first, kind, length)
 }
 
 #[test]
 fn inputs_have_lengths(rt: HostRuntime) {
-    for (command, first, mark, length, bytes) in [
+    for (command, first, kind, length, bytes) in [
         (Command::Xctl, 0xE0, ArgumentKind::BytesRead, Some(8), 8),
         (
             Command::WriteqTs,
@@ -278,7 +278,7 @@ fn inputs_have_lengths(rt: HostRuntime) {
             2,
         ),
     ] {
-        assert!(rt; input(command, first, mark, length) == bytes, "{first:02x}");
+        assert!(rt; input(command, first, kind, length) == bytes, "{first:02x}");
     }
 }
 

@@ -133,13 +133,13 @@ fn apply(alloc: Global, acts: &[Act], event: &Event) -> Result<Option<Reply>, Fa
 }
 
 /// Whether the first terminal's definition, as an event after some calls, is answered so.
-fn terminal_happens(alloc: Global, acts: &[Act], expected: Reply) -> Result<bool, Fail> {
+fn terminal_applies(alloc: Global, acts: &[Act], expected: Reply) -> Result<bool, Fail> {
     let event = Event::Terminal(terminal(FIRST));
     Ok(apply(alloc, acts, &event)? == Some(expected))
 }
 
 /// Whether the first transaction's key, as an event after some calls, is answered so.
-fn key_happens(alloc: Global, acts: &[Act], expected: Reply) -> Result<bool, Fail> {
+fn key_applies(alloc: Global, acts: &[Act], expected: Reply) -> Result<bool, Fail> {
     let bytes = Vec::from_slice(alloc, &[0xD9, 0xC5, 0xE3, 0xF1])?;
     let event = Event::Key(terminal(FIRST), Aid::Enter, Bytes::from_vec(bytes));
     Ok(apply(alloc, acts, &event)? == Some(expected))
@@ -150,11 +150,11 @@ fn an_event_is_answered_as_its_call(rt: HostRuntime) -> Result<(), Fail> {
     let alloc = rt.alloc();
     let acts = acts_of(&ONE_COMMAND);
     let duplicate = Reply::Terminal(Err(DefineFault::Duplicate));
-    assert!(rt; terminal_happens(alloc, &acts[..3], duplicate)?);
+    assert!(rt; terminal_applies(alloc, &acts[..3], duplicate)?);
     let attached = Reply::Key(KeyReply::Attached);
-    assert!(rt; key_happens(alloc, &acts[..3], attached)?);
+    assert!(rt; key_applies(alloc, &acts[..3], attached)?);
     let held = Reply::Key(KeyReply::AlreadyHeldInput);
-    assert!(rt; key_happens(alloc, &acts[..4], held)?);
+    assert!(rt; key_applies(alloc, &acts[..4], held)?);
     Ok(())
 }
 

@@ -113,7 +113,7 @@ fn with_block<R: AllocGlobal>(
 }
 
 #[test]
-fn each_fault_is_told_by_the_scripts_line(rt: HostRuntime) -> Result<(), Fail> {
+fn each_fault_is_reported_by_the_scripts_line(rt: HostRuntime) -> Result<(), Fail> {
     for (block, line, kind) in &FAULTS {
         let script = with_block(
             &rt,

@@ -92,10 +92,10 @@ fn each_faulty_statement_is_refused(rt: HostRuntime) -> Result<(), Fail> {
 }
 
 #[test]
-fn the_first_faulty_statement_is_told_with_its_line(rt: HostRuntime) -> Result<(), Fail> {
+fn the_first_faulty_statement_is_reported_with_its_line(rt: HostRuntime) -> Result<(), Fail> {
     let source: &[u8] =
         b"P        CSECT\n         EXEC  CICS RETURN\n         EXEC  CICS LINK                                               X\n               PROGRAM\n         EXEC  CICS RETRUN\n         END\n";
-    let told = translated(rt.alloc(), source)?;
-    assert!(rt; told.as_slice() == b"line 3: BadArgument".as_slice());
+    let reported = translated(rt.alloc(), source)?;
+    assert!(rt; reported.as_slice() == b"line 3: BadArgument".as_slice());
     Ok(())
 }

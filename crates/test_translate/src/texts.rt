@@ -92,7 +92,7 @@ pub(crate) fn translated(alloc: Global, bytes: &[u8]) -> Result<Vec<u8>, SourceF
     let source = read_source(alloc, bytes)?;
     match translate(alloc, &source) {
         Ok(made) => Ok(numbered(alloc, &made)?),
-        Err(fault) => Ok(told(alloc, fault)?),
+        Err(fault) => Ok(reported(alloc, fault)?),
     }
 }
 
@@ -100,11 +100,11 @@ pub(crate) fn translated(alloc: Global, bytes: &[u8]) -> Result<Vec<u8>, SourceF
 pub(crate) fn suspended(alloc: Global, ends: &[usize]) -> Result<Vec<u8>, AllocError> {
     match translate(alloc, &section_with_ends(alloc, b"CICS SUSPEND", ends)?) {
         Ok(made) => numbered(alloc, &made),
-        Err(fault) => told(alloc, fault),
+        Err(fault) => reported(alloc, fault),
     }
 }
 
-fn told(alloc: Global, fault: TransFault) -> Result<Vec<u8>, AllocError> {
+fn reported(alloc: Global, fault: TransFault) -> Result<Vec<u8>, AllocError> {
     let text = format!(in alloc; "{fault}")?;
     Ok(text.into_bytes())
 }

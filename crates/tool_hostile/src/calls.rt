@@ -47,9 +47,9 @@ const OFTEN: [Command; 9] = [
     Command::Receive,
 ];
 
-/// Where an argument of a mark may be.
-fn fields_of(mark: ArgumentKind) -> &'static [u16] {
-    match mark {
+/// Where an argument of a kind may be.
+fn fields_of(kind: ArgumentKind) -> &'static [u16] {
+    match kind {
         ArgumentKind::Name4 | ArgumentKind::Name8 => &NAMES,
         ArgumentKind::Halfword
         | ArgumentKind::HalfwordBothWays
@@ -89,8 +89,8 @@ fn push_arguments(
     first: u8,
 ) -> Result<(), AllocError> {
     for option in command.options() {
-        if has_bit(first, option.bit) && option.mark.takes_argument() {
-            let field = draws.pick(fields_of(option.mark)).unwrap_or(BYTES);
+        if has_bit(first, option.bit) && option.kind.takes_argument() {
+            let field = draws.pick(fields_of(option.kind)).unwrap_or(BYTES);
             code.argument(field)?;
         }
     }

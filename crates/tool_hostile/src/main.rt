@@ -111,7 +111,7 @@ struct Finding {
 const NO_ANSWER: (&str, &str) = ("nothing", "");
 
 /// What ended a trial after `events` events.
-fn told_of(
+fn reported_of(
     stop: Stop,
     events: u64,
     answer: (&'static str, &'static str),
@@ -135,7 +135,7 @@ fn run_trial(
 ) -> Result<Option<Finding>, AllocError> {
     match trial.run(turns, draws, counts) {
         Ok(()) => Ok(None),
-        Err(stop) => told_of(stop, trial.events, trial.last_words()),
+        Err(stop) => reported_of(stop, trial.events, trial.last_words()),
     }
 }
 
@@ -151,7 +151,7 @@ fn met(
     }
     match trial_of(alloc, case) {
         Ok(mut trial) => run_trial(&mut trial, case.turns, draws, counts),
-        Err(stop) => told_of(stop, 0, NO_ANSWER),
+        Err(stop) => reported_of(stop, 0, NO_ANSWER),
     }
 }
 

@@ -6,17 +6,17 @@ use Rattle.std.proofs.lemmas.Bool.Decides.{nat_tests}
 use Rattle.cx_asm_pass1.specs.AllFaults.{place_faults}
 use Rattle.cx_asm_pass1.specs.Facts.AllFaults as places
 use Rattle.cx_asm_pass1.specs.PassState.{line_fault}
-use Rattle.cx_asm_pass1.specs.Locations.{known_of}
+use Rattle.cx_asm_pass1.specs.Locations.{final_state}
 use Rattle.cx_asm_pass1.specs.declared.place.LineFault.{LineFault}
 use Rattle.cx_source.specs.declared.source.Source.{Source}
 use Rattle.cx_asm.specs.Assembly.{AssemblyParts, assembly_faults, assembly_of, end_line, fault_at, first_found, made_of, second_faults_of, size_faults, size_of}
 use Rattle.cx_asm.specs.declared.faults.AsmFault.{AsmFault}
 use Rattle.cx_asm_expressions.specs.declared.faults.FaultKind.TheVariants as kind
 
-abbrev told : Option LineFault → AssemblyParts → Result AssemblyParts AsmFault
-told first made = option_map_or (λ f. Err (fault_at f)) first (Ok made)
+abbrev made_or_fault : Option LineFault → AssemblyParts → Result AssemblyParts AsmFault
+made_or_fault first made = option_map_or (λ f. Err (fault_at f)) first (Ok made)
 
-made_without : (faults : List LineFault) (one made : AssemblyParts) → told (slice_get faults 0) one ≡ Ok made → (faults ≡ []) × (one ≡ made)
+made_without : (faults : List LineFault) (one made : AssemblyParts) → made_or_fault (slice_get faults 0) one ≡ Ok made → (faults ≡ []) × (one ≡ made)
 made_without [] one made e = (refl, cc)
 made_without (first ∷ more) one made e = absurd (cc)
 
@@ -32,7 +32,7 @@ short : (size : ℕ) → nat_le size 65536 ≡ true → size ≤ 65536
 short size e = grind (arith, nat_tests)
 
 pub record Accepted (source : Source) (made : AssemblyParts) : Type 0 where
-  pub sound : (known_of source).fault ≡ None
+  pub sound : (final_state source).fault ≡ None
   pub second : second_faults_of source ≡ []
   pub short : size_of source ≤ 65536
   pub made_is : made_of source ≡ made

@@ -8,11 +8,11 @@ use Rattle.cx_asm_pass1.specs.declared.place.LineFault.{LineFault}
 use Rattle.cx_asm.specs.Assembly.{AssemblyParts, assembly_faults, assembly_of, fault_at, made_of}
 use Rattle.cx_asm.specs.declared.faults.AsmFault.{AsmFault}
 
-told : (made : AssemblyParts) (first : Option LineFault)
+reported : (made : AssemblyParts) (first : Option LineFault)
     → result_err {T = AssemblyParts} {E = AsmFault} (option_map_or (λ f. Err (fault_at f)) first (Ok made)) ≡ option_map fault_at first
-told made None = refl
-told made (Some first) = refl
+reported made None = refl
+reported made (Some first) = refl
 
-pub first_is_told : (source : Source) → result_err (assembly_of source) ≡ option_map fault_at (slice_get (assembly_faults source) 0)
+pub first_is_reported : (source : Source) → result_err (assembly_of source) ≡ option_map fault_at (slice_get (assembly_faults source) 0)
 unfolding assembly_of
-first_is_told source = told (made_of source) (slice_get (assembly_faults source) 0)
+first_is_reported source = reported (made_of source) (slice_get (assembly_faults source) 0)

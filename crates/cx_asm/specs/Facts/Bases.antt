@@ -6,7 +6,7 @@ use Rattle.std.proofs.Common.{◌≡◌, ℕ, Option, Some, None, List, [], ◌�
 use Rattle.std.proofs.lemmas.List.{length-set}
 use Rattle.cx_asm_expressions.specs.declared.faults.FaultKind.{FaultKind}
 use Rattle.cx_asm_operands.specs.Bases.{Bases, UsingStatement, after_drop, after_using}
-use Rattle.cx_asm_operands.specs.Judging.{made_of}
+use Rattle.cx_asm_operands.specs.Checking.{made_of}
 use Rattle.cx_asm_operands.specs.Context.{Context}
 use Rattle.cx_asm_operands.specs.Directives.{bases_in, drop_in, using_in}
 use Rattle.cx_asm_operands.specs.Forms.{operands_of}
@@ -45,10 +45,10 @@ operand_sixteen (operation.Directive directive.Using) c operand e = using_sixtee
 operand_sixteen (operation.Directive directive.Drop) c operand e = drop_sixteen (drop_in c operand) c.bases e
 operand_sixteen o c operand e = e
 
-pub after_sixteen : (told : Whole) (bases : Bases) (s : PlacedStatement) → length bases ≡ 16 → length (bases_after told bases s) ≡ 16
+pub after_sixteen : (whole : Whole) (bases : Bases) (s : PlacedStatement) → length bases ≡ 16 → length (bases_after whole bases s) ≡ 16
 unfolding bases_after
-after_sixteen told bases s e = go (operation_of s)
+after_sixteen whole bases s e = go (operation_of s)
   where
-    go : (o : Option Operation) → length (option_map_or (λ it. or_kept (bases_in it (directive_context told bases s) s.stmt.operand) bases) o bases) ≡ 16
+    go : (o : Option Operation) → length (option_map_or (λ it. or_kept (bases_in it (directive_context whole bases s) s.stmt.operand) bases) o bases) ≡ 16
     go None = e
-    go (Some o) = operand_sixteen o (directive_context told bases s) s.stmt.operand e
+    go (Some o) = operand_sixteen o (directive_context whole bases s) s.stmt.operand e

@@ -7,6 +7,6 @@ use Rattle.cx_asm_pass2.specs.Whole.{Whole}
 
 -- each statement's line, and its lowest fault of the second pass; the latest first
 abbrev pub faults_by_statement : Whole → List PlacedStatement → List Fault
-faults_by_statement told [] = []
-faults_by_statement told (s ∷ before) =
-    (s.line, second_fault told (bases_after_all told before) (length before) s) ∷ faults_by_statement told before
+faults_by_statement whole [] = []
+faults_by_statement whole (s ∷ before) =
+    (s.line, second_fault whole (bases_after_all whole before) (length before) s) ∷ faults_by_statement whole before

@@ -15,11 +15,11 @@ use Rattle.cx_asm.specs.Resolving.{Standing, counter_at, data_standing, empty_se
 
 -- the fault of a statement except that of a USING or a DROP, which is asked separately
 abbrev pub WithUsing : Whole → Bases → ℕ → PlacedStatement → Option Operation → Option FaultKind → Type 0
-WithUsing told bases number s operation fault =
-    lower fault (option_and_then (λ o. result_err (bases_in o (directive_context told bases s) s.stmt.operand)) operation)
-    ≡ operand_fault told bases number s operation
+WithUsing whole bases number s operation fault =
+    lower fault (option_and_then (λ o. result_err (bases_in o (directive_context whole bases s) s.stmt.operand)) operation)
+    ≡ operand_fault whole bases number s operation
 
 -- what a literal makes, if there is one
 abbrev pub literal_standing : Whole → List PlacedStatement → Option (List ℕ × Literal) → Standing
-literal_standing told statements literal =
-    option_map_or (λ e. data_standing told (counter_at statements e.1.user) e.0 e.1.offset) literal empty_section
+literal_standing whole statements literal =
+    option_map_or (λ e. data_standing whole (counter_at statements e.1.user) e.0 e.1.offset) literal empty_section

@@ -149,13 +149,13 @@ kind_not_memory line reason.ValueOutOfRange = λ e. cc
 kind_not_memory line reason.NotRelocatable = λ e. cc
 kind_not_memory line reason.TooLarge = λ e. cc
 
-told_not_memory : (o : Option LineFault) (made : AssemblyParts) → option_map_or (λ (first : LineFault). Err (fault_on first.line first.kind)) o (Ok made) ≢ Err asm.Memory
-told_not_memory None made = λ e. cc
-told_not_memory (Some first) made = λ e. let same : fault_on first.line first.kind ≡ asm.Memory = cc in kind_not_memory first.line first.kind same
+reported_not_memory : (o : Option LineFault) (made : AssemblyParts) → option_map_or (λ (first : LineFault). Err (fault_on first.line first.kind)) o (Ok made) ≢ Err asm.Memory
+reported_not_memory None made = λ e. cc
+reported_not_memory (Some first) made = λ e. let same : fault_on first.line first.kind ≡ asm.Memory = cc in kind_not_memory first.line first.kind same
 
 assembly_not_memory : (s : Source) → assembly_of s ≢ Err asm.Memory
 unfolding assembly_of
-assembly_not_memory s = told_not_memory (slice_get (assembly_faults s) 0) (made_of s)
+assembly_not_memory s = reported_not_memory (slice_get (assembly_faults s) 0) (made_of s)
 
 translation_fault_sound : (fault : TransFault) → sound_statement (Some fault) → Sound (Err (of_translation fault))
 unfolding of_translation

@@ -1,5 +1,5 @@
 -- Where the items of DS and DC, and literals, are in an assembly (GC33-4010, "DC -- Define Constant", "DS -- Define
--- Storage", "Literal Pool"; that they are resolved lines is this project's own).
+-- Storage", "Literal Pool"; that they are resolved lines is this product's own).
 use Rattle.std.specs.Prelude.{◌≡◌, ℕ, Bool, true, false, Option, Ok, List, Contains, ⊤}
 use Rattle.std.specs.List.{AllByRecursion, repeat}
 use Rattle.cx_code.specs.declared.disassembly.Line.{Line}
@@ -28,37 +28,37 @@ pub record IsSpace (resolved : List Line) (item : List ℕ × ℕ) : Type 0 wher
   pub stands : AreAmong resolved (space_line item.1 (size_of constant))
 
 -- A DC's item is a constant with a value; the bytes of all its copies, if there are any, are a line at its offset.
-pub record IsData (told : Whole) (resolved : List Line) (counter : Option Value) (item : List ℕ × ℕ) : Type 0 where
+pub record IsData (whole : Whole) (resolved : List Line) (counter : Option Value) (item : List ℕ × ℕ) : Type 0 where
   pub constant : Constant
   pub written : constant_in false item.0 ≡ Ok constant
   pub once : CopyOfConstant
-  pub value : item_made told false counter item.0 ≡ Ok once
+  pub value : item_made whole false counter item.0 ≡ Ok once
   pub stands : AreAmong resolved (data_line item.1 (repeat constant.duplication once.bytes))
 
 abbrev pub ItemStands : Whole → List Line → Bool → PlacedStatement → List ℕ × ℕ → Type 0
-ItemStands told resolved true s item = IsSpace resolved item
-ItemStands told resolved false s item = IsData told resolved (location_counter s.place.section item.1 1) item
+ItemStands whole resolved true s item = IsSpace resolved item
+ItemStands whole resolved false s item = IsData whole resolved (location_counter s.place.section item.1 1) item
 
 -- Of a literal with a value the bytes of all its copies, if there are any, are a line at its offset in the pool.
 abbrev pub LiteralStands : Whole → List PlacedStatement → List Line → List ℕ × Literal → Type 0
-LiteralStands told statements resolved literal =
+LiteralStands whole statements resolved literal =
     (constant : Constant) (once : CopyOfConstant) → constant_in false literal.0 ≡ Ok constant
-    → item_made told false (counter_at statements literal.1.user) literal.0 ≡ Ok once
+    → item_made whole false (counter_at statements literal.1.user) literal.0 ≡ Ok once
     → AreAmong resolved (data_line literal.1.offset (repeat constant.duplication once.bytes))
 
 abbrev pub PoolStands : Whole → List PlacedStatement → List Line → PlacedLiterals → Type 0
-PoolStands told statements resolved pool = AllByRecursion (LiteralStands told statements resolved) pool
+PoolStands whole statements resolved pool = AllByRecursion (LiteralStands whole statements resolved) pool
 
 -- Where the items of a DS or DC, and the literals that LTORG places, are.
 abbrev pub RoleStands : Whole → List PlacedStatement → List Line → PlacedStatement → Role → Type 0
-RoleStands told statements resolved s (Storage is_ds) = AllByRecursion (ItemStands told resolved is_ds s) (placed_items s)
-RoleStands told statements resolved s Pool = PoolStands told statements resolved (pool_of told s)
-RoleStands told statements resolved s role = ⊤
+RoleStands whole statements resolved s (Storage is_ds) = AllByRecursion (ItemStands whole resolved is_ds s) (placed_items s)
+RoleStands whole statements resolved s Pool = PoolStands whole statements resolved (pool_of whole s)
+RoleStands whole statements resolved s role = ⊤
 
 -- in the control section
 abbrev pub StatementStands : Whole → List PlacedStatement → List Line → PlacedStatement → Type 0
-StatementStands told statements resolved s =
-    is_control s.place.section told.control ≡ true → RoleStands told statements resolved s (role_in s.stmt)
+StatementStands whole statements resolved s =
+    is_control s.place.section whole.control ≡ true → RoleStands whole statements resolved s (role_in s.stmt)
 
 -- In an accepted source this holds of every statement, and of the literals that no LTORG places.
 pub record ConstantsStand (source : Source) (resolved : List Line) : Type 0 where

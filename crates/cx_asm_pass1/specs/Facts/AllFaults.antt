@@ -26,12 +26,12 @@ first_with_fault line (Some kind) [] = refl
 first_with_fault line None (first ∷ more) = kept_first (line == first.line) first
 first_with_fault line (Some kind) (first ∷ more) = lowered_first (line == first.line) kind first more (with_fault line (Some kind) more)
 
-line_more : (line : ℕ) (stmt : Option Stmt) (known : PassState) (faults : List LineFault) → slice_get faults 0 ≡ known.fault
-    → slice_get (with_fault line (option_and_then (λ s. fault_in s known) stmt) faults) 0 ≡ (after_line line stmt known).fault
+line_more : (line : ℕ) (stmt : Option Stmt) (state : PassState) (faults : List LineFault) → slice_get faults 0 ≡ state.fault
+    → slice_get (with_fault line (option_and_then (λ s. fault_in s state) stmt) faults) 0 ≡ (after_line line stmt state).fault
 unfolding next_state
-line_more line None known faults e = e
-line_more line (Some stmt) known faults e =
-    first_with_fault line (fault_in stmt known) faults ∙ ap (λ (o : Option LineFault). first_fault_after line (fault_in stmt known) o) e
+line_more line None state faults e = e
+line_more line (Some stmt) state faults e =
+    first_with_fault line (fault_in stmt state) faults ∙ ap (λ (o : Option LineFault). first_fault_after line (fault_in stmt state) o) e
 
 pub first_of_faults : (items : List Item) → slice_get (faults_after items) 0 ≡ (state_after items).fault
 first_of_faults [] = refl

@@ -11,8 +11,8 @@ use Rattle.cx_asm_pools.specs.Facts.Literals.{no_pool, pool_more}
 use Rattle.cx_asm_pools.specs.Laws.Literals.{IsPool}
 use Rattle.cx_asm_pools.specs.Pools.{OpenLiterals, cap, pool_extent}
 use Rattle.cx_asm_pass1.specs.Facts.Faults.{none_before, sound_statement}
-use Rattle.cx_asm_pass1.specs.Facts.StatementExtents.{capped_same, laid_begins, laid_stands, laid_within, pool_apart, pool_begins}
-use Rattle.cx_asm_pass1.specs.PassState.{PassState, next_state, after_line, control_after, is_control, state_after, laid_in, length_after, length_of_section, name_in, next_in, parts_in, pool_after, role_in}
+use Rattle.cx_asm_pass1.specs.Facts.StatementExtents.{capped_same, extent_begins, extent_stands, extent_within, pool_apart, pool_begins}
+use Rattle.cx_asm_pass1.specs.PassState.{PassState, next_state, after_line, control_after, is_control, state_after, extent_in, length_after, length_of_section, name_in, next_in, parts_in, pool_after, role_in}
 use Rattle.cx_asm_pass1.specs.Laws.Apart.{AreApart, ClosesApart, EndWithin, ComesAfter, Stands, Stretch, control_length, section_length, stretch_before, stretch_of, stretches_after}
 use Rattle.cx_asm_pass1.specs.Locations.{last_pool_extent}
 use Rattle.cx_asm_pass1.specs.declared.roles.Role.{Role}
@@ -31,41 +31,41 @@ pool_step Registers user operands pool h = h
 pool_step Member user operands pool h = h
 pool_step Nothing user operands pool h = h
 
-pool_line : (line : ℕ) (stmt : Option Stmt) (known : PassState) → IsPool known.pool → IsPool (after_line line stmt known).pool
+pool_line : (line : ℕ) (stmt : Option Stmt) (state : PassState) → IsPool state.pool → IsPool (after_line line stmt state).pool
 unfolding next_state
-pool_line line None known h = h
-pool_line line (Some stmt) known h = pool_step (role_in stmt) _ (parts_in stmt) known.pool h
+pool_line line None state h = h
+pool_line line (Some stmt) state h = pool_step (role_in stmt) _ (parts_in stmt) state.pool h
 
 pub pool_of_lines : (items : List Item) → IsPool (state_after items).pool
 pool_of_lines [] = no_pool
 pool_of_lines (item ∷ before) = pool_line item.line item.stmt (state_after before) (pool_of_lines before)
 
 -- ---- lengths
-within_section : (known : PassState) (section : Option (List ℕ)) → ((name : List ℕ) → known.lengths name ≤ bound) → length_of_section section known.lengths ≤ bound
-within_section known None h = omega arith
-within_section known (Some name) h = h name
+within_section : (state : PassState) (section : Option (List ℕ)) → ((name : List ℕ) → state.lengths name ≤ bound) → length_of_section section state.lengths ≤ bound
+within_section state None h = omega arith
+within_section state (Some name) h = h name
 
-next_is : (known : PassState) → ((name : List ℕ) → known.lengths name ≤ bound) → next_in known ≡ section_length known
-next_is known h = capped_same (section_length known) (within_section known known.section h)
+next_is : (state : PassState) → ((name : List ℕ) → state.lengths name ≤ bound) → next_in state ≡ section_length state
+next_is state h = capped_same (section_length state) (within_section state state.section h)
 
-end_within : (line : ℕ) (stmt : Stmt) (known : PassState) → ((name : List ℕ) → known.lengths name ≤ bound) → (next_state line stmt known).fault ≡ None → (laid_in stmt known).end ≤ bound
-end_within line stmt known h e =
-    laid_within (role_in stmt) (parts_in stmt) (pool_extent known.pool) (next_in known)
-    (omega (arith, next_is known h, within_section known known.section h)) (sound_statement line stmt known e).laid
+end_within : (line : ℕ) (stmt : Stmt) (state : PassState) → ((name : List ℕ) → state.lengths name ≤ bound) → (next_state line stmt state).fault ≡ None → (extent_in stmt state).end ≤ bound
+end_within line stmt state h e =
+    extent_within (role_in stmt) (parts_in stmt) (pool_extent state.pool) (next_in state)
+    (omega (arith, next_is state h, within_section state state.section h)) (sound_statement line stmt state e).extent
 
 cond_within : (test : Bool) (a b : ℕ) → a ≤ bound → b ≤ bound → cond test a b ≤ bound
 cond_within true a b h k = h
 cond_within false a b h k = k
 
-lengths_step : (line : ℕ) (stmt : Stmt) (known : PassState) → ((name : List ℕ) → known.lengths name ≤ bound) → (next_state line stmt known).fault ≡ None
-    → (name : List ℕ) → length_after known.section (laid_in stmt known).end known.lengths name ≤ bound
-lengths_step line stmt known h e name = cond_within (stands_in name known.section) (laid_in stmt known).end (known.lengths name) (end_within line stmt known h e) (h name)
+lengths_step : (line : ℕ) (stmt : Stmt) (state : PassState) → ((name : List ℕ) → state.lengths name ≤ bound) → (next_state line stmt state).fault ≡ None
+    → (name : List ℕ) → length_after state.section (extent_in stmt state).end state.lengths name ≤ bound
+lengths_step line stmt state h e name = cond_within (stands_in name state.section) (extent_in stmt state).end (state.lengths name) (end_within line stmt state h e) (h name)
 
-within_line : (line : ℕ) (stmt : Option Stmt) (known : PassState) → (known.fault ≡ None → (name : List ℕ) → known.lengths name ≤ bound) → (after_line line stmt known).fault ≡ None
-    → (name : List ℕ) → (after_line line stmt known).lengths name ≤ bound
+within_line : (line : ℕ) (stmt : Option Stmt) (state : PassState) → (state.fault ≡ None → (name : List ℕ) → state.lengths name ≤ bound) → (after_line line stmt state).fault ≡ None
+    → (name : List ℕ) → (after_line line stmt state).lengths name ≤ bound
 unfolding next_state
-within_line line None known h e = h e
-within_line line (Some stmt) known h e = lengths_step line stmt known (h (none_before line stmt known e)) e
+within_line line None state h e = h e
+within_line line (Some stmt) state h e = lengths_step line stmt state (h (none_before line stmt state e)) e
 
 -- no section goes beyond the bound
 pub within_after : (items : List Item) → (state_after items).fault ≡ None → (name : List ℕ) → (state_after items).lengths name ≤ bound
@@ -78,18 +78,18 @@ module _ (before : List Item) (line : ℕ) (stmt : Stmt) (sound : (next_state li
   lengths_within = within_after before (none_before line stmt (state_after before) sound)
 
   -- it ends within the bound
-  pub statement_within : (laid_in stmt (state_after before)).end ≤ bound
+  pub statement_within : (extent_in stmt (state_after before)).end ≤ bound
   statement_within = end_within line stmt (state_after before) lengths_within sound
 
   -- what it has lies from its section's length so far to its end
-  pub statement_stands : Stands (role_in stmt) (parts_in stmt) (state_after before).pool (section_length (state_after before)) (laid_in stmt (state_after before))
-  statement_stands = laid_stands (role_in stmt) (parts_in stmt) (state_after before).pool (section_length (state_after before)) (pool_of_lines before) statement_within
+  pub statement_stands : Stands (role_in stmt) (parts_in stmt) (state_after before).pool (section_length (state_after before)) (extent_in stmt (state_after before))
+  statement_stands = extent_stands (role_in stmt) (parts_in stmt) (state_after before).pool (section_length (state_after before)) (pool_of_lines before) statement_within
 
   -- it begins at or past that length, and ends at or past its beginning
-  pub statement_begins : (section_length (state_after before) ≤ (laid_in stmt (state_after before)).offset)
-      × ((laid_in stmt (state_after before)).offset ≤ (laid_in stmt (state_after before)).end)
+  pub statement_begins : (section_length (state_after before) ≤ (extent_in stmt (state_after before)).offset)
+      × ((extent_in stmt (state_after before)).offset ≤ (extent_in stmt (state_after before)).end)
   statement_begins =
-      let order = laid_begins (role_in stmt) (parts_in stmt) (pool_extent (state_after before).pool) (next_in (state_after before)) statement_within in
+      let order = extent_begins (role_in stmt) (parts_in stmt) (pool_extent (state_after before).pool) (next_in (state_after before)) statement_within in
       (omega (arith, order.0, next_is (state_after before) lengths_within), order.1)
 
 -- ---- sections
@@ -101,8 +101,8 @@ own_section : (name : List ℕ) (section : Option (List ℕ)) → section ≡ So
 own_section name section e = ap (stands_in name) e ∙ is_name-laws.refl name
 
 -- a section that a statement is in is as long afterwards as its end
-pub section_ends : (known : PassState) (end : ℕ) (name : List ℕ) → known.section ≡ Some name → length_after known.section end known.lengths name ≡ end
-section_ends known end name e = cond-true _ _ _ (own_section name known.section e)
+pub section_ends : (state : PassState) (end : ℕ) (name : List ℕ) → state.section ≡ Some name → length_after state.section end state.lengths name ≡ end
+section_ends state end name e = cond-true _ _ _ (own_section name state.section e)
 
 longer : (section : Option (List ℕ)) (lengths : List ℕ → ℕ) (end : ℕ) (name : List ℕ) → length_of_section section lengths ≤ end → lengths name ≤ length_after section end lengths name
 longer section lengths end name le = ⊎_elim
@@ -116,7 +116,7 @@ pub lengths_grow : (before : List Item) (line : ℕ) (stmt : Stmt) → (next_sta
 unfolding next_state
 lengths_grow before line stmt sound name =
     let order = statement_begins before line stmt sound in
-    longer (state_after before).section (state_after before).lengths (laid_in stmt (state_after before)).end name (omega (arith, order.0, order.1))
+    longer (state_after before).section (state_after before).lengths (extent_in stmt (state_after before)).end name (omega (arith, order.0, order.1))
 
 control_kept : (role : Role) (name : Option (List ℕ)) (control : List ℕ) → control_after role name (Some control) ≡ Some control
 control_kept Control name control = refl
@@ -146,31 +146,31 @@ pub in_control : (section control : Option (List ℕ)) → is_control section co
 in_control None control e = cc
 in_control (Some section) control e = sym (same_section section control e)
 
-ends_control : (role : Role) (name : Option (List ℕ)) (known : PassState) (end : ℕ) (section : Option (List ℕ)) → known.section ≡ section → is_control section known.control ≡ true
-    → length_of_section (control_after role name known.control) (length_after known.section end known.lengths) ≡ end
-ends_control role name known end None e is = cc
-ends_control role name known end (Some section) e is =
-    ap (λ c. length_of_section (control_after role name c) (length_after known.section end known.lengths)) (same_section section known.control is)
-    ∙ ap (λ c. length_of_section c (length_after known.section end known.lengths)) (control_kept role name section)
-    ∙ section_ends known end section e
+ends_control : (role : Role) (name : Option (List ℕ)) (state : PassState) (end : ℕ) (section : Option (List ℕ)) → state.section ≡ section → is_control section state.control ≡ true
+    → length_of_section (control_after role name state.control) (length_after state.section end state.lengths) ≡ end
+ends_control role name state end None e is = cc
+ends_control role name state end (Some section) e is =
+    ap (λ c. length_of_section (control_after role name c) (length_after state.section end state.lengths)) (same_section section state.control is)
+    ∙ ap (λ c. length_of_section c (length_after state.section end state.lengths)) (control_kept role name section)
+    ∙ section_ends state end section e
 
 -- after a statement of it the control section is as long as that statement's end
-pub control_ends : (line : ℕ) (stmt : Stmt) (known : PassState) → is_control known.section known.control ≡ true → control_length (next_state line stmt known) ≡ (laid_in stmt known).end
+pub control_ends : (line : ℕ) (stmt : Stmt) (state : PassState) → is_control state.section state.control ≡ true → control_length (next_state line stmt state) ≡ (extent_in stmt state).end
 unfolding next_state
-control_ends line stmt known is = ends_control (role_in stmt) (name_in stmt) known (laid_in stmt known).end known.section refl is
+control_ends line stmt state is = ends_control (role_in stmt) (name_in stmt) state (extent_in stmt state).end state.section refl is
 
 -- ---- all statements
 AreInside : PassState → List Stretch → Type 0
-AreInside known stretches = AllByRecursion (λ stretch. (name : List ℕ) → stretch.section ≡ Some name → stretch.end ≤ known.lengths name) stretches
+AreInside state stretches = AllByRecursion (λ stretch. (name : List ℕ) → stretch.section ≡ Some name → stretch.end ≤ state.lengths name) stretches
 
 still_inside : (one other : PassState) (stretches : List Stretch) → ((name : List ℕ) → one.lengths name ≤ other.lengths name) → AreInside one stretches → AreInside other stretches
 unfolding AreInside
 still_inside one other [] h all = tt
 still_inside one other (stretch ∷ stretches) h all = ((λ name e. omega (arith, h name, all.0 name e)), still_inside one other stretches h all.1)
 
-new_inside : (line : ℕ) (stmt : Stmt) (known : PassState) (name : List ℕ) → known.section ≡ Some name → (laid_in stmt known).end ≤ (next_state line stmt known).lengths name
+new_inside : (line : ℕ) (stmt : Stmt) (state : PassState) (name : List ℕ) → state.section ≡ Some name → (extent_in stmt state).end ≤ (next_state line stmt state).lengths name
 unfolding next_state
-new_inside line stmt known name e = omega (arith, section_ends known (laid_in stmt known).end name e)
+new_inside line stmt state name e = omega (arith, section_ends state (extent_in stmt state).end name e)
 
 inside_line : (before : List Item) (line : ℕ) (stmt : Option Stmt) (stretches : List Stretch) → (after_line line stmt (state_after before)).fault ≡ None
     → ((state_after before).fault ≡ None → AreInside (state_after before) stretches) → AreInside (after_line line stmt (state_after before)) (stretch_before stmt (state_after before) stretches)
@@ -186,13 +186,13 @@ unfolding AreInside
 inside_after [] e = tt
 inside_after (item ∷ before) e = inside_line before item.line item.stmt (stretches_after before) e (inside_after before)
 
-after_all : (known : PassState) (later : Stretch) (stretches : List Stretch) → later.section ≡ known.section → section_length known ≤ later.offset → AreInside known stretches
+after_all : (state : PassState) (later : Stretch) (stretches : List Stretch) → later.section ≡ state.section → section_length state ≤ later.offset → AreInside state stretches
     → AllByRecursion (ComesAfter later) stretches
 unfolding AreInside
-after_all known later [] e le all = tt
-after_all known later (stretch ∷ stretches) e le all = (
-  (λ name own other. omega (arith, all.0 name other, subst (λ s. length_of_section s known.lengths ≤ later.offset) (sym e ∙ own) le)),
-  after_all known later stretches e le all.1,
+after_all state later [] e le all = tt
+after_all state later (stretch ∷ stretches) e le all = (
+  (λ name own other. omega (arith, all.0 name other, subst (λ s. length_of_section s state.lengths ≤ later.offset) (sym e ∙ own) le)),
+  after_all state later stretches e le all.1,
 )
 
 apart_line : (before : List Item) (line : ℕ) (stmt : Option Stmt) → (after_line line stmt (state_after before)).fault ≡ None
@@ -222,16 +222,16 @@ closing_apart items e within =
       literals = pool_apart [] (state_after items).pool (cap (control_length (state_after items))) (pool_of_lines items) within;
     }
 
-ends_inside : (known : PassState) (section control : Option (List ℕ)) (end most : ℕ) → ((name : List ℕ) → section ≡ Some name → end ≤ known.lengths name)
-    → length_of_section control known.lengths ≤ most → is_control section control ≡ true → end ≤ most
-ends_inside known None control end most h le is = cc
-ends_inside known (Some section) control end most h le is =
-    omega (arith, h section refl, subst (λ c. length_of_section c known.lengths ≤ most) (same_section section control is) le)
+ends_inside : (state : PassState) (section control : Option (List ℕ)) (end most : ℕ) → ((name : List ℕ) → section ≡ Some name → end ≤ state.lengths name)
+    → length_of_section control state.lengths ≤ most → is_control section control ≡ true → end ≤ most
+ends_inside state None control end most h le is = cc
+ends_inside state (Some section) control end most h le is =
+    omega (arith, h section refl, subst (λ c. length_of_section c state.lengths ≤ most) (same_section section control is) le)
 
-all_end : (known : PassState) (stretches : List Stretch) → control_length known ≤ (last_pool_extent known).end → AreInside known stretches → EndWithin known stretches
+all_end : (state : PassState) (stretches : List Stretch) → control_length state ≤ (last_pool_extent state).end → AreInside state stretches → EndWithin state stretches
 unfolding AreInside
-all_end known [] le all = tt
-all_end known (stretch ∷ stretches) le all = (ends_inside known stretch.section known.control stretch.end (last_pool_extent known).end all.0 le, all_end known stretches le all.1)
+all_end state [] le all = tt
+all_end state (stretch ∷ stretches) le all = (ends_inside state stretch.section state.control stretch.end (last_pool_extent state).end all.0 le, all_end state stretches le all.1)
 
 pub end_within_control : (items : List Item) → (state_after items).fault ≡ None → EndWithin (state_after items) (stretches_after items)
 end_within_control items e =

@@ -9,7 +9,7 @@ use Rattle.cx_asm_expressions.specs.declared.faults.FaultKind.{FaultKind}
 use Rattle.cx_asm_expressions.specs.declared.values.Value.{Value}
 use Rattle.cx_asm_pass1.specs.Facts.StatementExtents.{lower_none}
 use Rattle.cx_asm_pass1.specs.Given.{definitions, duplicate}
-use Rattle.cx_asm_pass1.specs.PassState.{PassState, next_state, definitions_in, duplicate_in, fault_in, first_fault_after, given_in, laid_in, literal_fault, name_fault, name_in, operation_fault, own_fault, parts_in, role_in, section_fault, line_fault}
+use Rattle.cx_asm_pass1.specs.PassState.{PassState, next_state, definitions_in, duplicate_in, fault_in, first_fault_after, given_in, extent_in, literal_fault, name_fault, name_in, operation_fault, own_fault, parts_in, role_in, section_fault, line_fault}
 use Rattle.cx_asm_pass1.specs.declared.place.LineFault.{LineFault}
 
 lower_some : (one : FaultKind) (other : Option FaultKind) (line : ℕ) → option_map (line_fault line) (lower (Some one) other) ≡ None → ⊥
@@ -30,46 +30,46 @@ none_first line fault None e = (refl, none_new line fault e)
 none_first line fault (Some first) e = absurd (some_stays (line == first.line) first.line fault first e)
 
 -- where none has a fault so far, none had one before
-pub none_before : (line : ℕ) (stmt : Stmt) (known : PassState) → (next_state line stmt known).fault ≡ None → known.fault ≡ None
+pub none_before : (line : ℕ) (stmt : Stmt) (state : PassState) → (next_state line stmt state).fault ≡ None → state.fault ≡ None
 unfolding next_state
-none_before line stmt known e = (none_first line (fault_in stmt known) known.fault e).0
+none_before line stmt state e = (none_first line (fault_in stmt state) state.fault e).0
 
-none_own : (line : ℕ) (stmt : Stmt) (known : PassState) → (next_state line stmt known).fault ≡ None → own_fault stmt known ≡ None
+none_own : (line : ℕ) (stmt : Stmt) (state : PassState) → (next_state line stmt state).fault ≡ None → own_fault stmt state ≡ None
 unfolding next_state
-none_own line stmt known e =
-    (lower_none (own_fault stmt known) (literal_fault (role_in stmt) _ (parts_in stmt) known.pool) (none_first line (fault_in stmt known) known.fault e).1).0
+none_own line stmt state e =
+    (lower_none (own_fault stmt state) (literal_fault (role_in stmt) _ (parts_in stmt) state.pool) (none_first line (fault_in stmt state) state.fault e).1).0
 
-pub record IsSound (stmt : Stmt) (known : PassState) : Type 0 where
-  pub laid : (laid_in stmt known).fault ≡ None
-  pub definitions : duplicate known.symbols (definitions_in stmt known None) ≡ None
+pub record IsSound (stmt : Stmt) (state : PassState) : Type 0 where
+  pub extent : (extent_in stmt state).fault ≡ None
+  pub definitions : duplicate state.symbols (definitions_in stmt state None) ≡ None
 
 sound_value : (given : Result (Option Value) FaultKind) → result_err given ≡ None
     → unwrap_or (result_ok given) (Some (absolute (pos 0))) ≡ unwrap_or (result_ok given) None
 sound_value (Ok value) e = refl
 sound_value (Err fault) e = cc
 
-sound_own : (stmt : Stmt) (known : PassState) → own_fault stmt known ≡ None → IsSound stmt known
-sound_own stmt known e =
-    let inner = lower_none (duplicate_in stmt known) None in
-    let valued = lower_none (result_err (given_in stmt known)) (lower (duplicate_in stmt known) None) in
-    let laid = lower_none (laid_in stmt known).fault (lower (result_err (given_in stmt known)) (lower (duplicate_in stmt known) None)) in
-    let placed = lower_none (section_fault (role_in stmt) (name_in stmt) known.section known.control)
-    (lower (laid_in stmt known).fault (lower (result_err (given_in stmt known)) (lower (duplicate_in stmt known) None))) in
+sound_own : (stmt : Stmt) (state : PassState) → own_fault stmt state ≡ None → IsSound stmt state
+sound_own stmt state e =
+    let inner = lower_none (duplicate_in stmt state) None in
+    let valued = lower_none (result_err (given_in stmt state)) (lower (duplicate_in stmt state) None) in
+    let extent = lower_none (extent_in stmt state).fault (lower (result_err (given_in stmt state)) (lower (duplicate_in stmt state) None)) in
+    let placed = lower_none (section_fault (role_in stmt) (name_in stmt) state.section state.control)
+    (lower (extent_in stmt state).fault (lower (result_err (given_in stmt state)) (lower (duplicate_in stmt state) None))) in
     let titled = lower_none (name_fault (role_in stmt) stmt.name)
-    (lower (section_fault (role_in stmt) (name_in stmt) known.section known.control)
-    (lower (laid_in stmt known).fault (lower (result_err (given_in stmt known)) (lower (duplicate_in stmt known) None)))) in
+    (lower (section_fault (role_in stmt) (name_in stmt) state.section state.control)
+    (lower (extent_in stmt state).fault (lower (result_err (given_in stmt state)) (lower (duplicate_in stmt state) None)))) in
     let operated = lower_none (operation_fault (role_in stmt))
     (lower (name_fault (role_in stmt) stmt.name)
-    (lower (section_fault (role_in stmt) (name_in stmt) known.section known.control)
-    (lower (laid_in stmt known).fault (lower (result_err (given_in stmt known)) (lower (duplicate_in stmt known) None))))) in
-    let h = (laid (placed (titled (operated e).1).1).1) in
+    (lower (section_fault (role_in stmt) (name_in stmt) state.section state.control)
+    (lower (extent_in stmt state).fault (lower (result_err (given_in stmt state)) (lower (duplicate_in stmt state) None))))) in
+    let h = (extent (placed (titled (operated e).1).1).1) in
     record {
-      laid = h.0;
+      extent = h.0;
       definitions =
-          ap (λ v. duplicate known.symbols (definitions (role_in stmt) (name_in stmt) known.control known.symbols stmt.operand v)) (sym (sound_value (given_in stmt known) (valued h.1).0))
+          ap (λ v. duplicate state.symbols (definitions (role_in stmt) (name_in stmt) state.control state.symbols stmt.operand v)) (sym (sound_value (given_in stmt state) (valued h.1).0))
           ∙ (inner (valued h.1).1).0;
     }
 
 -- a statement has no fault where there is none after it is taken in
-pub sound_statement : (line : ℕ) (stmt : Stmt) (known : PassState) → (next_state line stmt known).fault ≡ None → IsSound stmt known
-sound_statement line stmt known e = sound_own stmt known (none_own line stmt known e)
+pub sound_statement : (line : ℕ) (stmt : Stmt) (state : PassState) → (next_state line stmt state).fault ≡ None → IsSound stmt state
+sound_statement line stmt state e = sound_own stmt state (none_own line stmt state e)

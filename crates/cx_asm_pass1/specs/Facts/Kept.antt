@@ -7,7 +7,7 @@ use Rattle.cx_source.specs.declared.source.Stmt.{Stmt}
 use Rattle.cx_asm_expressions.specs.Symbols.{find_in}
 use Rattle.cx_asm_expressions.specs.declared.values.Value.{Value}
 use Rattle.cx_asm_pools.specs.Pools.{OpenLiterals, PlacedLiterals, cap, closed_pool}
-use Rattle.cx_asm_pass1.specs.PassState.{PassState, next_state, after_line, definitions_in, state_after, laid_in, place_in, pools_after, role_in}
+use Rattle.cx_asm_pass1.specs.PassState.{PassState, next_state, after_line, definitions_in, state_after, extent_in, place_in, pools_after, role_in}
 use Rattle.cx_asm_pass1.specs.Locations.{all_pools, last_pool_extent}
 use Rattle.cx_asm_pass1.specs.declared.place.Place.{Place}
 use Rattle.cx_asm_pass1.specs.declared.roles.Role.{Role}
@@ -34,20 +34,20 @@ pools_step Registers offset pool pools k it e = e
 pools_step Member offset pool pools k it e = e
 pools_step Nothing offset pool pools k it e = e
 
-place_line : (line : ℕ) (stmt : Option Stmt) (known : PassState) (k : ℕ) (it : Place) → slice_get known.places k ≡ Some it → slice_get (after_line line stmt known).places k ≡ Some it
+place_line : (line : ℕ) (stmt : Option Stmt) (state : PassState) (k : ℕ) (it : Place) → slice_get state.places k ≡ Some it → slice_get (after_line line stmt state).places k ≡ Some it
 unfolding next_state
-place_line line None known k it e = e
-place_line line (Some stmt) known k it e = got_front known.places (place_in stmt known ∷ []) k it e
+place_line line None state k it e = e
+place_line line (Some stmt) state k it e = got_front state.places (place_in stmt state ∷ []) k it e
 
-pool_line : (line : ℕ) (stmt : Option Stmt) (known : PassState) (k : ℕ) (it : PlacedLiterals) → slice_get known.pools k ≡ Some it → slice_get (after_line line stmt known).pools k ≡ Some it
+pool_line : (line : ℕ) (stmt : Option Stmt) (state : PassState) (k : ℕ) (it : PlacedLiterals) → slice_get state.pools k ≡ Some it → slice_get (after_line line stmt state).pools k ≡ Some it
 unfolding next_state
-pool_line line None known k it e = e
-pool_line line (Some stmt) known k it e = pools_step (role_in stmt) (laid_in stmt known).offset known.pool known.pools k it e
+pool_line line None state k it e = e
+pool_line line (Some stmt) state k it e = pools_step (role_in stmt) (extent_in stmt state).offset state.pool state.pools k it e
 
-value_line : (line : ℕ) (stmt : Option Stmt) (known : PassState) (name : List ℕ) (value : Value) → known.symbols name ≡ Some value → (after_line line stmt known).symbols name ≡ Some value
+value_line : (line : ℕ) (stmt : Option Stmt) (state : PassState) (name : List ℕ) (value : Value) → state.symbols name ≡ Some value → (after_line line stmt state).symbols name ≡ Some value
 unfolding next_state
-value_line line None known name value e = e
-value_line line (Some stmt) known name value e = ap (λ o. option_or o (find_in (definitions_in stmt known None) name)) e
+value_line line None state name value e = e
+value_line line (Some stmt) state name value e = ap (λ o. option_or o (find_in (definitions_in stmt state None) name)) e
 
 -- a statement's place
 pub place_kept : (more before : List Item) (k : ℕ) (it : Place) → slice_get (state_after before).places k ≡ Some it → slice_get (state_after (more ++ before)).places k ≡ Some it
@@ -65,22 +65,22 @@ value_kept [] before name value e = e
 value_kept (item ∷ more) before name value e = value_line item.line item.stmt (state_after (more ++ before)) name value (value_kept more before name value e)
 
 -- what is known of a statement itself
-pub place_told : (line : ℕ) (stmt : Stmt) (known : PassState) → slice_get (next_state line stmt known).places (length known.places) ≡ Some (place_in stmt known)
+pub place_listed : (line : ℕ) (stmt : Stmt) (state : PassState) → slice_get (next_state line stmt state).places (length state.places) ≡ Some (place_in stmt state)
 unfolding next_state
-place_told line stmt known = got_last known.places (place_in stmt known)
+place_listed line stmt state = got_last state.places (place_in stmt state)
 
 pool_closed : (role : Role) (offset : ℕ) (pool : OpenLiterals) (pools : List PlacedLiterals) → role ≡ Pool → slice_get (pools_after role offset pool pools) (length pools) ≡ Some (closed_pool (cap offset) pool)
 pool_closed role offset pool pools e = ap (λ r. slice_get (pools_after r offset pool pools) (length pools)) e ∙ got_last pools (closed_pool (cap offset) pool)
 
 -- LTORG closes the pool
-pub pool_told : (line : ℕ) (stmt : Stmt) (known : PassState) → role_in stmt ≡ Pool
-    → slice_get (next_state line stmt known).pools (length known.pools) ≡ Some (closed_pool (cap (laid_in stmt known).offset) known.pool)
+pub pool_listed : (line : ℕ) (stmt : Stmt) (state : PassState) → role_in stmt ≡ Pool
+    → slice_get (next_state line stmt state).pools (length state.pools) ≡ Some (closed_pool (cap (extent_in stmt state).offset) state.pool)
 unfolding next_state
-pool_told line stmt known e = pool_closed (role_in stmt) (laid_in stmt known).offset known.pool known.pools e
+pool_listed line stmt state e = pool_closed (role_in stmt) (extent_in stmt state).offset state.pool state.pools e
 
 -- among all pools are those that were closed, and the last
-pub pool_among : (known : PassState) (k : ℕ) (it : PlacedLiterals) → slice_get known.pools k ≡ Some it → slice_get (all_pools known) k ≡ Some it
-pool_among known k it e = got_front known.pools (closed_pool (cap (last_pool_extent known).offset) known.pool ∷ []) k it e
+pub pool_among : (state : PassState) (k : ℕ) (it : PlacedLiterals) → slice_get state.pools k ≡ Some it → slice_get (all_pools state) k ≡ Some it
+pool_among state k it e = got_front state.pools (closed_pool (cap (last_pool_extent state).offset) state.pool ∷ []) k it e
 
-pub last_pool : (known : PassState) → slice_get (all_pools known) (length known.pools) ≡ Some (closed_pool (cap (last_pool_extent known).offset) known.pool)
-last_pool known = got_last known.pools (closed_pool (cap (last_pool_extent known).offset) known.pool)
+pub last_pool : (state : PassState) → slice_get (all_pools state) (length state.pools) ≡ Some (closed_pool (cap (last_pool_extent state).offset) state.pool)
+last_pool state = got_last state.pools (closed_pool (cap (last_pool_extent state).offset) state.pool)

@@ -119,19 +119,19 @@ pool_begins operands None at = (omega arith, omega arith)
 pool_begins operands (Some size) at = bytes_begin 8 size 1 at (omega arith)
 
 -- what a statement takes begins at or past the offset before it, and ends at or past its beginning
-pub laid_begins : (role : Role) (operands : List (List ℕ)) (extent : Option ℕ) (at : ℕ) → (extent_of role operands extent at).end ≤ bound
+pub extent_begins : (role : Role) (operands : List (List ℕ)) (extent : Option ℕ) (at : ℕ) → (extent_of role operands extent at).end ≤ bound
     → (at ≤ (extent_of role operands extent at).offset) × ((extent_of role operands extent at).offset ≤ (extent_of role operands extent at).end)
 unfolding extent_of
-laid_begins (Instruction size) operands extent at within = bytes_begin 2 (cap size) size at (omega arith)
-laid_begins (Storage is_ds) operands extent at within = first_begins (map (constant_in is_ds) operands) at within
-laid_begins Pool operands extent at within = pool_begins operands extent at
-laid_begins Unknown operands extent at within = (omega arith, omega arith)
-laid_begins Control operands extent at within = (omega arith, omega arith)
-laid_begins Dummy operands extent at within = (omega arith, omega arith)
-laid_begins Equate operands extent at within = (omega arith, omega arith)
-laid_begins Registers operands extent at within = (omega arith, omega arith)
-laid_begins Member operands extent at within = (omega arith, omega arith)
-laid_begins Nothing operands extent at within = (omega arith, omega arith)
+extent_begins (Instruction size) operands extent at within = bytes_begin 2 (cap size) size at (omega arith)
+extent_begins (Storage is_ds) operands extent at within = first_begins (map (constant_in is_ds) operands) at within
+extent_begins Pool operands extent at within = pool_begins operands extent at
+extent_begins Unknown operands extent at within = (omega arith, omega arith)
+extent_begins Control operands extent at within = (omega arith, omega arith)
+extent_begins Dummy operands extent at within = (omega arith, omega arith)
+extent_begins Equate operands extent at within = (omega arith, omega arith)
+extent_begins Registers operands extent at within = (omega arith, omega arith)
+extent_begins Member operands extent at within = (omega arith, omega arith)
+extent_begins Nothing operands extent at within = (omega arith, omega arith)
 
 pub lower_none : (one other : Option FaultKind) → lower one other ≡ None → (one ≡ None) × (other ≡ None)
 lower_none None other e = (refl, e)
@@ -145,19 +145,19 @@ pool_within operands None at inside e = inside
 pool_within operands (Some size) at inside e = beyond_none _ e
 
 -- without a fault it ends within the bound
-pub laid_within : (role : Role) (operands : List (List ℕ)) (extent : Option ℕ) (at : ℕ) → at ≤ bound → (extent_of role operands extent at).fault ≡ None
+pub extent_within : (role : Role) (operands : List (List ℕ)) (extent : Option ℕ) (at : ℕ) → at ≤ bound → (extent_of role operands extent at).fault ≡ None
     → (extent_of role operands extent at).end ≤ bound
 unfolding extent_of
-laid_within (Instruction size) operands extent at inside e = beyond_none _ e
-laid_within (Storage is_ds) operands extent at inside e = beyond_none _ (lower_none (lowest (map result_err (map (constant_in is_ds) operands))) (fault_beyond (fold item_end at (map (constant_in is_ds) operands))) e).1
-laid_within Pool operands extent at inside e = pool_within operands extent at inside e
-laid_within Unknown operands extent at inside e = inside
-laid_within Control operands extent at inside e = inside
-laid_within Dummy operands extent at inside e = inside
-laid_within Equate operands extent at inside e = inside
-laid_within Registers operands extent at inside e = inside
-laid_within Member operands extent at inside e = inside
-laid_within Nothing operands extent at inside e = inside
+extent_within (Instruction size) operands extent at inside e = beyond_none _ e
+extent_within (Storage is_ds) operands extent at inside e = beyond_none _ (lower_none (lowest (map result_err (map (constant_in is_ds) operands))) (fault_beyond (fold item_end at (map (constant_in is_ds) operands))) e).1
+extent_within Pool operands extent at inside e = pool_within operands extent at inside e
+extent_within Unknown operands extent at inside e = inside
+extent_within Control operands extent at inside e = inside
+extent_within Dummy operands extent at inside e = inside
+extent_within Equate operands extent at inside e = inside
+extent_within Registers operands extent at inside e = inside
+extent_within Member operands extent at inside e = inside
+extent_within Nothing operands extent at inside e = inside
 
 pub pool_apart : (operands : List (List ℕ)) (pool : OpenLiterals) (at : ℕ) → IsPool pool → (extent_of Pool operands (pool_extent pool) at).end ≤ bound
     → StandApart (extent_of Pool operands (pool_extent pool) at).offset (closed_pool (cap (extent_of Pool operands (pool_extent pool) at).offset) pool)
@@ -187,10 +187,10 @@ stands_at Member operands pool at is within = (refl, refl)
 stands_at Nothing operands pool at is within = (refl, refl)
 
 -- what a statement takes from a capped offset on lies from that offset itself
-pub laid_stands : (role : Role) (operands : List (List ℕ)) (pool : OpenLiterals) (from : ℕ) → IsPool pool → (extent_of role operands (pool_extent pool) (cap from)).end ≤ bound
+pub extent_stands : (role : Role) (operands : List (List ℕ)) (pool : OpenLiterals) (from : ℕ) → IsPool pool → (extent_of role operands (pool_extent pool) (cap from)).end ≤ bound
     → Stands role operands pool from (extent_of role operands (pool_extent pool) (cap from))
-laid_stands role operands pool from is within =
-    let order = laid_begins role operands (pool_extent pool) (cap from) within in
+extent_stands role operands pool from is within =
+    let order = extent_begins role operands (pool_extent pool) (cap from) within in
     let inside : from ≤ bound = capped_within from (omega (arith, order.0, order.1, within)) in
     subst (λ n. Stands role operands pool n (extent_of role operands (pool_extent pool) (cap from))) (capped_same from inside)
     (stands_at role operands pool (cap from) is within)

@@ -8,7 +8,7 @@ use Rattle.cx_asm_expressions.specs.Items.{alignment_of, constant_in}
 use Rattle.cx_asm_pools.specs.Pools.{OpenLiterals, cap, constant_size, closed_pool}
 use Rattle.cx_asm_pools.specs.Laws.Literals.{StandApart}
 use Rattle.cx_asm_pass1.specs.Layout.{StorageItem}
-use Rattle.cx_asm_pass1.specs.PassState.{PassState, is_control, state_after, laid_in, length_of_section}
+use Rattle.cx_asm_pass1.specs.PassState.{PassState, is_control, state_after, extent_in, length_of_section}
 use Rattle.cx_asm_pass1.specs.Locations.{last_pool_extent}
 use Rattle.cx_asm_pass1.specs.declared.layout.Extent.{Extent}
 use Rattle.cx_asm_pass1.specs.declared.roles.Role.{Role}
@@ -16,10 +16,10 @@ use Rattle.cx_asm_pass1.specs.declared.roles.Role.TheVariants.{Instruction, Stor
 
 -- the length so far of the section that a statement is in, and of the control section
 abbrev pub section_length : PassState → ℕ
-section_length known = length_of_section known.section known.lengths
+section_length state = length_of_section state.section state.lengths
 
 abbrev pub control_length : PassState → ℕ
-control_length known = length_of_section known.control known.lengths
+control_length state = length_of_section state.control state.lengths
 
 -- ---- one statement
 -- the boundary of an item; a faulty one has none
@@ -38,10 +38,10 @@ ItemsStand from (item ∷ items) (at ∷ offsets) end =
 -- What a statement has lies from the offset before it to its end: an instruction on a boundary of two; the items of a
 -- DS or DC; at LTORG the literals of the open pool. All else has nothing.
 abbrev pub Stands : Role → List (List ℕ) → OpenLiterals → ℕ → Extent → Type 0
-Stands (Instruction size) parts pool from laid = (from ≤ laid.offset) × (laid.offset % 2 ≡ 0) × (laid.end ≡ laid.offset + size)
-Stands (Storage is_ds) parts pool from laid = ItemsStand from (map (constant_in is_ds) parts) laid.items laid.end
-Stands Pool parts pool from laid = (from ≤ laid.offset) × StandApart laid.offset (closed_pool (cap laid.offset) pool) laid.end
-Stands _ parts pool from laid = (laid.offset ≡ from) × (laid.end ≡ from)
+Stands (Instruction size) parts pool from extent = (from ≤ extent.offset) × (extent.offset % 2 ≡ 0) × (extent.end ≡ extent.offset + size)
+Stands (Storage is_ds) parts pool from extent = ItemsStand from (map (constant_in is_ds) parts) extent.items extent.end
+Stands Pool parts pool from extent = (from ≤ extent.offset) × StandApart extent.offset (closed_pool (cap extent.offset) pool) extent.end
+Stands _ parts pool from extent = (extent.offset ≡ from) × (extent.end ≡ from)
 
 -- ---- all statements
 -- what a statement takes of its section
@@ -51,12 +51,12 @@ pub record Stretch : Type 0 where
   pub end : ℕ
 
 abbrev pub stretch_of : Stmt → PassState → Stretch
-stretch_of stmt known = record { section = known.section; offset = (laid_in stmt known).offset; end = (laid_in stmt known).end }
+stretch_of stmt state = record { section = state.section; offset = (extent_in stmt state).offset; end = (extent_in stmt state).end }
 
 -- those of the statements of lines, the latest first
 abbrev pub stretch_before : Option Stmt → PassState → List Stretch → List Stretch
-stretch_before None known stretches = stretches
-stretch_before (Some stmt) known stretches = stretch_of stmt known ∷ stretches
+stretch_before None state stretches = stretches
+stretch_before (Some stmt) state stretches = stretch_of stmt state ∷ stretches
 
 abbrev pub stretches_after : List Item → List Stretch
 stretches_after [] = []
@@ -72,9 +72,9 @@ AreApart (stretch ∷ before) = (stretch.offset ≤ stretch.end) × AllByRecursi
 
 -- every one of the control section ends inside it
 abbrev pub EndWithin : PassState → List Stretch → Type 0
-EndWithin known stretches = AllByRecursion (λ stretch. is_control stretch.section known.control ≡ true → stretch.end ≤ (last_pool_extent known).end) stretches
+EndWithin state stretches = AllByRecursion (λ stretch. is_control stretch.section state.control ≡ true → stretch.end ≤ (last_pool_extent state).end) stretches
 
 -- The last pool lies from the control section's end so far to its end.
-pub record ClosesApart (known : PassState) : Type 0 where
-  pub begins : control_length known ≤ (last_pool_extent known).offset
-  pub literals : StandApart (last_pool_extent known).offset (closed_pool (cap (last_pool_extent known).offset) known.pool) (last_pool_extent known).end
+pub record ClosesApart (state : PassState) : Type 0 where
+  pub begins : control_length state ≤ (last_pool_extent state).offset
+  pub literals : StandApart (last_pool_extent state).offset (closed_pool (cap (last_pool_extent state).offset) state.pool) (last_pool_extent state).end

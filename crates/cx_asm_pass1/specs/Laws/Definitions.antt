@@ -7,8 +7,8 @@ use Rattle.cx_asm_pass1.specs.PassState.{PassState, definitions_in, state_after}
 
 -- all that the statements of lines define, in the source's order; the lines the latest first
 abbrev pub definitions_at : Option Stmt → PassState → Symbols
-definitions_at None known = []
-definitions_at (Some stmt) known = definitions_in stmt known None
+definitions_at None state = []
+definitions_at (Some stmt) state = definitions_in stmt state None
 
 abbrev pub definitions_after : List Item → Symbols
 definitions_after [] = []

@@ -14,8 +14,8 @@ Fault = ℕ × Option FaultKind
 
 -- those of the statements of lines, the latest first
 abbrev pub fault_at : ℕ → Option Stmt → PassState → List Fault → List Fault
-fault_at line None known faults = faults
-fault_at line (Some stmt) known faults = (line, fault_in stmt known) ∷ faults
+fault_at line None state faults = faults
+fault_at line (Some stmt) state faults = (line, fault_in stmt state) ∷ faults
 
 abbrev pub faults_after : List Item → List Fault
 faults_after [] = []

@@ -12,8 +12,8 @@ Lengths = List (List ℕ × ℕ)
 abbrev pub length_in : Lengths → List ℕ → ℕ
 length_in lengths name = unwrap_or (lookup (is_same name) lengths) 0
 
-abbrev pub known_to : Pass → PassState
-known_to pass =
+abbrev pub state_of : Pass → PassState
+state_of pass =
     record {
       section = pass.section;
       control = pass.control;

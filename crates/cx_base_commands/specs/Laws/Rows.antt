@@ -54,4 +54,4 @@ has_length_beside options rules option =
 
 -- each option with bytes that LENGTH measures has LENGTH beside it
 abbrev pub measured_have_length : List CommandOption → List Rule → Bool
-measured_have_length options rules = list_all (λ option. not (is_measured option.mark) || has_length_beside options rules option) options
+measured_have_length options rules = list_all (λ option. not (is_measured option.kind) || has_length_beside options rules option) options

@@ -78,8 +78,8 @@ given_in old (e ∷ events) (given ∷ answers) (new ∷ states) = given_by old 
 given_in old _ _ _ = []
 
 -- these are its replies
-abbrev pub ToldAreThoseGiven : Type 0
-ToldAreThoseGiven = (old : EdfState) (events : List EdfEvent) (answers : List Answer) (new : EdfState) (run : EdfRun old events answers new)
+abbrev pub ReportedAreThoseGiven : Type 0
+ReportedAreThoseGiven = (old : EdfState) (events : List EdfEvent) (answers : List Answer) (new : EdfState) (run : EdfRun old events answers new)
     → region_replies old events answers run.states ≡ given_in old events answers run.states
 
 -- an event is EDF's own exactly where its answer is

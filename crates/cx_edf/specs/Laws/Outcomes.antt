@@ -12,7 +12,7 @@ use Rattle.cx_edf.specs.Laws.Memory.{IsCheckedEdf}
 pub record HasOutcomeEdf (old : EdfState) (e : EdfEvent) : Type 0 where
   pub given : Answer
   pub new : EdfState
-  pub happens : EdfApplies old e given new
+  pub applies : EdfApplies old e given new
 
 -- each event that was done has one: it was answered, or was refused memory
 abbrev pub EdfEventsHaveOutcomes : Type 0

@@ -1,7 +1,7 @@
 -- Where a command is due, the current level keeps what its program has at it.
 use Rattle.std.specs.Prelude.{◌≡◌, ℕ, true, List, Some}
 use Rattle.cx_region_state.specs.State.{TaskState}
-use Rattle.cx_region_task_laws.specs.Laws.Levels.{Keeps}
+use Rattle.cx_region_laws.specs.Laws.Levels.{Keeps}
 use Rattle.cx_region.specs.declared.replies.Event.{Event}
 use Rattle.cx_region.specs.declared.replies.Reply.{Reply}
 use Rattle.cx_region.specs.State.{RegionState}

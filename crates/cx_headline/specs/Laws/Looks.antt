@@ -11,7 +11,7 @@ use Rattle.cx_script.specs.Laws.Inputs.{was_stopped}
 use Rattle.cx_look_script.specs.Laws.Looks.{ChangesNothing, plain_of, written_of}
 use Rattle.cx_look_script.specs.Looking.{LookPerforms}
 use Rattle.cx_look_script.specs.Reading.{look_language}
-use Rattle.cx_look_script.specs.State.{LookState, fresh_looked}
+use Rattle.cx_look_script.specs.State.{LookState, fresh_look_state}
 use Rattle.cx_look_script.specs.declared.action.LookAction.{LookAction}
 use Rattle.cx_headline.specs.Laws.Runs.{WasWritten}
 
@@ -26,12 +26,12 @@ pub record IsLookedOver (script : Script LookAction) (answer : Result Summary Ru
   pub text : List ℕ
   pub written : WasWritten answer before after text
   pub new : LookState
-  pub unchanged : ChangesNothing fresh_looked actions text new
+  pub unchanged : ChangesNothing fresh_look_state actions text new
   pub did : IsRun fresh_state (flat_map plain_of unchanged.parts) (flat_map written_of unchanged.parts) new.edf
 
--- so it is of each script that ran: the premise is what `run_script_on` ensures of `cicslook`'s stage
+-- so it is of each script that ran: the premise is what `run_script_on` ensures of `cicslook`'s performer
 abbrev pub ScriptsAreLookedOver : Type 0
 ScriptsAreLookedOver = (left left_after : Option (List ℕ)) (failed : Bool) (answer : Result Summary RunFault)
     (before after : Option (List ℕ))
-    (ran : RanIn look_language LookPerforms fresh_looked left left_after failed answer before after)
+    (ran : RanIn look_language LookPerforms fresh_look_state left left_after failed answer before after)
     → IsLookedOver (script_in look_language ran.ending ran.bytes) answer before after

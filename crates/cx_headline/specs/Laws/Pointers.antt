@@ -15,9 +15,9 @@ use Rattle.cx_exec.specs.Step.{Steps}
 use Rattle.cx_exec.specs.declared.machine.Step.TheVariants.{Done}
 use Rattle.cx_region_call.specs.declared.outputs.Output.{Output}
 use Rattle.cx_region_call.specs.declared.outputs.OutputValue.TheVariants.{Word}
-use Rattle.cx_asm_arrival.specs.Arrives.{Arrives}
-use Rattle.cx_asm_arrival.specs.Expansion.{Statement, argument_address, call_made, instructions_made}
-use Rattle.cx_asm_arrival.specs.Stands.{IsMachine, code_length}
+use Rattle.cx_asm_execution.specs.Arrives.{Arrives}
+use Rattle.cx_asm_execution.specs.Expansion.{Statement, argument_address, call_made, instructions_made}
+use Rattle.cx_asm_execution.specs.Stands.{IsMachine, code_length}
 use Rattle.cx_source.specs.declared.source.Item.{Item}
 use Rattle.cx_source.specs.declared.source.Source.{Source}
 use Rattle.cx_source.specs.declared.source.Stmt.{Stmt}
@@ -33,7 +33,7 @@ use Rattle.cx_region_state.specs.Verdicts.{handed_over}
 use Rattle.cx_region_state.specs.declared.replies.TurnReply.TheVariants as turn
 use Rattle.cx_region_task.specs.Sound.{IsSoundTask}
 use Rattle.cx_region_task.specs.Turn.{HalfTurn, machine_of}
-use Rattle.cx_region_task_laws.specs.Laws.Pointers.{HasPutOut, is_written_again}
+use Rattle.cx_region_laws.specs.Laws.Pointers.{HasPutOut, is_written_again}
 
 -- A machine at a statement's first instruction, which is at an address, has come to the statement's command, and a
 -- half-turn of its sound task has performed it. A register that is in use as a base held its USING's base at the first

@@ -45,7 +45,7 @@ IsTurn old name given new =
 -- an event of the region: its reply is the answer, and the region after it is as its row says
 pub record IsRow (old : RegionState) (event : Event) (given : Answer) (new : RegionState) : Type 0 where
   pub reply : Reply
-  pub happens : Applies old event reply new
+  pub applies : Applies old event reply new
   pub answers : given ≡ answer.Region reply
 
 -- What an event did to the region. EDF's own leaves it, except that a PF12 that ends a task is the alteration that does

@@ -74,6 +74,6 @@ abbrev pub LooksAreMarked : Type 0
 LooksAreMarked = (look : Look) (state : LookState) (text : List ℕ) → IsLookText look state text → IsOfLooks text
 
 -- the text of a look is a function of the state
-abbrev pub LooksAreToldOnce : Type 0
-LooksAreToldOnce = (look : Look) (state : LookState) (one other : List ℕ)
+abbrev pub LooksAreReportedOnce : Type 0
+LooksAreReportedOnce = (look : Look) (state : LookState) (one other : List ℕ)
     → IsLookText look state one → IsLookText look state other → one ≡ other

@@ -8,7 +8,7 @@ use Rattle.cx_look_script.specs.State.{LookState}
 -- a turn, its text after those before, and whether another follows
 pub record TurnsOnce (old : LookState) (name before : List ℕ) (on : Bool) (after : List ℕ) (new : LookState) : Type 0 where
   pub given : Answer
-  pub happens : AppliesAtLooks old (turn_of name) given new
+  pub applies : AppliesAtLooks old (turn_of name) given new
   pub written : after ≡ before ++ answer_text (turn_of name) given
   pub follows : on ≡ goes_on new.edf name given
 

@@ -82,20 +82,20 @@ literals_marked section used number (pool ∷ pools) =
     (lines_of_each (literal_line section used number) (literal_marked section used number) pool)
     (literals_marked section used (number + 1) pools)
 
-using_marked : (told : Whole) (last : ℕ) (s : PlacedStatement) (after : List PlacedStatement) (register : ℕ) → IsOfLooks (using_line told last s after register)
-using_marked told last s after register =
-    let end : ℕ = use_end told last register after in
+using_marked : (whole : Whole) (last : ℕ) (s : PlacedStatement) (after : List PlacedStatement) (register : ℕ) → IsOfLooks (using_line whole last s after register)
+using_marked whole last s after register =
+    let end : ℕ = use_end whole last register after in
     let place : List ℕ = unwrap_or (slice_get (parts_in s.stmt) 0) [] in
     a_line
     (codes "XREF" ∷ codes "USING" ∷ decimal register ∷ codes "FROM" ∷ decimal s.line ∷ codes "TO" ∷ decimal end ∷ one_line place ∷ [])
     (refl, (refl, (decimal_is_word register, (refl, (decimal_is_word s.line, (refl, (decimal_is_word end, (one_line_is_word place, tt))))))))
 
-pub usings_marked : (told : Whole) (last : ℕ) (statements : List PlacedStatement) → IsOfLooks (usings_from told last statements)
-usings_marked told last [] = no_lines
-usings_marked told last (s ∷ after) =
-    more_lines (flat_map (using_line told last s after) (base_registers told s (operation_of s))) (usings_from told last after)
-    (lines_of_each (using_line told last s after) (using_marked told last s after) (base_registers told s (operation_of s)))
-    (usings_marked told last after)
+pub usings_marked : (whole : Whole) (last : ℕ) (statements : List PlacedStatement) → IsOfLooks (usings_from whole last statements)
+usings_marked whole last [] = no_lines
+usings_marked whole last (s ∷ after) =
+    more_lines (flat_map (using_line whole last s after) (base_registers whole s (operation_of s))) (usings_from whole last after)
+    (lines_of_each (using_line whole last s after) (using_marked whole last s after) (base_registers whole s (operation_of s)))
+    (usings_marked whole last after)
 
 name_marked : (used : List ℕ → List ℕ) (symbol : List ℕ × Symbol) → IsOfLooks (name_line used symbol)
 name_marked used (name, symbol) =

@@ -88,9 +88,9 @@ register_keeps s slot task r v own = by_due task.due
     by_due false = record { eib = own.eib; current = own.current; callers = own.callers; few = own.few; apart = own.apart }
 
 -- as the reply of a turn that leaves the task so
-told_as : Change → TurnReply
-told_as Abend = turn.Abended (abend_code Xedf)
-told_as _ = turn.Waiting
+reported_as : Change → TurnReply
+reported_as Abend = turn.Abended (abend_code Xedf)
+reported_as _ = turn.Waiting
 
 not_over : {P : Type 0} → is_over turn.Waiting ≡ true → P
 not_over e = absurd (true≢false (sym e))
@@ -111,8 +111,8 @@ goes_on before after slot programs areas resources own =
       released = not_over;
     }
 
-change_keeps : (change : Change) (before : TaskContext) → IsSoundTask before.shared.storage before.terminal_entry.slot before.task → HalfTurnKeeps before (told_as change) (after_change change before)
-unfolding after_change told_as
+change_keeps : (change : Change) (before : TaskContext) → IsSoundTask before.shared.storage before.terminal_entry.slot before.task → HalfTurnKeeps before (reported_as change) (after_change change before)
+unfolding after_change reported_as
 change_keeps (Register r v) before own = goes_on before (after_change (Register r v) before) refl refl refl refl (register_keeps before.shared.storage before.terminal_entry.slot before.task r v own)
 change_keeps (Byte a v) before own =
     let same = areas_after_set before.shared.storage a v in
@@ -131,8 +131,8 @@ change_keeps Abend before own =
     }
 
 -- ---- soundness
-put_as : (r : RegionState) (name : List ℕ) (change : Change) (after : TaskContext) → put_back r name after (task_left change after.task) ≡ put_back r name after (task_after (told_as change) after.task)
-unfolding told_as
+put_as : (r : RegionState) (name : List ℕ) (change : Change) (after : TaskContext) → put_back r name after (task_left change after.task) ≡ put_back r name after (task_after (reported_as change) after.task)
+unfolding reported_as
 put_as r name (Register n v) after = refl
 put_as r name (Byte a v) after = refl
 put_as r name Nop after = refl
@@ -147,7 +147,7 @@ sound_altered r new name change ok is sound queues resources = by_terminal (look
     by_task t there None at e = subst IsSound (sym e) ok
     by_task t there (Some task) at e =
         let before = context_of r t task in
-        sound_kept r new name t task (told_as change) (after_change change before) ok there (change_keeps change before (own_task r name t task ok there at))
+        sound_kept r new name t task (reported_as change) (after_change change before) ok there (change_keeps change before (own_task r name t task ok there at))
         (e ∙ put_as r name change (after_change change before)) sound queues resources
 
     by_terminal : (o : Option TerminalState) → lookup (is_name name) r.terminals ≡ o → new ≡ option_map_or (λ t. option_map_or (altered_at r name change t) t.task r) o r → IsSound new

@@ -72,7 +72,7 @@ sound_terminal r name ts ok free is distinct =
     let room : length r.terminals < 16 = terminal_room r name ok free in
     let fresh : TerminalState = fresh_terminal (length r.terminals + 1) in
     let put : ts ≡ r.terminals ++ (name, fresh) ∷ [] = is ∙ insert_entry_absent is_name r.terminals name fresh (not_some _ first.0) in
-    let grown : length ts ≡ length r.terminals + 1 = ap length put ∙ length_push r.terminals (name, fresh) in
+    let longer : length ts ≡ length r.terminals + 1 = ap length put ∙ length_push r.terminals (name, fresh) in
     record {
       storage = ok.storage;
       cwa_stands = ok.cwa_stands;
@@ -138,7 +138,7 @@ unfolding transaction_fault
 sound_transaction r tran program ts ok free is distinct =
     let first = no_fault _ _ _ free in
     let room : length r.transactions < 64 = leb-false _ _ (no_fault _ _ _ first.1).0 in
-    let grown : length ts ≡ length r.transactions + 1 =
+    let longer : length ts ≡ length r.transactions + 1 =
     ap length (is ∙ insert_entry_absent is_name r.transactions tran program (not_some _ first.0)) ∙ length_push r.transactions (tran, program) in
     record {
       storage = ok.storage;
@@ -215,7 +215,7 @@ unfolding program_fault
 sound_program r name image loaded t ps ok sound some good free is_loaded is distinct =
     let first = no_fault _ _ _ free in
     let room : length r.programs < 64 = program_room r name free in
-    let grown : length ps ≡ length r.programs + 1 =
+    let longer : length ps ≡ length r.programs + 1 =
     ap length (is ∙ insert_entry_absent is_name r.programs name loaded (not_some _ first.0)) ∙ length_push r.programs (name, loaded) in
     let stay : AreasStay r.storage t = loaded_stay r.storage t image loaded ok.storage some is_loaded in
     record {

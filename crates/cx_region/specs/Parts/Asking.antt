@@ -38,8 +38,8 @@ unfoldable pub asked : RegionState → List ℕ → List ℕ → Asked
 asked region name bytes = option_map_or (asked_at region bytes) (terminal_of region name) (Answer key.NoSuchTerminal)
 
 -- what is asked may take memory
-unfoldable pub KeyGrows : RegionState → List ℕ → List ℕ → Type 0
-KeyGrows region name bytes =
+unfoldable pub KeyTakesMemory : RegionState → List ℕ → List ℕ → Type 0
+KeyTakesMemory region name bytes =
     IsSomeAnd (terminal_of region name) (λ terminal.
     MatchOption terminal.task
     (IsSomeAnd (option_and_then (program_of region) (transaction_of region (transaction_named terminal.following bytes)))

@@ -3,10 +3,10 @@ use Rattle.std.specs.Prelude.{◌≡◌, ℕ, List, Option, None, IsSomeAnd, Mat
 use Rattle.cx_region_state.specs.declared.replies.TurnReply.{TurnReply}
 use Rattle.cx_region_state.specs.declared.replies.TurnReply.TheVariants as turn
 use Rattle.cx_region_state.specs.State.{TaskContext, SharedState, TaskState, context}
-use Rattle.cx_region_task.specs.declared.cause.Trouble.{Trouble}
-use Rattle.cx_region_task.specs.Causes.{HasTrouble}
+use Rattle.cx_region_task.specs.declared.cause.AbendRecord.{AbendRecord}
+use Rattle.cx_region_task.specs.Causes.{HasAbendRecord}
 use Rattle.cx_region_task.specs.Turn.{TakesMemory, HalfTurn}
-use Rattle.cx_region.specs.State.{TerminalState, station_of, terminal_with}
+use Rattle.cx_region.specs.State.{TerminalState, terminal_entry_of, terminal_with}
 use Rattle.cx_region.specs.Turn.{task_after}
 
 -- the terminals by their names
@@ -16,7 +16,7 @@ Terminals = List (List ℕ × TerminalState)
 -- a half-turn of a terminal's task
 pub record PartTurned (shared : SharedState) (terminal : TerminalState) (task : TaskState) (reply : TurnReply) (after : SharedState) (left : TerminalState) : Type 0 where
   pub reached : TaskContext
-  pub half_turn : HalfTurn (context shared (station_of terminal) task) reply reached
+  pub half_turn : HalfTurn (context shared (terminal_entry_of terminal) task) reply reached
   pub shared_is : after ≡ reached.shared
   pub terminal_is : left ≡ terminal_with reached.terminal_entry (task_after reply reached.task)
 
@@ -30,10 +30,10 @@ unfoldable pub TurnedAt : SharedState → TerminalState → TurnReply → Shared
 TurnedAt shared terminal reply after left =
     MatchOption terminal.task (PartIdle shared terminal reply after left) (λ task. PartTurned shared terminal task reply after left)
 
-unfoldable pub GrowsAt : SharedState → TerminalState → Type 0
-GrowsAt shared terminal = IsSomeAnd terminal.task (λ task. TakesMemory (context shared (station_of terminal) task))
+unfoldable pub TakesMemoryAt : SharedState → TerminalState → Type 0
+TakesMemoryAt shared terminal = IsSomeAnd terminal.task (λ task. TakesMemory (context shared (terminal_entry_of terminal) task))
 
 -- why it leads to an abend
-unfoldable pub TroubledAt : SharedState → TerminalState → Option Trouble → Type 0
-TroubledAt shared terminal trouble =
-    MatchOption terminal.task (trouble ≡ None) (λ task. HasTrouble (context shared (station_of terminal) task) trouble)
+unfoldable pub HasAbendRecordAt : SharedState → TerminalState → Option AbendRecord → Type 0
+HasAbendRecordAt shared terminal abend_record =
+    MatchOption terminal.task (abend_record ≡ None) (λ task. HasAbendRecord (context shared (terminal_entry_of terminal) task) abend_record)

@@ -23,7 +23,7 @@ use Rattle.cx_region_call.specs.declared.inputs.StorageSpan.{StorageSpan}
 -- the options of this name have bytes that LENGTH measures
 unfoldable pub IsMeasuredInput : Command → OptionName → Type 0
 IsMeasuredInput command name = (j : ℕ) (option : CommandOption) → slice_get (row_of command).options j ≡ Some option
-    → is_option option.name name ≡ true → (option.name ≡ name) × (option.mark ≡ BytesRead)
+    → is_option option.name name ≡ true → (option.name ≡ name) × (option.kind ≡ BytesRead)
 
 first_of : (a b : Bool) → (a && b) ≡ true → a ≡ true
 first_of true b e = refl
@@ -154,11 +154,11 @@ false_true e = cc
 none_some : {X : Type 0} {x : X} → None ≡ Some x → ⊥
 none_some e = cc
 
-one_of : (o option : CommandOption) (name : OptionName) → Some o ≡ Some option → (o.name ≡ name) × (o.mark ≡ BytesRead) → (option.name ≡ name) × (option.mark ≡ BytesRead)
+one_of : (o option : CommandOption) (name : OptionName) → Some o ≡ Some option → (o.name ≡ name) × (o.kind ≡ BytesRead) → (option.name ≡ name) × (option.kind ≡ BytesRead)
 one_of o option name is e = let same : o ≡ option = cc in rw (← same) e
 
 no_other : (o option : CommandOption) (name : OptionName) → Some o ≡ Some option → is_option o.name name ≡ false → is_option option.name name ≡ true
-    → (option.name ≡ name) × (option.mark ≡ BytesRead)
+    → (option.name ≡ name) × (option.kind ≡ BytesRead)
 no_other o option name is f named =
     let same : o ≡ option = cc in
     let true_there : is_option o.name name ≡ true = ap (λ (x : CommandOption). is_option x.name name) same ∙ named in

@@ -46,15 +46,15 @@ use Rattle.cx_region_commands.specs.Facts.FitsParts.{by_option, by_test, enqbusy
 -- ---- the conditions of services
 
 -- a condition fits, and so does what is done without one; Memory is none of these conditions
-unless_fits : (o : Option ServiceFault) (r : TaskContext) (v : Verdict) → (o ≡ Some fault.Memory → ⊥) → (o ≡ None → Fits v r) → Fits (fault_or_verdict o v) r
-unless_fits None r v never fits = fits refl
-unless_fits (Some fault.Lengerr) r v never fits = (lengerr_fits, tt)
-unless_fits (Some fault.Itemerr) r v never fits = (itemerr_fits, tt)
-unless_fits (Some fault.Nospace) r v never fits = (nospace_fits, tt)
-unless_fits (Some fault.Qiderr) r v never fits = (qiderr_fits, tt)
-unless_fits (Some fault.Enqbusy) r v never fits = (enqbusy_fits, tt)
-unless_fits (Some fault.Invreq) r v never fits = (invreq_fits, tt)
-unless_fits (Some fault.Memory) r v never fits = absurd (never refl)
+fault_or_verdict_fits : (o : Option ServiceFault) (r : TaskContext) (v : Verdict) → (o ≡ Some fault.Memory → ⊥) → (o ≡ None → Fits v r) → Fits (fault_or_verdict o v) r
+fault_or_verdict_fits None r v never fits = fits refl
+fault_or_verdict_fits (Some fault.Lengerr) r v never fits = (lengerr_fits, tt)
+fault_or_verdict_fits (Some fault.Itemerr) r v never fits = (itemerr_fits, tt)
+fault_or_verdict_fits (Some fault.Nospace) r v never fits = (nospace_fits, tt)
+fault_or_verdict_fits (Some fault.Qiderr) r v never fits = (qiderr_fits, tt)
+fault_or_verdict_fits (Some fault.Enqbusy) r v never fits = (enqbusy_fits, tt)
+fault_or_verdict_fits (Some fault.Invreq) r v never fits = (invreq_fits, tt)
+fault_or_verdict_fits (Some fault.Memory) r v never fits = absurd (never refl)
 
 first_or : (b : Bool) (x : ServiceFault) (o : Option ServiceFault) → (x ≡ fault.Memory → ⊥) → (o ≡ Some fault.Memory → ⊥)
     → (if b then Some x else o) ≡ Some fault.Memory → ⊥
@@ -129,7 +129,7 @@ enq_fits call r v e = elim (cases_Bool (is_wrong_length r.shared.storage call)) 
   where
     go : (o : Option ResourceName) → Fits (option_map_or (enqueues r.shared.resources r.terminal_entry.slot) o (condition_alone Lengerr)) r
     go None = (lengerr_fits, tt)
-    go (Some name) = unless_fits (enq_fault r.shared.resources r.terminal_entry.slot name) r _ (enq_never r.shared.resources r.terminal_entry.slot name) (λ none. (normal_fits, none))
+    go (Some name) = fault_or_verdict_fits (enq_fault r.shared.resources r.terminal_entry.slot name) r _ (enq_never r.shared.resources r.terminal_entry.slot name) (λ none. (normal_fits, none))
 
 pub deq_fits : (call : Call) (r : TaskContext) (v : Verdict) → v ≡ deq_row r.shared.storage call → Fits v r
 unfolding deq_row
@@ -214,11 +214,11 @@ writeq_fits call r v low is there e = rw e (go (bytes_of r.shared.storage call o
         → Fits (written_to r.shared.storage r.shared.queues call name o) r
     written name None at = (qiderr_fits, tt)
     written name (Some piece) at = elim (cases_Bool (has call option.Rewrite)) [
-      | inl t ↦ rw t (unless_fits (rewrite_fault r.shared.queues name (item_named r.shared.storage call) piece.len) r
+      | inl t ↦ rw t (fault_or_verdict_fits (rewrite_fault r.shared.queues name (item_named r.shared.storage call) piece.len) r
           (does (Makes (ItemAt name (item_named r.shared.storage call) piece)))
           (rewrite_never r.shared.queues name (item_named r.shared.storage call) piece.len)
           (λ none. (normal_fits, record { rewrites = none; there = piece_there r.shared.storage call option.From piece low there row at })))
-      | inr f ↦ rw f (unless_fits (write_fault r.shared.queues name piece.len) r
+      | inr f ↦ rw f (fault_or_verdict_fits (write_fault r.shared.queues name piece.len) r
           (Meets Normal (output option.Item (Half (unwrap_or (count_of r.shared.queues name) 0 + 1)) ∷ []) (Makes (ItemLast name piece)))
           (write_never r.shared.queues name piece.len)
           (λ none. (normal_fits, record { writes = none; there = piece_there r.shared.storage call option.From piece low there row at })))
@@ -271,7 +271,7 @@ readq_fits call r v sound row =
         by_test (has call option.Set) reads
         (λ t at. to name n none at.place at.least at.is)
         (λ f e. rw e (into name n (length_option r.shared.storage call) none))
-    by_fault name n (Some fault) is e = rw e (unless_fits (Some fault) r (condition_alone Qiderr) (λ memory. read_never r.shared.queues name n (is ∙ memory)) (λ none. (qiderr_fits, tt)))
+    by_fault name n (Some fault) is e = rw e (fault_or_verdict_fits (Some fault) r (condition_alone Qiderr) (λ memory. read_never r.shared.queues name n (is ∙ memory)) (λ none. (qiderr_fits, tt)))
 
     item : (name : List ℕ) (n : ℕ) → ReadsItem r.shared.storage r.shared.queues call name n (read_fault r.shared.queues name n) v → Fits v r
     item name n reads = by_fault name n (read_fault r.shared.queues name n) refl reads

@@ -14,7 +14,7 @@ use Rattle.cx_region_laws.specs.Laws.Sound.{IsChecked}
 pub record HasOutcome (old : RegionState) (event : Event) : Type 0 where
   pub reply : Reply
   pub new : RegionState
-  pub happens : Applies old event reply new
+  pub applies : Applies old event reply new
 
 -- each event that was done has one: it was answered, or was refused memory
 abbrev pub EventsHaveOutcomes : Type 0

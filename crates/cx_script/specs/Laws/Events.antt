@@ -38,17 +38,17 @@ written_before (action.Source name before image) = before
 written_before _ = []
 
 -- the text of an action that gives an event is that of the event's answer, after what is written before
-abbrev pub IsToldBy : Option EdfEvent → List ℕ → List Answer → List ℕ → (List Answer → Type 0) → Type 0
-IsToldBy None before answers text Rest = Rest answers
-IsToldBy (Some event) before [] text Rest = ⊥
-IsToldBy (Some event) before (answer ∷ answers) text Rest = (text ≡ before ++ answer_text event answer) × Rest answers
+abbrev pub IsReportedBy : Option EdfEvent → List ℕ → List Answer → List ℕ → (List Answer → Type 0) → Type 0
+IsReportedBy None before answers text Rest = Rest answers
+IsReportedBy (Some event) before [] text Rest = ⊥
+IsReportedBy (Some event) before (answer ∷ answers) text Rest = (text ≡ before ++ answer_text event answer) × Rest answers
 
 -- the answers, in order, are those that the texts of these actions report
-unfoldable pub AreTold : List Action → List Answer → List (List ℕ) → Type 0
-AreTold [] [] [] = Unit {0}
-AreTold (action ∷ actions) answers (text ∷ texts) =
-    IsToldBy (event_of action) (written_before action) answers text (λ left. AreTold actions left texts)
-AreTold _ _ _ = ⊥
+unfoldable pub AreReported : List Action → List Answer → List (List ℕ) → Type 0
+AreReported [] [] [] = Unit {0}
+AreReported (action ∷ actions) answers (text ∷ texts) =
+    IsReportedBy (event_of action) (written_before action) answers text (λ left. AreReported actions left texts)
+AreReported _ _ _ = ⊥
 
 -- the actions did their events, in order, from the one state to the other, with the answers that were written
 pub record IsRun (old : EdfState) (actions : List Action) (written : List ℕ) (new : EdfState) : Type 0 where
@@ -56,7 +56,7 @@ pub record IsRun (old : EdfState) (actions : List Action) (written : List ℕ) (
   pub run : EdfRun old (events_of actions) answers new
   pub texts : List (List ℕ)
   pub whole : written ≡ flat_map (λ text. text) texts
-  pub told : AreTold actions answers texts
+  pub reported : AreReported actions answers texts
 
 abbrev pub ScriptsRunTheirEvents : Type 0
 ScriptsRunTheirEvents = (old : EdfState) (actions : List Action) (text : List ℕ) (new : EdfState)

@@ -51,13 +51,13 @@ ReadIsAFailure = (left left_after : Option (List ℕ)) (failed : Bool) (written 
     → RanScript left left_after failed (Err Read) written written_after → failed ≡ true
 
 -- where a read failed, the answer is the first fault of the lines that were read, or Read where they have none
-pub record IsTold (left left_after : Option (List ℕ)) (answer : Result Summary RunFault) : Type 0 where
+pub record IsReported (left left_after : Option (List ℕ)) (answer : Result Summary RunFault) : Type 0 where
   pub bytes : List ℕ
   pub read : Consumes left left_after bytes
-  pub told : result_err answer ≡ (script_in edf_language Failed bytes).fault
+  pub reported : result_err answer ≡ (script_in edf_language Failed bytes).fault
 
-abbrev pub FailuresAreTold : Type 0
-FailuresAreTold = (left left_after : Option (List ℕ)) (answer : Result Summary RunFault)
+abbrev pub FailuresAreReported : Type 0
+FailuresAreReported = (left left_after : Option (List ℕ)) (answer : Result Summary RunFault)
     (written written_after : Option (List ℕ))
     → RanScript left left_after true answer written written_after → was_stopped answer ≡ false
-    → IsTold left left_after answer
+    → IsReported left left_after answer

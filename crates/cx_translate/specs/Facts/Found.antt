@@ -14,10 +14,10 @@ use Rattle.cx_base_commands.specs.declared.legal.ListedCondition.{ListedConditio
 use Rattle.cx_base_commands.specs.declared.options.CommandOption.{CommandOption}
 use Rattle.cx_base_commands.specs.declared.options.ArgumentKind.{ArgumentKind}
 use Rattle.cx_base_commands.specs.Options.{option_name}
-use Rattle.cx_translate.specs.declared.due.DueStatement.{DueStatement}
+use Rattle.cx_translate.specs.declared.due_arguments.DueArgument.{DueArgument}
 use Rattle.cx_translate.specs.declared.words.Argument.{Argument}
 use Rattle.cx_translate.specs.Call.{listed_condition, operand_of}
-use Rattle.cx_translate.specs.PendingStatements.{suits}
+use Rattle.cx_translate.specs.DueArguments.{suits}
 use Rattle.cx_translate.specs.declared.faults.TransFault.TheVariants.{UnknownCommand}
 use Rattle.cx_translate.specs.declared.words.Word.{Word}
 use Rattle.cx_translate.specs.Expansion.{made_in, made_of, stmt}
@@ -57,7 +57,7 @@ abbrev pub judged : Option TransFault → Source → Result Source TransFault
 judged fault source = option_map_or (λ f. Err f) fault (Ok source)
 
 abbrev pub operand_by : ArgumentKind → Option (List ℕ) → List (List ℕ)
-operand_by mark argument = option_to_list (option_map (operand_of mark) argument)
+operand_by kind argument = option_to_list (option_map (operand_of kind) argument)
 
 abbrev pub listed_by : Option Condition → Argument → List ListedCondition
 listed_by condition argument = option_to_list (option_map (λ found. listed_condition found argument) condition)
@@ -65,7 +65,7 @@ listed_by condition argument = option_to_list (option_map (λ found. listed_cond
 abbrev pub with_option : List Word → ℕ → CommandOption → ℕ
 with_option words byte option = if is_given words (option_name option.name) then bit_or byte option.bit else byte
 
-abbrev pub is_wrong : Option DueStatement → Argument → Bool
+abbrev pub is_wrong : Option DueArgument → Argument → Bool
 is_wrong due argument = option_map_or (λ it. not (suits it argument)) due false
 
 abbrev pub made_by : List ℕ → List Word → Option (Command × ℕ) → List Stmt

@@ -1,5 +1,5 @@
 -- How many words a command reads from its argument list (Application Programmer's Reference Manual, SC33-0077, the
--- expansion of a command; the list's layout is this project's own).
+-- expansion of a command; the list's layout is this product's own).
 use Rattle.std.specs.Prelude.{ℕ, ◌+◌, Bool, ◌==◌, if◌then◌else◌, List, length, count_by}
 use Rattle.cx_base_commands.specs.declared.commands.Command.{Command}
 use Rattle.cx_base_commands.specs.declared.legal.ListedCondition.{ListedCondition}

@@ -1,7 +1,7 @@
 use Rattle.std.proofs.Common.{◌≡◌, drop, map}
 use Rattle.cx_asm_expressions.specs.Faults.{lower, lowest}
 use Rattle.cx_asm_pass2.specs.SecondFaults.{item_fault}
-use Rattle.cx_asm_pass2.specs.Whole.{told_by}
+use Rattle.cx_asm_pass2.specs.Whole.{whole_by}
 use Rattle.cx_asm.specs.Parts.Kept.{kept}
 use Rattle.cx_asm.specs.Resolving.{items_standing}
 use Rattle.cx_asm.proofs.constants.push_items.Given as goal
@@ -9,9 +9,9 @@ use Rattle.cx_asm.proofs.constants.push_items.Given as goal
 abbrev pub invariant-loop-item : goal.invariant-loop-item
 invariant-loop-item l = record {
   standing :
-      kept l.keeps l.standing (items_standing (told_by l.places) l.is_ds l.statement (drop l.item-index l.items))
-      ≡ kept l.keeps l.initial.standing (items_standing (told_by l.places) l.is_ds l.statement l.items);
+      kept l.keeps l.standing (items_standing (whole_by l.places) l.is_ds l.statement (drop l.item-index l.items))
+      ≡ kept l.keeps l.initial.standing (items_standing (whole_by l.places) l.is_ds l.statement l.items);
   fault :
-      lower l.fault (lowest (map (item_fault (told_by l.places) l.is_ds l.statement) (drop l.item-index l.items)))
-      ≡ lowest (map (item_fault (told_by l.places) l.is_ds l.statement) l.items);
+      lower l.fault (lowest (map (item_fault (whole_by l.places) l.is_ds l.statement) (drop l.item-index l.items)))
+      ≡ lowest (map (item_fault (whole_by l.places) l.is_ds l.statement) l.items);
 }

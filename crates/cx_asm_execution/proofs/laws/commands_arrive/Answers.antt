@@ -34,7 +34,7 @@ returns c =
       room = c.accepted_lists_have_room.ensures;
       read = c.accepted_lists_are_read.ensures;
     } in
-    let known : Known = record { text = c.the_text_is_told_by_its_bytes.ensures.is; others = c.relocation.ensures.others; spans = spans } in
+    let known : Known = record { text = c.the_text_is_decided_by_its_bytes.ensures.is; others = c.relocation.ensures.others; spans = spans } in
     let addresses : OperandsAddress = operands_address near in
     let texts : TextsAreMade = texts_are_made apart.short apart.size apart.lines in
     let lines : LinesAreLoaded = all_loaded known in

@@ -1,11 +1,11 @@
 use Rattle.std.proofs.Common.{◌≡◌, reverse, take}
 use Rattle.cx_asm_pass1.specs.AllFaults.{faults_after}
 use Rattle.cx_asm_pass1.specs.PassState.{state_after}
-use Rattle.cx_asm_pass1.specs.Parts.Passing.{known_to}
+use Rattle.cx_asm_pass1.specs.Parts.Passing.{state_of}
 use Rattle.cx_asm_pass1.proofs.places.pass_with_faults.Given as goal
 
 abbrev pub invariant-loop-item : goal.invariant-loop-item
 invariant-loop-item l = record {
-  pass : known_to l.pass ≡ state_after (reverse (take l.item-index l.items));
+  pass : state_of l.pass ≡ state_after (reverse (take l.item-index l.items));
   faults : l.faults ≡ faults_after (reverse (take l.item-index l.items));
 }

@@ -1,5 +1,5 @@
 use Rattle.std.proofs.Common.{arith, sym, ◌∙◌}
-use Rattle.cx_look_storage.proofs.AreaLemmas.{all_told, next_start, none_before, one_more}
+use Rattle.cx_look_storage.proofs.AreaLemmas.{all_reported, next_start, none_before, one_more}
 use Rattle.cx_look_storage.proofs.areas.all_areas.Goals as goal
 
 pub loop-area-init : goal.loop-area-init
@@ -21,4 +21,4 @@ loop-area-preserved g c =
     c.in_ok-push.ensures.items c.loop-area.invariant
 
 pub returns : goal.returns
-returns g c = all_told (g.S.Store.storage c.args.store.now) c.loop-area.from _ _ (sym c.next_area.ensures ∙ c.in_default.is) c.loop-area.invariant
+returns g c = all_reported (g.S.Store.storage c.args.store.now) c.loop-area.from _ _ (sym c.next_area.ensures ∙ c.in_default.is) c.loop-area.invariant

@@ -7,4 +7,4 @@ pub returns-clause-ok : goal.returns-clause-ok
 returns-clause-ok g c =
     c.in_ok-get_filled.ensures.ok
     ∙ ap (λ (bytes : List ℕ). with_filled (g.S.Store.storage c.args.store.now) c.args.place c.args.len c.args.owner bytes)
-    (c.front.ensures.value ∙ front_replicate c.args.len 65520 c.args.byte c.requires.few)
+    (c.first_bytes.ensures.value ∙ front_replicate c.args.len 65520 c.args.byte c.requires.few)

@@ -1,4 +1,4 @@
-use Rattle.cx_script.proofs.InputLemmas.{inputs_decide, read_bound_is, is_read_bound, read_is, failures_told}
+use Rattle.cx_script.proofs.InputLemmas.{inputs_decide, read_bound_is, is_read_bound, read_is, failures_reported}
 use Rattle.cx_script.proofs.laws.the_input_decides.Goals as goal
 
 pub returns-clause-decide : goal.returns-clause-decide
@@ -13,5 +13,5 @@ returns-clause-bounded c = is_read_bound
 pub returns-clause-read : goal.returns-clause-read
 returns-clause-read c = read_is
 
-pub returns-clause-told : goal.returns-clause-told
-returns-clause-told c = failures_told
+pub returns-clause-reported : goal.returns-clause-reported
+returns-clause-reported c = failures_reported

@@ -9,12 +9,12 @@ loop-g-init c = (omega arith, omega arith, fills_none (c.args.start / 16) (λ _.
 
 pub loop-g-preserved : goal.loop-g-preserved
 loop-g-preserved c =
-    let told = c.loop-g.invariant in (
-      omega (arith, told.0),
+    let holds = c.loop-g.invariant in (
+      omega (arith, holds.0),
       omega arith,
-      fills_more (c.args.start / 16) c.loop-g.g c.min-next.result (λ _. None) (zero_to 0) (byte_in_pages c.args.pages.now.items) (byte_in_pages c.loop-g.pages.items) (byte_in_pages c.mark_in.new.pages.items) told.0 (omega arith)
-          (λ x _. zero_none x) told.2 (c.mark_in.ensures.set (inr refl)),
+      fills_more (c.args.start / 16) c.loop-g.g c.min-next.result (λ _. None) (zero_to 0) (byte_in_pages c.args.pages.now.items) (byte_in_pages c.loop-g.pages.items) (byte_in_pages c.mark_in.new.pages.items) holds.0 (omega arith)
+          (λ x _. zero_none x) holds.2 (c.mark_in.ensures.set (inr refl)),
     )
 
 pub returns : goal.returns
-returns c = λ x. let told = c.loop-g.invariant in let done : c.loop-g.g ≡ (c.args.end + 15) / 16 = omega (arith, told.1) in rw done at (told.2 x)
+returns c = λ x. let holds = c.loop-g.invariant in let done : c.loop-g.g ≡ (c.args.end + 15) / 16 = omega (arith, holds.1) in rw done at (holds.2 x)

@@ -9,14 +9,14 @@ loop-g-init c = (omega arith, omega arith, fills_none (c.args.start / 16) (zero_
 
 pub loop-g-preserved : goal.loop-g-preserved
 loop-g-preserved c =
-    let told = c.loop-g.invariant in
-    let made = told.3 (c.loop-g.g / 256) ∙ c.requires.made (c.loop-g.g / 256) (omega (arith, told.0)) (omega arith) in (
-      omega (arith, told.0),
+    let holds = c.loop-g.invariant in
+    let made = holds.3 (c.loop-g.g / 256) ∙ c.requires.made (c.loop-g.g / 256) (omega (arith, holds.0)) (omega arith) in (
+      omega (arith, holds.0),
       omega arith,
-      fills_more (c.args.start / 16) c.loop-g.g c.min-next.result (zero_to c.args.end) (zero_to c.min.result) (byte_in_pages c.args.pages.now.items) (byte_in_pages c.loop-g.pages.items) (byte_in_pages c.mark_in.new.pages.items) told.0 (omega arith)
-          (λ x near. zero_near c.min-next.result c.args.end c.min.result x (omega arith) near) told.2 (c.mark_in.ensures.set (inl made)),
-      λ i. c.mark_in.ensures.pages i ∙ told.3 i,
+      fills_more (c.args.start / 16) c.loop-g.g c.min-next.result (zero_to c.args.end) (zero_to c.min.result) (byte_in_pages c.args.pages.now.items) (byte_in_pages c.loop-g.pages.items) (byte_in_pages c.mark_in.new.pages.items) holds.0 (omega arith)
+          (λ x near. zero_near c.min-next.result c.args.end c.min.result x (omega arith) near) holds.2 (c.mark_in.ensures.set (inl made)),
+      λ i. c.mark_in.ensures.pages i ∙ holds.3 i,
     )
 
 pub returns : goal.returns
-returns c = λ x. let told = c.loop-g.invariant in let done : c.loop-g.g ≡ (c.args.end + 15) / 16 = omega (arith, told.1) in rw done at (told.2 x)
+returns c = λ x. let holds = c.loop-g.invariant in let done : c.loop-g.g ≡ (c.args.end + 15) / 16 = omega (arith, holds.1) in rw done at (holds.2 x)

@@ -5,7 +5,7 @@ use Rattle.cx_storage_pages.specs.Parts.Shown.{stored}
 use Rattle.cx_storage_pages.proofs.TableLemmas.{area_here, area_elsewhere, area_past}
 use Rattle.cx_storage_pages.proofs.ChangeLemmas.{area_fits, one_freed, none_freed, removed, free_shows}
 use Rattle.cx_storage_pages.proofs.store.free_area_of.Goals as goal
-use Rattle.cx_storage_pages.proofs.store.free_area_of.Goals.{Then-area-start, Else-area-start, Else-i-len}
+use Rattle.cx_storage_pages.proofs.store.free_area_of.Goals.{Else-area-start, Else-i-len}
 
 pub clear_in-requires-clause-granule : goal.clear_in-requires-clause-granule
 clear_in-requires-clause-granule c =

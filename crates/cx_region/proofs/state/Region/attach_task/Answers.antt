@@ -1,7 +1,7 @@
 use Rattle.std.proofs.Common.{rules}
 use Rattle.cx_region.specs.Parts.Placing.{input_of}
 use Rattle.cx_region.specs.Facts.SoundAttach.{asked_start, start_free, start_program}
-use Rattle.cx_region.proofs.KeyLemmas.{grows_seen, keyed_attach, keyed_seen, keyed_unplaced, on_refusal, sound_attach, start_grows}
+use Rattle.cx_region.proofs.KeyLemmas.{memory_seen, keyed_attach, keyed_seen, keyed_unplaced, on_refusal, sound_attach, start_grows}
 use Rattle.cx_region.proofs.state.Region.attach_task.Goals as goal
 
 pub prepare-prepared-requires-clause-program : goal.prepare-prepared-requires-clause-program
@@ -19,9 +19,9 @@ returns-in-Err-NoStorage-clause-keyed g c =
     (search rules)
     c.prepare-prepared.ensures.rest (on_refusal _ _ _ c.in-Err-NoStorage.is c.prepare-prepared.ensures.err))
 
-pub returns-in-Err-Memory-clause-grows : goal.returns-in-Err-Memory-clause-grows
-returns-in-Err-Memory-clause-grows g c =
-    grows_seen _ _ c.args.name c.args.bytes.now c.self.view_is
+pub returns-in-Err-Memory-clause-memory : goal.returns-in-Err-Memory-clause-memory
+returns-in-Err-Memory-clause-memory g c =
+    memory_seen _ _ c.args.name c.args.bytes.now c.self.view_is
     (start_grows _ c.args.name c.args.bytes.now c.args.start.now (asked_start _ c.args.name c.args.bytes.now c.args.start.now (rw c.self.view_is c.requires.asked))
     (search rules))
 

@@ -18,7 +18,7 @@ loop-i-init g c =
 pub loop-i-preserved : goal.loop-i-preserved
 loop-i-preserved g c = (
   rw c.push_reserved.ensures.items
-      (run_more c.args.self.now c.loop-i.self c.apply.new.self c.args.events.now c.loop-i.i c.index-events-i.result _ c.in-Ok-apply.reply c.loop-i-test.true c.index-events-i.is c.loop-i.invariant.0 c.in-Ok-apply.ensures.done.happens),
+      (run_more c.args.self.now c.loop-i.self c.apply.new.self c.args.events.now c.loop-i.i c.index-events-i.result _ c.in-Ok-apply.reply c.loop-i-test.true c.index-events-i.is c.loop-i.invariant.0 c.in-Ok-apply.ensures.done.applies),
   c.in-Ok-apply.ensures.sound,
   omega (arith, c.push_reserved.ensures.len, c.loop-i.invariant.2),
   rw c.push_reserved.ensures.capacity c.loop-i.invariant.3,

@@ -1,0 +1,5 @@
+use Rattle.cx_look_script.proofs.MarkLemmas.{looks_are_reported_once as reported_once}
+use Rattle.cx_look_script.proofs.laws.looks_are_reported_once.Goals as goal
+
+pub returns : goal.returns
+returns c = reported_once c.texts_decide.ensures.tasks c.texts_decide.ensures.resources

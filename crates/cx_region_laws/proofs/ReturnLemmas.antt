@@ -1,0 +1,215 @@
+-- A half-turn is answered Returned only where there is a caller.
+use Rattle.std.proofs.Common.{◌≡◌, ℕ, ◌<◌, Bool, true, false, List, [], ◌∷◌, length, Option, Some, None, refl, sym, ◌∙◌, ap, arith, inl, inr}
+use Rattle.std.specs.Prelude.{◌&&◌, not, Result, Ok, Err, MatchBool, MatchResult, if◌then◌else◌}
+use Rattle.std.proofs.lemmas.Bool.{cases_Bool, true≢false}
+use Rattle.cx_base_commands.specs.Abends.{abend_code}
+use Rattle.cx_base_commands.specs.declared.abends.Abend.TheVariants as abend
+use Rattle.cx_base_commands.specs.declared.commands.Command.{Command}
+use Rattle.cx_base_commands.specs.declared.commands.Command.TheVariants as command
+use Rattle.cx_base_commands.specs.declared.conditions.Condition.{Condition}
+use Rattle.cx_base_commands.specs.declared.options.OptionName.TheVariants as option
+use Rattle.cx_exec.specs.declared.machine.Halt.{Halt}
+use Rattle.cx_exec.specs.declared.machine.Halt.TheVariants as halt
+use Rattle.cx_program.specs.declared.choice.Choice.{Choice}
+use Rattle.cx_program.specs.declared.choice.Choice.TheVariants as choice
+use Rattle.cx_program.specs.declared.level.Level.{Level}
+use Rattle.cx_region_call.specs.declared.call.CallFault.{CallFault}
+use Rattle.cx_region_call.specs.Call.{Call, call_of}
+use Rattle.cx_region_call.specs.Inputs.{are_inputs_there, is_length_negative}
+use Rattle.cx_region_state.specs.State.{TaskContext}
+use Rattle.cx_region_state.specs.declared.replies.TurnReply.TheVariants as turn
+use Rattle.cx_region_state.specs.declared.verdict.TaskChange.{TaskChange}
+use Rattle.cx_region_state.specs.declared.verdict.TaskChange.TheVariants.{Nothing, Makes, Ends, Gets, Enters, Replaces, LevelEnds, TaskEnds, AbendsWith}
+use Rattle.cx_region_state.specs.declared.verdict.Made.TheVariants.{Handles}
+use Rattle.cx_region_state.specs.declared.verdict.Request.{Request}
+use Rattle.cx_region_state.specs.declared.verdict.Verdict.{Verdict}
+use Rattle.cx_region_state.specs.declared.verdict.Verdict.TheVariants.{Meets, Refuses, Waits}
+use Rattle.cx_region_commands.specs.Common.{does, has}
+use Rattle.cx_region_commands.specs.Abend.{abend_row}
+use Rattle.cx_region_commands.specs.Address.{address_row}
+use Rattle.cx_region_commands.specs.Enq.{enqueues}
+use Rattle.cx_region_commands.specs.Getmain.{gets}
+use Rattle.cx_region_commands.specs.HandleAbend.{handle_abend_row}
+use Rattle.cx_region_commands.specs.Handling.{handle_row, ignore_row}
+use Rattle.cx_region_commands.specs.CommandVerdicts.{HasVerdict, JudgedBy}
+use Rattle.cx_region_commands.specs.Link.{enters}
+use Rattle.cx_region_commands.specs.Return.{highest_return, return_row}
+use Rattle.cx_region_commands.specs.Suspend.{suspend_row}
+use Rattle.cx_region_commands.specs.Xctl.{replaces}
+use Rattle.cx_region_task.specs.declared.continuation.Continuation.{Continuation}
+use Rattle.cx_region_task.specs.declared.continuation.Continuation.TheVariants as continuation
+use Rattle.cx_region_task.specs.Abends.{Abends, AbendsAt}
+use Rattle.cx_region_task.specs.Answers.{Answers, Does, LeavesAll, MeetsWith, has_room, continuation_at}
+use Rattle.cx_region_task.specs.Performing.{PerformsCall as IsCalled, PerformsCommand, Performs, fault_abend, list_of}
+use Rattle.cx_region_task.specs.Turn.{HalfTurn, EndsRun, RunsOn}
+use Rattle.cx_region_task.specs.Continuations.{Goes, choice_for, is_normal, is_wait, continuation_by, continuation_chosen, continuation_of}
+use Rattle.cx_region_laws.specs.Laws.Levels.{ReturnsHaveCallers}
+use Rattle.cx_region_laws.proofs.RowLemmas.{IsApart, IsOfNoOther, deleteq_none, deq_none, enq_none, freemain_none, getmain_none, link_none, never, passes, pop_none, push_none, readq_none, receive_none, send_text_none, writeq_none, xctl_none}
+
+-- whether a change ends a level
+ends_level : TaskChange → Bool
+ends_level LevelEnds = true
+ends_level _ = false
+
+apart : IsApart ends_level
+unfolding ends_level
+apart = record { none = refl; ends = λ e. refl; shows = λ piece erase. refl }
+
+others : IsOfNoOther ends_level
+unfolding ends_level
+others =
+    record {
+      last = λ name piece. refl;
+      at = λ name n piece. refl;
+      enqueues = λ name. refl;
+      gets = λ got. refl;
+      enters = λ level. refl;
+      replaces = λ copying level. refl;
+    }
+
+no_handles : (r : Request) → ends_level (Makes (Handles r)) ≡ false
+unfolding ends_level
+no_handles r = refl
+
+-- ---- RETURN
+return_has : (call : Call) (r : TaskContext) (v : Verdict) → v ≡ return_row r.shared.storage r.task.levels.callers call → passes ends_level v ≡ true → 0 < length r.task.levels.callers
+unfolding return_row passes ends_level
+return_has call r v is e = go r.task.levels.callers (sym (ap (passes ends_level) is) ∙ e)
+  where
+    highest : passes ends_level (highest_return r.shared.storage call) ≡ false
+    highest = elim (cases_Bool (has call option.Commarea && not (has call option.Transid))) [
+      | inl t ↦ rw t refl
+      | inr f ↦ elim (cases_Bool (is_length_negative r.shared.storage call)) [
+        | inl y ↦ rw (f, y) refl
+        | inr n ↦ rw (f, n) refl
+      ]
+    ]
+
+    go : (callers : List Level) → passes ends_level (return_row r.shared.storage callers call) ≡ true → 0 < length callers
+    go [] e = absurd (true≢false (sym e ∙ highest))
+    go (caller ∷ callers) e = omega arith
+
+judged_has : (call : Call) (r : TaskContext) (v : Verdict) → HasVerdict call r v → passes ends_level v ≡ true → 0 < length r.task.levels.callers
+unfolding HasVerdict address_row abend_row handle_row ignore_row suspend_row handle_abend_row passes ends_level
+judged_has call r v judged e = go call.command judged
+  where
+    go : (c : Command) → JudgedBy c call r v → 0 < length r.task.levels.callers
+    go command.Address is = never ends_level v _ is refl e
+    go command.HandleCondition is = never ends_level v _ is refl e
+    go command.IgnoreCondition is = never ends_level v _ is refl e
+    go command.PushHandle is = never ends_level v _ is (push_none ends_level apart no_handles r.task.levels.current.handles.kept) e
+    go command.PopHandle is = never ends_level v _ is (pop_none ends_level apart no_handles r.task.levels.current.handles.kept) e
+    go command.Receive is = never ends_level v _ is (receive_none ends_level apart r.terminal_entry.input _) e
+    go command.WriteqTs is = never ends_level v _ is (writeq_none ends_level apart others call r) e
+    go command.ReadqTs row = readq_none ends_level apart others call r v row e
+    go command.DeleteqTs is = never ends_level v _ is (deleteq_none ends_level apart r.shared.storage r.shared.queues call) e
+    go command.Getmain row = getmain_none ends_level apart others call r v row e
+    go command.Freemain is = never ends_level v _ is (freemain_none ends_level apart r.shared.storage r.terminal_entry.slot call) e
+    go command.Link row = link_none ends_level apart others call r v row e
+    go command.Xctl row = xctl_none ends_level apart others call r v row e
+    go command.Return is = return_has call r v is e
+    go command.Abend is = never ends_level v _ is refl e
+    go command.HandleAbend is = never ends_level v _ is refl e
+    go command.Enq is = never ends_level v _ is (enq_none ends_level apart others call r) e
+    go command.Deq is = never ends_level v _ is (deq_none ends_level apart r.shared.storage call) e
+    go command.Suspend is = never ends_level v _ is refl e
+    go command.SendText is = never ends_level v _ is (send_text_none ends_level apart r.shared.storage call) e
+
+-- ---- the way of a level's end
+ends_by : (change : TaskChange) → continuation_by change ≡ continuation.LevelEnds → ends_level change ≡ true
+unfolding ends_level
+ends_by Nothing e = cc
+ends_by (Makes made) e = cc
+ends_by (Ends ended) e = cc
+ends_by (Gets got) e = cc
+ends_by (Enters level) e = cc
+ends_by (Replaces copying level) e = cc
+ends_by LevelEnds e = refl
+ends_by (TaskEnds next) e = cc
+ends_by (AbendsWith code cancel) e = cc
+
+not_chosen : (chosen : Choice) → continuation_chosen chosen ≡ continuation.LevelEnds → {P : Type 0} → P
+not_chosen (choice.Label label) e = cc
+not_chosen choice.GoOn e = cc
+not_chosen choice.Wait e = cc
+not_chosen (choice.Abend code) e = cc
+
+way_ends : (call : Call) (condition : Condition) (change : TaskChange) (r : TaskContext) → continuation_at call condition change r ≡ continuation.LevelEnds → ends_level change ≡ true
+unfolding continuation_of
+way_ends call condition change r e = either (is_normal condition) e
+  where
+    chosen : Choice
+    chosen = choice_for call r.task.levels.current.handles.active.entries condition
+
+    either : (normal : Bool) → (if normal then continuation_by change else continuation_chosen chosen) ≡ continuation.LevelEnds → ends_level change ≡ true
+    either true e = ends_by change e
+    either false e = not_chosen chosen e
+
+abends_not : (code : List ℕ) (cancel : Bool) (before after : TaskContext) → Abends code cancel before turn.Returned after → {P : Type 0} → P
+unfolding AbendsAt
+abends_not code cancel before after it = go it.exit it.ends
+  where
+    go : {P : Type 0} (o : Option ℕ) → AbendsAt o code before turn.Returned after → P
+    go None over = let no : turn.Returned ≡ turn.Abended code = over.0 in cc
+    go (Some index) over = let no : turn.Returned ≡ turn.TookExit code = over.0 in cc
+
+goes_ends : (gone : Continuation) (condition : Condition) (committed after : TaskContext) → Goes gone condition committed turn.Returned after → gone ≡ continuation.LevelEnds
+unfolding Goes
+goes_ends continuation.GoesOn condition committed after goes = let no : turn.Returned ≡ turn.Performed condition = goes.0 in cc
+goes_ends (continuation.TakesLabel label) condition committed after goes = let no : turn.Returned ≡ turn.TookLabel condition = goes.0 in cc
+goes_ends continuation.Waits condition committed after goes = let no : turn.Returned ≡ turn.Waiting = goes.0 in cc
+goes_ends (continuation.Abends code cancel) condition committed after goes = abends_not code cancel committed after goes
+goes_ends (continuation.Enters level) condition committed after goes = let no : turn.Returned ≡ turn.Entered = goes.0 in cc
+goes_ends (continuation.Replaces level) condition committed after goes = let no : turn.Returned ≡ turn.Entered = goes.0 in cc
+goes_ends continuation.LevelEnds condition committed after goes = refl
+goes_ends continuation.TaskEnds condition committed after goes = let no : turn.Returned ≡ turn.Ended = goes.0 in cc
+
+-- ---- the half-turn
+waits_not : (before after : TaskContext) → LeavesAll before turn.Returned after → {P : Type 0} → P
+waits_not before after it = let no : turn.Returned ≡ turn.Waiting = it.waiting in cc
+
+answers_has : (verdict : Verdict) (call : Call) (before after : TaskContext) → HasVerdict call before verdict → Answers verdict call before turn.Returned after → 0 < length before.task.levels.callers
+unfolding Answers MeetsWith passes
+answers_has (Refuses code) call before after judged it = abends_not (abend_code code) false before after it
+answers_has Waits call before after judged it = waits_not before after it
+answers_has (Meets condition outputs change) call before after judged it = by_room (has_room call outputs change before) it
+  where
+    by_wait : (b : Bool) → MatchBool b (LeavesAll before turn.Returned after) (Does call condition outputs change before turn.Returned after) → 0 < length before.task.levels.callers
+    by_wait true leaves = waits_not before after leaves
+    by_wait false does =
+        judged_has call before (Meets condition outputs change) judged
+        (way_ends call condition change before (goes_ends (continuation_at call condition change before) condition does.committed after does.goes))
+
+    by_room : (b : Bool) → MatchBool b (MatchBool (is_wait (continuation_at call condition change before)) (LeavesAll before turn.Returned after) (Does call condition outputs change before turn.Returned after))
+        (Abends (abend_code abend.Xarg) false before turn.Returned after) → 0 < length before.task.levels.callers
+    by_room true met = by_wait (is_wait (continuation_at call condition change before)) met
+    by_room false abends = abends_not (abend_code abend.Xarg) false before after abends
+
+commanded_has : (before after : TaskContext) → PerformsCommand before turn.Returned after → 0 < length before.task.levels.callers
+unfolding PerformsCommand IsCalled
+commanded_has before after commanded = by_call (call_of before.shared.storage (list_of before.task)) commanded
+  where
+    by_inputs : (call : Call) (b : Bool) → MatchBool b (Performs call before turn.Returned after) (Abends (abend_code abend.Xarg) false before turn.Returned after) → 0 < length before.task.levels.callers
+    by_inputs call true it = answers_has it.verdict call before after it.judged it.answers
+    by_inputs call false abends = abends_not (abend_code abend.Xarg) false before after abends
+
+    by_call : (r : Result Call CallFault) → MatchResult r (λ call. IsCalled call before turn.Returned after) (λ fault. Abends (abend_code (fault_abend fault)) false before turn.Returned after) → 0 < length before.task.levels.callers
+    by_call (Ok call) called = by_inputs call (are_inputs_there before.shared.storage call) called
+    by_call (Err fault) abends = abends_not (abend_code (fault_abend fault)) false before after abends
+
+runs_not : (before after : TaskContext) → RunsOn before turn.Returned after → {P : Type 0} → P
+unfolding EndsRun
+runs_not before after it = by_halt it.how it.ends
+  where
+    by_halt : {P : Type 0} (how : Halt) → EndsRun how it.between turn.Returned after → P
+    by_halt halt.AtEntry over = let no : turn.Returned ≡ turn.AtCommand = over.0 in cc
+    by_halt (halt.Interrupt cause place) abends = abends_not (abend_code abend.Asra) false it.between after abends
+    by_halt halt.Limit abends = abends_not (abend_code abend.Aica) false it.between after abends
+
+pub returns_have_callers : ReturnsHaveCallers
+unfolding HalfTurn
+returns_have_callers before after half = by_due before.task.due half
+  where
+    by_due : (b : Bool) → MatchBool b (PerformsCommand before turn.Returned after) (RunsOn before turn.Returned after) → 0 < length before.task.levels.callers
+    by_due true commanded = commanded_has before after commanded
+    by_due false runs = runs_not before after runs

@@ -1,0 +1,127 @@
+-- Which commands' changes take memory.
+use Rattle.std.proofs.Common.{◌≡◌, ℕ, Bool, true, false, List, [], ◌∷◌, Option, Some, None, refl, sym, ◌∙◌, ap, inl, inr}
+use Rattle.std.specs.Prelude.{◌&&◌, ◌||◌, not, is_some}
+use Rattle.std.specs.Option.{option_map}
+use Rattle.std.proofs.lemmas.Bool.{cases_Bool, true≢false}
+use Rattle.cx_base_commands.specs.declared.commands.Command.{Command}
+use Rattle.cx_base_commands.specs.declared.commands.Command.TheVariants as command
+use Rattle.cx_base_commands.specs.declared.conditions.Condition.TheVariants.{Lengerr, Qiderr}
+use Rattle.cx_base_commands.specs.declared.options.OptionName.TheVariants as option
+use Rattle.cx_program.specs.declared.level.Level.{Level}
+use Rattle.cx_service.specs.declared.faults.ServiceFault.{ServiceFault}
+use Rattle.cx_service.specs.Queues.{read_fault}
+use Rattle.cx_region_call.specs.Call.{Call}
+use Rattle.cx_region_call.specs.Inputs.{bytes_of, is_length_negative, length_option}
+use Rattle.cx_region_state.specs.State.{TaskContext}
+use Rattle.cx_region_state.specs.declared.verdict.TaskChange.TheVariants.{TaskEnds}
+use Rattle.cx_region_state.specs.declared.verdict.Verdict.{Verdict}
+use Rattle.cx_region_state.specs.declared.verdict.Verdict.TheVariants.{Meets, Refuses, Waits}
+use Rattle.cx_region_commands.specs.Common.{commarea_of, does, has, condition_alone}
+use Rattle.cx_region_commands.specs.Services.{fault_or_verdict}
+use Rattle.cx_region_commands.specs.Abend.{abend_row}
+use Rattle.cx_region_commands.specs.Address.{address_row}
+use Rattle.cx_region_commands.specs.HandleAbend.{handle_abend_row}
+use Rattle.cx_region_commands.specs.Handling.{handle_row, ignore_row}
+use Rattle.cx_region_commands.specs.CommandVerdicts.{HasVerdict, JudgedBy}
+use Rattle.cx_region_commands.specs.ReadqTs.{ReadqRow, Reads, ReadsItem, ReadsQueue, item_asked, reading_of, reads_into}
+use Rattle.cx_region_commands.specs.Return.{highest_return, next_of, return_row}
+use Rattle.cx_region_commands.specs.Suspend.{suspend_row}
+use Rattle.cx_region_commands.specs.Facts.FitsParts.{by_option, by_test}
+use Rattle.cx_region_task.specs.Answers.{has_room, may_take_memory, continuation_at}
+use Rattle.cx_region_task.specs.Continuations.{is_wait}
+use Rattle.cx_region_task.specs.Changes.{change_takes_memory}
+use Rattle.cx_region_laws.specs.Laws.TaskMemory.{OnlyTheseTakeMemory, takes_memory}
+use Rattle.cx_region_laws.proofs.RowLemmas.{IsApart, deleteq_none, deq_none, freemain_none, never, passes, pop_none, push_none, receive_none, send_text_none, unless_none}
+
+-- whether a verdict's change takes memory
+takes : Verdict → Bool
+takes v = passes change_takes_memory v
+
+apart : IsApart change_takes_memory
+apart = record { none = refl; ends = λ e. refl; shows = λ piece erase. refl }
+
+first_of : (a b : Bool) → a && b ≡ true → a ≡ true
+first_of true b e = refl
+first_of false b e = e
+
+may_takes : (v : Verdict) (call : Call) (r : TaskContext) → may_take_memory v call r ≡ true → takes v ≡ true
+unfolding may_take_memory takes passes
+may_takes (Meets condition outputs change) call r e =
+    first_of (change_takes_memory change) (has_room call outputs change r) (first_of (change_takes_memory change && has_room call outputs change r) (not (is_wait (continuation_at call condition change r))) e)
+may_takes Waits call r e = e
+may_takes (Refuses abend) call r e = e
+
+-- ---- rows whose change takes memory in one case
+readq_takes : (call : Call) (r : TaskContext) (v : Verdict) → ReadqRow r.shared.storage r.shared.queues call v → takes v ≡ true → has call option.Set ≡ true
+unfolding ReadqRow ReadsQueue Reads takes passes
+readq_takes call r v row e = elim (cases_Bool (has call option.Set)) [
+  | inl t ↦ t
+  | inr f ↦
+      by_test (has call option.Into && is_length_negative r.shared.storage call) row
+      (λ _ is. never change_takes_memory v (condition_alone Lengerr) is refl e)
+      (λ _ named. by_option (bytes_of r.shared.storage call option.Queue 8) named
+      (λ is. never change_takes_memory v (condition_alone Qiderr) is refl e)
+      (λ name _ reads. by_fault f name (item_asked r.shared.storage r.shared.queues call name) (read_fault r.shared.queues name (item_asked r.shared.storage r.shared.queues call name)) reads))
+]
+  where
+    by_fault : has call option.Set ≡ false → (name : List ℕ) (n : ℕ) (o : Option ServiceFault) → ReadsItem r.shared.storage r.shared.queues call name n o v → has call option.Set ≡ true
+    by_fault f name n None reads =
+        by_test (has call option.Set) reads
+        (λ t _. t)
+        (λ _ is. never change_takes_memory v (reads_into (length_option r.shared.storage call) (reading_of r.shared.queues name n)) is refl e)
+    by_fault f name n (Some fault) is = never change_takes_memory v (fault_or_verdict (Some fault) (condition_alone Qiderr)) is (unless_none change_takes_memory apart (Some fault) (condition_alone Qiderr) refl) e
+
+return_takes : (call : Call) (r : TaskContext) (v : Verdict) → v ≡ return_row r.shared.storage r.task.levels.callers call → takes v ≡ true → is_some (commarea_of r.shared.storage call) ≡ true
+unfolding return_row next_of takes passes
+return_takes call r v is e = go r.task.levels.callers (sym (ap takes is) ∙ e)
+  where
+    following : (o : Option (List ℕ)) → takes (does (TaskEnds (option_map (λ tran. record { tran = tran; commarea = commarea_of r.shared.storage call }) o))) ≡ true → is_some (commarea_of r.shared.storage call) ≡ true
+    following None e = absurd (true≢false (sym e))
+    following (Some tran) e = e
+
+    highest : takes (highest_return r.shared.storage call) ≡ true → is_some (commarea_of r.shared.storage call) ≡ true
+    highest e = elim (cases_Bool (has call option.Commarea && not (has call option.Transid))) [
+      | inl t ↦ absurd (true≢false (sym (rw t at e)))
+      | inr f ↦ elim (cases_Bool (is_length_negative r.shared.storage call)) [
+        | inl y ↦ absurd (true≢false (sym (rw (f, y) at e)))
+        | inr n ↦ following (bytes_of r.shared.storage call option.Transid 4) (rw (f, n) at e)
+      ]
+    ]
+
+    go : (callers : List Level) → takes (return_row r.shared.storage callers call) ≡ true → is_some (commarea_of r.shared.storage call) ≡ true
+    go [] e = highest e
+    go (caller ∷ callers) e = elim (cases_Bool (has call option.Transid || has call option.Commarea)) [
+      | inl t ↦ absurd (true≢false (sym (rw t at e)))
+      | inr f ↦ absurd (true≢false (sym (rw f at e)))
+    ]
+
+-- ---- the commands
+judged_takes : (call : Call) (r : TaskContext) (v : Verdict) → HasVerdict call r v → takes v ≡ true → takes_memory call.command call r.shared.storage ≡ true
+unfolding HasVerdict address_row abend_row handle_row ignore_row suspend_row handle_abend_row takes passes
+judged_takes call r v judged e = go call.command judged
+  where
+    go : (c : Command) → JudgedBy c call r v → takes_memory c call r.shared.storage ≡ true
+    go command.Address is = never change_takes_memory v _ is refl e
+    go command.HandleCondition is = never change_takes_memory v _ is refl e
+    go command.IgnoreCondition is = never change_takes_memory v _ is refl e
+    go command.PushHandle is = never change_takes_memory v _ is (push_none change_takes_memory apart (λ r. refl) r.task.levels.current.handles.kept) e
+    go command.PopHandle is = never change_takes_memory v _ is (pop_none change_takes_memory apart (λ r. refl) r.task.levels.current.handles.kept) e
+    go command.Receive is = never change_takes_memory v _ is (receive_none change_takes_memory apart r.terminal_entry.input _) e
+    go command.WriteqTs is = refl
+    go command.ReadqTs row = readq_takes call r v row e
+    go command.DeleteqTs is = never change_takes_memory v _ is (deleteq_none change_takes_memory apart r.shared.storage r.shared.queues call) e
+    go command.Getmain row = refl
+    go command.Freemain is = never change_takes_memory v _ is (freemain_none change_takes_memory apart r.shared.storage r.terminal_entry.slot call) e
+    go command.Link row = refl
+    go command.Xctl row = refl
+    go command.Return is = return_takes call r v is e
+    go command.Abend is = never change_takes_memory v _ is refl e
+    go command.HandleAbend is = never change_takes_memory v _ is refl e
+    go command.Enq is = refl
+    go command.Deq is = never change_takes_memory v _ is (deq_none change_takes_memory apart r.shared.storage call) e
+    go command.Suspend is = never change_takes_memory v _ is refl e
+    go command.SendText is = never change_takes_memory v _ is (send_text_none change_takes_memory apart r.shared.storage call) e
+
+pub only_these_take_memory : OnlyTheseTakeMemory
+only_these_take_memory before taken =
+    judged_takes taken.call before taken.verdict taken.judged (may_takes taken.verdict taken.call before taken.takes)
