@@ -1,0 +1,98 @@
+//! Runs vectors, which it reads from standard input in parts: a line `VECTORS` with a part's name begins one, and the next such line
+//! or the end of the input ends it. Each part prints those of its vectors that the library disagrees with, and at its end how
+//! many there were and how many of them differ. The parts are
+//!
+//! - `VECTORS spellings`: spellings of instructions (`spellings`);
+//! - `VECTORS steps`: single instructions and short programs (`steps`);
+//! - `VECTORS statements`: single statements and whole sources (`statements`);
+//! - `VECTORS calls`: EXEC statements, up to their calls (`calls`).
+//!
+//! A line before all parts is printed and counted as a difference (`strays`). So are a line `VECTORS` with another name, and what
+//! follows it up to the next part.
+#![tactic(auto)]
+
+mod call_case;
+mod call_judge;
+mod call_layout;
+mod call_program;
+mod calls;
+mod source;
+mod spelling_vector;
+mod spellings;
+mod statement_vector;
+mod statements;
+mod step_judge;
+mod step_vector;
+mod steps;
+mod strays;
+
+use crate::calls::CallPart;
+use crate::spellings::SpellingPart;
+use crate::statements::StatementPart;
+use crate::steps::StepPart;
+use crate::strays::StrayLines;
+use std::io;
+use std::io::{BufRead, BufReader};
+
+/// What lines belong to.
+#[derive(Drop)]
+enum Part {
+    Stray(StrayLines),
+    Spellings(SpellingPart),
+    Steps(StepPart),
+    Statements(StatementPart),
+    Calls(CallPart),
+}
+
+impl Part {
+    /// What a line `VECTORS` begins.
+    fn from_heading(rt: &HostRuntime, heading: &str) -> io::Result<Part> {
+        match heading {
+            "VECTORS spellings" => Ok(Part::Spellings(SpellingPart::new())),
+            "VECTORS steps" => Ok(Part::Steps(StepPart::new(rt.alloc()))),
+            "VECTORS statements" => Ok(Part::Statements(StatementPart::new(rt.alloc()))),
+            "VECTORS calls" => Ok(Part::Calls(CallPart::new(rt.alloc()))),
+            other => {
+                let mut strays = StrayLines::new();
+                strays.line(rt, other)?;
+                Ok(Part::Stray(strays))
+            }
+        }
+    }
+
+    /// Takes a line.
+    fn line(&mut self, rt: &HostRuntime, line: &str) -> io::Result<()> {
+        match self {
+            Part::Stray(strays) => strays.line(rt, line),
+            Part::Spellings(part) => part.line(rt, line),
+            Part::Steps(part) => part.line(rt, line),
+            Part::Statements(part) => part.line(rt, line),
+            Part::Calls(part) => part.line(rt, line),
+        }
+    }
+
+    /// Prints the counts.
+    fn print(&self, rt: &HostRuntime) -> io::Result<()> {
+        match self {
+            Part::Stray(strays) => strays.print(rt),
+            Part::Spellings(part) => part.print(rt),
+            Part::Steps(part) => part.print(rt),
+            Part::Statements(part) => part.print(rt),
+            Part::Calls(part) => part.print(rt),
+        }
+    }
+}
+
+fn main(rt: HostRuntime) -> io::Result<()> {
+    let mut part = Part::Stray(StrayLines::new());
+    for line in BufReader::new(rt.alloc(), rt.reader())?.lines(rt.alloc()) {
+        let line = line?;
+        if line.as_str().starts_with("VECTORS ") {
+            part.print(&rt)?;
+            part = Part::from_heading(&rt, line.as_str())?;
+        } else {
+            part.line(&rt, line.as_str())?;
+        }
+    }
+    part.print(&rt)
+}

@@ -1,0 +1,84 @@
+//! The part of steps: a line has a single instruction or a short program, which is run over the plain store and over the store
+//! in pages. The name of a line that differs is printed with the store's, and last for each store how many lines were done, how
+//! many of them differ, and how many could not be read.
+
+use crate::step_judge::{Verdict, judge};
+use cx_storage::{FlatStore, Store};
+use cx_storage_pages::PagedStore;
+use std::alloc::Global;
+use std::io;
+
+/// A store with its name, and over it how many lines were done, how many of them differ, and how many could not be read.
+#[derive(Drop)]
+struct NamedStore<S> {
+    name: &'static str,
+    store: S,
+    done: u64,
+    differ: u64,
+    skipped: u64,
+}
+
+impl<S: Store> NamedStore<S> {
+    /// An empty store, and no line so far.
+    fn new(name: &'static str, store: S) -> Self {
+        NamedStore {
+            name,
+            store,
+            done: 0,
+            differ: 0,
+            skipped: 0,
+        }
+    }
+
+    /// Judges a line, and counts it.
+    fn line(&mut self, rt: &HostRuntime, line: &str) -> io::Result<()> {
+        match judge(rt.alloc(), &mut self.store, line)? {
+            Verdict::Agrees => self.done = self.done.saturating_add(1),
+            Verdict::Differs => {
+                self.done = self.done.saturating_add(1);
+                self.differ = self.differ.saturating_add(1);
+                let (vector, _) = line.split_once(' ').unwrap_or((line, ""));
+                println!(rt; "{}: {vector}", self.name)?;
+            }
+            Verdict::Skipped => self.skipped = self.skipped.saturating_add(1),
+        }
+        Ok(())
+    }
+
+    /// Prints the counts.
+    fn print(&self, rt: &HostRuntime) -> io::Result<()> {
+        println!(rt;
+            "{}: {} done, {} differ, {} skipped",
+            self.name, self.done, self.differ, self.skipped
+        )
+    }
+}
+
+/// The two stores.
+#[derive(Drop)]
+pub struct StepPart {
+    flat: NamedStore<FlatStore>,
+    paged: NamedStore<PagedStore>,
+}
+
+impl StepPart {
+    /// No line so far.
+    pub fn new(alloc: Global) -> Self {
+        StepPart {
+            flat: NamedStore::new("flat", FlatStore::new(alloc)),
+            paged: NamedStore::new("paged", PagedStore::new(alloc)),
+        }
+    }
+
+    /// Takes a line.
+    pub fn line(&mut self, rt: &HostRuntime, line: &str) -> io::Result<()> {
+        self.flat.line(rt, line)?;
+        self.paged.line(rt, line)
+    }
+
+    /// Prints the counts.
+    pub fn print(&self, rt: &HostRuntime) -> io::Result<()> {
+        self.flat.print(rt)?;
+        self.paged.print(rt)
+    }
+}
