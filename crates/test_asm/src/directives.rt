@@ -1,5 +1,6 @@
 //! The operands of USING, DROP, END and COPY, and the values of items.
-use crate::operand_tables::{name, place, table};
+use crate::operand_tables::{place, table};
+use crate::symbols::name;
 use cx_asm_expressions::{FaultKind, TermFault};
 use cx_asm_operands::{Bases, Context, copy_fault, item_bytes, read_drop, read_entry, read_using};
 use std::test::Fail;

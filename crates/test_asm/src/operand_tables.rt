@@ -1,13 +1,12 @@
 //! What the tests' statements are in: a control section P, a dummy section Q, and base registers.
-use cx_asm_expressions::{FaultKind, SymbolTable, TermFault, Value, symbol_name};
+use crate::symbols::{Row, name, table_of};
+use cx_asm_expressions::{FaultKind, SymbolTable, TermFault, Value};
 use cx_asm_operands::{Bases, Context, read_using, resolve};
 use cx_asm_operations::{Directive, Operation};
 use cx_code::{CodeBytes, encode};
-use cx_ebcdic::Name8;
 use std::alloc::Global;
 
-/// Each symbol: its name, its section, its number, its length attribute.
-const SYMBOLS: &[(&[u8], &[u8], i128, u128)] = &[
+const SYMBOLS: &[Row] = &[
     (b"P", b"P", 0, 1),
     (b"LOOP", b"P", 4, 4),
     (b"X", b"P", 8, 4),
@@ -21,31 +20,9 @@ const SYMBOLS: &[(&[u8], &[u8], i128, u128)] = &[
     (b"R3", b"", 3, 1),
 ];
 
-/// The name of a text; None of an empty one.
-pub(crate) fn name(text: &[u8]) -> Option<Name8> {
-    symbol_name(text)
-}
-
-/// Defines a symbol; a text that is no name is a bad operand.
-fn define(table: &mut SymbolTable, text: &[u8], value: Value) -> Result<(), TermFault> {
-    match name(text) {
-        Some(found) => table.define(found, value),
-        None => Err(TermFault::Refused(FaultKind::BadOperand)),
-    }
-}
-
-/// The table of the tests' symbols; an error where one of them isn't defined.
+/// The table of these symbols; an error where one of them isn't defined.
 pub(crate) fn table(alloc: Global) -> Result<SymbolTable, TermFault> {
-    let mut table = SymbolTable::new(alloc);
-    for &(text, section, number, length) in SYMBOLS {
-        let value = Value {
-            section: name(section),
-            number,
-            length,
-        };
-        define(&mut table, text, value)?;
-    }
-    Ok(table)
+    table_of(alloc, SYMBOLS)
 }
 
 /// A place in P.

@@ -4,8 +4,10 @@ use cx_ebcdic::Name8;
 use std::alloc::Global;
 use std::test::Fail;
 
-/// Each symbol: its name, its section, its number, its length attribute.
-const SYMBOLS: &[(&[u8], &[u8], i128, u128)] = &[
+/// A symbol: its name, its section, its number, its length attribute.
+pub(crate) type Row = (&'static [u8], &'static [u8], i128, u128);
+
+const SYMBOLS: &[Row] = &[
     (b"P", b"P", 0, 1),
     (b"X", b"P", 12, 4),
     (b"Y", b"P", 4, 2),
@@ -27,10 +29,10 @@ fn define(table: &mut SymbolTable, text: &[u8], value: Value) -> Result<(), Term
     }
 }
 
-/// The table of the tests' symbols; an error where one of them isn't defined.
-pub(crate) fn table(alloc: Global) -> Result<SymbolTable, TermFault> {
+/// The table of these symbols; an error where one of them isn't defined.
+pub(crate) fn table_of(alloc: Global, symbols: &[Row]) -> Result<SymbolTable, TermFault> {
     let mut table = SymbolTable::new(alloc);
-    for &(text, section, number, length) in SYMBOLS {
+    for &(text, section, number, length) in symbols {
         let value = Value {
             section: name(section),
             number,
@@ -39,6 +41,11 @@ pub(crate) fn table(alloc: Global) -> Result<SymbolTable, TermFault> {
         define(&mut table, text, value)?;
     }
     Ok(table)
+}
+
+/// The table of the tests' symbols; an error where one of them isn't defined.
+pub(crate) fn table(alloc: Global) -> Result<SymbolTable, TermFault> {
+    table_of(alloc, SYMBOLS)
 }
 
 #[test]
