@@ -4,7 +4,9 @@
 - laws' statements: those of Laws;
 - clauses of public functions: `requires` and `ensures` of each function, and of each method of a type or a trait, that a crate's root
   gives to others; and the members of such a type's impls of traits that aren't proved: as what a value is seen, what a
-  conversion gives.
+  conversion gives; so too of a private type that a field of such a type has, since the one is seen through the other;
+- types: the enums and structs of sources that definitions, laws' statements or such clauses cite (as `declared`), with their
+  fields and variants, without attributes.
 
 A definition cites definitions, a law and a clause definitions and laws: so nothing that is meant is in Facts, which has lemmas, or
 in Parts, which has the words of functions that no other crate calls."""
@@ -13,7 +15,7 @@ import glob
 import os
 import re
 
-from interface import functions_in
+from interface import functions_in, items_at
 from repository import Repository, text_of
 
 PROGRAMS = ("cicsedf", "cicslook")
@@ -37,7 +39,7 @@ def without_imports(text):
 
 
 def filled(text, comment="--"):
-    """Returns how many lines of a text are neither blank nor a comment."""
+    """Returns how many lines of a text are neither blank nor begin as a comment does."""
     return sum(bool(it.strip()) and not it.strip().startswith(comment) for it in text.split("\n"))
 
 
@@ -65,6 +67,13 @@ def paths_in(text):
 
 
 clauses_in = functools.cache(functions_in)
+DECLARED = re.compile(r"specs\.declared\.(?:\w+\.)*?([A-Z]\w*)(?:\.|$)")  # a type of a source, in the path of an import
+
+
+@functools.cache
+def types_in(text):
+    """Returns the text of each enum and struct of a source, by its name."""
+    return {name: text[start:end] for start, end, kind, name in items_at(text) if kind in ("enum", "struct")}
 
 
 class Crate:
@@ -103,17 +112,33 @@ class Crate:
         declared = {it for text in texts.values() for it in item.findall(text)}
         return names, {*re.findall(r"^pub mod (\w+);", root, re.M)}, declared
 
+    def types(self):
+        """Returns the text of each enum and struct of its sources, by its name."""
+        return {name: text for it in glob.glob(f"{self.sources}/*.rt") for name, text in types_in(text_of(it)).items()}
+
+    def shown(self, names):
+        """Returns these types of the crate, and those that their fields have, and theirs."""
+        types, found, waiting = self.types(), set(), [*names]
+        while waiting:
+            it = waiting.pop()
+            if it in types and it not in found:
+                found.add(it)
+                waiting += re.findall(r"\b[A-Z]\w*\b", types[it])
+        return found
+
     def clauses(self):
         """Returns the clauses of its public functions: the source's path, its text, and their places in it."""
         names, whole, declared = self.exports()
+        shown = self.shown(names)
         for path in sorted(glob.glob(f"{self.sources}/*.rt")):
             own = declared - names if os.path.basename(path)[: -len(".rt")] not in whole else set()
             text = text_of(path)
-            yield path, text, [it for seen_by, spans in clauses_in(text) if not seen_by & own for it in spans]
+            is_seen = lambda by: not by & own or "Model" in by and by & own <= shown
+            yield path, text, [it for seen_by, spans in clauses_in(text) if is_seen(seen_by) for it in spans]
 
 
 class Believed:
-    """The definitions, laws and clauses of the crates that the programs use, of them, and of the crates of laws."""
+    """The definitions, laws, clauses and types of the crates that the programs use, of them, and of the crates of laws."""
 
     def __init__(self, root="."):
         self.root, repository = root, Repository(root)
@@ -136,24 +161,37 @@ class Believed:
         return first if first in APART else None
 
     def lines(self, crate):
-        """Returns how many lines a crate has of definitions, of statements of laws and of clauses."""
+        """Returns how many lines a crate has of definitions, of statements of laws, of clauses and of types that are cited."""
         texts = [(kind, filled(without_imports(self.crates[crate].texts[path]))) for path, kind in self.crates[crate].kinds()]
         clauses = sum(filled(text[start:end], "//") for _, text, spans in self.crates[crate].clauses() for start, end in spans)
-        return sum(n for kind, n in texts if kind is None), sum(n for kind, n in texts if kind == "Laws"), clauses
+        its = self.crates[crate].types()
+        types = sum(filled(its[it], ("//", "#[")) for of, it in self.types if of == crate and it in its)
+        return sum(n for kind, n in texts if kind is None), sum(n for kind, n in texts if kind == "Laws"), clauses, types
 
-    def cited_apart(self, crate):
-        """Returns the words that are cited where they mustn't be. A definition cites definitions; a law or a public clause also laws."""
+    @functools.cached_property
+    def types(self):
+        """Returns the types of sources that are cited, each with its crate."""
+        cited = [it for crate in self.counted for it in self.citations(crate)]
+        return {(of, it[1]) for _, of, module, _ in cited for it in [DECLARED.match(module)] if it and of in self.crates}
+
+    def citations(self, crate):
+        """Returns what a crate's definitions, laws and public clauses cite: where, and the crate, path and word that it names."""
         it = self.crates[crate]
         for path, kind in it.kinds():
             if kind in (None, "Laws"):
                 text = without_comments(it.texts[path])
                 for of, module, word in imports_of(text) + paths_in(without_imports(text)):
-                    stands = self.kind(of, module)
-                    if stands not in (None, kind):
-                        yield f"{it.specs}/{path}.antt: {word} stands in {of}'s {stands}"
+                    yield (f"{it.specs}/{path}.antt", kind), of, module, word
         for path, text, spans in it.clauses():
             clauses = "\n".join(text[start:end] for start, end in spans)
             for of, module, word in [it for it in imports_of(text) if cites(clauses, it[2])] + paths_in(clauses):
-                stands = self.kind(of, module)
-                if stands not in (None, "Laws"):
-                    yield f"{path}: a public clause cites {word}, which stands in {of}'s {stands}"
+                yield (path, "clauses"), of, module, word
+
+    def cited_apart(self, crate):
+        """Returns the words that are cited where they mustn't be. A definition cites definitions; a law or a public clause also laws."""
+        for (path, by), of, module, word in self.citations(crate):
+            stands = self.kind(of, module)
+            if by == "clauses" and stands not in (None, "Laws"):
+                yield f"{path}: a public clause cites {word}, which stands in {of}'s {stands}"
+            elif by != "clauses" and stands not in (None, by):
+                yield f"{path}: {word} stands in {of}'s {stands}"

@@ -7,10 +7,10 @@ It knows what these sources say and no more, and asks them to be in columns: nam
 import re
 
 RR = {"BALR": 0x05, "LCR": 0x13, "XR": 0x17, "LR": 0x18, "AR": 0x1A, "SR": 0x1B}
-RX = {"LA": 0x41, "BCT": 0x46, "BC": 0x47, "LH": 0x48, "CH": 0x49, "ST": 0x50, "L": 0x58, "C": 0x59}
+RX = {"STH": 0x40, "LA": 0x41, "BCT": 0x46, "BC": 0x47, "LH": 0x48, "CH": 0x49, "ST": 0x50, "L": 0x58, "C": 0x59}
 SHIFTS = {"SRL": 0x88, "SLL": 0x89}
 SI, SS = {"MVI": 0x92, "CLI": 0x95, "OI": 0x96}, {"MVC": 0xD2, "CLC": 0xD5}
-BRANCHES = {"B": 15, "BNE": 7}
+BRANCHES = {"B": 15, "BNE": 7, "BE": 8}
 ALIGNED = {"F": 4, "A": 4, "V": 4, "H": 2}
 
 # function, and the options in order: bit of option byte 1, name, and whether it has an argument

@@ -11,7 +11,8 @@ import sys
 import tempfile
 from collections import Counter
 
-from running import Overdue, program, read, run, wanted
+sys.path.insert(1, f"{sys.path[0]}/../companions")
+from cics.running import Overdue, program, read, run, wanted
 
 MOST = 2_000  # of more calls not each is refused in turn, unless all are asked for
 FIRST = 500  # how many of them are, after which a fixed choice is

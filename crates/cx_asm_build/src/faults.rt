@@ -1,17 +1,17 @@
 //! Why a source gives no program.
 
-ghost use Rattle.std.specs.Prelude.{◌≡◌};
+ghost use Rattle.std.specs.Prelude.{◌≡◌, Some};
 ghost use Rattle.cx_asm_build.specs.Kinds.{kind_name};
 
 use cx_asm::AsmFault;
 use cx_source::SourceFault;
 use cx_translate::TransFault;
 use std::alloc::{AllocError, AllocFailed};
+use std::fmt::{Display, Formatter, Write};
 use thiserror::Error;
 
 /// What may be wrong with a source: with its lines, with its EXEC statements, or with what the assembler reads.
 #[derive(Clone, Copy, Debug, PartialEq, Eq, Error)]
-#[error("{name}", name = self.name())]
 pub enum SourceKind {
     BadCharacter,
     BadName,
@@ -60,6 +60,14 @@ impl SourceKind {
             SourceKind::NotRelocatable => "NotRelocatable",
             SourceKind::TooLarge => "TooLarge",
         }
+    }
+}
+
+impl Display for SourceKind {
+    ghost output = { λ kind. Some (kind_name kind) };
+
+    fn fmt<W: Write>(&self, f: &mut Formatter<W>) -> Result<(), std::fmt::Error> {
+        f.write_str(self.name())
     }
 }
 

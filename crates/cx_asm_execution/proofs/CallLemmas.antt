@@ -32,7 +32,7 @@ use Rattle.cx_asm_execution.proofs.Calls.{HasByte, MarkIsResolved, mark_of}
 use Rattle.cx_asm_execution.proofs.Resolved.{AreResolved, IsResolved}
 use Rattle.cx_asm_execution.proofs.Stores.{BranchIsResolved, context_of, word_of_list}
 use Rattle.cx_asm_execution.proofs.ArgumentLemmas.{both_ok, made_ok}
-use Rattle.cx_asm_execution.proofs.PlainLemmas.{ArePlain, decimal_plain, plain_cut}
+use Rattle.cx_asm_laws.specs.Facts.Plain.{ArePlain, decimal_plain, plain_cut}
 
 -- ---- the two operands
 byte_is : (c : Context) → number_in 255 c (codes "X'80'") ≡ Ok 128

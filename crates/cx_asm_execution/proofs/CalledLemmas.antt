@@ -45,7 +45,7 @@ use Rattle.cx_asm_execution.proofs.Called.{StandsFor, call_statements}
 use Rattle.cx_asm_execution.proofs.Handed.{block_of}
 use Rattle.cx_asm_execution.proofs.Resolved.{AreResolved, IsResolved, StandInCode, bases_in_use, is_instruction}
 use Rattle.cx_asm_execution.proofs.Stores.{load_of}
-use Rattle.cx_asm_execution.proofs.AfterLemmas.{control_same, fault_kept, own_sound, section_sound}
+use Rattle.cx_asm_laws.specs.Facts.Lines.{control_same, fault_kept, own_sound, section_sound}
 use Rattle.cx_asm_execution.proofs.StandingLemmas.{offset_is}
 use Rattle.cx_asm_execution.proofs.BlockLemmas.{none_known}
 

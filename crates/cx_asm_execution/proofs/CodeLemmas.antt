@@ -22,7 +22,7 @@ use Rattle.cx_asm_pass2.specs.Statements.{statements_of, PlacedStatement}
 use Rattle.cx_asm_pass2.specs.Whole.{Whole, whole_of}
 use Rattle.cx_asm.specs.Facts.Bases.{after_sixteen}
 use Rattle.cx_asm_execution.proofs.CodeInStorage.{CodeIsLoaded}
-use Rattle.cx_asm_execution.proofs.InStorage.{CodeIsUnraised, IsUnraised, LinesAreLoaded, StandsAt, TextsAreMade}
+use Rattle.cx_asm_execution.specs.Laws.Loaded.{NoCodeIsRelocated, IsUnrelocated, LinesAreLoaded, StandsAt}
 use Rattle.cx_asm_execution.specs.MadeLines.{code_lines}
 use Rattle.cx_asm_execution.proofs.Resolved.{AreResolved, bases_from, bases_in_use}
 use Rattle.cx_asm_execution.proofs.LoadedLemmas.{along_twice}
@@ -44,10 +44,10 @@ abbrev pub Sizes : Type 0
 Sizes = (i : Instruction) → IsWellFormed i → length (spelling i) ≡ length_of i.op
 
 abbrev AreLoaded : Storage → ℕ → List ℕ → List Line → Type 0
-AreLoaded after at relocs lines = AllByRecursion (λ l. IsUnraised relocs l → StandsAt after at l) lines
+AreLoaded after at relocs lines = AllByRecursion (λ l. IsUnrelocated relocs l → StandsAt after at l) lines
 
 abbrev AreClear : List ℕ → List Line → Type 0
-AreClear relocs lines = AllByRecursion (λ l. is_code l.what ≡ true → IsUnraised relocs l) lines
+AreClear relocs lines = AllByRecursion (λ l. is_code l.what ≡ true → IsUnrelocated relocs l) lines
 
 all_at : Forms → Sizes → (whole : Whole) (bases : Bases) (sixteen : length bases ≡ 16) (before items : List Item) (code : List Instruction) (at place : ℕ) (back : List Line) (after : Storage) (relocs : List ℕ)
     → AreResolved whole bases before at items code → AreLoaded after place relocs (code_lines at code ++ back) → AreClear relocs (code_lines at code ++ back) → AreAt after (address_after place at) code
@@ -69,12 +69,12 @@ pub after_front : (P : Line → Type 0) (front rest : List Line) → AllByRecurs
 after_front P [] rest all = all
 after_front P (l ∷ front) rest all = after_front P front rest all.1
 
-pub code_loaded : Forms → Sizes → TextsAreMade → LinesAreLoaded → CodeIsUnraised → CodeIsLoaded
-code_loaded forms sizes texts lines clear source assembly first items storage after loaded accepts fit done code =
+pub code_loaded : Forms → Sizes → LinesAreLoaded → NoCodeIsRelocated → CodeIsLoaded
+code_loaded forms sizes lines clear source assembly first items storage after loaded accepts fit done code =
     let relocs = assembly.section.image.relocs in
     let split = code.stand ∙ append_assoc code.front (code_lines code.at code.code) code.back in
-    let all : AreLoaded after loaded.at relocs assembly.section.resolved = lines storage after assembly.section loaded (texts source assembly accepts) fit done in
+    let all : AreLoaded after loaded.at relocs assembly.section.resolved = lines source assembly storage after loaded accepts fit done in
     let none : AreClear relocs assembly.section.resolved = clear source assembly accepts in
     all_at forms sizes (whole_of source) (bases_in_use source first) (in_use_sixteen source first) (reverse first) items code.code code.at loaded.at code.back after relocs code.resolved
-    (after_front (λ l. IsUnraised relocs l → StandsAt after loaded.at l) code.front (code_lines code.at code.code ++ code.back) (subst (AreLoaded after loaded.at relocs) split all))
-    (after_front (λ l. is_code l.what ≡ true → IsUnraised relocs l) code.front (code_lines code.at code.code ++ code.back) (subst (AreClear relocs) split none))
+    (after_front (λ l. IsUnrelocated relocs l → StandsAt after loaded.at l) code.front (code_lines code.at code.code ++ code.back) (subst (AreLoaded after loaded.at relocs) split all))
+    (after_front (λ l. is_code l.what ≡ true → IsUnrelocated relocs l) code.front (code_lines code.at code.code ++ code.back) (subst (AreClear relocs) split none))

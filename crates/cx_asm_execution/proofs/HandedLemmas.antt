@@ -39,12 +39,13 @@ use Rattle.cx_asm_operands.specs.Forms.{literal_in}
 use Rattle.cx_asm_pass2.specs.Whole.{Whole, whole_of}
 use Rattle.cx_asm.specs.Resolving.{line}
 use Rattle.cx_asm_execution.proofs.Handed.{BlockStands, EntryStands, LiteralsAreLoaded, block_of}
-use Rattle.cx_asm_execution.proofs.InStorage.{IsUnraised, LinesAreLoaded, StandsAt, TextsAreMade}
+use Rattle.cx_asm_execution.specs.Laws.Loaded.{IsUnrelocated, LinesAreLoaded, StandsAt}
 use Rattle.cx_asm_execution.proofs.Literals.{HasBytes, HasInstruction, LiteralsStand}
 use Rattle.cx_asm_execution.proofs.Resolved.{is_instruction_role}
 use Rattle.cx_asm_execution.proofs.Stores.{entry_in_15, load_of}
-use Rattle.cx_asm_execution.proofs.HexLemmas.{AreBytes, block_is_last, hex_has_bytes}
-use Rattle.cx_asm_execution.proofs.WordLemmas.{split}
+use Rattle.cx_asm_laws.specs.Facts.Hexadecimals.{AreBytes}
+use Rattle.cx_asm_execution.proofs.HexLemmas.{block_is_last, hex_has_bytes}
+use Rattle.cx_asm_laws.specs.Facts.Plain.{split}
 
 abbrev LegalBytes : Type 0
 LegalBytes = (line : ℕ) (command : Command) (cics named words : List Word) → fault_in line command cics named words ≡ None
@@ -166,7 +167,7 @@ one_of : (P : Line → Type 0) (front : List Line) (mine : Line) (back : List Li
 one_of P [] mine back all = all.0
 one_of P (l ∷ front) mine back all = one_of P front mine back all.1
 
-pub literals_loaded : TextsAreMade → LinesAreLoaded → LiteralsAreLoaded
-literals_loaded texts lines source assembly c bytes index address storage after loaded accepts fit done stands =
-    let all = subst (AllByRecursion (λ l. IsUnraised assembly.section.image.relocs l → StandsAt after loaded.at l)) stands.stands (lines storage after assembly.section loaded (texts source assembly accepts) fit done) in
-    one_of (λ l. IsUnraised assembly.section.image.relocs l → StandsAt after loaded.at l) stands.front (line stands.offset (Data bytes)) stands.back all stands.unraised
+pub literals_loaded : LinesAreLoaded → LiteralsAreLoaded
+literals_loaded lines source assembly c bytes index address storage after loaded accepts fit done stands =
+    let all = subst (AllByRecursion (λ l. IsUnrelocated assembly.section.image.relocs l → StandsAt after loaded.at l)) stands.stands (lines source assembly storage after loaded accepts fit done) in
+    one_of (λ l. IsUnrelocated assembly.section.image.relocs l → StandsAt after loaded.at l) stands.front (line stands.offset (Data bytes)) stands.back all stands.unraised

@@ -31,11 +31,9 @@ pub mod LoadedLemmas
 pub mod RaisedLemmas
 pub mod ArgumentLemmas
 pub mod StoreLemmas
-pub mod PlainLemmas
 pub mod WordLemmas
 pub mod CallLemmas
 pub mod HeldLemmas
-pub mod AfterLemmas
 pub mod LiteralLemmas
 pub mod HexLemmas
 pub mod HandedLemmas

@@ -43,13 +43,13 @@ use Rattle.cx_asm_pass1.specs.Layout.{item_length}
 use Rattle.cx_asm_pass2.specs.Whole.{Whole, literal_of, literal_place, pool_of, whole_of}
 use Rattle.cx_asm.specs.Assembly.{AssemblyParts, assembly_of, section_of, size_of, standing_of}
 use Rattle.cx_asm.specs.Resolving.{Standing, data_line, data_standing, counter_at, join_sections, last_pool, line, pool_standing, standing, standing_from, statement_standing}
+use Rattle.cx_asm_laws.specs.Facts.Lines.{control_same, fault_kept, own_sound, place_for, reverse_step, section_sound, statements_are, statements_from}
 use Rattle.cx_asm_execution.proofs.Arguments.{OperandsAddress}
-use Rattle.cx_asm_execution.proofs.InStorage.{IsUnraised}
+use Rattle.cx_asm_execution.specs.Laws.Loaded.{IsUnrelocated}
 use Rattle.cx_asm_execution.proofs.Literals.{HasBytes, HasInstruction, LiteralsStand, StandsInSection}
-use Rattle.cx_asm_execution.proofs.Resolved.{is_instruction_role, statements_from, place_for}
+use Rattle.cx_asm_execution.proofs.Resolved.{is_instruction_role}
 use Rattle.cx_asm_execution.proofs.Stores.{context_of}
 use Rattle.cx_asm_execution.proofs.ArgumentLemmas.{both_ok}
-use Rattle.cx_asm_execution.proofs.AfterLemmas.{control_same, fault_kept, own_sound, reverse_step, section_sound, statements_are}
 use Rattle.cx_asm_execution.proofs.HeldLemmas.{HasWord, HaveWords, IsHeld, all_back, all_front, all_held, both_have, data_held, pool_held, statement_held}
 use Rattle.cx_asm_execution.proofs.StandingLemmas.{accepted}
 use Rattle.cx_asm_execution.proofs.TogetherLemmas.{length_joined}
@@ -110,7 +110,7 @@ beside from (l ∷ front) mine back size r apart (inl h) =
     (let after = (begins (end_of l) front mine back size apart.1).0 in let last = h.ends in inl (omega (arith, after, last)))
 beside from (l ∷ front) mine back size r apart (inr h) = beside (end_of l) front mine back size r apart.1 h
 
-own_unraised : (front : List Line) (mine : Line) (back : List Line) (size : ℕ) (relocs : List ℕ) → AreApart 0 (front ++ mine ∷ back) size → HaveWords relocs (front ++ back) → IsUnraised relocs mine
+own_unraised : (front : List Line) (mine : Line) (back : List Line) (size : ℕ) (relocs : List ℕ) → AreApart 0 (front ++ mine ∷ back) size → HaveWords relocs (front ++ back) → IsUnrelocated relocs mine
 own_unraised front mine back size [] apart words = tt
 own_unraised front mine back size (r ∷ relocs) apart words = (beside 0 front mine back size r apart words.0, own_unraised front mine back size relocs apart words.1)
 

@@ -19,7 +19,7 @@ use Rattle.cx_asm_operands.specs.declared.addresses.Address.{Address}
 use Rattle.cx_asm_pass2.specs.Whole.{Whole, item_made, whole_of}
 use Rattle.cx_asm.specs.Resolving.{line}
 use Rattle.cx_asm.specs.Assembly.{AssemblyParts, assembly_of}
-use Rattle.cx_asm_execution.proofs.InStorage.{IsUnraised}
+use Rattle.cx_asm_execution.specs.Laws.Loaded.{IsUnrelocated}
 use Rattle.cx_asm_execution.proofs.Resolved.{is_instruction_role}
 use Rattle.cx_asm_execution.proofs.Stores.{context_of}
 use Rattle.cx_asm_execution.proofs.Words.{LiesAfter}
@@ -54,7 +54,7 @@ pub record StandsInSection (source : Source) (assembly : AssemblyParts) (c : Con
   pub front : List Line
   pub back : List Line
   pub stands : assembly.section.resolved ≡ front ++ line offset (Data bytes) ∷ back
-  pub unraised : IsUnraised assembly.section.image.relocs (line offset (Data bytes))
+  pub unraised : IsUnrelocated assembly.section.image.relocs (line offset (Data bytes))
 
 -- So is every literal that an instruction of an accepted source has as its last operand.
 abbrev pub LiteralsStand : Type 0

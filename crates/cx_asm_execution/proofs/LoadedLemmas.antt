@@ -20,7 +20,8 @@ use Rattle.cx_storage.specs.Address.{address_after}
 use Rattle.cx_storage.specs.Laws.Spans.{SpanIsBytes}
 use Rattle.cx_storage.specs.Place.{CanPlace, IsLeastPlace}
 use Rattle.cx_storage.specs.Storage.{Storage, byte_at}
-use Rattle.cx_asm_execution.proofs.InStorage.{HasText, IsUnraised, LinesAreLoaded, StandsAt}
+use Rattle.cx_asm_execution.specs.Laws.Loaded.{IsUnrelocated, LinesAreLoaded, StandsAt}
+use Rattle.cx_asm_execution.proofs.InStorage.{HasText, TextsAreMade}
 
 -- what the laws of lower crates say
 pub record Known : Type 0 where
@@ -30,7 +31,7 @@ pub record Known : Type 0 where
   pub spans : SpanIsBytes
 
 -- a byte of a line that is unraised is of no raised word
-of_none : (relocs : List ℕ) (line : Line) (k : ℕ) → IsUnraised relocs line → line.at ≤ k → k < end_of line → list_any (is_of_word k) relocs ≡ false
+of_none : (relocs : List ℕ) (line : Line) (k : ℕ) → IsUnrelocated relocs line → line.at ≤ k → k < end_of line → list_any (is_of_word k) relocs ≡ false
 of_none [] line k clear low high = refl
 of_none (r ∷ relocs) line k clear low high = rw (here clear.0) (of_none relocs line k clear.1 low high)
   where
@@ -55,7 +56,7 @@ pub along_twice : (at m j : ℕ) → address_after (address_after at m) j ≡ ad
 along_twice at m j = omega arith
 
 one_loaded : Known → (storage after : Storage) (parts : AssembledParts) (loaded : Loaded) (line : Line) → HasText parts → IsFit parts.image → IsLoaded storage parts.image loaded after
-    → StandsIn parts.image.text line → end_of line ≤ length parts.image.text → IsUnraised parts.image.relocs line → StandsAt after loaded.at line
+    → StandsIn parts.image.text line → end_of line ≤ length parts.image.text → IsUnrelocated parts.image.relocs line → StandsAt after loaded.at line
 one_loaded known storage after parts loaded line is fit done stands inside clear =
     let text = parts.image.text in
     let n = length text in
@@ -73,7 +74,7 @@ one_loaded known storage after parts loaded line is fit done stands inside clear
 
 every : Known → (storage after : Storage) (parts : AssembledParts) (loaded : Loaded) (lines : List Line) (from : ℕ) → HasText parts → IsFit parts.image → IsLoaded storage parts.image loaded after
     → AllByRecursion (StandsIn parts.image.text) lines → AreApart from lines (length parts.image.text)
-    → AllByRecursion (λ line. IsUnraised parts.image.relocs line → StandsAt after loaded.at line) lines
+    → AllByRecursion (λ line. IsUnrelocated parts.image.relocs line → StandsAt after loaded.at line) lines
 every known storage after parts loaded [] from is fit done stand apart = tt
 every known storage after parts loaded (line ∷ lines) from is fit done stand apart = (
   one_loaded known storage after parts loaded line is fit done stand.0 (ends lines (end_of line) apart.1),
@@ -84,8 +85,10 @@ every known storage after parts loaded (line ∷ lines) from is fit done stand a
     ends [] at a = a
     ends (l ∷ rest) at a = (let more = ends rest (end_of l) a.1 in let first = a.0 in omega (arith, more, first))
 
-pub all_loaded : Known → LinesAreLoaded
-all_loaded known storage after parts loaded is fit done =
+pub all_loaded : Known → TextsAreMade → LinesAreLoaded
+all_loaded known texts source assembly storage after loaded accepts fit done =
+    let parts = assembly.section in
+    let is = texts source assembly accepts in
     let text_is : IsTextOf parts.resolved (length parts.image.text) parts.image.text =
     subst (IsTextOf parts.resolved (length parts.image.text)) (sym is.text) (known.text parts.resolved (length parts.image.text) is.apart) in
     every known storage after parts loaded parts.resolved 0 is fit done text_is.stand is.apart

@@ -32,7 +32,7 @@ use Rattle.cx_asm_execution.proofs.Commands.{AreArguments, CallsAreMade, after_l
 use Rattle.cx_asm_execution.proofs.Resolved.{AreResolved}
 use Rattle.cx_asm_execution.proofs.Stores.{AreStores, StoresAreResolved, context_of, entry_in_15, list_of_1, load_of, store_of, word_of_list}
 use Rattle.cx_asm_execution.proofs.ArgumentLemmas.{both_ok}
-use Rattle.cx_asm_execution.proofs.PlainLemmas.{ArePlain, decimal_plain}
+use Rattle.cx_asm_laws.specs.Facts.Plain.{ArePlain, decimal_plain}
 use Rattle.cx_asm_execution.proofs.WordLemmas.{no_parenthesis}
 
 -- ---- lines in two parts

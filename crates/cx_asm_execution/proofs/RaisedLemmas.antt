@@ -7,7 +7,8 @@ use Rattle.cx_asm_image.specs.Resolved.{AreApart, end_of, is_code}
 use Rattle.cx_asm_pass2.specs.Statements.{statements_of}
 use Rattle.cx_asm_pass2.specs.Whole.{whole_of}
 use Rattle.cx_asm.specs.Assembly.{section_of, standing_of}
-use Rattle.cx_asm_execution.proofs.InStorage.{CodeIsUnraised, IsUnraised, TextsAreMade}
+use Rattle.cx_asm_execution.specs.Laws.Loaded.{NoCodeIsRelocated, IsUnrelocated}
+use Rattle.cx_asm_execution.proofs.InStorage.{TextsAreMade}
 use Rattle.cx_asm_execution.proofs.StandingLemmas.{accepted}
 use Rattle.cx_asm_execution.proofs.HeldLemmas.{HasWord, HaveWords, all_held}
 
@@ -38,20 +39,20 @@ one_clear from (l ∷ ls) size r apart (inr h) = (
   one_clear (end_of l) ls size r apart.1 h,
 )
 
-clear_more : (r : ℕ) (relocs : List ℕ) (ls : List Line) → AllByRecursion (λ l. is_code l.what ≡ true → IsBeside r l) ls → AllByRecursion (λ l. is_code l.what ≡ true → IsUnraised relocs l) ls
-    → AllByRecursion (λ l. is_code l.what ≡ true → IsUnraised (r ∷ relocs) l) ls
+clear_more : (r : ℕ) (relocs : List ℕ) (ls : List Line) → AllByRecursion (λ l. is_code l.what ≡ true → IsBeside r l) ls → AllByRecursion (λ l. is_code l.what ≡ true → IsUnrelocated relocs l) ls
+    → AllByRecursion (λ l. is_code l.what ≡ true → IsUnrelocated (r ∷ relocs) l) ls
 clear_more r relocs [] h k = tt
 clear_more r relocs (l ∷ ls) h k = ((λ code. (h.0 code, k.0 code)), clear_more r relocs ls h.1 k.1)
 
-clear_none : (ls : List Line) → AllByRecursion (λ l. is_code l.what ≡ true → IsUnraised [] l) ls
+clear_none : (ls : List Line) → AllByRecursion (λ l. is_code l.what ≡ true → IsUnrelocated [] l) ls
 clear_none [] = tt
 clear_none (l ∷ ls) = ((λ code. tt), clear_none ls)
 
-all_clear : (relocs : List ℕ) (ls : List Line) (size : ℕ) → AreApart 0 ls size → HaveWords relocs ls → AllByRecursion (λ l. is_code l.what ≡ true → IsUnraised relocs l) ls
+all_clear : (relocs : List ℕ) (ls : List Line) (size : ℕ) → AreApart 0 ls size → HaveWords relocs ls → AllByRecursion (λ l. is_code l.what ≡ true → IsUnrelocated relocs l) ls
 all_clear [] ls size apart h = clear_none ls
 all_clear (r ∷ relocs) ls size apart h = clear_more r relocs ls (one_clear 0 ls size r apart h.0) (all_clear relocs ls size apart h.1)
 
-pub no_code_raised : TextsAreMade → CodeIsUnraised
+pub no_code_raised : TextsAreMade → NoCodeIsRelocated
 unfolding section_of standing_of
 no_code_raised texts source assembly e =
     let made = (accepted source assembly e).made in

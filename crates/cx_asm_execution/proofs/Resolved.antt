@@ -1,6 +1,6 @@
 -- Lines whose statements are instructions, resolved one after the other.
-use Rattle.std.specs.Prelude.{◌≡◌, ℕ, ◌+◌, true, false, Bool, Ok, Option, Some, None, List, [], ◌∷◌, ◌++◌, fold, option_map, reverse}
-use Rattle.std.specs.List.{AllByRecursion, filter_map}
+use Rattle.std.specs.Prelude.{◌≡◌, ℕ, ◌+◌, true, false, Bool, Ok, Option, Some, None, List, [], ◌∷◌, ◌++◌, fold, reverse}
+use Rattle.std.specs.List.{AllByRecursion}
 use Rattle.cx_code.specs.declared.disassembly.Line.{Line}
 use Rattle.cx_code.specs.Spelling.{Instruction}
 use Rattle.cx_code.specs.Table.{length_of}
@@ -9,23 +9,16 @@ use Rattle.cx_source.specs.declared.source.Source.{Source}
 use Rattle.cx_source.specs.declared.source.Stmt.{Stmt}
 use Rattle.cx_asm_operations.specs.Operations.{operation_named}
 use Rattle.cx_asm_operations.specs.declared.operations.Operation.{Operation}
-use Rattle.cx_asm_pass1.specs.PassState.{PassState, state_after, place_in, role_in}
-use Rattle.cx_asm_pass1.specs.declared.place.Place.{Place}
+use Rattle.cx_asm_pass1.specs.PassState.{state_after, place_in, role_in}
 use Rattle.cx_asm_pass1.specs.declared.roles.Role.{Role}
 use Rattle.cx_asm_pass1.specs.declared.roles.Role.TheVariants as role
 use Rattle.cx_asm_operands.specs.Bases.{Bases, none_in_use}
 use Rattle.cx_asm_operands.specs.Forms.{instruction_or_fault}
-use Rattle.cx_asm_pass2.specs.Statements.{PlacedItem, PlacedStatement, placed_statement, stated_in, statements_of}
+use Rattle.cx_asm_pass2.specs.Statements.{PlacedStatement, placed_statement, statements_of}
 use Rattle.cx_asm_pass2.specs.Whole.{Whole, instruction_context, whole_of}
 use Rattle.cx_asm_pass2.specs.SecondFaults.{bases_after}
 use Rattle.cx_asm.specs.Assembly.{AssemblyParts, assembly_of}
 use Rattle.cx_asm_execution.specs.MadeLines.{code_lines}
-
-abbrev pub placed_item : Item → Option Place → PlacedItem
-placed_item item place = record { item = item; place = place }
-
-abbrev pub place_for : Option Stmt → PassState → Option Place
-place_for stmt state = option_map (λ s. place_in s state) stmt
 
 -- an instruction's statement begins on a line
 abbrev pub is_instruction_role : Role → Bool
@@ -35,14 +28,6 @@ is_instruction_role _ = false
 abbrev pub is_instruction : Option Stmt → Bool
 is_instruction None = false
 is_instruction (Some stmt) = is_instruction_role (role_in stmt)
-
--- the statements of lines, in their order, with their places; `before` are the lines before them, the latest first
-abbrev pub placed_from : List Item → List Item → List PlacedItem
-placed_from before [] = []
-placed_from before (item ∷ items) = placed_item item (place_for item.stmt (state_after before)) ∷ placed_from (item ∷ before) items
-
-abbrev pub statements_from : List Item → List Item → List PlacedStatement
-statements_from before items = filter_map stated_in (placed_from before items)
 
 -- the bases in use after statements, and after the first lines of a source
 abbrev pub bases_from : Whole → Bases → List PlacedStatement → Bases

@@ -1,11 +1,10 @@
 -- The statements of a source, the bases in use before each, and what each makes.
-use Rattle.std.specs.Prelude.{option_and_then, option_map, reverse, Result, Err, unwrap_or, ⊤, ◌==◌}
+use Rattle.std.specs.Prelude.{option_and_then, option_map, reverse, Result, Err, unwrap_or}
 use Rattle.std.specs.Option.{option_map_or, option_zip}
 use Rattle.std.proofs.Common.{◌≡◌, ◌≤◌, ℕ, suc, ◌+◌, ◌-◌, ◌*◌, ◌/◌, ◌%◌, Bool, true, false, cond, Option, Some, None, Ok, List, [], ◌∷◌, ◌++◌, length, refl, sym, ◌∙◌, ap, subst, arith}
-use Rattle.std.specs.List.{AllByRecursion, cons_option, filter_map}
+use Rattle.std.specs.List.{AllByRecursion, cons_option}
 use Rattle.std.specs.Result.{result_err, result_ok}
 use Rattle.std.proofs.lemmas.List.{append_assoc, append-nil, reverse-append}
-use Rattle.std.proofs.lemmas.List.Elements.{filter_map-append}
 use Rattle.cx_code.specs.declared.disassembly.Line.{Line}
 use Rattle.cx_code.specs.declared.disassembly.What.TheVariants.{Code}
 use Rattle.cx_code.specs.declared.table.Op.{Op}
@@ -18,7 +17,7 @@ use Rattle.cx_source.specs.declared.source.Item.{Item}
 use Rattle.cx_source.specs.declared.source.Source.{Source}
 use Rattle.cx_source.specs.declared.source.Stmt.{Stmt}
 use Rattle.cx_asm_expressions.specs.Digits.{bound}
-use Rattle.cx_asm_expressions.specs.Faults.{lower, lower_of}
+use Rattle.cx_asm_expressions.specs.Faults.{lower}
 use Rattle.cx_asm_expressions.specs.declared.faults.FaultKind.TheVariants.{BadOperand, UnknownOperation}
 use Rattle.cx_asm_expressions.specs.declared.faults.FaultKind.{FaultKind}
 use Rattle.cx_asm_operations.specs.Operations.{base_row, operation_named}
@@ -27,15 +26,13 @@ use Rattle.cx_asm_operations.specs.declared.operations.Operation.TheVariants as 
 use Rattle.cx_asm_operations.specs.declared.operations.Directive.{Directive}
 use Rattle.cx_asm_operations.specs.declared.operations.Directive.TheVariants as is
 use Rattle.cx_asm_pass1.specs.Roles.{directive_role, role_of}
-use Rattle.cx_asm_pass1.specs.AllFaults.{with_fault}
 use Rattle.cx_asm_pass1.specs.Facts.Apart.{statement_stands, statement_within, section_ends}
 use Rattle.cx_asm_pass1.specs.Facts.StatementExtents.{capped_same, lower_none}
-use Rattle.cx_asm_pass1.specs.PassState.{PassState, next_state, after_line, is_control, section_after, length_after, length_of_section, state_after, extent_in, line_fault, next_in, parts_in, place_in, role_in, section_fault, name_in}
+use Rattle.cx_asm_pass1.specs.PassState.{PassState, next_state, after_line, is_control, section_after, length_after, length_of_section, state_after, extent_in, next_in, parts_in, place_in, role_in, section_fault, name_in}
 use Rattle.cx_asm_pass1.specs.Layout.{align, extent_of}
 use Rattle.cx_asm_pass1.specs.Laws.Apart.{Stands, section_length}
 use Rattle.cx_asm_pass1.specs.Locations.{final_state}
 use Rattle.cx_asm_pools.specs.Pools.{cap}
-use Rattle.cx_asm_pass1.specs.declared.place.LineFault.{LineFault}
 use Rattle.cx_asm_pass1.specs.declared.roles.Role.TheVariants as role
 use Rattle.cx_asm_operands.specs.Bases.{Bases, none_in_use}
 use Rattle.cx_asm_operands.specs.Directives.{bases_in}
@@ -44,53 +41,21 @@ use Rattle.cx_asm_operands.specs.Context.{Context}
 use Rattle.cx_asm_operands.specs.Checking.{made_of as fields_made}
 use Rattle.cx_asm_operands.specs.declared.forms.Form.{Form}
 use Rattle.cx_code.specs.declared.instruction.Fields.{Fields}
-use Rattle.cx_asm_pass2.specs.Statements.{PlacedStatement, operation_of, placed_statement, stated_in, statements_of}
-use Rattle.cx_asm_pass2.specs.SecondFaults.{bases_after, bases_after_all, literals_fault, operand_fault, second_fault, second_faults_after}
+use Rattle.cx_asm_pass2.specs.Statements.{PlacedStatement, operation_of, placed_statement, statements_of}
+use Rattle.cx_asm_pass2.specs.SecondFaults.{bases_after, literals_fault, operand_fault, second_fault}
 use Rattle.cx_asm_pass2.specs.Whole.{Whole, directive_context, instruction_context, whole_of}
 use Rattle.cx_asm.specs.Resolving.{line, standing_from, statement_standing}
 use Rattle.cx_asm.specs.Assembly.{AssemblyParts, assembly_of, made_of, second_faults_of, section_of, size_of, standing_of}
 use Rattle.cx_asm.specs.Facts.Accepted as facts
 use Rattle.cx_asm_execution.specs.MadeLines.{code_lines}
-use Rattle.cx_asm_execution.proofs.Resolved.{AreResolved, InstructionsStand, bases_from, bases_in_use, is_instruction, is_instruction_role, placed_from, statements_from, placed_item, place_for}
-use Rattle.cx_asm_execution.proofs.AfterLemmas.{control_same, fault_kept, own_sound, reverse_step, section_sound, statements_are}
+use Rattle.cx_asm_execution.proofs.Resolved.{AreResolved, InstructionsStand, bases_from, bases_in_use, is_instruction, is_instruction_role}
+use Rattle.cx_asm_laws.specs.Facts.Judged.{NoFault, none_judged}
+use Rattle.cx_asm_laws.specs.Facts.Lines.{control_same, fault_kept, own_sound, place_for, reverse_step, section_sound, statements_are, statements_from, statements_joined}
 use Rattle.cx_asm_image.specs.Resolved.{AreApart}
 use Rattle.cx_asm_image.specs.Text.{text_of}
 use Rattle.cx_asm_execution.proofs.InStorage.{TextsAreMade}
 
--- ---- the statements of a source, in its order
-placed_joined : (xs ys before : List Item) → placed_from before (xs ++ ys) ≡ placed_from before xs ++ placed_from (reverse xs ++ before) ys
-placed_joined [] ys before = refl
-placed_joined (x ∷ xs) ys before =
-    ap (λ k. placed_item x (place_for x.stmt (state_after before)) ∷ k) (placed_joined xs ys (x ∷ before)
-    ∙ ap (λ k. placed_from (x ∷ before) xs ++ placed_from k ys) (sym (reverse_step x xs before)))
-
-statements_joined : (xs ys before : List Item) → statements_from before (xs ++ ys) ≡ statements_from before xs ++ statements_from (reverse xs ++ before) ys
-statements_joined xs ys before =
-    ap (filter_map stated_in) (placed_joined xs ys before) ∙ filter_map-append stated_in (placed_from before xs) (placed_from (reverse xs ++ before) ys)
-
 -- ---- no fault of the second pass
-NoFault : Whole → Bases → ℕ → List PlacedStatement → Type 0
-NoFault whole bases number [] = ⊤
-NoFault whole bases number (s ∷ statements) = (second_fault whole bases number s ≡ None) × NoFault whole (bases_after whole bases s) (suc number) statements
-
-none_with : (line : ℕ) (fault : Option FaultKind) (faults : List LineFault) → with_fault line fault faults ≡ [] → (faults ≡ []) × (fault ≡ None)
-none_with line None faults e = (e, refl)
-none_with line (Some kind) [] e = absurd (cc)
-none_with line (Some kind) (first ∷ more) e = absurd (go (line == first.line) e)
-  where
-    go : (is : Bool) → cond is (line_fault first.line (lower_of first.kind kind) ∷ more) (first ∷ with_fault line (Some kind) more) ≡ [] → ⊥
-    go true f = cc
-    go false f = cc
-
-judged_kept : (whole : Whole) (ss before : List PlacedStatement) → second_faults_after whole (reverse ss ++ before) ≡ []
-    → (second_faults_after whole before ≡ []) × NoFault whole (bases_after_all whole before) (length before) ss
-unfolding NoFault
-judged_kept whole [] before e = (e, tt)
-judged_kept whole (s ∷ ss) before e =
-    let more = judged_kept whole ss (s ∷ before) (subst (λ k. second_faults_after whole k ≡ []) (reverse_step s ss before) e) in
-    let here = none_with s.line (second_fault whole (bases_after_all whole before) (length before) s) (second_faults_after whole before) more.0 in
-    (here.0, (here.1, more.1))
-
 no_fault_after : (whole : Whole) (xs ys : List PlacedStatement) (bases : Bases) (number : ℕ) → NoFault whole bases number (xs ++ ys) → (n : ℕ) × NoFault whole (bases_from whole bases xs) n ys
 unfolding NoFault
 no_fault_after whole [] ys bases number e = (number, e)
@@ -363,7 +328,7 @@ all_code whole all bases number before (item ∷ items) more are sound control f
     }
 
 pub instructions_stand : InstructionsStand
-unfolding section_of standing_of second_faults_of
+unfolding section_of standing_of
 instructions_stand source assembly first items after e is are =
     let ok = accepted source assembly e in
     let whole = whole_of source in
@@ -379,8 +344,7 @@ instructions_stand source assembly first items after e is are =
     ap (λ k. reverse k) is ∙ reverse-append (first ++ items) after ∙ ap (λ k. reverse after ++ k) (reverse-append first items) in
     let sound : (state_after (reverse after ++ (reverse items ++ before))).fault ≡ None = subst (λ k. (state_after k).fault ≡ None) turned ok.first in
     let control : whole.control ≡ (state_after (reverse after ++ (reverse items ++ before))).control = ap (λ k. (state_after k).control) turned in
-    let judged = judged_kept whole all [] (subst (λ k. second_faults_after whole k ≡ []) (sym (append-nil (reverse all))) ok.second) in
-    let none : NoFault whole none_in_use 0 ((front ++ own) ++ rest) = subst (NoFault whole none_in_use 0) split judged.1 in
+    let none : NoFault whole none_in_use 0 ((front ++ own) ++ rest) = subst (NoFault whole none_in_use 0) split (none_judged source ok.second) in
     let faults = no_fault_after whole front own none_in_use 0 (no_fault_in whole (front ++ own) rest none_in_use 0 none) in
     let code = all_code whole all (bases_from whole none_in_use front) faults.0 before items (reverse after) are sound control faults.1 in
     let same : bases_from whole none_in_use front ≡ bases_in_use source first = ap (bases_from whole none_in_use) (sym (statements_are (record { items = first }))) in

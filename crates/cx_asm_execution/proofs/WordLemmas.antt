@@ -5,7 +5,7 @@ use Rattle.std.specs.Result.{result_err, result_ok}
 use Rattle.std.specs.List.{cons_option}
 use Rattle.std.specs.List.{list_all}
 use Rattle.std.proofs.Math.IntN.{+ℤ_idl, +ℤ_idr}
-use Rattle.std.proofs.Common.{Result, ◌≡◌, ◌<◌, ℕ, suc, ◌+◌, ◌*◌, ◌^◌, Bool, true, false, cond, ◌==◌, Option, Some, None, Ok, List, [], ◌∷◌, ◌++◌, length, map, refl, sym, ◌∙◌, ap, subst, arith}
+use Rattle.std.proofs.Common.{Result, ◌≡◌, ◌<◌, ℕ, ◌+◌, ◌*◌, ◌^◌, Bool, true, false, cond, ◌==◌, Option, Some, None, Ok, List, [], ◌∷◌, ◌++◌, length, map, refl, sym, ◌∙◌, ap, subst, arith}
 use Rattle.std.proofs.lemmas.Bool.Decides.{nat_tests}
 use Rattle.cx_ebcdic.specs.Facts.Names.{is_name-decides}
 use Rattle.cx_ebcdic.specs.Lookup.{each_some}
@@ -13,7 +13,7 @@ use Rattle.cx_source.specs.Lines.{is_letter, is_name, is_name_character}
 use Rattle.cx_source.specs.Marks.{depth_after, first_from, is_mark, lies_outside, scan_after, within_after}
 use Rattle.cx_source.specs.declared.marks.Delimiter.TheVariants.{Parenthesis}
 use Rattle.cx_source.specs.declared.marks.Scan.{Scan}
-use Rattle.cx_asm_expressions.specs.Digits.{bound, digit, is_digit, number_in}
+use Rattle.cx_asm_expressions.specs.Digits.{bound, is_digit, number_in}
 use Rattle.cx_asm_expressions.specs.Expressions.{value_or_fault, sum_from, sum_of_values, value_of, sum_of_terms, within_bound}
 use Rattle.cx_asm_expressions.specs.Faults.{lower}
 use Rattle.cx_asm_expressions.specs.Names.{is_same}
@@ -40,30 +40,12 @@ use Rattle.cx_asm_execution.proofs.Arguments.{OperandsAddress}
 use Rattle.cx_asm_execution.proofs.Stores.{word_of_list}
 use Rattle.cx_asm_execution.proofs.Words.{HasSomeList, LieAfter, LiesAfter, ListIsPlaced, ListLies, WordsLie}
 use Rattle.cx_asm_execution.proofs.ArgumentLemmas.{both_ok}
-use Rattle.cx_asm_execution.proofs.PlainLemmas.{ArePlain, decimal_plain, decimal_read, neither, other, plain_part}
+use Rattle.cx_asm_laws.specs.Facts.Plain.{ArePlain, decimal_plain, decimal_read, decimal_term, neither, other, plain_part}
 
 list_name : List ℕ
 list_name = codes "DFHEIPL"
 
 -- ---- the terms
-no_letter : (c : ℕ) → is_digit 10 c ≡ true → is_letter c ≡ false
-unfolding digit is_letter
-no_letter c h = grind (arith, nat_tests)
-
-pub split : (a b : Bool) → (a && b) ≡ true → (a ≡ true) × (b ≡ true)
-split true b e = (refl, e)
-split false b e = absurd (cc)
-
-decimal_term : (text : List ℕ) → ArePlain text → list_all (is_digit 10) text ≡ true → 0 < length text → read_term (part_of Plus text) ≡ Some (term_of Plus Decimal text)
-unfolding read_term is_name
-decimal_term [] plain all some = absurd (omega arith)
-decimal_term (c ∷ []) plain all some =
-    rw (other c 42 plain.0 (omega arith), no_letter c (split (is_digit 10 c) true all).0, (split (is_digit 10 c) true all).0) refl
-decimal_term (c ∷ d ∷ text) plain all some =
-    let first = split (is_digit 10 c) (is_digit 10 d && list_all (is_digit 10) text) all in
-    let more : (suc (suc (length text)) == 0) ≡ false = grind (arith, nat_tests) in
-    rw (other d 39 plain.1.0 (omega arith), other c 42 plain.0 (omega arith), no_letter c first.0, first.0, first.1, more) refl
-
 symbol_term : read_term (part_of Plus (codes "DFHEIPL")) ≡ Some (term_of Plus Symbol (codes "DFHEIPL"))
 unfolding read_term is_name is_letter is_name_character
 symbol_term = refl

@@ -3,6 +3,7 @@ ghost use Rattle.cx_asm_execution.specs.Arrival.{CommandsArrive, IsStatement};
 ghost use Rattle.cx_asm_execution.specs.Expansion.{Statement};
 ghost use Rattle.cx_asm_execution.specs.FieldLayouts.{EibIsLaidOut, HeadIsLaidOut};
 ghost use Rattle.cx_asm_execution.specs.Laws.Entry.{ArrivalsDecide, ArrivesInTime, MadeAreCounted, ReachesEntry};
+ghost use Rattle.cx_asm_execution.specs.Laws.Loaded.{LinesAreLoaded, NoCodeIsRelocated};
 ghost use Rattle.cx_asm_execution.specs.Laws.Pointers.{LoadsGiveWords};
 ghost use Rattle.cx_asm_execution.specs.MadeLines.{Site};
 ghost use Rattle.std.specs.Prelude.{◌≡◌, ℕ};
@@ -46,6 +47,24 @@ pub fn loads_give_words()
 {
     cx_code::laws::every_spelling();
     cx_exec::laws::spelled_is_fetched();
+}
+
+/// Where the program of an accepted source is loaded, each resolved line that shares no byte with a relocated word is in
+/// storage at its place: its bytes are those of the span there.
+pub fn lines_are_loaded()
+    ensures { LinesAreLoaded }
+{
+    cx_storage::laws::span_is_bytes();
+    cx_load::laws::relocation();
+    cx_asm_image::laws::the_text_is_decided_by_its_bytes();
+    cx_asm::laws::an_assembly_stands_apart();
+}
+
+/// No instruction of an accepted source shares a byte with a relocated word.
+pub fn no_code_is_relocated()
+    ensures { NoCodeIsRelocated }
+{
+    cx_asm::laws::an_assembly_stands_apart();
 }
 
 /// The assembler places each field of DFHEIBLK at the offset, and with the length, at which the region writes it, and
@@ -92,11 +111,11 @@ pub fn commands_arrive()
     cx_translate::laws::accepted_lists_are_read();
     cx_storage::laws::span_is_bytes();
     cx_code::laws::every_spelling();
-    cx_load::laws::relocation();
     cx_asm_operands::laws::an_implied_address_is_nearest();
     cx_asm_operands::laws::what_is_resolved_is_well_formed();
-    cx_asm_image::laws::the_text_is_decided_by_its_bytes();
     cx_asm::laws::an_assembly_stands_apart();
+    crate::laws::lines_are_loaded();
+    crate::laws::no_code_is_relocated();
     crate::laws::made_are_counted();
     crate::laws::reaches_entry();
     crate::laws::loads_give_words();

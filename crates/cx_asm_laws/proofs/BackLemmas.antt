@@ -3,7 +3,7 @@ use Rattle.std.specs.Prelude.{Result, Ok, Err, ◌==◌}
 use Rattle.std.specs.List.{repeat}
 use Rattle.std.specs.Option.{option_map_or}
 use Rattle.std.specs.Result.{result_ok}
-use Rattle.std.proofs.Common.{◌≡◌, ◌≤◌, ℕ, Bool, true, false, cond, Option, Some, None, List, [], ◌∷◌, ◌++◌, map, length, refl, subst}
+use Rattle.std.proofs.Common.{◌≡◌, ◌≤◌, ℕ, Bool, true, false, cond, Option, Some, None, List, [], ◌∷◌, ◌++◌, map, length, refl, ◌∙◌, subst}
 use Rattle.cx_code.specs.declared.disassembly.Line.{Line}
 use Rattle.cx_code.specs.declared.disassembly.What.TheVariants.{Code, Space}
 use Rattle.cx_code.specs.Lines.{lines}
@@ -35,7 +35,7 @@ use Rattle.cx_asm.specs.Facts.Accepted.{accepted}
 use Rattle.cx_asm.specs.Facts.Bases.{after_sixteen}
 use Rattle.cx_asm.specs.Laws.SectionLines.{IsWithin}
 use Rattle.cx_asm.specs.Resolving.{constant_standing, counter_at, data_line, data_standing, instruction_standing, item_standing, items_standing, last_pool, line, empty_section, pool_standing, role_standing, space_standing, standing_from, statement_standing}
-use Rattle.cx_asm_laws.specs.Laws.Back.{ComesBack}
+use Rattle.cx_asm_laws.specs.Laws.Back.{ComesBack, LinesAreResolved}
 
 abbrev pub Resolves : Type 0
 Resolves = (o : Operation) (c : Context) (operand : List ℕ) (made : Made_instruction) → length c.bases ≡ 16 → instruction_or_fault o c operand ≡ Ok made
@@ -132,3 +132,6 @@ comes_back within back resolves source made e =
     let is = accepted source made e in
     subst (λ (m : AssemblyParts). lines m.section.image.text m.section.spans ≡ (standing_of source).lines) is.made_is
     (back (standing_of source).lines (size_of source) (within source is.sound is.short).lines (source_sound resolves source))
+
+pub lines_are_resolved : ComesBack → LinesAreResolved
+lines_are_resolved back source made e = back source made e ∙ resolved_is source made e

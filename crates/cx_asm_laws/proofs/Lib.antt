@@ -1,3 +1,9 @@
 mod WordLemmas
 mod BackLemmas
-mod ConstantLemmas
+mod LiteralLemmas
+mod StandingLemmas
+mod ReadLemmas
+mod WrittenLemmas
+mod AgainLemmas
+mod RightLemmas
+mod ReassembledLemmas

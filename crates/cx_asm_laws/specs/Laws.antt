@@ -1,3 +1,4 @@
 -- Statements of laws.
+pub mod Again
 pub mod Back
-pub mod Constants
+pub mod Standing

@@ -1,2 +1,3 @@
 -- Statements of laws.
 pub mod Laws
+pub mod Facts

@@ -6,8 +6,9 @@ ghost use Rattle.cx_load.specs.Fault.{IsLowestFault, all_apart, are_inside};
 ghost use Rattle.cx_load.specs.declared.fault.ImageFault.{ImageFault};
 ghost use Rattle.cx_load.specs.declared.fault.ImageFault.TheVariants.{BadLength, Overlap, RelocOutside};
 ghost use Rattle.cx_asm.specs.Assembly.{AssemblyParts, assembly_of, size_of};
-ghost use Rattle.cx_asm_laws.specs.Laws.Back.{ComesBack};
-ghost use Rattle.cx_asm_laws.specs.Laws.Constants.{AcceptedStand};
+ghost use Rattle.cx_asm_laws.specs.Laws.Again.{AssemblesAgain, BytesAreReadBack, InstructionsAreReadBack, LinesAreStatements, SpacesAreReadBack};
+ghost use Rattle.cx_asm_laws.specs.Laws.Back.{ComesBack, LinesAreResolved};
+ghost use Rattle.cx_asm_laws.specs.Laws.Standing.{AllStand, AreInControl, NothingElseStands};
 
 /// The relocated words of an accepted source end inside its text and share no byte. So its image is refused for its length, its
 /// entry or its working storage alone; for its length only where its control section is empty, or it has none.
@@ -27,20 +28,49 @@ pub fn an_assembled_image_is_refused_for_little()
 }
 
 /// What was assembled comes back: the disassembly of an accepted source's text by its spans is what is in its control
-/// section.
+/// section, and is its resolved lines.
 pub fn what_was_assembled_comes_back()
-    ensures { ComesBack }
+    ensures back { ComesBack }
+    ensures resolved { LinesAreResolved }
 {
     cx_asm::laws::what_stands_stands_apart();
     cx_asm_image::laws::lines_come_back();
     cx_asm_operands::laws::what_is_resolved_is_well_formed();
 }
 
-/// In an accepted source each item of a DC or DS in the control section is a constant, a DC's with a value, and is
-/// among the resolved lines at its offset: with the bytes of all its copies, a DS's as a space. So is each literal
-/// with a value.
-pub fn constants_stand_at_their_places()
-    ensures { AcceptedStand }
+/// In an accepted source each instruction is among the resolved lines at its place, resolved as its operands say with
+/// the bases that are in use there. So is each item of a DC or DS in the control section, which is a constant, a DC's
+/// with a value: with the bytes of all its copies, a DS's as a space; and so is each literal, at its offset in its pool.
+/// Each resolved line is one of these: nothing else stands. Each instruction, and each LTORG, is in the control section.
+pub fn statements_stand_at_their_places()
+    ensures stand { AllStand }
+    ensures only { NothingElseStands }
+    ensures control { AreInControl }
+{}
+
+/// A line of a disassembly writes an operation, a blank and an operand, which are read back: a well-formed instruction
+/// as itself, by whatever symbols and bases; bytes, if there are any, as a constant with these bytes; a space of 1 to
+/// 65,535 bytes as one of this length.
+pub fn disassembled_lines_are_read_back()
+    ensures lines { LinesAreStatements }
+    ensures instructions { InstructionsAreReadBack }
+    ensures bytes { BytesAreReadBack }
+    ensures spaces { SpacesAreReadBack }
 {
-    cx_asm::laws::the_second_pass_tells_its_first_fault();
+    cx_asm_operations::laws::one_name();
+}
+
+/// The disassembly of an accepted source is assembled to the same text: where its lines, with gaps as DS, are the
+/// statements of a source, between a CSECT and an END, that source is accepted, its text is that text, and its resolved
+/// lines are these. They say neither the entry nor which words are relocated nor the working storage, so the entry is
+/// the section's start, no word is relocated, and the working storage is the least. A text that is one space of 65,536
+/// bytes is apart, since no DS takes that length modifier.
+pub fn a_disassembly_is_assembled_again()
+    ensures { AssemblesAgain }
+{
+    cx_code::laws::every_spelling();
+    cx_asm_operations::laws::one_name();
+    cx_asm_operands::laws::what_is_resolved_is_well_formed();
+    cx_asm::laws::an_assembly_stands_apart();
+    what_was_assembled_comes_back();
 }

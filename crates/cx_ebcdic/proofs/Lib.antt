@@ -1,3 +1,4 @@
 pub mod TableLemmas
 pub mod CodedLemmas
 pub mod AidLemmas
+pub mod CharacterLemmas

@@ -3,6 +3,7 @@ use Rattle.std.proofs.Common.{◌≡◌, ℕ, true, List, Some, refl, subst, sym
 use Rattle.std.proofs.lemmas.Bool.{and_parts, true≢false}
 use Rattle.cx_ebcdic.specs.declared.aids.Aid.{Aid}
 use Rattle.cx_ebcdic.specs.declared.aids.Aid.TheVariants as aid
+use Rattle.cx_edf_display.specs.Displays.{display_of}
 use Rattle.cx_region.specs.declared.changes.AlterReply.{AlterReply}
 use Rattle.cx_region.specs.declared.changes.AlterReply.TheVariants as alter
 use Rattle.cx_region.specs.declared.changes.Change.TheVariants as change
@@ -38,9 +39,9 @@ ended_reply old name r new live applies =
 
 -- so the event is passed
 pub ended_passed : (old v new : EdfState) (name : List ℕ) (given : AlterReply) → old ≡ v → Alters old.region name change.Abend given new.region
-    → new.sessions ≡ sessions_after old.sessions (event.Alter name change.Abend) (reply.Alter given) new.region
-    → PassesOn v (event.Alter name change.Abend) (Some answer.ToEdf) answer.ToEdf new
+    → new.sessions ≡ sessions_after old.sessions (event.Alter name change.Abend) (reply.Alter given) (display_of new.region)
+    → PassesOn display_of v (event.Alter name change.Abend) (Some answer.ToEdf) answer.ToEdf new
 unfolding Applies
 ended_passed old v new name given same alters table =
-    subst (λ (s : EdfState). PassesOn s (event.Alter name change.Abend) (Some answer.ToEdf) answer.ToEdf new) same
+    subst (λ (s : EdfState). PassesOn display_of s (event.Alter name change.Abend) (Some answer.ToEdf) answer.ToEdf new) same
     (record { reply = reply.Alter given; applies = alters; table = table; answers = refl })

@@ -33,9 +33,9 @@ use Rattle.cx_edf.specs.declared.modes.PageName.TheVariants as page
 use Rattle.cx_edf.specs.Sessions.{SessionState, Sessions, after_change, after_key, after_reply, fresh_session, older, operators_end, session_in, stop_of_turn, stop_session, turned_to, with_session}
 use Rattle.cx_edf.specs.Stops.{stops_named}
 use Rattle.cx_edf.specs.State.{EdfState, ends_by_key, holds, session_at, stopped_at}
-use Rattle.cx_edf.specs.Steps.{DoorAnswers, Door, EdfApplies, Keeps, Passes, with_session_changed, door_of, sessions_after}
+use Rattle.cx_edf.specs.Steps.{AppliesBy, DoorAnswers, Door, EdfApplies, Keeps, Passes, with_session_changed, door_of, sessions_after}
 use Rattle.cx_edf.specs.Erasure.{is_refused, left_in, left_of}
-use Rattle.cx_edf.specs.Runs.{IsKept, displays_after, stop_taken}
+use Rattle.cx_edf.specs.Laws.Displays.{IsKept, displays_after, stop_taken}
 use Rattle.cx_edf.proofs.DoorLemmas.{Fits, by_test, by_tests, fits}
 use Rattle.cx_edf.proofs.LookupLemmas.{at_other, at_same, same_name}
 use Rattle.cx_edf.proofs.KeepLemmas.{keep_one_more}
@@ -198,7 +198,7 @@ alter_elsewhere (change.Register r v) old name q is = refl
 alter_elsewhere (change.Byte a v) old name q is = refl
 
 passing : (old : EdfState) (x : Event) (r : Reply) (region : RegionState) (q : List ℕ) (all : List Display) → IsKept (session_at old q) all
-    → Had (session_in (sessions_after old.sessions x r region) q) (all ++ taken old region q (if is_refused x r then [] else (x, r) ∷ []))
+    → Had (session_in (sessions_after old.sessions x r (display_of region)) q) (all ++ taken old region q (if is_refused x r then [] else (x, r) ∷ []))
 unfolding taken
 passing old (event.Turn name) (reply.Turn r) region q all kept =
     had_changed old.sessions name q (λ s. Some (after_reply s r (display_of region name))) (all ++ map (display_of region q) (cons_option (stop_taken old q (event.Turn name) (reply.Turn r)) []))
@@ -216,19 +216,19 @@ passing old (event.Alter name c) _ region q all kept = none_more (session_at old
 passing old _ r region q all kept = none_more (session_at old q) all (had (session_at old q) all kept)
 
 -- ---- both
-after_door : (old : EdfState) (e : EdfEvent) (door : Door) (given : Answer) (new : EdfState) (q : List ℕ) (all : List Display) → Fits old e door → Keeping old q all door → DoorAnswers old door given new
+after_door : (old : EdfState) (e : EdfEvent) (door : Door) (given : Answer) (new : EdfState) (q : List ℕ) (all : List Display) → Fits old e door → Keeping old q all door → DoorAnswers display_of old door given new
     → IsKept (session_at old q) all → Had (session_at new q) (all ++ taken old new.region q (left_in door given))
 unfolding Keeping taken
 after_door old e (Keeps own sessions) given new q all fit keeps row kept =
     none_more (session_at new q) all (subst (λ (s : EdfState). Had (session_at s q) all) (sym row.1) keeps)
 after_door old e (Passes x own) given new q all fit keeps row kept =
-    subst (λ (r : Reply). Had (session_at new q) (all ++ taken old new.region q (if is_refused x r then [] else (x, r) ∷ []))) (sym (reported_reply old e x own given new fit row))
+    subst (λ (r : Reply). Had (session_at new q) (all ++ taken old new.region q (if is_refused x r then [] else (x, r) ∷ []))) (sym (reported_reply display_of old e x own given new fit row))
     (subst (λ (s : Sessions). Had (session_in s q) (all ++ taken old new.region q (if is_refused x row.reply then [] else (x, row.reply) ∷ []))) (sym row.table)
     (passing old x row.reply new.region q all kept))
 
 pub kept_after : (old : EdfState) (e : EdfEvent) (given : Answer) (new : EdfState) (q : List ℕ) (all : List Display) → EdfApplies old e given new → IsKept (session_at old q) all
     → IsKept (session_at new q) (displays_after old e given new q all)
-unfolding EdfApplies displays_after left_of taken
+unfolding AppliesBy displays_after left_of taken
 kept_after old e given new q all row kept =
     had_kept (session_at new q) (all ++ taken old new.region q (left_in (door_of old e) given))
     (after_door old e (door_of old e) given new q all (fits old e) (keeping old e q all kept) row kept)

@@ -1,11 +1,12 @@
 -- The laws of events and runs under EDF.
 use Rattle.std.proofs.Common.{◌≡◌, ℕ, Bool, true, false, List, [], ◌∷◌, ◌++◌, map, Option, Some, None, refl, sym, ap, ◌∙◌, subst}
 use Rattle.std.specs.Prelude.{MatchOption, ◌&&◌, ◌||◌, ◌==◌, not, length, unwrap_or, if◌then◌else◌, is_some}
-use Rattle.std.specs.List.{AllByRecursion}
 use Rattle.std.specs.Option.{option_and_then, option_map_or}
 use Rattle.std.proofs.lemmas.Bool.{true≢false}
 use Rattle.std.proofs.lemmas.Option.{none-some}
+use Rattle.cx_edf_display.specs.declared.displays.Display.{Display}
 use Rattle.cx_edf_display.specs.declared.stops.StopPoint.{StopPoint}
+use Rattle.cx_edf_display.specs.Displays.{display_of}
 use Rattle.cx_region.specs.State.{RegionState, TerminalState}
 use Rattle.cx_region.specs.Tables.{task_of, terminal_of}
 use Rattle.cx_region.specs.Events.{Applies, Run}
@@ -26,35 +27,35 @@ use Rattle.cx_edf.specs.declared.answers.Answer.{Answer}
 use Rattle.cx_edf.specs.declared.answers.Answer.TheVariants as answer
 use Rattle.cx_edf.specs.declared.modes.Mode.{Mode}
 use Rattle.cx_edf.specs.declared.modes.Mode.TheVariants as mode
-use Rattle.cx_edf.specs.Sessions.{Sessions, after_key, is_stopped, session_in, stop_of, takes_in}
-use Rattle.cx_edf.specs.State.{EdfState, ends_by_key, holds, stopped_at}
-use Rattle.cx_edf.specs.Steps.{DoorAnswers, Door, EdfApplies, Keeps, PassesOn, Passes, with_session_changed, door_of, sessions_after}
-use Rattle.cx_edf.specs.Erasure.{answers_itself, is_own, is_refused, left_in, left_of, region_replies}
+use Rattle.cx_edf.specs.Sessions.{Sessions, is_stopped, session_in, stop_of, takes_in}
+use Rattle.cx_edf.specs.State.{EdfState, stopped_at}
+use Rattle.cx_edf.specs.Steps.{AppliesBy, DisplayMaker, DoorAnswers, Door, Keeps, PassesOn, Passes, door_of, sessions_after}
+use Rattle.cx_edf.specs.Erasure.{is_own, is_refused, left_in, left_of, region_replies}
 use Rattle.cx_edf.specs.Runs.{Trace, last_state}
-use Rattle.cx_edf.specs.Laws.Edf.{EdfEventsDecide, EdfRunsDecide, ErasedEvents, ErasedEventsLeaveTheRegion, OffIsTheRegion, OtherEventsArePassed, OwnEventsHaveOwnAnswers, PlainRunsAgree, StopsAreMissedUnderSuppression, ReportedAreThoseGiven, ends_task, given_by, given_in, is_alteration, is_edfs, is_refusal}
-use Rattle.cx_edf.proofs.EndLemmas.{ends_stopped}
-use Rattle.cx_edf.proofs.DoorLemmas.{Fits, by_test, by_tests, fits}
+use Rattle.cx_edf.specs.Laws.Edf.{EdfEventsDecide, EdfRunsDecide, ErasedEvents, ErasedEventsLeaveTheRegion, OffIsTheRegion, OtherEventsArePassed, OwnEventsHaveOwnAnswers, PlainRunsAgree, StopsAreMissedUnderSuppression, ReportedAreThoseGiven, TheRegionIsOff, ends_task, given_by, given_in, is_alteration, is_edfs, is_refusal, off_at}
+use Rattle.cx_edf.proofs.DoorLemmas.{Fits, answers_itself, fits, own_at_door}
 use Rattle.cx_edf.proofs.StepLemmas.{left_runs}
+use Rattle.cx_edf.proofs.TraceLemmas.{what_is_left_is_a_run}
 
 -- ---- one outcome
 same_state : (a b : EdfState) → a.region ≡ b.region → a.sessions ≡ b.sessions → a ≡ b
 same_state a b regions sessions = λ i. record { region = regions i; sessions = sessions i }
 
 done_decides : EventsDecide → (old : EdfState) (door : Door) (given other : Answer) (new later : EdfState)
-    → DoorAnswers old door given new → DoorAnswers old door other later → (given ≡ other) × (new ≡ later)
+    → DoorAnswers display_of old door given new → DoorAnswers display_of old door other later → (given ≡ other) × (new ≡ later)
 done_decides decide old (Keeps own sessions) given other new later h k = (h.0 ∙ sym k.0, h.1 ∙ sym k.1)
 done_decides decide old (Passes e own) given other new later h k =
     let same = decide old.region e h.reply k.reply new.region later.region h.applies k.applies in (
       h.answers ∙ ap (λ r. unwrap_or own (answer.Region r)) same.0 ∙ sym k.answers,
-      same_state new later same.1 (h.table ∙ (λ i. sessions_after old.sessions e (same.0 i) (same.1 i)) ∙ sym k.table),
+      same_state new later same.1 (h.table ∙ (λ i. sessions_after old.sessions e (same.0 i) (display_of (same.1 i))) ∙ sym k.table),
     )
 
 pub edf_events_decide : EventsDecide → EdfEventsDecide
-unfolding EdfApplies
+unfolding AppliesBy
 edf_events_decide decide old e given other new later h k = done_decides decide old (door_of old e) given other new later h k
 
 traces_decide : EdfEventsDecide → (old : EdfState) (events : List EdfEvent) (answers others : List Answer) (states more : List EdfState)
-    → Trace old events answers states → Trace old events others more → (answers ≡ others) × (states ≡ more)
+    → Trace display_of old events answers states → Trace display_of old events others more → (answers ≡ others) × (states ≡ more)
 unfolding Trace
 traces_decide decide old [] [] [] [] [] h k = (refl, refl)
 traces_decide decide old [] [] [] [] (t ∷ ts) h k = absurd k
@@ -67,7 +68,7 @@ traces_decide decide old (e ∷ es) (g ∷ gs) [] (s ∷ ss) ts h k = absurd k
 traces_decide decide old (e ∷ es) (g ∷ gs) (o ∷ os) (s ∷ ss) [] h k = absurd k
 traces_decide decide old (e ∷ es) (g ∷ gs) (o ∷ os) (s ∷ ss) (t ∷ ts) h k =
     let first = decide old e g o s t h.0 k.0 in
-    let rest = traces_decide decide t es gs os ss ts (subst (λ (x : EdfState). Trace x es gs ss) first.1 h.1) k.1 in
+    let rest = traces_decide decide t es gs os ss ts (subst (λ (x : EdfState). Trace display_of x es gs ss) first.1 h.1) k.1 in
     (λ i. first.0 i ∷ rest.0 i, λ i. first.1 i ∷ rest.1 i)
 
 pub edf_runs_decide : EventsDecide → EdfRunsDecide
@@ -77,17 +78,18 @@ edf_runs_decide decide old events answers others new later h k =
 
 -- ---- watching changes nothing
 pub a_plain_run_agrees : RunsDecide → PlainRunsAgree
-a_plain_run_agrees decide old events answers new run replies after plain = decide old.region _ replies _ after new.region plain run.left
+a_plain_run_agrees decide make old events answers states trace replies after plain =
+    decide old.region _ replies _ after (last_state old states).region plain (what_is_left_is_a_run make old events answers states trace)
 
-own_answer : (old : EdfState) (e : EdfEvent) (door : Door) (given : Answer) (new : EdfState) → Fits old e door → DoorAnswers old door given new → answers_itself door ≡ is_edfs given
-unfolding Fits
-own_answer old e (Keeps own sessions) given new fit row = sym fit.0 ∙ ap is_edfs (sym row.0)
-own_answer old e (Passes x None) given new fit row = ap is_edfs (sym row.answers)
-own_answer old e (Passes x (Some own)) given new fit row = ap is_edfs (sym (row.answers ∙ fit.1.own_answer))
+own_answer : (make : DisplayMaker) (old : EdfState) (e : EdfEvent) (door : Door) (given : Answer) (new : EdfState) → Fits old e door → DoorAnswers make old door given new → answers_itself door ≡ is_edfs given
+unfolding Fits answers_itself
+own_answer make old e (Keeps own sessions) given new fit row = sym fit.0 ∙ ap is_edfs (sym row.0)
+own_answer make old e (Passes x None) given new fit row = ap is_edfs (sym row.answers)
+own_answer make old e (Passes x (Some own)) given new fit row = ap is_edfs (sym (row.answers ∙ fit.1.own_answer))
 
 pub own_answers : OwnEventsHaveOwnAnswers
-unfolding EdfApplies is_own
-own_answers old e given new row = own_answer old e (door_of old e) given new (fits old e) row
+unfolding AppliesBy
+own_answers make old e given new row = own_at_door old e ∙ own_answer make old e (door_of old e) given new (fits old e) row
 
 -- EDF's own answer refuses no alteration of the region's
 never_refused : (e : EdfEvent) (given : Answer) → is_edfs given ≡ true → is_refusal e given ≡ false
@@ -115,39 +117,36 @@ passed old x r ends = go (is_refused x r) refl
     go true is = record { reported = rw (ends, is) refl; none = rw is refl }
     go false is = record { reported = rw (ends, is) refl; none = rw is refl }
 
-left_by : (old : EdfState) (e : EdfEvent) (door : Door) (given : Answer) (new : EdfState) → Fits old e door → DoorAnswers old door given new → IsLeft old e given (left_in door given)
+left_by : (make : DisplayMaker) (old : EdfState) (e : EdfEvent) (door : Door) (given : Answer) (new : EdfState) → Fits old e door → DoorAnswers make old door given new → IsLeft old e given (left_in door given)
 unfolding Fits
-left_by old e (Keeps own sessions) given new fit row = kept old e given (ap is_edfs row.0 ∙ fit.0) fit.1
-left_by old e (Passes x None) given new fit row =
+left_by make old e (Keeps own sessions) given new fit row = kept old e given (ap is_edfs row.0 ∙ fit.0) fit.1
+left_by make old e (Passes x None) given new fit row =
     subst (λ (a : Answer). IsLeft old e a (left_in (Passes x None) a)) (sym row.answers)
     (subst (λ (y : EdfEvent). IsLeft old y (answer.Region row.reply) (left_in (Passes x None) (answer.Region row.reply))) (sym fit.0)
     (passed old x row.reply (subst (λ (y : EdfEvent). ends_task old y ≡ false) fit.0 fit.1)))
-left_by old e (Passes x (Some own)) given new fit row =
+left_by make old e (Passes x (Some own)) given new fit row =
     let is : given ≡ answer.ToEdf = row.answers ∙ fit.1.own_answer in
     subst (λ (a : Answer). IsLeft old e a (left_in (Passes x (Some own)) a)) (sym is)
     (subst (λ (y : Event). IsLeft old e answer.ToEdf (left_in (Passes y (Some own)) answer.ToEdf)) (sym fit.1.abend)
     (ended old e answer.ToEdf (event.Alter fit.1.name change.Abend) refl fit.0))
 
-left_is : (old : EdfState) (e : EdfEvent) (given : Answer) (new : EdfState) → EdfApplies old e given new → IsLeft old e given (left_of old e given)
-unfolding EdfApplies left_of
-left_is old e given new row = left_by old e (door_of old e) given new (fits old e) row
-
-reported_trace : (old : EdfState) (events : List EdfEvent) (answers : List Answer) (states : List EdfState) → Trace old events answers states
-    → region_replies old events answers states ≡ given_in old events answers states
-unfolding Trace region_replies given_in
-reported_trace old [] [] [] trace = refl
-reported_trace old [] [] (s ∷ ss) trace = absurd trace
-reported_trace old [] (g ∷ gs) ss trace = absurd trace
-reported_trace old (e ∷ es) [] ss trace = absurd trace
-reported_trace old (e ∷ es) (g ∷ gs) [] trace = absurd trace
-reported_trace old (e ∷ es) (g ∷ gs) (s ∷ ss) trace = λ i. (left_is old e g s trace.0).reported i ++ reported_trace s es gs ss trace.1 i
+left_is : (make : DisplayMaker) (old : EdfState) (e : EdfEvent) (given : Answer) (new : EdfState) → AppliesBy make old e given new → IsLeft old e given (left_of old e given)
+unfolding AppliesBy left_of
+left_is make old e given new row = left_by make old e (door_of old e) given new (fits old e) row
 
 pub reported_are_those_given : ReportedAreThoseGiven
-reported_are_those_given old events answers new run = reported_trace old events answers run.states run.trace
+unfolding Trace region_replies given_in
+reported_are_those_given make old [] [] [] trace = refl
+reported_are_those_given make old [] [] (s ∷ ss) trace = absurd trace
+reported_are_those_given make old [] (g ∷ gs) ss trace = absurd trace
+reported_are_those_given make old (e ∷ es) [] ss trace = absurd trace
+reported_are_those_given make old (e ∷ es) (g ∷ gs) [] trace = absurd trace
+reported_are_those_given make old (e ∷ es) (g ∷ gs) (s ∷ ss) trace =
+    λ i. (left_is make old e g s trace.0).reported i ++ reported_are_those_given make s es gs ss trace.1 i
 
 -- ---- what is erased
 pub erased_events : ErasedEvents
-erased_events old e given new row = (left_is old e given new row).none
+erased_events make old e given new row = (left_is make old e given new row).none
 
 nothing_runs : (old : RegionState) (replies : List Reply) (new : RegionState) → Run old [] replies new → new ≡ old
 unfolding Run
@@ -155,9 +154,9 @@ nothing_runs old [] new run = run
 nothing_runs old (r ∷ rs) new run = absurd run
 
 pub erased_leave : ErasedEventsLeaveTheRegion
-erased_leave old e given new row none =
+erased_leave make old e given new row none =
     nothing_runs old.region (map (λ (p : Event × Reply). p.1) (left_of old e given)) new.region
-    (subst (λ (ps : List (Event × Reply)). Run old.region (map (λ (p : Event × Reply). p.0) ps) (map (λ (p : Event × Reply). p.1) (left_of old e given)) new.region) none (left_runs old e given new row))
+    (subst (λ (ps : List (Event × Reply)). Run old.region (map (λ (p : Event × Reply). p.0) ps) (map (λ (p : Event × Reply). p.1) (left_of old e given)) new.region) none (left_runs make old e given new row))
 
 -- ---- no stop is missed
 turn_without_task : (r : RegionState) (name : List ℕ) (given : TurnReply) (new : RegionState) (stop : StopPoint) → TakesTurn r name given new → is_some (task_of r name) ≡ false → stop_of given ≡ Some stop → ⊥
@@ -176,14 +175,14 @@ turn_without_task r name given new stop h idle stops = by_terminal (terminal_of 
     by_terminal (Some t) h idle = by_task t t.task h idle
 
 pub stops_are_missed : StopsAreMissedUnderSuppression
-unfolding EdfApplies door_of Applies
+unfolding AppliesBy door_of Applies
 stops_are_missed old name r new session stop row there stops missed = by_mode session.mode refl missed
   where
     of_region : (x : Reply) → answer.Region (reply.Turn r) ≡ answer.Region x → Applies old.region (event.Turn name) x new.region → TakesTurn old.region name r new.region
     of_region x same applies = subst (λ (y : Reply). Applies old.region (event.Turn name) y new.region) (sym (let e : reply.Turn r ≡ x = cc in e)) applies
 
     held : (live : Bool) → is_some (task_of old.region name) ≡ live
-        → DoorAnswers old (if live then Keeps answer.Held old.sessions else Passes (event.Turn name) None) (answer.Region (reply.Turn r)) new → ⊥
+        → DoorAnswers display_of old (if live then Keeps answer.Held old.sessions else Passes (event.Turn name) None) (answer.Region (reply.Turn r)) new → ⊥
     held true is row = let never : answer.Region (reply.Turn r) ≡ answer.Held = row.0 in cc
     held false is row = turn_without_task old.region name r new.region stop (of_region row.reply row.answers row.applies) is stops
 
@@ -197,7 +196,7 @@ stops_are_missed old name r new session stop row there stops missed = by_mode se
 
 -- ---- what is passed
 passed_as_it_is : (old : EdfState) (e : Event) (door : Door) → Fits old (edf_event.Plain e) door → answers_itself door ≡ false → door ≡ Passes e None
-unfolding Fits
+unfolding Fits answers_itself
 passed_as_it_is old e (Keeps own sessions) fit none = absurd (true≢false none)
 passed_as_it_is old e (Passes x None) fit none =
     let is : edf_event.Plain e ≡ edf_event.Plain x = fit.0 in
@@ -205,61 +204,78 @@ passed_as_it_is old e (Passes x None) fit none =
 passed_as_it_is old e (Passes x (Some own)) fit none = absurd (true≢false none)
 
 pub others_are_passed : OtherEventsArePassed
-unfolding is_own
-others_are_passed old e none = passed_as_it_is old e (door_of old (edf_event.Plain e)) (fits old (edf_event.Plain e)) none
+others_are_passed old e none =
+    passed_as_it_is old e (door_of old (edf_event.Plain e)) (fits old (edf_event.Plain e)) (sym (own_at_door old (edf_event.Plain e)) ∙ none)
 
 -- ---- Off everywhere
-record Plainly (old : EdfState) (e : Event) (given : Answer) (new : EdfState) : Type 0 where
+record Plainly (make : DisplayMaker) (old : EdfState) (e : Event) (given : Answer) (new : EdfState) : Type 0 where
   pub reply : Reply
   pub applies : Applies old.region e reply new.region
   pub off : new.sessions ≡ []
   pub answers : given ≡ answer.Region reply
 
-none_after : (sessions : Sessions) (e : Event) (r : Reply) (region : RegionState) → sessions ≡ [] → is_alteration e ≡ false → sessions_after sessions e r region ≡ []
-none_after sessions (event.Turn name) (reply.Turn r) region off plain = rw off refl
-none_after sessions (event.Turn name) _ region off plain = off
-none_after sessions (event.Alter name c) r region off plain = absurd (true≢false plain)
-none_after sessions _ r region off plain = off
+none_after : (sessions : Sessions) (e : Event) (r : Reply) (display_at : List ℕ → StopPoint → Display) → sessions ≡ [] → is_alteration e ≡ false
+    → sessions_after sessions e r display_at ≡ []
+none_after sessions (event.Turn name) (reply.Turn r) display_at off plain = rw off refl
+none_after sessions (event.Turn name) _ display_at off plain = off
+none_after sessions (event.Alter name c) r display_at off plain = absurd (true≢false plain)
+none_after sessions _ r display_at off plain = off
 
 not_stopped : (old : EdfState) (name : List ℕ) → old.sessions ≡ [] → stopped_at old name ≡ false
 not_stopped old name off = ap (λ (s : Sessions). option_map_or (λ session. is_stopped session.mode) (session_in s name) false) off
 
-not_held : (old : EdfState) (name : List ℕ) → old.sessions ≡ [] → holds old name ≡ false
-not_held old name off = ap (λ b. b && is_some (task_of old.region name)) (not_stopped old name off)
-
 -- no event of the region is EDF's own then, except an alteration
 none_own : (old : EdfState) (e : Event) → old.sessions ≡ [] → is_alteration e ≡ false → is_own old (edf_event.Plain e) ≡ false
-unfolding is_own door_of
-none_own old (event.Key name aid bytes) off plain =
-    by_tests (λ door. answers_itself door ≡ false) (ends_by_key old name aid) (stopped_at old name)
-    (Passes (event.Alter name change.Abend) (Some answer.ToEdf)) (Keeps answer.ToEdf (with_session_changed old.sessions name (λ session. after_key session aid bytes))) (Passes (event.Key name aid bytes) None)
-    (λ ends. absurd (true≢false (sym (ends_stopped old name aid ends) ∙ not_stopped old name off))) (λ _ stopped. absurd (true≢false (sym stopped ∙ not_stopped old name off))) (λ _ _. refl)
-none_own old (event.Turn name) off plain =
-    by_test (λ door. answers_itself door ≡ false) (holds old name) (Keeps answer.Held old.sessions) (Passes (event.Turn name) None) (λ held. absurd (true≢false (sym held ∙ not_held old name off))) (λ _. refl)
+unfolding is_own
+none_own old (event.Key name aid bytes) off plain = not_stopped old name off
+none_own old (event.Turn name) off plain = ap (λ b. b && is_some (task_of old.region name)) (not_stopped old name off)
 none_own old (event.Alter name c) off plain = absurd (true≢false plain)
 none_own old _ off plain = refl
 
-plainly : (old : EdfState) (e : Event) (given : Answer) (new : EdfState) → old.sessions ≡ [] → is_alteration e ≡ false → EdfApplies old (edf_event.Plain e) given new → Plainly old e given new
-unfolding EdfApplies
-plainly old e given new off plain row =
-    let passed : PassesOn old e None given new = subst (λ (door : Door). DoorAnswers old door given new) (others_are_passed old e (none_own old e off plain)) row in
-    record { reply = passed.reply; applies = passed.applies; off = passed.table ∙ none_after old.sessions e passed.reply new.region off plain; answers = passed.answers }
+-- an event that isn't EDF's own is done by the region
+pub passed_on : (make : DisplayMaker) (old : EdfState) (e : Event) (r : Reply) (new : RegionState) → is_own old (edf_event.Plain e) ≡ false → Applies old.region e r new
+    → AppliesBy make old (edf_event.Plain e) (answer.Region r) (record { region = new; sessions = sessions_after old.sessions e r (make new) })
+unfolding AppliesBy
+passed_on make old e r new own applies =
+    let after : EdfState = record { region = new; sessions = sessions_after old.sessions e r (make new) } in
+    subst (λ (door : Door). DoorAnswers make old door (answer.Region r) after) (sym (others_are_passed old e own))
+    (record { reply = r; applies = applies; table = refl; answers = refl })
 
-off_trace : (old : EdfState) (events : List Event) (answers : List Answer) (states : List EdfState) → old.sessions ≡ [] → AllByRecursion (λ e. is_alteration e ≡ false) events
-    → Trace old (map (λ e. edf_event.Plain e) events) answers states
-    → (replies : List Reply) × Run old.region events replies (last_state old states).region × (answers ≡ map (λ r. answer.Region r) replies) × ((last_state old states).sessions ≡ [])
-unfolding Trace last_state Run
-off_trace old [] [] [] off plain trace = ([], refl, refl, off)
-off_trace old [] [] (s ∷ ss) off plain trace = absurd trace
-off_trace old [] (g ∷ gs) ss off plain trace = absurd trace
-off_trace old (e ∷ es) [] ss off plain trace = absurd trace
-off_trace old (e ∷ es) (g ∷ gs) [] off plain trace = absurd trace
-off_trace old (e ∷ es) (g ∷ gs) (s ∷ ss) off plain trace =
-    let first = plainly old e g s off plain.0 trace.0 in
-    let rest = off_trace s es gs ss first.off plain.1 trace.1 in
-    (first.reply ∷ rest.0, (s.region, first.applies, rest.1), λ i. first.answers i ∷ rest.2 i, rest.3)
+plainly : (make : DisplayMaker) (old : EdfState) (e : Event) (given : Answer) (new : EdfState) → old.sessions ≡ [] → is_alteration e ≡ false → AppliesBy make old (edf_event.Plain e) given new
+    → Plainly make old e given new
+unfolding AppliesBy
+plainly make old e given new off plain row =
+    let passed : PassesOn make old e None given new = subst (λ (door : Door). DoorAnswers make old door given new) (others_are_passed old e (none_own old e off plain)) row in
+    record { reply = passed.reply; applies = passed.applies; off = passed.table ∙ none_after old.sessions e passed.reply (make new.region) off plain; answers = passed.answers }
 
 pub off_is_the_region : OffIsTheRegion
-off_is_the_region old events answers new off plain run =
-    subst (λ (s : EdfState). (replies : List Reply) × Run old.region events replies s.region × (answers ≡ map (λ r. answer.Region r) replies) × (s.sessions ≡ [])) run.ends
-    (off_trace old events answers run.states off plain run.trace)
+unfolding Trace last_state Run
+off_is_the_region make old [] [] [] off plain trace = ([], refl, refl, off)
+off_is_the_region make old [] [] (s ∷ ss) off plain trace = absurd trace
+off_is_the_region make old [] (g ∷ gs) ss off plain trace = absurd trace
+off_is_the_region make old (e ∷ es) [] ss off plain trace = absurd trace
+off_is_the_region make old (e ∷ es) (g ∷ gs) [] off plain trace = absurd trace
+off_is_the_region make old (e ∷ es) (g ∷ gs) (s ∷ ss) off plain trace =
+    let first = plainly make old e g s off plain.0 trace.0 in
+    let rest = off_is_the_region make s es gs ss first.off plain.1 trace.1 in
+    (first.reply ∷ rest.0, (s.region, first.applies, rest.1), λ i. first.answers i ∷ rest.2 i, rest.3)
+
+-- and the other way round
+off_step : (make : DisplayMaker) (old : RegionState) (e : Event) (r : Reply) (new : RegionState) → is_alteration e ≡ false → Applies old e r new
+    → AppliesBy make (off_at old) (edf_event.Plain e) (answer.Region r) (off_at new)
+off_step make old e r new plain applies =
+    subst (λ (s : Sessions). AppliesBy make (off_at old) (edf_event.Plain e) (answer.Region r) (record { region = new; sessions = s }))
+    (none_after [] e r (make new) refl plain) (passed_on make (off_at old) e r new (none_own (off_at old) e refl plain) applies)
+
+pub the_region_is_off : TheRegionIsOff
+unfolding Trace last_state Run
+the_region_is_off make old [] [] new plain run = record { states = []; trace = tt; ends = ap off_at (sym run) }
+the_region_is_off make old [] (r ∷ rs) new plain run = absurd run
+the_region_is_off make old (e ∷ es) [] new plain run = absurd run
+the_region_is_off make old (e ∷ es) (r ∷ rs) new plain run =
+    let rest = the_region_is_off make run.0 es rs new plain.1 run.2 in
+    record {
+      states = off_at run.0 ∷ rest.states;
+      trace = (off_step make old e r run.0 plain.0 run.1, rest.trace);
+      ends = rest.ends;
+    }

@@ -10,3 +10,4 @@ pub mod RunLemmas
 pub mod LawLemmas
 pub mod MemoryLemmas
 pub mod OutcomeLemmas
+pub mod WatchedLemmas

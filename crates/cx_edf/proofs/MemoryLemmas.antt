@@ -3,6 +3,7 @@ use Rattle.std.proofs.Common.{◌≡◌, List, [], ◌∷◌, ◌++◌, Some, No
 use Rattle.std.specs.Prelude.{⊤, Result, Ok, Err, IfOk, drop, take}
 use Rattle.std.specs.declared.alloc.AllocError.{AllocError}
 use Rattle.std.proofs.lemmas.List.{take-append-drop}
+use Rattle.cx_edf_display.specs.Displays.{display_of}
 use Rattle.cx_region.specs.Events.{IsAllowed}
 use Rattle.cx_region.specs.Sound.{IsSound}
 use Rattle.cx_region.specs.declared.replies.Event.{Event}
@@ -10,12 +11,11 @@ use Rattle.cx_region_laws.specs.Laws.Sound.{ArePartsSound, IsChecked, SoundIsKep
 use Rattle.cx_edf.specs.declared.answers.EdfEvent.{EdfEvent}
 use Rattle.cx_edf.specs.declared.answers.Answer.{Answer}
 use Rattle.cx_edf.specs.State.{EdfState}
-use Rattle.cx_edf.specs.Steps.{DoorAnswers, Door, EdfApplies, Keeps, Passes, door_of}
+use Rattle.cx_edf.specs.Steps.{AppliesBy, DisplayMaker, DoorAnswers, Door, EdfApplies, Keeps, Passes, door_of}
 use Rattle.cx_edf.specs.Runs.{EdfRun, IsAllowedEdf, IsDoneEdf, Trace, last_state}
 use Rattle.cx_edf.specs.Laws.Edf.{EdfEventsDecide}
 use Rattle.cx_edf.specs.Laws.Memory.{EdfSoundIsKept, IsCheckedEdf, RefusedEdfEventsAreNone, StoppedEdfRunsGoOn}
 use Rattle.cx_edf.proofs.DoorLemmas.{Fits, fits}
-use Rattle.cx_edf.proofs.TraceLemmas.{run_of_trace}
 
 -- ---- soundness
 -- what is passed is allowed, and its image checked, where the event's are
@@ -31,13 +31,13 @@ allows old e (Passes x None) fit allowed checked =
 allows old e (Passes x (Some own)) fit allowed checked =
     subst (λ (y : Event). IsAllowed y × IsChecked y) (sym fit.1.abend) (tt, tt)
 
-kept_by : SoundIsKept → (old new : EdfState) (door : Door) (given : Answer) → IsSound old.region → Allows door → ArePartsSound new.region → DoorAnswers old door given new → IsSound new.region
+kept_by : SoundIsKept → (old new : EdfState) (door : Door) (given : Answer) → IsSound old.region → Allows door → ArePartsSound new.region → DoorAnswers display_of old door given new → IsSound new.region
 unfolding Allows
 kept_by law old new (Keeps own sessions) given ok allowed parts h = subst (λ (s : EdfState). IsSound s.region) (sym h.1) ok
 kept_by law old new (Passes x own) given ok allowed parts h = law old.region new.region x h.reply ok allowed.0 allowed.1 h.applies parts
 
 pub sound_is_kept : SoundIsKept → EdfSoundIsKept
-unfolding EdfApplies
+unfolding AppliesBy
 sound_is_kept law old new e given ok allowed checked h parts =
     kept_by law old new (door_of old e) given ok (allows old e (door_of old e) (fits old e) allowed checked) parts h
 
@@ -53,15 +53,15 @@ refused_events_are_none decide old mid new refused next fault result first secon
     record { done = done; answer = λ other after h. same_answer decide old new after next result other done.applies h }
 
 -- ---- runs
-traces_join : (old : EdfState) (events more : List EdfEvent) (answers others : List Answer) (states after : List EdfState) → Trace old events answers states → Trace (last_state old states) more others after
-    → Trace old (events ++ more) (answers ++ others) (states ++ after)
+traces_join : (make : DisplayMaker) (old : EdfState) (events more : List EdfEvent) (answers others : List Answer) (states after : List EdfState) → Trace make old events answers states → Trace make (last_state old states) more others after
+    → Trace make old (events ++ more) (answers ++ others) (states ++ after)
 unfolding Trace last_state
-traces_join old [] more [] others [] after first second = second
-traces_join old [] more [] others (s ∷ ss) after first second = absurd first
-traces_join old [] more (a ∷ gs) others ss after first second = absurd first
-traces_join old (e ∷ es) more [] others ss after first second = absurd first
-traces_join old (e ∷ es) more (a ∷ gs) others [] after first second = absurd first
-traces_join old (e ∷ es) more (a ∷ gs) others (s ∷ ss) after first second = (first.0, traces_join s es more gs others ss after first.1 second)
+traces_join make old [] more [] others [] after first second = second
+traces_join make old [] more [] others (s ∷ ss) after first second = absurd first
+traces_join make old [] more (a ∷ gs) others ss after first second = absurd first
+traces_join make old (e ∷ es) more [] others ss after first second = absurd first
+traces_join make old (e ∷ es) more (a ∷ gs) others [] after first second = absurd first
+traces_join make old (e ∷ es) more (a ∷ gs) others (s ∷ ss) after first second = (first.0, traces_join make s es more gs others ss after first.1 second)
 
 last_join : (old : EdfState) (states after : List EdfState) → last_state old (states ++ after) ≡ last_state (last_state old states) after
 unfolding last_state
@@ -70,9 +70,12 @@ last_join old (s ∷ ss) after = last_join s ss after
 
 runs_join : (old mid new : EdfState) (events more : List EdfEvent) (answers others : List Answer) → EdfRun old events answers mid → EdfRun mid more others new → EdfRun old (events ++ more) (answers ++ others) new
 runs_join old mid new events more answers others first second =
-    run_of_trace old (events ++ more) (answers ++ others) (first.states ++ second.states) new
-    (traces_join old events more answers others first.states second.states first.trace (subst (λ (s : EdfState). Trace s more others second.states) (sym first.ends) second.trace))
-    (last_join old first.states second.states ∙ subst (λ (s : EdfState). last_state s second.states ≡ new) (sym first.ends) second.ends)
+    record {
+      states = first.states ++ second.states;
+      trace = traces_join display_of old events more answers others first.states second.states first.trace
+          (subst (λ (s : EdfState). Trace display_of s more others second.states) (sym first.ends) second.trace);
+      ends = last_join old first.states second.states ∙ subst (λ (s : EdfState). last_state s second.states ≡ new) (sym first.ends) second.ends;
+    }
 
 pub stopped_runs_go_on : StoppedEdfRunsGoOn
 stopped_runs_go_on old mid new events done others stopped rest =

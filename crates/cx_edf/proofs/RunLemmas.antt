@@ -1,5 +1,5 @@
 -- A run under EDF goes on by one event.
-use Rattle.std.proofs.Common.{◌≡◌, ℕ, Some, ap, sym, inl, inr, zero, suc, ◌+◌, ◌<◌, List, [], ◌∷◌, ◌++◌, length, take, get_or, refl, ◌∙◌, subst, arith}
+use Rattle.std.proofs.Common.{◌≡◌, ℕ, Some, ap, sym, zero, suc, ◌+◌, ◌<◌, List, [], ◌∷◌, ◌++◌, length, take, get_or, refl, ◌∙◌, subst, arith}
 use Rattle.std.specs.Prelude.{slice_get}
 use Rattle.std.proofs.lemmas.Option.{slice_get-get_or}
 use Rattle.cx_edf.specs.declared.answers.EdfEvent.{EdfEvent}
@@ -30,7 +30,7 @@ run_all old new events k answers all run = subst (λ (es : List EdfEvent). EdfRu
 
 -- in front of the first event
 pub run_unbegun : (s : EdfState) (events : List EdfEvent) → (length events ≡ 0 → ⊥) → EdfRunStopped s events 0 s
-run_unbegun s events some = record { within = omega (arith, some); answers = []; run = run_none s events; due = inl refl }
+run_unbegun s events some = record { within = omega (arith, some); answers = []; run = run_none s events; due = λ begun. absurd (begun refl) }
 
 -- at an event that may take memory
 pub run_stopped : (old mid new : EdfState) (events : List EdfEvent) (k : ℕ) (event : EdfEvent) (answers : List Answer) → k < length events → event ≡ get_or events k event
@@ -41,5 +41,5 @@ run_stopped old mid new events k event answers within is run same grows =
       within = within;
       answers = answers;
       run = subst (λ (s : EdfState). EdfRun old (take k events) answers s) (sym same) run;
-      due = inr (rw there (subst (λ (s : EdfState). MayTakeEdf s event) (sym same) grows));
+      due = λ begun. rw there (subst (λ (s : EdfState). MayTakeEdf s event) (sym same) grows);
     }

@@ -12,7 +12,7 @@ use Rattle.cx_region.specs.declared.replies.Reply.TheVariants as reply
 use Rattle.cx_edf.specs.declared.answers.EdfEvent.{EdfEvent}
 use Rattle.cx_edf.specs.declared.answers.Answer.{Answer}
 use Rattle.cx_edf.specs.State.{EdfState}
-use Rattle.cx_edf.specs.Steps.{DoorAnswers, Door, EdfApplies, Keeps, PassesOn, Passes, door_of}
+use Rattle.cx_edf.specs.Steps.{AppliesBy, DisplayMaker, DoorAnswers, Door, Keeps, PassesOn, Passes, door_of}
 use Rattle.cx_edf.specs.Erasure.{is_refused, left_in, left_of, reply_in}
 use Rattle.cx_edf.proofs.DoorLemmas.{Fits, fits}
 use Rattle.cx_edf.proofs.EndLemmas.{ended_reply}
@@ -46,23 +46,23 @@ left_runs_in old e r new h = go (is_refused e r) refl
     go false is = one old e r new h
 
 -- the answer has the region's reply
-pub reported_reply : (old : EdfState) (e : EdfEvent) (x : Event) (own : Option Answer) (given : Answer) (new : EdfState) → Fits old e (Passes x own) → (row : PassesOn old x own given new)
+pub reported_reply : (make : DisplayMaker) (old : EdfState) (e : EdfEvent) (x : Event) (own : Option Answer) (given : Answer) (new : EdfState) → Fits old e (Passes x own) → (row : PassesOn make old x own given new)
     → reply_in given ≡ row.reply
 unfolding Fits
-reported_reply old e x None given new fit row = ap reply_in row.answers
-reported_reply old e x (Some own) given new fit row =
+reported_reply make old e x None given new fit row = ap reply_in row.answers
+reported_reply make old e x (Some own) given new fit row =
     ap reply_in (row.answers ∙ fit.1.own_answer)
     ∙ sym (ended_reply old.region fit.1.name row.reply new.region fit.1.live (subst (λ (y : Event). Applies old.region y row.reply new.region) fit.1.abend row.applies))
 
-left_at : (old : EdfState) (e : EdfEvent) (door : Door) (given : Answer) (new : EdfState) → Fits old e door → DoorAnswers old door given new
+left_at : (make : DisplayMaker) (old : EdfState) (e : EdfEvent) (door : Door) (given : Answer) (new : EdfState) → Fits old e door → DoorAnswers make old door given new
     → Run old.region (map (λ (p : Event × Reply). p.0) (left_in door given)) (map (λ (p : Event × Reply). p.1) (left_in door given)) new.region
-left_at old e (Keeps own sessions) given new fit row = none old.region new.region (ap (λ (s : EdfState). s.region) row.1)
-left_at old e (Passes x own) given new fit row =
+left_at make old e (Keeps own sessions) given new fit row = none old.region new.region (ap (λ (s : EdfState). s.region) row.1)
+left_at make old e (Passes x own) given new fit row =
     subst (λ (r : Reply). Run old.region (map (λ (p : Event × Reply). p.0) (if is_refused x r then [] else (x, r) ∷ [])) (map (λ (p : Event × Reply). p.1) (if is_refused x r then [] else (x, r) ∷ [])) new.region)
-    (sym (reported_reply old e x own given new fit row)) (left_runs_in old.region x row.reply new.region row.applies)
+    (sym (reported_reply make old e x own given new fit row)) (left_runs_in old.region x row.reply new.region row.applies)
 
 -- what is left of one event is a run of the region
-pub left_runs : (old : EdfState) (e : EdfEvent) (given : Answer) (new : EdfState) → EdfApplies old e given new
+pub left_runs : (make : DisplayMaker) (old : EdfState) (e : EdfEvent) (given : Answer) (new : EdfState) → AppliesBy make old e given new
     → Run old.region (map (λ (p : Event × Reply). p.0) (left_of old e given)) (map (λ (p : Event × Reply). p.1) (left_of old e given)) new.region
-unfolding EdfApplies left_of
-left_runs old e given new row = left_at old e (door_of old e) given new (fits old e) row
+unfolding AppliesBy left_of
+left_runs make old e given new row = left_at make old e (door_of old e) given new (fits old e) row

@@ -5,6 +5,7 @@ use Rattle.std.specs.Option.{option_map_or}
 use Rattle.std.proofs.lemmas.Bool.{true≢false}
 use Rattle.cx_ebcdic.specs.declared.aids.Aid.TheVariants as aid
 use Rattle.cx_base_lists.specs.Facts.Tables.{insert_entry_present}
+use Rattle.cx_edf_display.specs.Displays.{display_of}
 use Rattle.cx_region.specs.State.{RegionState}
 use Rattle.cx_ebcdic.specs.Names.{is_name}
 use Rattle.cx_region.specs.declared.changes.AlterReply.{AlterReply}
@@ -44,6 +45,6 @@ ended_there sessions name bytes stopped = go (session_in sessions name) stopped
 
 -- nothing is done at a session where the alteration was refused
 pub refused_leaves : (sessions : Sessions) (name : List ℕ) (change : Change) (given : AlterReply) (region : RegionState) → (given ≡ alter.Altered → ⊥)
-    → sessions ≡ sessions_after sessions (event.Alter name change) (reply.Alter given) region
+    → sessions ≡ sessions_after sessions (event.Alter name change) (reply.Alter given) (display_of region)
 refused_leaves sessions name change alter.Altered region refused = absurd (refused refl)
 refused_leaves sessions name change _ region refused = refl

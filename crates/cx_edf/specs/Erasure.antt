@@ -1,23 +1,27 @@
 -- The events that are left for the region without EDF, and what it replies (own).
-use Rattle.std.specs.Prelude.{Bool, true, false, is_some, List, [], ◌∷◌, ◌++◌, map, if◌then◌else◌}
+use Rattle.std.specs.Prelude.{Bool, true, false, ◌&&◌, is_some, not, List, [], ◌∷◌, ◌++◌, map, if◌then◌else◌}
+use Rattle.cx_region.specs.Tables.{terminal_of}
 use Rattle.cx_region.specs.declared.changes.AlterReply.TheVariants as alter
 use Rattle.cx_region.specs.declared.replies.Event.{Event}
 use Rattle.cx_region.specs.declared.replies.Event.TheVariants as event
 use Rattle.cx_region.specs.declared.replies.Reply.{Reply}
 use Rattle.cx_region.specs.declared.replies.Reply.TheVariants as reply
 use Rattle.cx_edf.specs.declared.answers.EdfEvent.{EdfEvent}
+use Rattle.cx_edf.specs.declared.answers.EdfEvent.TheVariants as edf_event
 use Rattle.cx_edf.specs.declared.answers.Answer.{Answer}
 use Rattle.cx_edf.specs.declared.answers.Answer.TheVariants as answer
-use Rattle.cx_edf.specs.State.{EdfState}
+use Rattle.cx_edf.specs.State.{EdfState, holds, stopped_at}
 use Rattle.cx_edf.specs.Steps.{Door, Keeps, Passes, door_of}
 
--- EDF's own events: those that it answers itself, which it keeps, except PF12 that ends a task
-abbrev pub answers_itself : Door → Bool
-answers_itself (Keeps own sessions) = true
-answers_itself (Passes event own) = is_some own
-
+-- EDF's own events, which it answers itself: EDF ON and EDF OFF, a key met in Stopped, a turn met in Stopped with a live
+-- task, and an alteration met in another mode of a terminal that there is
 unfoldable pub is_own : EdfState → EdfEvent → Bool
-is_own old e = answers_itself (door_of old e)
+is_own old (edf_event.Plain (event.Key name aid bytes)) = stopped_at old name
+is_own old (edf_event.Plain (event.Turn name)) = holds old name
+is_own old (edf_event.Plain (event.Alter name change)) =
+    is_some (terminal_of old.region name) && not (stopped_at old name)
+is_own old (edf_event.Plain e) = false
+is_own old e = true
 
 -- the region's reply in an answer; that to PF12 that ended a task is Altered
 abbrev pub reply_in : Answer → Reply

@@ -1,4 +1,6 @@
 -- The statements of laws.
+pub mod Displays
 pub mod Edf
 pub mod Memory
 pub mod Outcomes
+pub mod Watched

@@ -1,6 +1,8 @@
 -- One event under EDF (own).
 use Rattle.std.specs.Prelude.{◌≡◌, ℕ, List, Option, Some, None, is_some, ◌&&◌, not, unwrap_or, if◌then◌else◌}
 use Rattle.std.specs.Option.{option_map_or}
+use Rattle.cx_edf_display.specs.declared.displays.Display.{Display}
+use Rattle.cx_edf_display.specs.declared.stops.StopPoint.{StopPoint}
 use Rattle.cx_edf_display.specs.Displays.{display_of}
 use Rattle.cx_region.specs.State.{RegionState}
 use Rattle.cx_region.specs.Tables.{terminal_of}
@@ -52,25 +54,35 @@ door_of old (edf_event.Plain (event.Alter name change)) =
     else Passes (event.Alter name change) None
 door_of old (edf_event.Plain e) = Passes e None
 
--- the sessions after what the region did and replied, with displays of the region right after it
-abbrev pub sessions_after : Sessions → Event → Reply → RegionState → Sessions
-sessions_after sessions (event.Turn name) (reply.Turn r) region =
-    with_session_changed sessions name (λ session. Some (after_reply session r (display_of region name)))
-sessions_after sessions (event.Alter name change) (reply.Alter alter.Altered) region =
-    with_session_changed sessions name (λ session. Some (after_change session change (display_of region name)))
-sessions_after sessions _ _ region = sessions
+-- how a display is made: of a region, for a terminal, at a stop
+abbrev pub DisplayMaker : Type 0
+DisplayMaker = RegionState → List ℕ → StopPoint → Display
 
--- the region's event, an answer of EDF's own or the region's reply, and the sessions after it
-pub record PassesOn (old : EdfState) (event : Event) (own : Option Answer) (given : Answer) (new : EdfState) : Type 0 where
+-- the sessions after what the region did and replied, where these are the displays that the stops of terminals take
+abbrev pub sessions_after : Sessions → Event → Reply → (List ℕ → StopPoint → Display) → Sessions
+sessions_after sessions (event.Turn name) (reply.Turn r) display_at =
+    with_session_changed sessions name (λ session. Some (after_reply session r (display_at name)))
+sessions_after sessions (event.Alter name change) (reply.Alter alter.Altered) display_at =
+    with_session_changed sessions name (λ session. Some (after_change session change (display_at name)))
+sessions_after sessions _ _ display_at = sessions
+
+-- the region's event, an answer of EDF's own or the region's reply, and the sessions after it, with displays of the
+-- region right after it
+pub record PassesOn (make : DisplayMaker) (old : EdfState) (event : Event) (own : Option Answer) (given : Answer)
+    (new : EdfState) : Type 0 where
   pub reply : Reply
   pub applies : Applies old.region event reply new.region
-  pub table : new.sessions ≡ sessions_after old.sessions event reply new.region
+  pub table : new.sessions ≡ sessions_after old.sessions event reply (make new.region)
   pub answers : given ≡ unwrap_or own (answer.Region reply)
 
-abbrev pub DoorAnswers : EdfState → Door → Answer → EdfState → Type 0
-DoorAnswers old (Keeps own sessions) given new = (given ≡ own) × (new ≡ record old { sessions = sessions })
-DoorAnswers old (Passes event own) given new = PassesOn old event own given new
+abbrev pub DoorAnswers : DisplayMaker → EdfState → Door → Answer → EdfState → Type 0
+DoorAnswers make old (Keeps own sessions) given new = (given ≡ own) × (new ≡ record old { sessions = sessions })
+DoorAnswers make old (Passes event own) given new = PassesOn make old event own given new
 
--- one event: its answer, and the state after it
-unfoldable pub EdfApplies : EdfState → EdfEvent → Answer → EdfState → Type 0
-EdfApplies old e given new = DoorAnswers old (door_of old e) given new
+-- one event, where displays are made so: its answer, and the state after it
+unfoldable pub AppliesBy : DisplayMaker → EdfState → EdfEvent → Answer → EdfState → Type 0
+AppliesBy make old e given new = DoorAnswers make old (door_of old e) given new
+
+-- one event, with the displays that EDF makes
+abbrev pub EdfApplies : EdfState → EdfEvent → Answer → EdfState → Type 0
+EdfApplies = AppliesBy display_of

@@ -23,7 +23,7 @@ impl<S: Store + Drop> Debugged<S> {
     /// A turn of a terminal, as `turn`, that reports why it leads to an abend, where it does.
     ///
     /// An error comes only where an allocation failed in the region's turn. Then all is as before.
-    #[tactic(auto, unfolding(crate::specs::Steps::EdfApplies, crate::specs::Steps::door_of, crate::specs::Causes::EdfHasAbendRecord, crate::specs::Runs::MayTakeEdf, cx_region::specs::Events::Applies, cx_region::specs::Events::MayTakeMemory))]
+    #[tactic(auto, unfolding(crate::specs::Steps::AppliesBy, crate::specs::Steps::door_of, crate::specs::Causes::EdfHasAbendRecord, crate::specs::Runs::MayTakeEdf, cx_region::specs::Events::Applies, cx_region::specs::Events::MayTakeMemory))]
     pub fn turn_with_cause(
         &mut self,
         name: Name4,

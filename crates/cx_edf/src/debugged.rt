@@ -10,6 +10,7 @@ ghost use Rattle.cx_region.specs.Tables.{task_of, terminal_of};
 ghost use Rattle.cx_region.specs.declared.changes.Change.TheVariants as change;
 ghost use Rattle.cx_region.specs.declared.replies.Event.TheVariants as event;
 ghost use Rattle.cx_region.specs.declared.replies.Reply.TheVariants as reply;
+ghost use Rattle.cx_edf_display.specs.Displays.{display_of};
 ghost use Rattle.cx_edf.specs.Answers.{alter_answer, key_answer, turn_answer};
 ghost use Rattle.cx_edf.specs.Erasure.{reply_in};
 ghost use Rattle.cx_edf.specs.Runs.{MayTakeEdf};
@@ -74,7 +75,7 @@ impl<S: Store + Drop> Debugged<S> {
     /// `Change::Abend`; without a task it has no effect, and neither has any other key.
     ///
     /// An error comes only where an allocation failed in the region's key. Then all is as before.
-    #[tactic(auto, unfolding(crate::specs::Steps::EdfApplies, crate::specs::Steps::door_of, crate::specs::Runs::MayTakeEdf, cx_region::specs::Events::Applies, cx_region::specs::Events::MayTakeMemory))]
+    #[tactic(auto, unfolding(crate::specs::Steps::AppliesBy, crate::specs::Steps::door_of, crate::specs::Runs::MayTakeEdf, cx_region::specs::Events::Applies, cx_region::specs::Events::MayTakeMemory))]
     pub fn key(&mut self, name: Name4, aid: Aid, bytes: &[u8]) -> Result<KeyAnswer, AllocError>
         requires { length bytes.now ≤ 1920 }
         ensures applies { let key = edf_event.Plain (event.Key name aid bytes.now) in
@@ -115,7 +116,7 @@ impl<S: Store + Drop> Debugged<S> {
 
     /// Ends the task of a terminal by an abend that no exit takes.
     fn end_task(&mut self, name: Name4)
-        ensures ended { PassesOn self.old (event.Alter name change.Abend) (Some answer.ToEdf) answer.ToEdf self.new }
+        ensures ended { PassesOn display_of self.old (event.Alter name change.Abend) (Some answer.ToEdf) answer.ToEdf self.new }
         ensures sound { IsSound self.new.region }
     {
         let reply = self.region.alter(name, Change::Abend);
@@ -129,7 +130,7 @@ impl<S: Store + Drop> Debugged<S> {
     ///
     /// It is refused by the first that applies of: no such terminal, not stopped, no task, no command due for `Change::Nop`,
     /// no byte at the address for `Change::Byte` (from 2^24 on there is none). Then all is as before. It takes no memory.
-    #[tactic(auto, unfolding(crate::specs::Steps::EdfApplies, crate::specs::Steps::door_of, cx_region::specs::Events::Applies))]
+    #[tactic(auto, unfolding(crate::specs::Steps::AppliesBy, crate::specs::Steps::door_of, cx_region::specs::Events::Applies))]
     pub fn alter(&mut self, name: Name4, change: Change) -> AlterAnswer
         requires { IsAllowedChange change }
         ensures applies { let alter = edf_event.Plain (event.Alter name change) in
@@ -148,7 +149,7 @@ impl<S: Store + Drop> Debugged<S> {
     /// its reply is a stop that the mode takes, the terminal is stopped, with a display of the region as it is then.
     ///
     /// An error comes only where an allocation failed in the region's turn. Then all is as before.
-    #[tactic(auto, unfolding(crate::specs::Steps::EdfApplies, crate::specs::Steps::door_of, crate::specs::Runs::MayTakeEdf, cx_region::specs::Events::Applies, cx_region::specs::Events::MayTakeMemory))]
+    #[tactic(auto, unfolding(crate::specs::Steps::AppliesBy, crate::specs::Steps::door_of, crate::specs::Runs::MayTakeEdf, cx_region::specs::Events::Applies, cx_region::specs::Events::MayTakeMemory))]
     pub fn turn(&mut self, name: Name4) -> Result<TurnAnswer, AllocError>
         ensures applies { let turn = edf_event.Plain (event.Turn name) in
             IfOk result (λ given. EdfApplies self.old turn (turn_answer given) self.new) }
@@ -169,7 +170,7 @@ impl<S: Store + Drop> Debugged<S> {
     /// Else it is answered NoSuchTerminal or AlreadyOn.
     ///
     /// An error comes only where memory for the session was refused. Then all is as before.
-    #[tactic(auto, unfolding(crate::specs::Steps::EdfApplies, crate::specs::Steps::door_of, crate::specs::Runs::MayTakeEdf))]
+    #[tactic(auto, unfolding(crate::specs::Steps::AppliesBy, crate::specs::Steps::door_of, crate::specs::Runs::MayTakeEdf))]
     pub fn edf_on(&mut self, name: Name4) -> Result<EdfReply, AllocError>
         ensures applies { IfOk result (λ given. EdfApplies self.old (edf_event.On name) (answer.Edf given) self.new) }
         ensures memory { OnErr result (MayTakeEdf self.old (edf_event.On name)) }
@@ -188,7 +189,7 @@ impl<S: Store + Drop> Debugged<S> {
 
     /// Ends the session of a terminal, in any mode, and drops its displays. Where there is none it is answered
     /// NoSuchTerminal or NotOn. It takes no memory.
-    #[tactic(auto, unfolding(crate::specs::Steps::EdfApplies, crate::specs::Steps::door_of))]
+    #[tactic(auto, unfolding(crate::specs::Steps::AppliesBy, crate::specs::Steps::door_of))]
     pub fn edf_off(&mut self, name: Name4) -> EdfReply
         ensures applies { EdfApplies self.old (edf_event.Off name) (answer.Edf result) self.new }
         ensures sound { IsSound self.new.region }
@@ -220,7 +221,7 @@ impl<S: Store + Drop> Debugged<S> {
     /// Loads a program and defines it by its name, as the region does.
     ///
     /// The faults are the region's, and so is when each comes. Then all is as before.
-    #[tactic(auto, unfolding(crate::specs::Steps::EdfApplies, crate::specs::Steps::door_of, cx_region::specs::Events::Applies, cx_region::specs::Events::MayTakeMemory))]
+    #[tactic(auto, unfolding(crate::specs::Steps::AppliesBy, crate::specs::Steps::door_of, cx_region::specs::Events::Applies, cx_region::specs::Events::MayTakeMemory))]
     pub fn define_program(
         &mut self,
         name: Name8,
@@ -242,7 +243,7 @@ impl<S: Store + Drop> Debugged<S> {
     /// Defines a transaction by its name and that of its program, as the region does.
     ///
     /// The faults are the region's, and so is when each comes. Then all is as before.
-    #[tactic(auto, unfolding(crate::specs::Steps::EdfApplies, crate::specs::Steps::door_of, cx_region::specs::Events::Applies, cx_region::specs::Events::MayTakeMemory, cx_region::specs::Defining::DefinesTransaction, cx_region::specs::Defining::transaction_fault))]
+    #[tactic(auto, unfolding(crate::specs::Steps::AppliesBy, crate::specs::Steps::door_of, cx_region::specs::Events::Applies, cx_region::specs::Events::MayTakeMemory, cx_region::specs::Defining::DefinesTransaction, cx_region::specs::Defining::transaction_fault))]
     pub fn define_transaction(&mut self, name: Name4, program: Name8) -> Result<(), DefineFault>
         ensures defined { let define = edf_event.Plain (event.Transaction name program) in
             IfOk result (λ done. EdfApplies self.old define (answer.Region (reply.Transaction (Ok done))) self.new) }
@@ -260,7 +261,7 @@ impl<S: Store + Drop> Debugged<S> {
     /// Defines a terminal by its name, as the region does: EDF is Off there.
     ///
     /// The faults are the region's, and so is when each comes. Then all is as before.
-    #[tactic(auto, unfolding(crate::specs::Steps::EdfApplies, crate::specs::Steps::door_of, cx_region::specs::Events::Applies, cx_region::specs::Events::MayTakeMemory, cx_region::specs::Defining::DefinesTerminal, cx_region::specs::Defining::terminal_fault))]
+    #[tactic(auto, unfolding(crate::specs::Steps::AppliesBy, crate::specs::Steps::door_of, cx_region::specs::Events::Applies, cx_region::specs::Events::MayTakeMemory, cx_region::specs::Defining::DefinesTerminal, cx_region::specs::Defining::terminal_fault))]
     pub fn define_terminal(&mut self, name: Name4) -> Result<(), DefineFault>
         ensures defined { let define = edf_event.Plain (event.Terminal name) in
             IfOk result (λ done. EdfApplies self.old define (answer.Region (reply.Terminal (Ok done))) self.new) }
@@ -276,7 +277,7 @@ impl<S: Store + Drop> Debugged<S> {
 
     /// Sets the clock, for the tasks attached later: the time as hhmmss (at most 999,999) and the date as yyddd (at most
     /// 99,999). It takes no memory.
-    #[tactic(auto, unfolding(crate::specs::Steps::EdfApplies, crate::specs::Steps::door_of, cx_region::specs::Events::Applies))]
+    #[tactic(auto, unfolding(crate::specs::Steps::AppliesBy, crate::specs::Steps::door_of, cx_region::specs::Events::Applies))]
     pub fn set_clock(&mut self, time: u32, date: u32)
         requires time { time ≤ 999999 }
         requires date { date ≤ 99999 }

@@ -1,14 +1,33 @@
 //! What holds of every event under EDF, and of every run of them.
-ghost use Rattle.cx_edf.specs.Laws.Edf.{EdfEventsDecide, EdfRunsDecide, ErasedEvents, ErasedEventsLeaveTheRegion, EventsAreSteps, OffIsTheRegion, OtherEventsArePassed, OtherSessionsStay, OwnEventsHaveOwnAnswers, PlainRunsAgree, SessionsAreSet, StopsAreMissedUnderSuppression, ReportedAreThoseGiven, TracesAreRuns};
+ghost use Rattle.cx_edf.specs.Laws.Displays.{LastDisplaysAreKept};
+ghost use Rattle.cx_edf.specs.Laws.Edf.{EdfEventsDecide, EdfRunsDecide, ErasedEvents, ErasedEventsLeaveTheRegion, EventsAreSteps, FrontsAreTraces, OffIsTheRegion, OtherEventsArePassed, OtherSessionsStay, OwnEventsHaveOwnAnswers, PlainRunsAgree, SessionsAreSet, StopsAreMissedUnderSuppression, ReportedAreThoseGiven, TheRegionIsOff, WhatIsLeftIsARun};
 ghost use Rattle.cx_edf.specs.Laws.Memory.{EdfSoundIsKept, RefusedEdfEventsAreNone, StoppedEdfRunsGoOn};
-ghost use Rattle.cx_edf.specs.Laws.Outcomes.{EdfEventsHaveOutcomes};
+ghost use Rattle.cx_edf.specs.Laws.Outcomes.{EdfEventListsAreRuns, EdfEventsHaveOutcomes};
+ghost use Rattle.cx_edf.specs.Laws.Watched.{RunsCanBeWatched};
 
 /// Events done one at a time are a run, with the states that they left. Such an event is what each call of a region under EDF
 /// ensures: `key`, `turn`, `alter`, `edf_on`, `edf_off`, `set_clock` and `apply` by `applies`, a definition by `defined` or
-/// `refused`; and a call that was refused memory is none, for its clause `err` leaves the state as before.
-pub fn traces_are_runs()
+/// `refused`; and a call that was refused memory is none, for its clause `err` leaves the state as before. The first of them
+/// are a run too.
+#[tactic(auto, using(crate::proofs::TraceLemmas::events_are_steps, crate::proofs::TraceLemmas::fronts_are_traces))]
+pub fn single_events_are_a_run()
     ensures steps { EventsAreSteps }
-    ensures runs { TracesAreRuns }
+    ensures fronts { FrontsAreTraces }
+{}
+
+/// What is left of a run under EDF without EDF is a run of the region alone, with the region's replies: all events but EDF's
+/// own and refused alterations, and for each PF12 that ended a task an alteration. So tasks, storage, queues and screens go
+/// through the same states.
+#[tactic(auto, using(crate::proofs::TraceLemmas::what_is_left_is_a_run))]
+pub fn what_is_left_is_a_run()
+    ensures { WhatIsLeftIsARun }
+{}
+
+/// The displays that are kept of each terminal after a run under EDF are the last ten of its session, each of the region as it was
+/// right after the terminal's own half-turn or its task's end by an alteration.
+#[tactic(auto, using(crate::proofs::TraceLemmas::last_displays_are_kept))]
+pub fn last_displays_are_kept()
+    ensures { LastDisplaysAreKept }
 {}
 
 /// A state and an event decide the answer and the state after it.
@@ -54,10 +73,19 @@ pub fn no_stop_is_missed()
 {}
 
 /// With EDF Off at each terminal, events of the region other than alterations are answered and done as by the region alone,
-/// and EDF stays Off.
-#[tactic(auto, using(crate::proofs::LawLemmas::off_is_the_region))]
+/// and EDF stays Off. And each run of the region without alterations is done so with EDF Off.
+#[tactic(auto, using(crate::proofs::LawLemmas::off_is_the_region, crate::proofs::LawLemmas::the_region_is_off))]
 pub fn off_is_the_region()
-    ensures { OffIsTheRegion }
+    ensures off { OffIsTheRegion }
+    ensures exists { TheRegionIsOff }
+{}
+
+/// Each run of the region without alterations can be watched: whatever sessions there are, and with EDF ON given at any terminals
+/// before any of its events, there is a run under EDF of these events, with an ENTER before each that meets its terminal stopped,
+/// of which exactly they are left, with the run's replies and to its region.
+#[tactic(auto, using(crate::proofs::WatchedLemmas::runs_can_be_watched))]
+pub fn every_run_can_be_watched()
+    ensures { RunsCanBeWatched }
 {}
 
 /// A session put under a terminal's name is found there, and one taken out is gone; those of other terminals stay.
@@ -78,9 +106,11 @@ pub fn a_refused_event_is_none()
     edf_events_decide();
 }
 
-/// Each event under EDF has an outcome, also one that was refused memory.
+/// Each event under EDF has an outcome, and each list of events, images checked, is a run: over the definitions alone, in every
+/// state, whatever memory there is and whatever displays are.
 pub fn each_event_has_an_outcome()
-    ensures { EdfEventsHaveOutcomes }
+    ensures events { EdfEventsHaveOutcomes }
+    ensures runs { EdfEventListsAreRuns }
 {
     cx_region_laws::laws::each_event_has_an_outcome();
 }

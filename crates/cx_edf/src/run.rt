@@ -69,7 +69,7 @@ impl<S: Store + Drop> Debugged<S> {
     }
 
     /// Does one event of the region.
-    #[tactic(auto, unfolding(crate::specs::Steps::EdfApplies, crate::specs::Steps::door_of, crate::specs::Runs::MayTakeEdf))]
+    #[tactic(auto, unfolding(crate::specs::Steps::AppliesBy, crate::specs::Steps::door_of, crate::specs::Runs::MayTakeEdf))]
     pub(crate) fn plain(&mut self, event: &Event) -> Result<Answer, AllocError>
         requires { IsAllowed event.now }
         ensures applies { IfOk result (λ given. EdfApplies self.old (edf_event.Plain event.now) given self.new) }
@@ -97,12 +97,12 @@ impl<S: Store + Drop> Debugged<S> {
     /// Does events in order, and answers what each is answered. What each call takes is asked of each event: a clock as for
     /// `set_clock`, at most 1,920 bytes of a key, a register as for `alter`.
     ///
-    /// EDF is transparent: the events that aren't EDF's own, without refused alterations and with an alteration for each PF12
-    /// that ended a task, are a run of the region alone, with the region's replies, up to each event; and the displays that
-    /// are kept of each terminal are the last ten of its session, each of the region as it was right after its own half-turn
-    /// or its task's end by an alteration.
+    /// There are states, one after each event, and each event with its answer is what EDF does in the state before it. So EDF is
+    /// transparent (`laws::what_is_left_is_a_run`): the events that aren't EDF's own, without refused alterations and with an
+    /// alteration for each PF12 that ended a task, are a run of the region alone, with the region's replies, up to each event;
+    /// and the displays that are kept of each terminal are the last ten of its session (`laws::last_displays_are_kept`).
     ///
-    /// It stops where an allocation failed: in front of the first event, where there is no memory for the answers, else
+    /// It stops where an allocation failed: in front of the first event where there is no memory for the answers to all, else
     /// at an event that may take memory. The state is as the events done left it.
     pub fn run(&mut self, events: &[EdfEvent]) -> Result<Vec<Answer>, RunStop>
         requires { AllByRecursion IsAllowedEdf events.now }

@@ -88,7 +88,8 @@ pub(crate) fn note<S: Store + Drop>(
     turn: &TurnReply,
 )
     ensures { let reported = reply.Turn turn.now in
-        sessions.new.entries ≡ sessions_after sessions.old.entries (event.Turn name) reported region.now }
+        sessions.new.entries
+        ≡ sessions_after sessions.old.entries (event.Turn name) reported (display_of region.now) }
 {
     let Some(session) = sessions.get_mut(&name) else {
         return;
@@ -106,7 +107,8 @@ pub(crate) fn alter<S: Store + Drop>(
     given: AlterReply,
 )
     ensures { let altered = event.Alter name change in
-        sessions.new.entries ≡ sessions_after sessions.old.entries altered (reply.Alter given) region.now }
+        sessions.new.entries
+        ≡ sessions_after sessions.old.entries altered (reply.Alter given) (display_of region.now) }
 {
     match given {
         AlterReply::Altered => altered(sessions, region, name, change),

@@ -1,5 +1,5 @@
 -- Instructions in bytes that are lent: what is fetched, and their fields in the front that is kept of them.
-use Rattle.std.proofs.Common.{◌≡◌, ℕ, ◌+◌, ◌*◌, ◌%◌, ◌^◌, ◌<◌, ◌≤◌, ◌==◌, ◌++◌, zero, suc, Bool, true, false, List, [], ◌∷◌, length, take, slice_index, slice_range, Option, Some, None, Ok, MatchResult, refl, sym, ap, ◌∙◌, arith, if◌then◌else◌}
+use Rattle.std.proofs.Common.{◌≡◌, ℕ, ◌+◌, ◌*◌, ◌/◌, ◌%◌, bit_or, slice_set, ◌^◌, ◌<◌, ◌≤◌, ◌==◌, ◌++◌, zero, suc, Bool, true, false, List, [], ◌∷◌, length, take, slice_index, slice_range, Option, Some, None, Ok, MatchResult, refl, sym, ap, ◌∙◌, arith, if◌then◌else◌}
 use Rattle.std.specs.Option.{option_map}
 use Rattle.std.proofs.lemmas.List.{length-take-le, get_or-take}
 use Rattle.std.specs.Int.{byte_at}
@@ -32,21 +32,27 @@ bytes_2 n a b p q e =
     let e0 : byte_at 0 n ≡ b = omega arith in
     cc
 
--- the first six of eight bytes, two and two of them as numbers
-pub front_of : (b : List ℕ) → length b ≡ 8 → ((k : ℕ) → slice_index b k < 256)
-    → slice_index b 0 ∷ slice_index b 1 ∷ (big_bytes 2 (big_number 2 (slice_range b 2 4)) ++ big_bytes 2 (big_number 2 (slice_range b 4 6))) ≡ take 6 b
-front_of (b0 ∷ b1 ∷ b2 ∷ b3 ∷ b4 ∷ b5 ∷ rest) h low =
-    let first : big_bytes 2 (big_number 2 (b2 ∷ b3 ∷ [])) ≡ b2 ∷ b3 ∷ [] = bytes_2 _ b2 b3 (low 2) (low 3) (omega arith) in
-    let second : big_bytes 2 (big_number 2 (b4 ∷ b5 ∷ [])) ≡ b4 ∷ b5 ∷ [] = bytes_2 _ b4 b5 (low 4) (low 5) (omega arith) in
-    ap (λ (l : List ℕ). b0 ∷ b1 ∷ (l ++ big_bytes 2 (big_number 2 (b4 ∷ b5 ∷ [])))) first ∙ ap (λ (l : List ℕ). b0 ∷ b1 ∷ b2 ∷ b3 ∷ l) second
-front_of _ h low = absurd (omega (arith, h))
+-- the front of a byte and two halfwords
+pub front_made : (second x y : ℕ) → x < 65536 → y < 65536
+    → take 6 (0 ∷ second ∷ (x / 256) ∷ (x % 256) ∷ (y / 256) ∷ (y % 256) ∷ 0 ∷ 0 ∷ []) ≡ 0 ∷ second ∷ (big_bytes 2 x ++ big_bytes 2 y)
+front_made second x y low also =
+    let first : big_bytes 2 x ≡ (x / 256) ∷ (x % 256) ∷ [] = bytes_2 x (x / 256) (x % 256) (omega (arith, low)) (omega arith) (omega arith) in
+    let rest : big_bytes 2 y ≡ (y / 256) ∷ (y % 256) ∷ [] = bytes_2 y (y / 256) (y % 256) (omega (arith, also)) (omega arith) (omega arith) in
+    sym (ap (λ (l : List ℕ). 0 ∷ second ∷ (l ++ big_bytes 2 y)) first ∙ ap (λ (l : List ℕ). 0 ∷ second ∷ (x / 256) ∷ (x % 256) ∷ l) rest)
 
--- the numbers that a front is made of
-pub first_back : (code second x y : ℕ) → x < 65536 → big_from 2 2 (code ∷ second ∷ (big_bytes 2 x ++ big_bytes 2 y)) ≡ x
-first_back code second x y h = omega (arith, h)
+-- a byte joined to the second one of eight
+pub front_joined : (b : List ℕ) (low : ℕ) → length b ≡ 8 → take 6 (slice_set b 1 (bit_or (slice_index b 1) low)) ≡ joined_second low (take 6 b)
+front_joined (b0 ∷ b1 ∷ rest) low h = refl
+front_joined _ low h = absurd (omega (arith, h))
 
-pub second_back : (code second x y : ℕ) → y < 65536 → big_from 4 2 (code ∷ second ∷ (big_bytes 2 x ++ big_bytes 2 y)) ≡ y
-second_back code second x y h = omega (arith, h)
+-- the numbers in the front of eight bytes
+pub first_back : (b : List ℕ) → length b ≡ 8 → big_number 2 (slice_range b 2 4) ≡ big_from 2 2 (take 6 b)
+first_back (b0 ∷ b1 ∷ b2 ∷ b3 ∷ b4 ∷ b5 ∷ rest) h = refl
+first_back _ h = absurd (omega (arith, h))
+
+pub second_back : (b : List ℕ) → length b ≡ 8 → big_number 2 (slice_range b 4 6) ≡ big_from 4 2 (take 6 b)
+second_back (b0 ∷ b1 ∷ b2 ∷ b3 ∷ b4 ∷ b5 ∷ rest) h = refl
+second_back _ h = absurd (omega (arith, h))
 
 -- the fields of a row are in its own bytes
 fields_front : (f : Format) (n : ℕ) (b : List ℕ) → length_of_format f ≤ n → fields_in f (take n b) ≡ fields_in f b

@@ -11,3 +11,4 @@ pub mod FrontLemmas
 pub mod BlockLemmas
 pub mod RepeatLemmas
 pub mod ZonedLemmas
+pub mod FillLemmas

@@ -106,16 +106,17 @@ row_runs : (now : Machine) (op : Op) (prefix : List ℕ) (outcome : Outcome) (af
 unfolding Runs
 row_runs now op prefix outcome after is plain effect = rw (is, plain) effect
 
-pub row_more : (steps left : ℕ) (m now after : Machine) (op : Op) (prefix : List ℕ) → left ≤ steps → 0 < left → Passes (steps - left) m now
-    → Effect (instruction op (fields_at op prefix)) (updated_by now.next (length_of op)) now (Ok tt) after
-    → instruction_to_perform now ≡ performed_of now (instruction op (fields_at op prefix)) (updated_by now.next (length_of op)) → is_execute op ≡ false
-    → now.next ≢ entry → Passes (steps - (left - 1)) m after
-row_more steps left m now after op prefix within some so_far effect is plain apart =
-    run_more steps left m now after within some so_far apart (row_runs now op prefix (Ok tt) after is plain effect)
+pub row_more : (steps left : ℕ) (m now fetched after : Machine) (op : Op) (prefix : List ℕ) → left ≤ steps → 0 < left → Passes (steps - left) m now → fetched ≡ now
+    → Effect (instruction op (fields_at op prefix)) (updated_by fetched.next (length_of op)) fetched (Ok tt) after
+    → instruction_to_perform fetched ≡ performed_of fetched (instruction op (fields_at op prefix)) (updated_by fetched.next (length_of op)) → is_execute op ≡ false
+    → fetched.next ≢ entry → Passes (steps - (left - 1)) m after
+row_more steps left m now fetched after op prefix within some so_far same effect is plain apart =
+    run_more steps left m fetched after within some (subst (λ (s : Machine). Passes (steps - left) m s) (sym same) so_far) apart (row_runs fetched op prefix (Ok tt) after is plain effect)
 
-pub row_interrupt : (steps left : ℕ) (cause : Interruption) (m now after : Machine) (op : Op) (prefix : List ℕ) → left ≤ steps → 0 < left → Passes (steps - left) m now
-    → Effect (instruction op (fields_at op prefix)) (updated_by now.next (length_of op)) now (Err cause) after
-    → instruction_to_perform now ≡ performed_of now (instruction op (fields_at op prefix)) (updated_by now.next (length_of op)) → is_execute op ≡ false
-    → now.next ≢ entry → Advances steps m (halt.Interrupt cause after.next) after
-row_interrupt steps left cause m now after op prefix within some so_far effect is plain apart =
-    run_interrupt steps left after.next cause m now after within some so_far apart (row_runs now op prefix (Err cause) after is plain effect) refl
+pub row_interrupt : (steps left : ℕ) (cause : Interruption) (m now fetched after : Machine) (op : Op) (prefix : List ℕ) → left ≤ steps → 0 < left → Passes (steps - left) m now → fetched ≡ now
+    → Effect (instruction op (fields_at op prefix)) (updated_by fetched.next (length_of op)) fetched (Err cause) after
+    → instruction_to_perform fetched ≡ performed_of fetched (instruction op (fields_at op prefix)) (updated_by fetched.next (length_of op)) → is_execute op ≡ false
+    → fetched.next ≢ entry → Advances steps m (halt.Interrupt cause after.next) after
+row_interrupt steps left cause m now fetched after op prefix within some so_far same effect is plain apart =
+    run_interrupt steps left after.next cause m fetched after within some (subst (λ (s : Machine). Passes (steps - left) m s) (sym same) so_far) apart
+    (row_runs fetched op prefix (Err cause) after is plain effect) refl

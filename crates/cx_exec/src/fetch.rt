@@ -72,6 +72,7 @@ fn lent_code<S: Store>(store: &S, at: u32) -> Option<Code>
 }
 
 /// The bytes of the instruction at an address, copied; None where one is absent.
+#[cold]
 #[inline(never)]
 fn code_apart<S: Store>(store: &S, at: u32) -> Option<Code>
     requires { at < 2 ^ 24 }

@@ -147,6 +147,7 @@ fn insert(
 
 /// ICM, wherever its bytes lie.
 #[tactic(auto, unfolding(crate::specs::Masks::IcmEffect))]
+#[cold]
 #[inline(never)]
 fn icm_apart<S: Store>(
     cpu: &mut Cpu,

@@ -35,6 +35,7 @@ fn lent_halfword<S: Store>(store: &S, a: u32) -> Option<u16>
 
 /// The halfword at an address, extended to a word by its sign, or interruption 5, wherever its bytes lie.
 #[tactic(auto, unfolding(crate::specs::Operands::extended_at))]
+#[cold]
 #[inline(never)]
 fn halfword_apart<S: Store>(store: &S, a: u32) -> Result<u32, Interruption>
     requires { a < 2 ^ 24 }
@@ -71,6 +72,7 @@ fn lent_word<S: Store>(store: &S, a: u32) -> Option<u32>
 }
 
 /// The word at an address, or interruption 5, wherever its bytes lie.
+#[cold]
 #[inline(never)]
 fn word_apart<S: Store>(store: &S, a: u32) -> Result<u32, Interruption>
     requires { a < 2 ^ 24 }

@@ -1,6 +1,6 @@
 //! The bytes that an instruction begins with, fetched at once.
 
-ghost use Rattle.std.specs.Prelude.{◌≡◌, ◌<◌, ◌+◌, ◌*◌, ◌^◌, ◌++◌, ◌∷◌, length, slice_index, take, Some, IfSome};
+ghost use Rattle.std.specs.Prelude.{◌≡◌, ◌<◌, ◌≤◌, ◌+◌, ◌*◌, ◌%◌, ◌^◌, ◌++◌, ◌∷◌, length, slice_index, take, Some, IfSome, OnSome};
 ghost use Rattle.std.specs.Option.{option_map};
 ghost use Rattle.byteorder.specs.Endian.{big_bytes, big_from};
 ghost use Rattle.cx_storage.specs.Storage.{span};
@@ -14,23 +14,18 @@ use cx_code::{Fields, Inst, Op};
 use cx_storage::Store;
 use std::marker::Model;
 
-/// Six bytes that an instruction begins with: its code and a second byte, and two halfwords.
+/// Six bytes that an instruction begins with, the first ones of eight: its code and a second byte, and two halfwords.
 #[derive(Drop)]
 pub struct Front {
-    code: u8,
-    second: u8,
-    first_address: u16,
-    second_address: u16,
+    bytes: [u8; 8],
 }
 
 impl Model for Front {
-    ghost use Rattle.std.specs.Prelude.{List, ℕ, ◌∷◌, ◌++◌};
-    ghost use Rattle.byteorder.specs.Endian.{big_bytes};
+    ghost use Rattle.std.specs.Prelude.{List, ℕ, take};
 
     ghost Value = { List ℕ };
 
-    ghost view = { λ prefix.
-        prefix.code ∷ prefix.second ∷ (big_bytes 2 prefix.first_address ++ big_bytes 2 prefix.second_address) };
+    ghost view = { λ front. take 6 front.bytes };
 }
 
 /// Two fields of four bits as a byte.
@@ -53,29 +48,33 @@ fn address(base: u8, displacement: u16) -> u16
 
 impl Front {
     /// The first six of eight bytes.
-    #[tactic(auto, using(crate::proofs::FrontLemmas::front_of))]
     #[inline(always)]
-    pub(crate) fn of(part: &[u8]) -> Front
-        requires { length part.now ≡ 8 }
-        ensures { result ≡ take 6 part.now }
+    pub(crate) fn of(bytes: [u8; 8]) -> Front
+        ensures { result ≡ take 6 bytes }
     {
-        Front {
-            code: part[0],
-            second: part[1],
-            first_address: BigEndian::read_u16(&part[2..4]),
-            second_address: BigEndian::read_u16(&part[4..6]),
-        }
+        Front { bytes }
     }
 
     /// The front of a byte and two halfwords after a code of zero.
+    #[tactic(auto, using(crate::proofs::FrontLemmas::front_made))]
     fn made(second: u8, first_address: u16, second_address: u16) -> Front
         ensures { result ≡ 0 ∷ second ∷ (big_bytes 2 first_address ++ big_bytes 2 second_address) }
     {
+        let first_high = (first_address / 256) as u8;
+        let first_low = (first_address % 256) as u8;
+        let second_high = (second_address / 256) as u8;
+        let second_low = (second_address % 256) as u8;
         Front {
-            code: 0,
-            second,
-            first_address,
-            second_address,
+            bytes: [
+                0,
+                second,
+                first_high,
+                first_low,
+                second_high,
+                second_low,
+                0,
+                0,
+            ],
         }
     }
 
@@ -107,7 +106,7 @@ impl Front {
     pub(crate) fn first(&self) -> u8
         ensures { result ≡ slice_index self.now 0 }
     {
-        self.code
+        self.bytes[0]
     }
 
     /// The second byte.
@@ -115,20 +114,18 @@ impl Front {
     pub(crate) fn second(&self) -> u8
         ensures { result ≡ slice_index self.now 1 }
     {
-        self.second
+        self.bytes[1]
     }
 
     /// The front with a byte joined to the second one by OR.
+    #[tactic(auto, using(crate::proofs::FrontLemmas::front_joined))]
     #[inline(always)]
     pub(crate) fn with_joined(self, low: u8) -> Front
         ensures { result ≡ joined_second low self }
     {
-        Front {
-            code: self.code,
-            second: self.second | low,
-            first_address: self.first_address,
-            second_address: self.second_address,
-        }
+        let mut bytes = self.bytes;
+        bytes[1] |= low;
+        Front { bytes }
     }
 
     /// The halfword after it.
@@ -137,7 +134,7 @@ impl Front {
     pub(crate) fn first_address(&self) -> u16
         ensures { result ≡ big_from 2 2 self.now }
     {
-        self.first_address
+        BigEndian::read_u16(&self.bytes[2..4])
     }
 
     /// The halfword after that.
@@ -146,19 +143,22 @@ impl Front {
     pub(crate) fn second_address(&self) -> u16
         ensures { result ≡ big_from 4 2 self.now }
     {
-        self.second_address
+        BigEndian::read_u16(&self.bytes[4..6])
     }
 }
 
-/// The front of an instruction at an address, where eight bytes from there on are lent in one piece.
-#[tactic(auto, using(cx_storage::specs::Facts::Spans::span_length))]
+/// The front of an instruction at an address, where the store has eight bytes from there on at hand: the address is even then,
+/// and not the entry.
 #[inline(always)]
-pub(crate) fn lent_front<S: Store>(store: &S, at: u32) -> Option<Front>
+pub(crate) fn fetched_front<S: Store>(store: &mut S, at: u32) -> Option<Front>
     requires { at < 2 ^ 24 }
-    ensures { IfSome result (λ prefix. option_map (take 6) (span (S.storage store.now) at 8) ≡ Some prefix) }
+    ensures bytes { IfSome result (λ prefix. option_map (take 6) (span (S.storage store.new) at 8) ≡ Some prefix) }
+    ensures even { OnSome result (at % 2 ≡ 0) }
+    ensures high { OnSome result (4096 ≤ at) }
+    ensures same { S.storage store.new ≡ S.storage store.old }
 {
-    let part = store.slice(at, 8)?;
-    Some(Front::of(part))
+    let bytes = store.fetch(at)?;
+    Some(Front::of(bytes))
 }
 
 /// The row of a code. It is found by a match of its own, so that a row is found by one jump.

@@ -47,6 +47,7 @@ fn take_registers(part: &[u8], first: u8, last: u8, regs: &mut [u32; 16])
 /// Reads words in a row (at most 16), from `a` on, to the front of the buffer, one by one; interruption 5 where one is
 /// absent.
 #[tactic(auto, using(crate::proofs::RegisterLemmas::words_none, crate::proofs::RegisterLemmas::words_gone))]
+#[cold]
 #[inline(never)]
 fn read_apart<S: Store>(
     store: &S,
@@ -129,6 +130,7 @@ pub(crate) fn store_multiple<S: Store>(
 /// Loads the registers from the first through the last one, wherever their words lie: all of them, or none and
 /// interruption 5.
 #[tactic(auto, unfolding(crate::specs::Registers::LoadsRegisters))]
+#[cold]
 #[inline(never)]
 fn load_apart<S: Store>(
     cpu: &mut Cpu,

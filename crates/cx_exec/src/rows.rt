@@ -34,7 +34,7 @@ use cx_code::Op;
 use cx_storage::{Store, along};
 
 /// What a register gives to an address: register 0 gives zero.
-fn given(regs: &[u32; 16], r: u8) -> u32
+fn given(regs: &[u32; 16], r: u32) -> u32
     requires { r < 16 }
     ensures { result ≡ address_part regs.now r }
 {
@@ -46,16 +46,17 @@ fn given(regs: &[u32; 16], r: u8) -> u32
 ///
 /// Principles of Operation, "Address Generation".
 #[tactic(auto, unfolding(crate::specs::Machine::effective))]
-pub(crate) fn effective(regs: &[u32; 16], index: u8, base: u8, displacement: u16) -> u32
+pub(crate) fn effective(regs: &[u32; 16], index: u8, base: u32, displacement: u32) -> u32
     requires index { index < 16 }
     requires base { base < 16 }
+    requires displacement { displacement < 4096 }
     ensures value { result ≡ effective regs.now index base displacement }
     ensures short { result < 2 ^ 24 }
 {
-    let sum = u64::from(given(regs, base))
-        + u64::from(given(regs, index))
-        + u64::from(displacement);
-    (sum % 0x100_0000) as u32
+    given(regs, base)
+        .wrapping_add(given(regs, u32::from(index)))
+        .wrapping_add(displacement)
+        % 0x100_0000
 }
 
 /// What the program-status word is updated to after an instruction of `length` bytes at the next address, unless it is
@@ -81,7 +82,8 @@ fn address_in(cpu: &Cpu, index: u8, halfword: u16) -> u32
     ensures value { result ≡ effective cpu.now.regs index (halfword / 4096) (halfword % 4096) }
     ensures short { result < 2 ^ 24 }
 {
-    effective(&cpu.regs, index, (halfword >> 12) as u8, halfword & 0x0fff)
+    let halfword = u32::from(halfword);
+    effective(&cpu.regs, index, halfword >> 12, halfword & 0x0fff)
 }
 
 /// The operands of format RR: two registers, with what they hold.

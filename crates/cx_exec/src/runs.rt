@@ -27,12 +27,13 @@ fn pass<S: Store>(cpu: &mut Cpu, store: &mut S, steps: u32) -> Option<Halt>
 {
     let mut left = steps;
     while left > 0 {
-        if cpu.next == ENTRY {
-            return Some(Halt::AtEntry);
-        }
+        left -= 1;
         let Some(found) = fetch_fast(cpu, store) else {
+            if cpu.next == ENTRY {
+                return Some(Halt::AtEntry);
+            }
             match step_slow(cpu, store) {
-                Ok(()) => left -= 1,
+                Ok(()) => {}
                 Err(cause) => return Some(Halt::Interrupt(cause, cpu.next)),
             }
             continue;
@@ -60,11 +61,11 @@ fn pass<S: Store>(cpu: &mut Cpu, store: &mut S, steps: u32) -> Option<Halt>
             | Op::Lm
             | Op::Stcm
             | Op::Icm => match register_rows(cpu, store, found.op, &found.prefix, None) {
-                Ok(()) => left -= 1,
+                Ok(()) => {}
                 Err(cause) => return Some(Halt::Interrupt(cause, cpu.next)),
             },
             Op::L | Op::Cl | Op::C => match word_rows(cpu, store, found.op, &found.prefix, None) {
-                Ok(()) => left -= 1,
+                Ok(()) => {}
                 Err(cause) => return Some(Halt::Interrupt(cause, cpu.next)),
             },
             Op::A | Op::S | Op::M | Op::D => match word_result_rows(
@@ -74,7 +75,7 @@ fn pass<S: Store>(cpu: &mut Cpu, store: &mut S, steps: u32) -> Option<Halt>
                 &found.prefix,
                 None,
             ) {
-                Ok(()) => left -= 1,
+                Ok(()) => {}
                 Err(cause) => return Some(Halt::Interrupt(cause, cpu.next)),
             },
             Op::Lh | Op::Ch | Op::Ah | Op::Sh => match half_rows(
@@ -84,7 +85,7 @@ fn pass<S: Store>(cpu: &mut Cpu, store: &mut S, steps: u32) -> Option<Halt>
                 &found.prefix,
                 None,
             ) {
-                Ok(()) => left -= 1,
+                Ok(()) => {}
                 Err(cause) => return Some(Halt::Interrupt(cause, cpu.next)),
             },
             Op::Sth
@@ -97,7 +98,7 @@ fn pass<S: Store>(cpu: &mut Cpu, store: &mut S, steps: u32) -> Option<Halt>
             | Op::Cvd
             | Op::Ic
             | Op::Cvb => match indexed_rows(cpu, store, found.op, &found.prefix, None) {
-                Ok(()) => left -= 1,
+                Ok(()) => {}
                 Err(cause) => return Some(Halt::Interrupt(cause, cpu.next)),
             },
             Op::Tm | Op::Mvi | Op::Ni | Op::Cli | Op::Oi => match immediate_rows(
@@ -107,16 +108,16 @@ fn pass<S: Store>(cpu: &mut Cpu, store: &mut S, steps: u32) -> Option<Halt>
                 &found.prefix,
                 None,
             ) {
-                Ok(()) => left -= 1,
+                Ok(()) => {}
                 Err(cause) => return Some(Halt::Interrupt(cause, cpu.next)),
             },
             Op::Mvc | Op::Clc | Op::Xc | Op::Tr | Op::Trt | Op::Pack | Op::Unpk =>
                 match strings_effect(cpu, store, found.op, &found.prefix, None) {
-                    Ok(()) => left -= 1,
+                    Ok(()) => {}
                     Err(cause) => return Some(Halt::Interrupt(cause, cpu.next)),
                 },
             Op::Ex => match execute_found(cpu, store, &found.prefix) {
-                Ok(()) => left -= 1,
+                Ok(()) => {}
                 Err(cause) => return Some(Halt::Interrupt(cause, cpu.next)),
             },
         }

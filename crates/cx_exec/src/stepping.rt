@@ -1,6 +1,6 @@
 //! One step.
 
-ghost use Rattle.std.specs.Prelude.{◌≡◌, ◌<◌, ◌≤◌, ◌^◌, Ok, IfOk, IfSome, MatchResult};
+ghost use Rattle.std.specs.Prelude.{◌≡◌, ◌≢◌, ◌<◌, ◌≤◌, ◌^◌, Ok, IfOk, IfSome, OnSome, MatchResult};
 ghost use Rattle.cx_storage.specs.Address.{address_after};
 ghost use Rattle.cx_storage.specs.Storage.{Storage};
 ghost use Rattle.cx_code.specs.declared.table.Op.TheVariants as op;
@@ -11,11 +11,11 @@ ghost use Rattle.cx_exec.specs.Machine.{machine};
 ghost use Rattle.cx_exec.specs.Outcome.{IsSuppressed};
 ghost use Rattle.cx_exec.specs.Rows.{Effect};
 ghost use Rattle.cx_exec.specs.Parts.{IsPerformed};
-ghost use Rattle.cx_exec.specs.Step.{changed_copy, target_at, updated_by, instruction_to_perform, Runs, Steps};
+ghost use Rattle.cx_exec.specs.Step.{entry, changed_copy, target_at, updated_by, instruction_to_perform, Runs, Steps};
 
 use crate::fetch::code_at;
 use crate::machine::{Cpu, ENTRY, Interruption, Step, Updated};
-use crate::prefix::{Front, lent_front, op_in};
+use crate::prefix::{Front, fetched_front, op_in};
 use crate::rows::{effect, effective, indexed_of};
 use cx_code::{Fields, Inst, Op};
 use cx_storage::{Store, along};
@@ -69,7 +69,7 @@ fn performed<S: Store>(cpu: &Cpu, store: &S) -> Result<PendingInstruction, Inter
     let inst = code.read()?;
     match inst.fields() {
         Fields::Rx { r1, x2, b2, d2 } if inst.op() == Op::Ex => {
-            let a = effective(&cpu.regs, x2, b2, d2);
+            let a = effective(&cpu.regs, x2, u32::from(b2), u32::from(d2));
             let target = target_at(cpu, store, r1, a)?;
             Ok(PendingInstruction {
                 inst: target,
@@ -83,18 +83,17 @@ fn performed<S: Store>(cpu: &Cpu, store: &S) -> Result<PendingInstruction, Inter
     }
 }
 
-/// The instruction at the next address, where eight bytes from there on are lent in one piece.
+/// The instruction at the next address, where the store has it at hand; that isn't the entry then.
 #[inline(always)]
-pub(crate) fn fetch_fast<S: Store>(cpu: &Cpu, store: &S) -> Option<Found>
-    ensures { let m = machine cpu.now (S.storage store.now) in
+pub(crate) fn fetch_fast<S: Store>(cpu: &Cpu, store: &mut S) -> Option<Found>
+    ensures performed { let m = machine cpu.now (S.storage store.new) in
         IfSome result (λ found. IsPerformed m found.op found.prefix) }
+    ensures apart { OnSome result (cpu.now.next ≢ entry) }
+    ensures same { S.storage store.new ≡ S.storage store.old }
 {
     cx_code::laws::first_bits();
     cx_code::laws::read_by_first_byte();
-    if cpu.next % 2 == 1 {
-        return None;
-    }
-    let prefix = lent_front(store, cpu.next)?;
+    let prefix = fetched_front(store, cpu.next)?;
     let op = op_in(prefix.first())?;
     Some(Found { op, prefix })
 }
@@ -111,20 +110,18 @@ fn changed_copy(cpu: &Cpu, r1: u8, prefix: Front) -> Front
     prefix.with_joined((cpu.regs[r1 as usize] % 256) as u8)
 }
 
-/// The target at `a` (below 2^24) of an EX, where eight bytes from there on are lent in one piece. `r1` is below 16.
+/// The target at `a` (below 2^24) of an EX, where the store has it at hand. `r1` is below 16.
 #[inline(always)]
-fn target_at_hand<S: Store>(cpu: &Cpu, store: &S, r1: u8, a: u32) -> Option<Found>
+fn target_at_hand<S: Store>(cpu: &Cpu, store: &mut S, r1: u8, a: u32) -> Option<Found>
     requires first { r1 < 16 }
     requires operand { a < 2 ^ 24 }
-    ensures { let target = target_at (machine cpu.now (S.storage store.now)) r1 a in
+    ensures found { let target = target_at (machine cpu.now (S.storage store.new)) r1 a in
         IfSome result (λ found. target ≡ Ok (instruction found.op (fields_at found.op found.prefix))) }
+    ensures same { S.storage store.new ≡ S.storage store.old }
 {
     cx_code::laws::first_bits();
     cx_code::laws::read_by_first_byte();
-    if a % 2 == 1 {
-        return None;
-    }
-    let prefix = changed_copy(cpu, r1, lent_front(store, a)?);
+    let prefix = changed_copy(cpu, r1, fetched_front(store, a)?);
     let op = op_in(prefix.first())?;
     if op == Op::Ex {
         return None;
@@ -133,6 +130,7 @@ fn target_at_hand<S: Store>(cpu: &Cpu, store: &S, r1: u8, a: u32) -> Option<Foun
 }
 
 /// Performs an instruction except EX, and goes on where that is given.
+#[cold]
 #[inline(never)]
 fn perform_apart<S: Store>(
     cpu: &mut Cpu,
@@ -185,6 +183,7 @@ pub(crate) fn execute_found<S: Store>(
 
 /// Performs the instruction at the next address, wherever it lies.
 #[tactic(auto, unfolding(crate::specs::Step::Runs))]
+#[cold]
 #[inline(never)]
 pub(crate) fn step_slow<S: Store>(cpu: &mut Cpu, store: &mut S) -> Result<(), Interruption>
     ensures { Runs (machine cpu.old (S.storage store.old)) result (machine cpu.new (S.storage store.new)) }

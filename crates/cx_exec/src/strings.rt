@@ -296,8 +296,19 @@ fn join<S: Store>(
     }
 }
 
+/// A buffer of the second operand's first byte, which MVC stores throughout where the first operand begins after it.
+#[inline(always)]
+fn byte_throughout<S: Store>(store: &S, n: u32, a1: u32, a2: u32) -> [u8; 256]
+    requires second { a2 < 2 ^ 24 }
+    requires count { n ≤ 256 }
+    requires begins { a1 ≡ address_after a2 1 }
+    ensures { take n result ≡ stored_by (moved_byte (S.storage store.now) a1 a2) n }
+{
+    [content(store, a2); 256]
+}
+
 /// MVC of operands of which the first may begin inside the second.
-#[tactic(auto, unfolding(crate::specs::Strings::MvcEffect))]
+#[tactic(auto, using(crate::proofs::FillLemmas::begins_after), unfolding(crate::specs::Strings::MvcEffect))]
 #[inline(never)]
 fn fill<S: Store>(
     cpu: &mut Cpu,
@@ -316,6 +327,10 @@ fn fill<S: Store>(
 {
     if !is_present(store, a2, n) {
         return Err(Interruption::Addressing);
+    }
+    if distance(a2, a1) == 1 {
+        let new = byte_throughout(store, n, a1, a2);
+        return put_bytes(cpu, store, a1, &new[..n as usize], updated);
     }
     let mut new = [0; 256];
     fill_bytes(store, n, a1, a2, &mut new);
@@ -348,6 +363,29 @@ fn join_each<S: Store>(
     let bytes = &new[..n as usize];
     let cc = string_code(bytes);
     put_coded(cpu, store, a1, bytes, cc, updated)
+}
+
+/// XC of an operand with itself, whose bytes become zero.
+#[tactic(auto, unfolding(crate::specs::Strings::XcEffect))]
+#[inline(never)]
+fn clear<S: Store>(
+    cpu: &mut Cpu,
+    store: &mut S,
+    n: u32,
+    a: u32,
+    updated: Updated,
+) -> Result<(), Interruption>
+    requires operand { a < 2 ^ 24 }
+    requires count { n ≤ 256 }
+    requires address { updated.address < 2 ^ 24 }
+    ensures { let before = machine cpu.old (S.storage store.old) in let after = machine cpu.new (S.storage store.new) in
+        XcEffect n a a updated before result after }
+{
+    if !is_present(store, a, n) {
+        return Err(Interruption::Addressing);
+    }
+    let new = [0; 256];
+    put_coded(cpu, store, a, &new[..n as usize], 0, updated)
 }
 
 /// MVC. The operands, of `n` bytes, begin at `a1` and `a2`.
@@ -390,6 +428,9 @@ pub(crate) fn xc<S: Store>(
     ensures { let before = machine cpu.old (S.storage store.old) in let after = machine cpu.new (S.storage store.new) in
         XcEffect n a1 a2 updated before result after }
 {
+    if a1 == a2 {
+        return clear(cpu, store, n, a1, updated);
+    }
     if begins_outside(n, a1, a2) {
         return join(cpu, store, n, a1, a2, updated);
     }

@@ -35,10 +35,12 @@ use Rattle.cx_region.specs.Events.{Applies, Run}
 use Rattle.cx_region_laws.specs.Laws.Alterations.{AlterationsKeepLevels}
 use Rattle.cx_region_laws.specs.Laws.Regions.{OthersAsBefore}
 use Rattle.cx_script.specs.Laws.Events.{ScriptsRunTheirEvents}
+use Rattle.cx_edf.specs.Laws.Edf.{FrontsAreTraces, WhatIsLeftIsARun}
 use Rattle.cx_headline.specs.Laws.Runs.{OfEachRun, OfEachScript, state_after_first}
 use Rattle.cx_headline.specs.Laws.Watching.{left_of_first, replies_of_first}
 use Rattle.cx_headline.specs.Laws.Due.{AlwaysKeepsWhatIsDue, EventsKeepWhatIsDue, KeepsWhatIsDue, RunsKeepWhatIsDue, StillKeepsWhatIsDue}
 use Rattle.cx_headline.proofs.ScriptLemmas.{of_scripts}
+use Rattle.cx_headline.proofs.WatchLemmas.{left_so_far}
 
 -- of one task, and of the one that there may be
 abbrev KeepsDue : TaskState → Type 0
@@ -254,12 +256,13 @@ runs_keep turns changes old _ _ new kept run = absurd run
 
 -- ---- under EDF
 -- up to each event the region is that of a plain run
-pub watched_keep : DueIsKept → AlterationsKeepLevels → OfEachRun StillKeepsWhatIsDue
-watched_keep turns changes old events answers new run kept n =
-    let left = left_of_first old events answers run.states n in
-    runs_keep turns changes old.region left (replies_of_first old events answers run.states n) (state_after_first old run.states n).region kept (run.left_so_far n)
+pub watched_keep : DueIsKept → AlterationsKeepLevels → FrontsAreTraces → WhatIsLeftIsARun → OfEachRun StillKeepsWhatIsDue
+watched_keep turns changes fronts law make old events answers states trace kept n =
+    let left = left_of_first old events answers states n in
+    runs_keep turns changes old.region left (replies_of_first old events answers states n) (state_after_first old states n).region kept
+    (left_so_far fronts law make old events answers states trace n)
 
-pub scripts_keep : DueIsKept → AlterationsKeepLevels → ScriptsRunTheirEvents → OfEachScript AlwaysKeepsWhatIsDue
-scripts_keep turns changes law left left_after failed answer before after ran =
-    let of_script = of_scripts law StillKeepsWhatIsDue (watched_keep turns changes) left left_after failed answer before after ran in
+pub scripts_keep : DueIsKept → AlterationsKeepLevels → FrontsAreTraces → WhatIsLeftIsARun → ScriptsRunTheirEvents → OfEachScript AlwaysKeepsWhatIsDue
+scripts_keep turns changes fronts whole law calls answer session ending bytes read =
+    let of_script = of_scripts law StillKeepsWhatIsDue (watched_keep turns changes fronts whole) calls answer session ending bytes read in
     (of_script.0, of_script.1 fresh_region_keeps)

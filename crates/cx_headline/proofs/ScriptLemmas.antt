@@ -1,7 +1,6 @@
 -- What was done of a script that ran.
-use Rattle.std.proofs.Common.{◌≡◌, ℕ, false, List, length, take, take_all, le_refl, Option, None, Result, Ok, Err, refl, sym}
+use Rattle.std.proofs.Common.{◌≡◌, ℕ, false, List, length, take, take_all, le_refl, None, Result, Ok, Err, refl, sym}
 use Rattle.std.specs.List.{flat_map}
-use Rattle.std.specs.Io.KnownBytes.{Appends}
 use Rattle.cx_edf.specs.declared.answers.Answer.{Answer}
 use Rattle.cx_edf.specs.declared.answers.EdfEvent.{EdfEvent}
 use Rattle.cx_edf.specs.State.{EdfState}
@@ -10,6 +9,7 @@ use Rattle.cx_script_actions.specs.Language.{Language, edf_language}
 use Rattle.cx_script_blocks.specs.declared.faults.RunFault.{RunFault}
 use Rattle.cx_script_blocks.specs.declared.faults.RunFault.TheVariants.{BadLine, Source, Read, Write, Memory, ReadBound}
 use Rattle.cx_script_blocks.specs.declared.faults.Summary.{Summary}
+use Rattle.cx_script_io.specs.Calls.{taken}
 use Rattle.cx_script_io.specs.Lines.{lines_met}
 use Rattle.cx_script_io.specs.declared.input.Ending.{Ending}
 use Rattle.cx_script.specs.Facts.Fronts.{first_actions}
@@ -25,20 +25,20 @@ use Rattle.cx_headline.specs.Laws.Looks.{ScriptsAreLookedOver}
 use Rattle.cx_headline.specs.Laws.Runs.{IsDoneOf, OfEachRun, OfEachScript, WasWritten}
 
 -- what was done of a script of a language: the first of its actions, and what these wrote
-record Done {A S : Type 0} (performs : S → A → List ℕ → S → Type 0) (begin : S) (script : Script A) (answer : Result Summary RunFault) (before after : Option (List ℕ)) : Type 0 where
+record Done {A S : Type 0} (performs : S → A → List ℕ → S → Type 0) (begin : S) (script : Script A) (answer : Result Summary RunFault) (wrote : List ℕ) : Type 0 where
   count : ℕ
   actions : List A
   first : actions ≡ take count script.actions
   all : was_stopped answer ≡ false → actions ≡ script.actions
   text : List ℕ
-  written : WasWritten answer before after text
+  written : WasWritten answer wrote text
   new : S
   runs : Runs performs begin actions text new
 
 -- all of its actions
-of_whole : {A S : Type 0} (performs : S → A → List ℕ → S → Type 0) (begin : S) (script : Script A) (answer : Result Summary RunFault) (before after : Option (List ℕ))
-    (w : Wrote Appends performs begin script.actions before after) → WasWritten answer before after w.text → Done performs begin script answer before after
-of_whole performs begin script answer before after w written =
+of_whole : {A S : Type 0} (performs : S → A → List ℕ → S → Type 0) (begin : S) (script : Script A) (answer : Result Summary RunFault) (wrote : List ℕ)
+    (w : Wrote (◌≡◌ wrote) performs begin script.actions) → WasWritten answer wrote w.text → Done performs begin script answer wrote
+of_whole performs begin script answer wrote w written =
     record {
       count = length script.actions;
       actions = script.actions;
@@ -51,15 +51,15 @@ of_whole performs begin script answer before after w written =
     }
 
 done_in : {A S : Type 0} (language : Language A) (performs : S → A → List ℕ → S → Type 0) (begin : S) (ending : Ending) (bytes : List ℕ) (answer : Result Summary RunFault)
-    (before after : Option (List ℕ)) → Ends language performs begin ending bytes answer before after → Done performs begin (script_in language ending bytes) answer before after
+    (wrote : List ℕ) → Ends language performs begin ending bytes answer wrote → Done performs begin (script_in language ending bytes) answer wrote
 unfolding Ends script_in
-done_in language performs begin ending bytes (Ok summary) before after e = of_whole performs begin (script_in language ending bytes) (Ok summary) before after e.2 e.2.written
-done_in language performs begin ending bytes (Err (BadLine n)) before after e = of_whole performs begin (script_in language ending bytes) (Err (BadLine n)) before after e.1 e.1.written
-done_in language performs begin ending bytes (Err (Source n which)) before after e =
-    of_whole performs begin (script_in language ending bytes) (Err (Source n which)) before after e.1 e.1.written
-done_in language performs begin ending bytes (Err Read) before after e = of_whole performs begin (script_in language ending bytes) (Err Read) before after e.1 e.1.written
-done_in language performs begin ending bytes (Err ReadBound) before after e = of_whole performs begin (script_in language ending bytes) (Err ReadBound) before after e.1 e.1.written
-done_in {A} language performs begin ending bytes (Err Memory) before after e =
+done_in language performs begin ending bytes (Ok summary) wrote e = of_whole performs begin (script_in language ending bytes) (Ok summary) wrote e.2 e.2.written
+done_in language performs begin ending bytes (Err (BadLine n)) wrote e = of_whole performs begin (script_in language ending bytes) (Err (BadLine n)) wrote e.1 e.1.written
+done_in language performs begin ending bytes (Err (Source n which)) wrote e =
+    of_whole performs begin (script_in language ending bytes) (Err (Source n which)) wrote e.1 e.1.written
+done_in language performs begin ending bytes (Err Read) wrote e = of_whole performs begin (script_in language ending bytes) (Err Read) wrote e.1 e.1.written
+done_in language performs begin ending bytes (Err ReadBound) wrote e = of_whole performs begin (script_in language ending bytes) (Err ReadBound) wrote e.1 e.1.written
+done_in {A} language performs begin ending bytes (Err Memory) wrote e =
     let actions : List A = (front_of language (lines_met ending bytes) e.line).actions in
     record {
       count = length actions;
@@ -71,7 +71,7 @@ done_in {A} language performs begin ending bytes (Err Memory) before after e =
       new = e.done.new;
       runs = e.done.runs;
     }
-done_in {A} language performs begin ending bytes (Err Write) before after e =
+done_in {A} language performs begin ending bytes (Err Write) wrote e =
     let actions : List A = take e.0 (script_in language ending bytes).actions in
     record {
       count = e.0;
@@ -84,31 +84,31 @@ done_in {A} language performs begin ending bytes (Err Write) before after e =
       runs = e.1.runs;
     }
 
-done_of : ScriptsRunTheirEvents → (ending : Ending) (bytes : List ℕ) (answer : Result Summary RunFault) (before after : Option (List ℕ))
-    → Ends edf_language Performs fresh_state ending bytes answer before after → IsDoneOf (script_in edf_language ending bytes) answer before after
-done_of law ending bytes answer before after e =
-    let d = done_in edf_language Performs fresh_state ending bytes answer before after e in
+done_of : ScriptsRunTheirEvents → (ending : Ending) (bytes : List ℕ) (answer : Result Summary RunFault) (wrote : List ℕ)
+    → Ends edf_language Performs fresh_state ending bytes answer wrote → IsDoneOf (script_in edf_language ending bytes) answer wrote
+done_of law ending bytes answer wrote e =
+    let d = done_in edf_language Performs fresh_state ending bytes answer wrote e in
     record {
       count = d.count;
       actions = d.actions;
       first = d.first;
       all = d.all;
       text = d.text;
-      written = d.written;
+      was_written = d.written;
       new = d.new;
       did = law fresh_state d.actions d.text d.new d.runs;
     }
 
 -- what holds of each run holds of what each script did
 pub of_scripts : ScriptsRunTheirEvents → (Holds : EdfState → List EdfEvent → List Answer → List EdfState → Type 0) → OfEachRun Holds → OfEachScript Holds
-of_scripts law Holds each left left_after failed answer before after ran =
-    let done = done_of law ran.ending ran.bytes answer before after ran.ends in
-    (done, each fresh_state (events_of done.actions) done.did.answers done.new done.did.run)
+of_scripts law Holds each calls answer session ending bytes read =
+    let done = done_of law ending bytes answer (taken calls) (session.ends ending bytes read) in
+    (done, each _ fresh_state (events_of done.actions) done.did.answers done.did.run.states done.did.run.trace)
 
 -- ---- scripts with looks
 pub looked_over : ScriptsRunTheirEvents → LooksChangeNothing → ScriptsAreLookedOver
-looked_over law change left left_after failed answer before after ran =
-    let d = done_in look_language LookPerforms fresh_look_state ran.ending ran.bytes answer before after ran.ends in
+looked_over law change calls answer session ending bytes read =
+    let d = done_in look_language LookPerforms fresh_look_state ending bytes answer (taken calls) (session.ends ending bytes read) in
     let c = change fresh_look_state d.actions d.text d.new d.runs in
     record {
       count = d.count;
@@ -116,7 +116,7 @@ looked_over law change left left_after failed answer before after ran =
       first = d.first;
       all = d.all;
       text = d.text;
-      written = d.written;
+      was_written = d.written;
       new = d.new;
       unchanged = c;
       did = law fresh_state (flat_map plain_of c.parts) (flat_map written_of c.parts) d.new.edf c.runs;

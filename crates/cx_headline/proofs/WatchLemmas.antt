@@ -21,10 +21,10 @@ use Rattle.cx_edf.specs.declared.answers.EdfEvent.{EdfEvent}
 use Rattle.cx_edf.specs.declared.answers.EdfEvent.TheVariants as edf_event
 use Rattle.cx_edf.specs.Sessions.{Sessions}
 use Rattle.cx_edf.specs.State.{EdfState, session_at}
-use Rattle.cx_edf.specs.Steps.{Door, EdfApplies, Keeps, door_of}
+use Rattle.cx_edf.specs.Steps.{AppliesBy, DisplayMaker, Door, Keeps, door_of}
 use Rattle.cx_edf.specs.Erasure.{erasure, is_own, is_refused, left_in, left_of, region_replies}
-use Rattle.cx_edf.specs.Runs.{EdfRun, Trace, last_state}
-use Rattle.cx_edf.specs.Laws.Edf.{ErasedEvents, OffIsTheRegion, OtherEventsArePassed, OwnEventsHaveOwnAnswers, ends_task, is_alteration}
+use Rattle.cx_edf.specs.Runs.{Trace, last_state}
+use Rattle.cx_edf.specs.Laws.Edf.{ErasedEvents, FrontsAreTraces, OffIsTheRegion, OtherEventsArePassed, OwnEventsHaveOwnAnswers, TheRegionIsOff, WhatIsLeftIsARun, ends_task, is_alteration, off_at}
 use Rattle.cx_script_actions.specs.Effects.{ByFault, Performs}
 use Rattle.cx_script_actions.specs.declared.actions.Action.TheVariants as action
 use Rattle.cx_script.specs.Laws.Events.{program_event}
@@ -64,37 +64,42 @@ left_switched old name given = (
   left_neither (not (is_some (terminal_of old.region name))) (is_some (session_at old name)) _ _ _ _ _ _ given,
 )
 
-left_answered : OwnEventsHaveOwnAnswers → ErasedEvents → OtherEventsArePassed → (old : EdfState) (e : EdfEvent) (given : Answer) (new : EdfState) → EdfApplies old e given new → ends_task old e ≡ false
+left_answered : OwnEventsHaveOwnAnswers → ErasedEvents → OtherEventsArePassed → (make : DisplayMaker) (old : EdfState) (e : EdfEvent) (given : Answer) (new : EdfState) → AppliesBy make old e given new → ends_task old e ≡ false
     → (given ≡ answer.Region (reply.Alter alter.Altered) → ⊥) → left_of old e given ≡ answered_of e given
-left_answered answers erases law old (edf_event.On name) given new h ends never = (left_switched old name given).0
-left_answered answers erases law old (edf_event.Off name) given new h ends never = (left_switched old name given).1
-left_answered answers erases law old (edf_event.Plain e) (answer.Region r) new h ends never =
-    left_passed law old e r (answers old (edf_event.Plain e) (answer.Region r) new h) (λ is. never (ap (λ x. answer.Region x) is))
-left_answered answers erases law old (edf_event.Plain e) answer.ToEdf new h ends never =
-    left_none answers erases old (edf_event.Plain e) answer.ToEdf new h (answers old (edf_event.Plain e) answer.ToEdf new h) ends
-left_answered answers erases law old (edf_event.Plain e) answer.Held new h ends never =
-    left_none answers erases old (edf_event.Plain e) answer.Held new h (answers old (edf_event.Plain e) answer.Held new h) ends
-left_answered answers erases law old (edf_event.Plain e) answer.NotStopped new h ends never =
-    left_none answers erases old (edf_event.Plain e) answer.NotStopped new h (answers old (edf_event.Plain e) answer.NotStopped new h) ends
-left_answered answers erases law old (edf_event.Plain e) (answer.Edf r) new h ends never =
-    left_none answers erases old (edf_event.Plain e) (answer.Edf r) new h (answers old (edf_event.Plain e) (answer.Edf r) new h) ends
+left_answered answers erases law make old (edf_event.On name) given new h ends never = (left_switched old name given).0
+left_answered answers erases law make old (edf_event.Off name) given new h ends never = (left_switched old name given).1
+left_answered answers erases law make old (edf_event.Plain e) (answer.Region r) new h ends never =
+    left_passed law old e r (answers make old (edf_event.Plain e) (answer.Region r) new h) (λ is. never (ap (λ x. answer.Region x) is))
+left_answered answers erases law make old (edf_event.Plain e) answer.ToEdf new h ends never =
+    left_none answers erases make old (edf_event.Plain e) answer.ToEdf new h (answers make old (edf_event.Plain e) answer.ToEdf new h) ends
+left_answered answers erases law make old (edf_event.Plain e) answer.Held new h ends never =
+    left_none answers erases make old (edf_event.Plain e) answer.Held new h (answers make old (edf_event.Plain e) answer.Held new h) ends
+left_answered answers erases law make old (edf_event.Plain e) answer.NotStopped new h ends never =
+    left_none answers erases make old (edf_event.Plain e) answer.NotStopped new h (answers make old (edf_event.Plain e) answer.NotStopped new h) ends
+left_answered answers erases law make old (edf_event.Plain e) (answer.Edf r) new h ends never =
+    left_none answers erases make old (edf_event.Plain e) (answer.Edf r) new h (answers make old (edf_event.Plain e) (answer.Edf r) new h) ends
 
 -- ---- of a trace's front
-left_of_front : OwnEventsHaveOwnAnswers → ErasedEvents → OtherEventsArePassed → (old : EdfState) (events : List EdfEvent) (answers : List Answer) (states : List EdfState) (n : ℕ) → Trace old events answers states
+pub left_so_far : FrontsAreTraces → WhatIsLeftIsARun → (make : DisplayMaker) (old : EdfState) (events : List EdfEvent) (answers : List Answer) (states : List EdfState) → Trace make old events answers states
+    → (n : ℕ) → Run old.region (left_of_first old events answers states n) (replies_of_first old events answers states n) (state_after_first old states n).region
+left_so_far fronts law make old events answers states trace n =
+    law make old (take n events) (take n answers) (take n states) (fronts make old events answers states n trace)
+
+left_of_front : OwnEventsHaveOwnAnswers → ErasedEvents → OtherEventsArePassed → (make : DisplayMaker) (old : EdfState) (events : List EdfEvent) (answers : List Answer) (states : List EdfState) (n : ℕ) → Trace make old events answers states
     → AltersNothing old events answers states
     → (left_of_first old events answers states n ≡ events_in (answered_in (take n events) (take n answers)))
     × (replies_of_first old events answers states n ≡ replies_in (answered_in (take n events) (take n answers)))
 unfolding Trace erasure region_replies answered_in last_state
-left_of_front answers_own erases law old es gs ss zero trace still = (refl, refl)
-left_of_front answers_own erases law old [] [] [] (suc n) trace still = (refl, refl)
-left_of_front answers_own erases law old [] [] (s ∷ ss) (suc n) trace still = absurd trace
-left_of_front answers_own erases law old [] (g ∷ gs) ss (suc n) trace still = absurd trace
-left_of_front answers_own erases law old (e ∷ es) [] ss (suc n) trace still = absurd trace
-left_of_front answers_own erases law old (e ∷ es) (g ∷ gs) [] (suc n) trace still = absurd trace
-left_of_front answers_own erases law old (e ∷ es) (g ∷ gs) (s ∷ ss) (suc n) trace still =
+left_of_front answers_own erases law make old es gs ss zero trace still = (refl, refl)
+left_of_front answers_own erases law make old [] [] [] (suc n) trace still = (refl, refl)
+left_of_front answers_own erases law make old [] [] (s ∷ ss) (suc n) trace still = absurd trace
+left_of_front answers_own erases law make old [] (g ∷ gs) ss (suc n) trace still = absurd trace
+left_of_front answers_own erases law make old (e ∷ es) [] ss (suc n) trace still = absurd trace
+left_of_front answers_own erases law make old (e ∷ es) (g ∷ gs) [] (suc n) trace still = absurd trace
+left_of_front answers_own erases law make old (e ∷ es) (g ∷ gs) (s ∷ ss) (suc n) trace still =
     let here = still zero e refl in
-    let one : left_of old e g ≡ answered_of e g = left_answered answers_own erases law old e g s trace.0 here.0 (λ is. here.1 (ap Some is)) in
-    let rest = left_of_front answers_own erases law s es gs ss n trace.1 (λ m x is. still (suc m) x is) in
+    let one : left_of old e g ≡ answered_of e g = left_answered answers_own erases law make old e g s trace.0 here.0 (λ is. here.1 (ap Some is)) in
+    let rest = left_of_front answers_own erases law make s es gs ss n trace.1 (λ m x is. still (suc m) x is) in
     let more = answered_in (take n es) (take n gs) in
     ((λ i. events_in (one i) ++ rest.0 i) ∙ sym (map-append (λ (p : Event × Reply). p.0) (answered_of e g) more), (λ i. replies_in (one i) ++ rest.1 i) ∙ sym (map-append (λ (p : Event × Reply). p.1) (answered_of e g) more))
 
@@ -112,29 +117,44 @@ no_alterations (edf_event.Plain e ∷ es) (answer.Region r ∷ gs) = one_more (i
 no_alterations (_ ∷ es) (_ ∷ gs) = no_alterations es gs
 
 off_same : RunsDecide → OffIsTheRegion → (old : EdfState) (left : List Event) (replies : List Reply) (region : RegionState) → AllByRecursion (λ e. is_alteration e ≡ false) left
-    → Run old.region left replies region → (others : List Answer) (after : EdfState)
-    → EdfRun (record { region = old.region; sessions = [] }) (map (λ e. edf_event.Plain e) left) others after
-    → (others ≡ map (λ r. answer.Region r) replies) × (after.region ≡ region)
-off_same decide law old left replies region all plain others after run =
-    let off = law (record { region = old.region; sessions = [] }) left others after refl all run in
-    let same = decide old.region left off.0 replies after.region region off.1 plain in
+    → Run old.region left replies region → (make : DisplayMaker) (others : List Answer) (states : List EdfState)
+    → Trace make (off_at old.region) (map (λ e. edf_event.Plain e) left) others states
+    → (others ≡ map (λ r. answer.Region r) replies) × ((last_state (off_at old.region) states).region ≡ region)
+off_same decide law old left replies region all plain make others states trace =
+    let off = law make (off_at old.region) left others states refl all trace in
+    let same = decide old.region left off.0 replies (last_state (off_at old.region) states).region region off.1 plain in
     (off.2 ∙ ap (map (λ r. answer.Region r)) same.0, same.1)
 
 -- ---- the same states
-pub same_states : RunsDecide → OwnEventsHaveOwnAnswers → ErasedEvents → OtherEventsArePassed → OffIsTheRegion → OfEachRun IsAsUnwatched
-same_states decide own erased_law law off old events answers new run =
+-- what the proof cites
+pub record WatchLaws : Type 0 where
+  pub decide : RunsDecide
+  pub fronts : FrontsAreTraces
+  pub whole : WhatIsLeftIsARun
+  pub own : OwnEventsHaveOwnAnswers
+  pub erased : ErasedEvents
+  pub passed : OtherEventsArePassed
+  pub off : OffIsTheRegion
+  pub exists : TheRegionIsOff
+
+pub same_states : WatchLaws → OfEachRun IsAsUnwatched
+same_states laws make old events answers states trace =
     record {
-      plain = run.left_so_far;
-      only = λ n replies after h. decide old.region (left_of_first old events answers run.states n) replies (replies_of_first old events answers run.states n) after (state_after_first old run.states n).region h (run.left_so_far n);
+      plain = plain;
+      only = λ n replies after h. laws.decide old.region (left_of_first old events answers states n) replies (replies_of_first old events answers states n) after (state_after_first old states n).region h (plain n);
       unaltered = λ still n.
-          let left = left_of_front own erased_law law old events answers run.states n run.trace still in
+          let left = left_of_front laws.own laws.erased laws.passed make old events answers states n trace still in
           let all = subst (λ (es : List Event). AllByRecursion (λ e. is_alteration e ≡ false) es) (sym left.0) (no_alterations (take n events) (take n answers)) in
           record {
             events_left = left.0;
             replies_left = left.1;
-            off = off_same decide off old (left_of_first old events answers run.states n) (replies_of_first old events answers run.states n) (state_after_first old run.states n).region all (run.left_so_far n);
+            off = λ other. laws.exists other old.region (left_of_first old events answers states n) (replies_of_first old events answers states n) (state_after_first old states n).region all (plain n);
+            only_off = off_same laws.decide laws.off old (left_of_first old events answers states n) (replies_of_first old events answers states n) (state_after_first old states n).region all (plain n);
           };
     }
+  where
+    plain : (n : ℕ) → Run old.region (left_of_first old events answers states n) (replies_of_first old events answers states n) (state_after_first old states n).region
+    plain = left_so_far laws.fronts laws.whole make old events answers states trace
 
 -- ---- what is shown
 by_fault : (fault : Option ImageFault) (old : EdfState) (name : List ℕ) (image : Image) (text : List ℕ) (new : EdfState) → ByFault fault old name image text new → program_event fault name image ≡ None → new ≡ old

@@ -1,7 +1,10 @@
 //! The headline, one public function for each clause. They hold of every list of events under EDF, and of every script
 //! that ran, by the very record that `run_script` ensures of it.
 
+ghost use Rattle.cx_asm_laws.specs.Laws.Again.{AssemblesAgain};
 ghost use Rattle.cx_asm_laws.specs.Laws.Back.{ComesBack};
+ghost use Rattle.cx_edf.specs.Laws.Outcomes.{EdfEventListsAreRuns};
+ghost use Rattle.cx_edf.specs.Laws.Watched.{RunsCanBeWatched};
 ghost use Rattle.cx_headline.specs.Laws.Due.{AlwaysKeepsWhatIsDue, EventsKeepWhatIsDue, KeepsWhatIsDue, RunsKeepWhatIsDue, StillKeepsWhatIsDue};
 ghost use Rattle.cx_headline.specs.Laws.Entries.{EntriesHoldTheirBases, TasksBeginSo};
 ghost use Rattle.cx_headline.specs.Laws.Looks.{ScriptsAreLookedOver};
@@ -27,27 +30,42 @@ pub fn every_half_turn_is_its_row()
 
 /// Assembling an accepted source and disassembling its text by the places of its instructions gives what is in its
 /// control section: its statements, resolved. In a script that is what DISASM writes of a block, read, translated and
-/// assembled.
+/// assembled. These lines, with gaps as DS, are assembled again to the same text.
 pub fn what_was_assembled_comes_back()
     ensures sources { ComesBack }
     ensures scripts { BlocksComeBack }
+    ensures again { AssemblesAgain }
 {
     cx_asm_laws::laws::what_was_assembled_comes_back();
+    cx_asm_laws::laws::a_disassembly_is_assembled_again();
 }
 
 /// Under EDF, begun, ended and shown anywhere, the region after each event is that of a plain run of the events that
-/// are left without EDF. Where nothing was altered these are exactly the events that the region answered, except
-/// refused alterations, in their order, each as it was given; and with EDF Off everywhere they are answered so, and
-/// lead to that region.
+/// are left without EDF, whatever a display is. Where nothing was altered these are exactly the events that the region answered,
+/// except refused alterations, in their order, each as it was given; and with EDF Off everywhere they are answered so, and
+/// lead to that region, and in no other way.
 pub fn watching_changes_nothing()
     ensures runs { OfEachRun IsAsUnwatched }
     ensures scripts { OfEachScript IsAsUnwatched }
     ensures shown { ShowingChangesNothing }
 {
     cx_region_laws::laws::runs_decide();
+    cx_edf::laws::single_events_are_a_run();
+    cx_edf::laws::what_is_left_is_a_run();
     cx_edf::laws::what_is_erased_changes_nothing();
     cx_edf::laws::off_is_the_region();
     cx_script::laws::a_script_runs_its_events();
+}
+
+/// There are such runs. Each list of events, images checked, is a run under EDF, from every state. And each run of the region
+/// without alterations can be watched: with EDF ON given at any terminals before any of its events, and ENTER at each that meets
+/// its terminal stopped, it is what is left of a run under EDF.
+pub fn there_are_runs()
+    ensures runs { EdfEventListsAreRuns }
+    ensures watched { RunsCanBeWatched }
+{
+    cx_edf::laws::each_event_has_an_outcome();
+    cx_edf::laws::every_run_can_be_watched();
 }
 
 /// A look changes nothing. In each run of a script with looks each action has a part: one of `cicsedf` stands for itself, RUN for
@@ -88,6 +106,8 @@ pub fn what_is_due_is_kept()
 {
     cx_region_laws::laws::half_turns_leave_callers();
     cx_region_laws::laws::an_alteration_keeps_to_its_task();
+    cx_edf::laws::single_events_are_a_run();
+    cx_edf::laws::what_is_left_is_a_run();
     cx_script::laws::a_script_runs_its_events();
 }
 

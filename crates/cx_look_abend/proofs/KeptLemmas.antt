@@ -19,7 +19,7 @@ use Rattle.cx_region.specs.declared.replies.Reply.TheVariants as reply
 use Rattle.cx_edf.specs.Causes.{EdfHasAbendRecord}
 use Rattle.cx_edf.specs.Laws.Edf.{EdfEventsDecide}
 use Rattle.cx_edf.specs.State.{EdfState, holds}
-use Rattle.cx_edf.specs.Steps.{DoorAnswers, EdfApplies, Keeps, Passes, door_of}
+use Rattle.cx_edf.specs.Steps.{AppliesBy, DisplayMaker, DoorAnswers, EdfApplies, Keeps, Passes, door_of}
 use Rattle.cx_edf.specs.declared.answers.Answer.TheVariants as answer
 use Rattle.cx_edf.specs.declared.answers.EdfEvent.{EdfEvent}
 use Rattle.cx_edf.specs.declared.answers.EdfEvent.TheVariants as edf_event
@@ -49,13 +49,13 @@ unfolding Applies
 passed_explains law old new name given answered abend_record is applies recorded =
     turn_explains law old new name given abend_record (subst (λ (r : Reply). Applies old (event.Turn name) r new) (sym is) applies) recorded
 
-event_explains : AbendRecordsExplain → (old new : EdfState) (name : List ℕ) (given : TurnReply) (abend_record : Option AbendRecord)
-    → EdfApplies old (edf_event.Plain (event.Turn name)) (answer.Region (reply.Turn given)) new → EdfHasAbendRecord old (edf_event.Plain (event.Turn name)) abend_record
+event_explains : AbendRecordsExplain → (make : DisplayMaker) (old new : EdfState) (name : List ℕ) (given : TurnReply) (abend_record : Option AbendRecord)
+    → AppliesBy make old (edf_event.Plain (event.Turn name)) (answer.Region (reply.Turn given)) new → EdfHasAbendRecord old (edf_event.Plain (event.Turn name)) abend_record
     → Explains abend_record given
-unfolding EdfApplies door_of EdfHasAbendRecord
-event_explains law old new name given abend_record applies recorded = by_held (holds old name) applies recorded
+unfolding AppliesBy door_of EdfHasAbendRecord
+event_explains law make old new name given abend_record applies recorded = by_held (holds old name) applies recorded
   where
-    by_held : (b : Bool) → DoorAnswers old (if b then Keeps answer.Held old.sessions else Passes (event.Turn name) None) (answer.Region (reply.Turn given)) new
+    by_held : (b : Bool) → DoorAnswers make old (if b then Keeps answer.Held old.sessions else Passes (event.Turn name) None) (answer.Region (reply.Turn given)) new
         → MatchBool b (abend_record ≡ None) (TurnHasAbendRecord old.region name abend_record) → Explains abend_record given
     by_held true it none = absurd (let no : answer.Region (reply.Turn given) ≡ answer.Held = it.0 in cc)
     by_held false it that =
@@ -90,7 +90,7 @@ kept_by before region name turn.Ended (Some abend_record) is = absurd is
 
 pub abends_are_kept : AbendRecordsExplain → AbendsAreKept
 abends_are_kept law old new before after name given it =
-    rw it.kept (kept_by before new.region name given it.abend_record (event_explains law old new name given it.abend_record it.applies it.recorded))
+    rw it.kept (kept_by before new.region name given it.abend_record (event_explains law _ old new name given it.abend_record it.applies it.recorded))
 
 -- ---- what is kept is decided
 turn_abend_records_decide : AbendRecordsDecide → (old : RegionState) (name : List ℕ) (one other : Option AbendRecord) → TurnHasAbendRecord old name one → TurnHasAbendRecord old name other → one ≡ other

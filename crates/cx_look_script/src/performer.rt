@@ -20,6 +20,7 @@ use cx_script::edf_stage;
 use cx_script_actions::{Action, Performer, answer_text};
 use cx_source::Text;
 use cx_storage::Store;
+use cx_storage_keep::KeepingStore;
 use cx_storage_pages::PagedStore;
 use indexmap::IndexMap;
 use std::alloc::{AllocError, Global};
@@ -106,7 +107,7 @@ impl<S: Store + Drop> Looking<S> {
 }
 
 /// What a script of `cicslook` is performed on.
-pub type LookStage = Looking<PagedStore>;
+pub type LookStage = Looking<KeepingStore<PagedStore>>;
 
 /// The performer of a script of `cicslook` at its beginning: a fresh region, with EDF Off at each terminal.
 pub fn look_stage(alloc: Global) -> Result<LookStage, AllocError>

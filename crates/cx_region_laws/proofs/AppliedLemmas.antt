@@ -61,7 +61,7 @@ filled_others slot s place len owner bytes some least own fits =
     let put = own_put slot s place len owner own in
     write_at slot (with_area s (Some place) len owner) place len bytes (own_same slot s (with_area s (Some place) len owner) place len put (placed_own slot s len place least)) some fits ∙ put
 
-fill_fits : (fill : Fill) (len : ℕ) (r : TaskContext) → FitsFill fill len r → length (fill_bytes fill len r.shared.queues) ≤ len
+pub fill_fits : (fill : Fill) (len : ℕ) (r : TaskContext) → FitsFill fill len r → length (fill_bytes fill len r.shared.queues) ≤ len
 fill_fits (Byte b) len r fits = omega (arith, length-replicate len b)
 fill_fits (Item name n) len r fits = go _ fits
   where
@@ -70,7 +70,7 @@ fill_fits (Item name n) len r fits = go _ fits
     go (Some bytes) e = let is : length bytes ≡ len = cc in omega (arith, is)
 
 -- ---- a level's DFHEISTG
-four_bytes : (n : ℕ) → length (to_be_bytes w32 n) ≡ 4
+pub four_bytes : (n : ℕ) → length (to_be_bytes w32 n) ≡ 4
 four_bytes n = refl
 
 cap_others : (slot : ℕ) (s : Storage) (level : NewLevel) → Own slot s level.stg level.loaded.stg_len → 80 ≤ level.loaded.stg_len
@@ -93,7 +93,7 @@ unfolding with_copy_area
 copy_area_others slot s None = refl
 copy_area_others slot s (Some copying) = own_put slot s copying.to copying.from.len (system_owner slot) refl
 
-bytes_fit : (s : Storage) (piece : StorageSpan) → length (bytes_in s piece) ≤ piece.len
+pub bytes_fit : (s : Storage) (piece : StorageSpan) → length (bytes_in s piece) ≤ piece.len
 bytes_fit s piece = go (span s piece.place piece.len) (λ bytes e. span_length s piece.place piece.len bytes e)
   where
     go : (o : Option (List ℕ)) → ((bytes : List ℕ) → o ≡ Some bytes → length bytes ≡ piece.len) → length (unwrap_or o []) ≤ piece.len

@@ -18,13 +18,13 @@ use Rattle.cx_region_laws.specs.Laws.Bytes.{others_storage}
 use Rattle.cx_region_laws.proofs.OthersLemmas.{Elsewhere, Uncovered, elsewhere_same, uncovered_same}
 
 -- ---- an area that is there
-off_below : (area : Area) (x : ℕ) → x < area.start → covers area x ≡ false
+pub off_below : (area : Area) (x : ℕ) → x < area.start → covers area x ≡ false
 off_below area x below = elim (covers_cases area x) [
   | inl c ↦ absurd (omega (arith, c.1, below))
   | inr c ↦ c.0
 ]
 
-off_above : (area : Area) (x : ℕ) → end_of area ≤ x → covers area x ≡ false
+pub off_above : (area : Area) (x : ℕ) → end_of area ≤ x → covers area x ≡ false
 off_above area x above = elim (covers_cases area x) [
   | inl c ↦ absurd (omega (arith, c.2, above))
   | inr c ↦ c.0
@@ -34,7 +34,7 @@ later_uncovered : (hs : Storage) (e x : ℕ) → x < e → AllByRecursion (λ la
 later_uncovered [] e x below all = tt
 later_uncovered (h ∷ hs) e x below all = (off_below h.area x (omega (arith, below, all.0)), later_uncovered hs e x below all.1)
 
-later_start : (hs : Storage) (e p : ℕ) (mine : Area) → AllByRecursion (λ later. e ≤ later.area.start) hs → area_at hs p ≡ Some mine → e ≤ p
+pub later_start : (hs : Storage) (e p : ℕ) (mine : Area) → AllByRecursion (λ later. e ≤ later.area.start) hs → area_at hs p ≡ Some mine → e ≤ p
 unfolding area_at
 later_start [] e p mine all found = absurd (none-some mine found)
 later_start (h ∷ hs) e p mine all found = elim (cases_eq h.area.start p) [
@@ -96,7 +96,7 @@ missed : (len b : ℕ) (h : Held) (x : ℕ) → Misses len b h → b ≤ x → x
 missed len b h x (inl over) low high = off_above h.area x (omega (arith, over, low))
 missed len b h x (inr before) low high = off_below h.area x (omega (arith, before, high))
 
-all_missed : (s : Storage) (len b x : ℕ) → AllByRecursion (Misses len b) s → b ≤ x → x < b + len → Uncovered s x
+pub all_missed : (s : Storage) (len b x : ℕ) → AllByRecursion (Misses len b) s → b ≤ x → x < b + len → Uncovered s x
 all_missed [] len b x all low high = tt
 all_missed (h ∷ hs) len b x all low high = (missed len b h x all.0 low high, all_missed hs len b x all.1 low high)
 

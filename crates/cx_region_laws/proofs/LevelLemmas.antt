@@ -49,10 +49,12 @@ others : IsOfNoOther is_request
 unfolding is_request
 others =
     record {
-      last = λ name piece. refl;
-      at = λ name n piece. refl;
-      enqueues = λ name. refl;
-      gets = λ got. refl;
+      services = record {
+        last = λ name piece. refl;
+        at = λ name n piece. refl;
+        enqueues = λ name. refl;
+        gets = λ got. refl;
+      };
       enters = λ level. refl;
       replaces = λ copying level. refl;
     }
@@ -113,17 +115,17 @@ judged_well call r v judged = go call.command judged
     go command.PushHandle is = row_well v _ is (push_well r.task.levels.current.handles.kept)
     go command.PopHandle is = row_well v _ is (pop_well r.task.levels.current.handles.kept)
     go command.Receive is = row_none v _ is (receive_none is_request apart r.terminal_entry.input _)
-    go command.WriteqTs is = row_none v _ is (writeq_none is_request apart others call r)
-    go command.ReadqTs row = none_well v (λ e. readq_none is_request apart others call r v row e)
+    go command.WriteqTs is = row_none v _ is (writeq_none is_request apart others.services call r)
+    go command.ReadqTs row = none_well v (λ e. readq_none is_request apart others.services call r v row e)
     go command.DeleteqTs is = row_none v _ is (deleteq_none is_request apart r.shared.storage r.shared.queues call)
-    go command.Getmain row = none_well v (λ e. getmain_none is_request apart others call r v row e)
+    go command.Getmain row = none_well v (λ e. getmain_none is_request apart others.services call r v row e)
     go command.Freemain is = row_none v _ is (freemain_none is_request apart r.shared.storage r.terminal_entry.slot call)
     go command.Link row = none_well v (λ e. link_none is_request apart others call r v row e)
     go command.Xctl row = none_well v (λ e. xctl_none is_request apart others call r v row e)
     go command.Return is = row_none v _ is (return_none r.task.levels.callers call r)
     go command.Abend is = row_none v _ is refl
     go command.HandleAbend is = row_well v _ is (λ e. refl)
-    go command.Enq is = row_none v _ is (enq_none is_request apart others call r)
+    go command.Enq is = row_none v _ is (enq_none is_request apart others.services call r)
     go command.Deq is = row_none v _ is (deq_none is_request apart r.shared.storage call)
     go command.Suspend is = row_none v _ is refl
     go command.SendText is = row_none v _ is (send_text_none is_request apart r.shared.storage call)

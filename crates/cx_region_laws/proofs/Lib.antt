@@ -16,11 +16,22 @@ mod TakenLemmas
 mod PlainLemmas
 mod StandLemmas
 mod PointerLemmas
+mod StayingLemmas
+mod EibLemmas
+mod MadeLemmas
+mod MetLemmas
+mod ReportLemmas
+mod CalenLemmas
+mod EntryLemmas
+mod CommareaLemmas
+mod AttachLemmas
 pub mod KeepsLemmas
 pub mod AlterLemmas
 pub mod DecideLemmas
 pub mod RunLawLemmas
 pub mod MemoryLemmas
 pub mod LoadedLemmas
+pub mod EndingLemmas
+pub mod StepOutcomeLemmas
 pub mod OutcomeLemmas
 pub mod SoundLemmas

@@ -1,6 +1,6 @@
 -- A half-turn is answered Returned only where there is a caller.
-use Rattle.std.proofs.Common.{◌≡◌, ℕ, ◌<◌, Bool, true, false, List, [], ◌∷◌, length, Option, Some, None, refl, sym, ◌∙◌, ap, arith, inl, inr}
-use Rattle.std.specs.Prelude.{◌&&◌, not, Result, Ok, Err, MatchBool, MatchResult, if◌then◌else◌}
+use Rattle.std.proofs.Common.{◌≡◌, ℕ, ◌<◌, Bool, true, false, List, [], ◌∷◌, length, Option, Some, None, refl, sym, ◌∙◌, ap, subst, arith, inl, inr}
+use Rattle.std.specs.Prelude.{◌&&◌, ◌||◌, not, Result, Ok, Err, MatchBool, MatchResult, if◌then◌else◌}
 use Rattle.std.proofs.lemmas.Bool.{cases_Bool, true≢false}
 use Rattle.cx_base_commands.specs.Abends.{abend_code}
 use Rattle.cx_base_commands.specs.declared.abends.Abend.TheVariants as abend
@@ -27,15 +27,11 @@ use Rattle.cx_region_state.specs.declared.verdict.Verdict.TheVariants.{Meets, Re
 use Rattle.cx_region_commands.specs.Common.{does, has}
 use Rattle.cx_region_commands.specs.Abend.{abend_row}
 use Rattle.cx_region_commands.specs.Address.{address_row}
-use Rattle.cx_region_commands.specs.Enq.{enqueues}
-use Rattle.cx_region_commands.specs.Getmain.{gets}
 use Rattle.cx_region_commands.specs.HandleAbend.{handle_abend_row}
 use Rattle.cx_region_commands.specs.Handling.{handle_row, ignore_row}
 use Rattle.cx_region_commands.specs.CommandVerdicts.{HasVerdict, JudgedBy}
-use Rattle.cx_region_commands.specs.Link.{enters}
 use Rattle.cx_region_commands.specs.Return.{highest_return, return_row}
 use Rattle.cx_region_commands.specs.Suspend.{suspend_row}
-use Rattle.cx_region_commands.specs.Xctl.{replaces}
 use Rattle.cx_region_task.specs.declared.continuation.Continuation.{Continuation}
 use Rattle.cx_region_task.specs.declared.continuation.Continuation.TheVariants as continuation
 use Rattle.cx_region_task.specs.Abends.{Abends, AbendsAt}
@@ -47,7 +43,7 @@ use Rattle.cx_region_laws.specs.Laws.Levels.{ReturnsHaveCallers}
 use Rattle.cx_region_laws.proofs.RowLemmas.{IsApart, IsOfNoOther, deleteq_none, deq_none, enq_none, freemain_none, getmain_none, link_none, never, passes, pop_none, push_none, readq_none, receive_none, send_text_none, writeq_none, xctl_none}
 
 -- whether a change ends a level
-ends_level : TaskChange → Bool
+unfoldable pub ends_level : TaskChange → Bool
 ends_level LevelEnds = true
 ends_level _ = false
 
@@ -59,10 +55,12 @@ others : IsOfNoOther ends_level
 unfolding ends_level
 others =
     record {
-      last = λ name piece. refl;
-      at = λ name n piece. refl;
-      enqueues = λ name. refl;
-      gets = λ got. refl;
+      services = record {
+        last = λ name piece. refl;
+        at = λ name n piece. refl;
+        enqueues = λ name. refl;
+        gets = λ got. refl;
+      };
       enters = λ level. refl;
       replaces = λ copying level. refl;
     }
@@ -72,9 +70,14 @@ unfolding ends_level
 no_handles r = refl
 
 -- ---- RETURN
-return_has : (call : Call) (r : TaskContext) (v : Verdict) → v ≡ return_row r.shared.storage r.task.levels.callers call → passes ends_level v ≡ true → 0 < length r.task.levels.callers
+-- a level has linked to the current one, and a condition that is met is NORMAL
+abbrev pub EndsWell : TaskContext → Verdict → Type 0
+EndsWell r (Meets condition outputs change) = (0 < length r.task.levels.callers) × (is_normal condition ≡ true)
+EndsWell r _ = 0 < length r.task.levels.callers
+
+return_ends : (call : Call) (r : TaskContext) (v : Verdict) → v ≡ return_row r.shared.storage r.task.levels.callers call → passes ends_level v ≡ true → EndsWell r v
 unfolding return_row passes ends_level
-return_has call r v is e = go r.task.levels.callers (sym (ap (passes ends_level) is) ∙ e)
+return_ends call r v is e = subst (EndsWell r) (sym is) (go r.task.levels.callers refl (sym (ap (passes ends_level) is) ∙ e))
   where
     highest : passes ends_level (highest_return r.shared.storage call) ≡ false
     highest = elim (cases_Bool (has call option.Commarea && not (has call option.Transid))) [
@@ -85,32 +88,35 @@ return_has call r v is e = go r.task.levels.callers (sym (ap (passes ends_level)
       ]
     ]
 
-    go : (callers : List Level) → passes ends_level (return_row r.shared.storage callers call) ≡ true → 0 < length callers
-    go [] e = absurd (true≢false (sym e ∙ highest))
-    go (caller ∷ callers) e = omega arith
+    go : (callers : List Level) → r.task.levels.callers ≡ callers → passes ends_level (return_row r.shared.storage callers call) ≡ true → EndsWell r (return_row r.shared.storage callers call)
+    go [] same e = absurd (true≢false (sym e ∙ highest))
+    go (caller ∷ callers) same e = elim (cases_Bool (has call option.Transid || has call option.Commarea)) [
+      | inl t ↦ let never = rw t at e in cc
+      | inr f ↦ rw f (rw same (omega arith), refl)
+    ]
 
-judged_has : (call : Call) (r : TaskContext) (v : Verdict) → HasVerdict call r v → passes ends_level v ≡ true → 0 < length r.task.levels.callers
+pub judged_ends : (call : Call) (r : TaskContext) (v : Verdict) → HasVerdict call r v → passes ends_level v ≡ true → EndsWell r v
 unfolding HasVerdict address_row abend_row handle_row ignore_row suspend_row handle_abend_row passes ends_level
-judged_has call r v judged e = go call.command judged
+judged_ends call r v judged e = go call.command judged
   where
-    go : (c : Command) → JudgedBy c call r v → 0 < length r.task.levels.callers
+    go : (c : Command) → JudgedBy c call r v → EndsWell r v
     go command.Address is = never ends_level v _ is refl e
     go command.HandleCondition is = never ends_level v _ is refl e
     go command.IgnoreCondition is = never ends_level v _ is refl e
     go command.PushHandle is = never ends_level v _ is (push_none ends_level apart no_handles r.task.levels.current.handles.kept) e
     go command.PopHandle is = never ends_level v _ is (pop_none ends_level apart no_handles r.task.levels.current.handles.kept) e
     go command.Receive is = never ends_level v _ is (receive_none ends_level apart r.terminal_entry.input _) e
-    go command.WriteqTs is = never ends_level v _ is (writeq_none ends_level apart others call r) e
-    go command.ReadqTs row = readq_none ends_level apart others call r v row e
+    go command.WriteqTs is = never ends_level v _ is (writeq_none ends_level apart others.services call r) e
+    go command.ReadqTs row = readq_none ends_level apart others.services call r v row e
     go command.DeleteqTs is = never ends_level v _ is (deleteq_none ends_level apart r.shared.storage r.shared.queues call) e
-    go command.Getmain row = getmain_none ends_level apart others call r v row e
+    go command.Getmain row = getmain_none ends_level apart others.services call r v row e
     go command.Freemain is = never ends_level v _ is (freemain_none ends_level apart r.shared.storage r.terminal_entry.slot call) e
     go command.Link row = link_none ends_level apart others call r v row e
     go command.Xctl row = xctl_none ends_level apart others call r v row e
-    go command.Return is = return_has call r v is e
+    go command.Return is = return_ends call r v is e
     go command.Abend is = never ends_level v _ is refl e
     go command.HandleAbend is = never ends_level v _ is refl e
-    go command.Enq is = never ends_level v _ is (enq_none ends_level apart others call r) e
+    go command.Enq is = never ends_level v _ is (enq_none ends_level apart others.services call r) e
     go command.Deq is = never ends_level v _ is (deq_none ends_level apart r.shared.storage call) e
     go command.Suspend is = never ends_level v _ is refl e
     go command.SendText is = never ends_level v _ is (send_text_none ends_level apart r.shared.storage call) e
@@ -134,7 +140,7 @@ not_chosen choice.GoOn e = cc
 not_chosen choice.Wait e = cc
 not_chosen (choice.Abend code) e = cc
 
-way_ends : (call : Call) (condition : Condition) (change : TaskChange) (r : TaskContext) → continuation_at call condition change r ≡ continuation.LevelEnds → ends_level change ≡ true
+pub way_ends : (call : Call) (condition : Condition) (change : TaskChange) (r : TaskContext) → continuation_at call condition change r ≡ continuation.LevelEnds → ends_level change ≡ true
 unfolding continuation_of
 way_ends call condition change r e = either (is_normal condition) e
   where
@@ -153,7 +159,7 @@ abends_not code cancel before after it = go it.exit it.ends
     go None over = let no : turn.Returned ≡ turn.Abended code = over.0 in cc
     go (Some index) over = let no : turn.Returned ≡ turn.TookExit code = over.0 in cc
 
-goes_ends : (gone : Continuation) (condition : Condition) (committed after : TaskContext) → Goes gone condition committed turn.Returned after → gone ≡ continuation.LevelEnds
+pub goes_ends : (gone : Continuation) (condition : Condition) (committed after : TaskContext) → Goes gone condition committed turn.Returned after → gone ≡ continuation.LevelEnds
 unfolding Goes
 goes_ends continuation.GoesOn condition committed after goes = let no : turn.Returned ≡ turn.Performed condition = goes.0 in cc
 goes_ends (continuation.TakesLabel label) condition committed after goes = let no : turn.Returned ≡ turn.TookLabel condition = goes.0 in cc
@@ -177,8 +183,8 @@ answers_has (Meets condition outputs change) call before after judged it = by_ro
     by_wait : (b : Bool) → MatchBool b (LeavesAll before turn.Returned after) (Does call condition outputs change before turn.Returned after) → 0 < length before.task.levels.callers
     by_wait true leaves = waits_not before after leaves
     by_wait false does =
-        judged_has call before (Meets condition outputs change) judged
-        (way_ends call condition change before (goes_ends (continuation_at call condition change before) condition does.committed after does.goes))
+        (judged_ends call before (Meets condition outputs change) judged
+        (way_ends call condition change before (goes_ends (continuation_at call condition change before) condition does.committed after does.goes))).0
 
     by_room : (b : Bool) → MatchBool b (MatchBool (is_wait (continuation_at call condition change before)) (LeavesAll before turn.Returned after) (Does call condition outputs change before turn.Returned after))
         (Abends (abend_code abend.Xarg) false before turn.Returned after) → 0 < length before.task.levels.callers

@@ -59,11 +59,15 @@ pub record IsApart (p : TaskChange → Bool) : Type 0 where
   pub shows : (piece : StorageSpan) (erase : Bool) → p (Makes (Shows piece erase)) ≡ false
 
 -- nor of these
-pub record IsOfNoOther (p : TaskChange → Bool) : Type 0 where
+pub record IsOfNoService (p : TaskChange → Bool) : Type 0 where
   pub last : (name : List ℕ) (piece : StorageSpan) → p (Makes (ItemLast name piece)) ≡ false
   pub at : (name : List ℕ) (n : ℕ) (piece : StorageSpan) → p (Makes (ItemAt name n piece)) ≡ false
   pub enqueues : (name : ResourceName) → p (Makes (Enqueues name)) ≡ false
   pub gets : (got : Got) → p (Gets got) ≡ false
+
+-- nor of those of a level that begins
+pub record IsOfNoOther (p : TaskChange → Bool) : Type 0 where
+  pub services : IsOfNoService p
   pub enters : (level : NewLevel) → p (Enters level) ≡ false
   pub replaces : (copying : Option Copying) (level : NewLevel) → p (Replaces copying level) ≡ false
 
@@ -145,7 +149,7 @@ send_text_none p apart s call = elim (cases_Bool (is_length_negative s call)) [
     go (Some piece) = apart.shows piece (has call option.Erase)
 
 -- ---- rows of storage, queues, resources and levels
-pub getmain_none : (p : TaskChange → Bool) → IsApart p → IsOfNoOther p → (call : Call) (r : TaskContext) (v : Verdict) → GetmainRow r.shared.storage call v → passes p v ≡ true → {P : Type 0} → P
+pub getmain_none : (p : TaskChange → Bool) → IsApart p → IsOfNoService p → (call : Call) (r : TaskContext) (v : Verdict) → GetmainRow r.shared.storage call v → passes p v ≡ true → {P : Type 0} → P
 unfolding GetmainRow passes
 getmain_none p apart others call r v row e = by_test (is_area_length (asked_len r.shared.storage call)) row (λ _ at. got at.place at.is) (λ _ is. never p v (condition_alone Lengerr) is apart.none e)
   where
@@ -153,7 +157,7 @@ getmain_none p apart others call r v row e = by_test (is_area_length (asked_len 
     got None is = never p v _ is apart.none e
     got (Some place) is = never p v _ is (others.gets _) e
 
-pub readq_none : (p : TaskChange → Bool) → IsApart p → IsOfNoOther p → (call : Call) (r : TaskContext) (v : Verdict) → ReadqRow r.shared.storage r.shared.queues call v → passes p v ≡ true → {P : Type 0} → P
+pub readq_none : (p : TaskChange → Bool) → IsApart p → IsOfNoService p → (call : Call) (r : TaskContext) (v : Verdict) → ReadqRow r.shared.storage r.shared.queues call v → passes p v ≡ true → {P : Type 0} → P
 unfolding ReadqRow ReadsQueue Reads passes
 readq_none p apart others call r v row e =
     by_test (has call option.Into && is_length_negative r.shared.storage call) row
@@ -208,7 +212,7 @@ xctl_none p apart others call r v row e =
     copied called piece None is = never p v (Refuses abend.Xstg) is refl e
     copied called piece (Some to) at = placed called (Some (copying_to piece to)) at.place at.is
 
-pub writeq_none : (p : TaskChange → Bool) → IsApart p → IsOfNoOther p → (call : Call) (r : TaskContext) → passes p (writeq_row r.shared.storage r.shared.queues call) ≡ false
+pub writeq_none : (p : TaskChange → Bool) → IsApart p → IsOfNoService p → (call : Call) (r : TaskContext) → passes p (writeq_row r.shared.storage r.shared.queues call) ≡ false
 unfolding writeq_row passes
 writeq_none p apart others call r = go (bytes_of r.shared.storage call option.Queue 8)
   where
@@ -223,7 +227,7 @@ writeq_none p apart others call r = go (bytes_of r.shared.storage call option.Qu
     go None = apart.none
     go (Some name) = written name (piece_of r.shared.storage call option.From)
 
-pub enq_none : (p : TaskChange → Bool) → IsApart p → IsOfNoOther p → (call : Call) (r : TaskContext) → passes p (enq_row r.shared.storage r.shared.resources r.terminal_entry.slot call) ≡ false
+pub enq_none : (p : TaskChange → Bool) → IsApart p → IsOfNoService p → (call : Call) (r : TaskContext) → passes p (enq_row r.shared.storage r.shared.resources r.terminal_entry.slot call) ≡ false
 unfolding enq_row passes
 enq_none p apart others call r = elim (cases_Bool (is_wrong_length r.shared.storage call)) [
   | inl t ↦ rw t apart.none

@@ -44,19 +44,19 @@ write_stands s place bytes k byte low short there at =
     let whole = span_after_write s place bytes low short there in
     span_at (after_write s place bytes) place (length bytes) bytes k low whole (inside bytes k byte at) ∙ ap Some (get_or_from_slice_get bytes k byte 0 at)
 
-write_elsewhere : (s : Storage) (a : ℕ) (bytes : List ℕ) (x : ℕ) → a < 2 ^ 24 → length bytes ≤ distance a x → byte_at (after_write s a bytes) x ≡ byte_at s x
+pub write_elsewhere : (s : Storage) (a : ℕ) (bytes : List ℕ) (x : ℕ) → a < 2 ^ 24 → length bytes ≤ distance a x → byte_at (after_write s a bytes) x ≡ byte_at s x
 write_elsewhere s a bytes x low far = elim (cases_Bool (is_some (span s a (length bytes)))) [
   | inl e ↦ ap (λ (t : Storage). byte_at t x) (written_whole s a bytes e) ∙ bytes_elsewhere s a bytes x low far
   | inr e ↦ ap (λ (t : Storage). byte_at t x) (written_none s a bytes e)
 ]
 
 -- ---- outputs
-place_elsewhere : (s : Storage) (place : Option ℕ) (bytes : List ℕ) (x : ℕ) → ((p : ℕ) → place ≡ Some p → p < 2 ^ 24) → is_among x place (length bytes) ≡ false
+pub place_elsewhere : (s : Storage) (place : Option ℕ) (bytes : List ℕ) (x : ℕ) → ((p : ℕ) → place ≡ Some p → p < 2 ^ 24) → is_among x place (length bytes) ≡ false
     → byte_at (with_output s place bytes) x ≡ byte_at s x
 place_elsewhere s None bytes x low apart = refl
 place_elsewhere s (Some p) bytes x low apart = write_elsewhere s p bytes x (low p refl) (ltb-false _ _ apart)
 
-puts_elsewhere : (s : Storage) (call : Call) (text : List ℕ) (outputs : List Output) (x : ℕ) → AreLow call.places → list_any (is_in_output x call text) outputs ≡ false
+pub puts_elsewhere : (s : Storage) (call : Call) (text : List ℕ) (outputs : List Output) (x : ℕ) → AreLow call.places → list_any (is_in_output x call text) outputs ≡ false
     → byte_at (put_out s call text outputs) x ≡ byte_at s x
 unfolding put_out
 puts_elsewhere s call text [] x low apart = refl
@@ -70,7 +70,7 @@ place_present : (s : Storage) (place : Option ℕ) (bytes : List ℕ) (b n : ℕ
 place_present s None bytes b n = refl
 place_present s (Some p) bytes b n = span_present_after_write s p bytes b n
 
-puts_present : (s : Storage) (call : Call) (text : List ℕ) (outputs : List Output) (b n : ℕ) → is_some (span (put_out s call text outputs) b n) ≡ is_some (span s b n)
+pub puts_present : (s : Storage) (call : Call) (text : List ℕ) (outputs : List Output) (b n : ℕ) → is_some (span (put_out s call text outputs) b n) ≡ is_some (span s b n)
 unfolding put_out
 puts_present s call text [] b n = refl
 puts_present s call text (output ∷ rest) b n =
@@ -135,7 +135,7 @@ field_elsewhere : (s : Storage) (eib : ℕ) (it : Content) (x : ℕ) → eib < 2
 unfolding with_field
 field_elsewhere s eib it x low far fits = write_elsewhere s (address_after eib (eib_field it.field).offset) it.bytes x (omega arith) (omega (arith, low, far, fits))
 
-calen_elsewhere : (s : Storage) (eib : ℕ) (calen : Option ℕ) (x : ℕ) → eib < 2 ^ 24 → eib_len ≤ distance eib x → byte_at (with_calen s eib calen) x ≡ byte_at s x
+pub calen_elsewhere : (s : Storage) (eib : ℕ) (calen : Option ℕ) (x : ℕ) → eib < 2 ^ 24 → eib_len ≤ distance eib x → byte_at (with_calen s eib calen) x ≡ byte_at s x
 unfolding with_calen
 calen_elsewhere s eib None x low far = refl
 calen_elsewhere s eib (Some calen) x low far = field_elsewhere s eib (content Calen (to_be_bytes w16 calen)) x low far (omega arith)

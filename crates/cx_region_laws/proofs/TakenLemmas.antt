@@ -32,7 +32,7 @@ use Rattle.cx_region_laws.proofs.ExitLemmas.{exits_are_nearest}
 use Rattle.cx_region_laws.proofs.LevelLemmas.{IsWell, is_request, judged_well, settles_levels}
 
 -- the way of an abend is one of a change that asks for no handles
-is_abend : Continuation → Bool
+pub is_abend : Continuation → Bool
 is_abend (continuation.Abends code cancel) = true
 is_abend _ = false
 
@@ -65,7 +65,7 @@ way_asks_none call condition outputs change r well abends = either (is_normal co
     either false e abends = unasked (is_request change) refl e
 
 -- an abend with whatever code that an exit took
-takes : (own : List ℕ) (cancel : Bool) (code : List ℕ) (before after : TaskContext) → Abends own cancel before (turn.TookExit code) after → TakesExit before after
+pub takes : (own : List ℕ) (cancel : Bool) (code : List ℕ) (before after : TaskContext) → Abends own cancel before (turn.TookExit code) after → TakesExit before after
 unfolding AbendsAt
 takes own cancel code before after it = exits_are_nearest code cancel before after (record { exit = it.exit; takes = it.takes; ends = go it.exit it.ends })
   where
@@ -74,7 +74,7 @@ takes own cancel code before after it = exits_are_nearest code cancel before aft
     go (Some index) over = (refl, over.1)
 
 -- the way of a command of which an exit took an abend
-goes_abend : (gone : Continuation) (condition : Condition) (code : List ℕ) (committed after : TaskContext) → Goes gone condition committed (turn.TookExit code) after
+pub goes_abend : (gone : Continuation) (condition : Condition) (code : List ℕ) (committed after : TaskContext) → Goes gone condition committed (turn.TookExit code) after
     → (is_abend gone ≡ true) × TakesExit committed after
 unfolding Goes is_abend
 goes_abend continuation.GoesOn condition code committed after goes = let no : turn.TookExit code ≡ turn.Performed condition = goes.0 in cc

@@ -1,11 +1,13 @@
 //! What holds of every half-turn, of every event, and of every run of events.
 ghost use Rattle.cx_region_laws.specs.Laws.Alterations.{AbendsKeepOthers, AbendsLookAtNoExit, AbendsOfTasksAreDone, AlterationsDecide, AlterationsKeepLevels, AlterationsKeepStorage, AlterationsKeepToTheirTask, RefusedAlterationsLeaveTheRegion};
 ghost use Rattle.cx_region_laws.specs.Laws.Bytes.{CommandsLeaveOthers};
+ghost use Rattle.cx_region_laws.specs.Laws.Commareas.{AttachedCalenIsTheLevels, AttachedFindCommareas, EnteredFindCommareas};
 ghost use Rattle.cx_region_laws.specs.Laws.Exits.{CancelTakesNoExit, ExitsAreNearest, ExitsTakeAbends, HalfTurnsTakeExits};
 ghost use Rattle.cx_region_laws.specs.Laws.Levels.{CommandsAreKept, DueIsKept, HalfTurnsLeaveCallers, LinksAreReturned, PopsRestore, ReturnsHaveCallers};
 ghost use Rattle.cx_region_laws.specs.Laws.Memory.{RefusedEventsAreNone, StoppedRunsGoOn};
-ghost use Rattle.cx_region_laws.specs.Laws.Outcomes.{EventsHaveOutcomes, HalfTurnsHaveEnds};
+ghost use Rattle.cx_region_laws.specs.Laws.Outcomes.{AdvancesHaveOutcomes, EventListsAreRuns, EventsHaveOutcomes, HalfTurnsHaveEnds, StepsHaveOutcomes};
 ghost use Rattle.cx_region_laws.specs.Laws.Pointers.{OutputsStay, ProgramsGoOn};
+ghost use Rattle.cx_region_laws.specs.Laws.Reports.{CalenIsTheLevels, CommandsReport, ExitsFindReports};
 ghost use Rattle.cx_region_laws.specs.Laws.Regions.{ProgramsDecide, TransactionsDecide, TerminalsDecide, TurnsDecide, AreAsMany, EventsDecide, KeysDecide, KeysKeepToTheirTerminal, RefusedProgramsLeaveTheRegion, RefusedTerminalsLeaveTheRegion, RefusedTransactionsLeaveTheRegion, RunsDecide, RunsJoin, RunsPart, StillKeysLeaveTheRegion, StillTurnsLeaveTheRegion, TurnsKeepOthers, TurnsKeepToTheirTask};
 ghost use Rattle.cx_region_laws.specs.Laws.Sound.{SoundIsKept};
 ghost use Rattle.cx_region_laws.specs.Laws.TaskMemory.{OnlyTheseTakeMemory};
@@ -26,6 +28,37 @@ pub fn a_pointer_stays()
     ensures outputs { OutputsStay }
 {
     cx_region_call::laws::call_is_read();
+}
+
+/// A command that is performed reports itself: EIBFN is its function value, EIBRCODE and EIBRESP have the number of the
+/// condition that it met, EIBRSRCE the name at PROGRAM or QUEUE, and RESP's word the number. A level that begins, and one that is
+/// returned to, is reported with NORMAL, and after RETURN EIBFN is LINK's. Where an exit takes a command's abend the program
+/// finds the report of the condition, or, where the command was refused, the report before it.
+pub fn a_command_reports_itself()
+    ensures performed { CommandsReport }
+    ensures exits { ExitsFindReports }
+{
+    cx_region_call::laws::call_is_read();
+    cx_region_task::laws::half_turns_keep();
+}
+
+/// Where a level begins, by LINK, by XCTL or by a key, is returned to, or takes an abend, EIBCALEN is the length of its COMMAREA.
+pub fn eibcalen_is_the_current_levels()
+    ensures turned { CalenIsTheLevels }
+    ensures attached { AttachedCalenIsTheLevels }
+{
+    cx_region_call::laws::call_is_read();
+    cx_region_task::laws::half_turns_keep();
+}
+
+/// A program that is entered finds the COMMAREA that is passed to it: EIBCALEN says how many bytes it has, DFHEICAP has its
+/// address, or 0 where it has no bytes, and the bytes are those that the command found.
+pub fn an_entered_program_finds_its_commarea()
+    ensures entered { EnteredFindCommareas }
+    ensures attached { AttachedFindCommareas }
+{
+    cx_region_call::laws::call_is_read();
+    cx_region_task::laws::half_turns_keep();
 }
 
 /// An abend's exit is the nearest that is on, and it is off then: the next abend goes to one above it. The levels below its
@@ -189,13 +222,18 @@ pub fn a_refused_event_is_none()
     events_decide();
 }
 
-/// Each event has an outcome, also one that was refused memory; and so has each half-turn that may take some.
-#[tactic(auto, using(crate::proofs::OutcomeLemmas::half_turns_have_ends))]
+/// From each machine there is a step, and a run of at most 65,536 of them; each half-turn has an end, each event an outcome, and
+/// each list of events, images checked, is a run: over the definitions alone, in every state, whatever memory there is.
+#[tactic(auto, using(crate::proofs::StepOutcomeLemmas::steps_have_outcomes, crate::proofs::StepOutcomeLemmas::advances_have_outcomes))]
 pub fn each_event_has_an_outcome()
+    ensures steps { StepsHaveOutcomes }
+    ensures advances { AdvancesHaveOutcomes }
     ensures turns { HalfTurnsHaveEnds }
     ensures events { EventsHaveOutcomes }
+    ensures runs { EventListsAreRuns }
 {
     cx_load::laws::relocation();
+    cx_service::laws::every_text_has_lines();
 }
 
 /// An event of a sound region leads to a sound one, over the definitions of events alone: areas of live tasks, owners, names,

@@ -5,7 +5,7 @@ use Rattle.cx_load.specs.Fault.{fault_of}
 use Rattle.cx_load.specs.declared.fault.ImageFault.{ImageFault}
 use Rattle.cx_edf.specs.declared.answers.Answer.{Answer}
 use Rattle.cx_edf.specs.declared.answers.EdfEvent.{EdfEvent}
-use Rattle.cx_edf.specs.Laws.Edf.{EdfEventsDecide, TracesAreRuns}
+use Rattle.cx_edf.specs.Laws.Edf.{EdfEventsDecide}
 use Rattle.cx_edf.specs.State.{EdfState}
 use Rattle.cx_edf.specs.Steps.{EdfApplies}
 use Rattle.cx_edf.specs.Runs.{EdfRun, Trace, last_state}
@@ -63,10 +63,10 @@ gives old (action.Display name) text new p = p.1
 gives old (action.Previous name k) text new p = p.1
 
 -- one action in front of a run
-runs_on : TracesAreRuns → (given : Option EdfEvent) (a : Action) (actions : List Action) (old between new : EdfState) (first rest : List ℕ) → event_of a ≡ given
+runs_on : (given : Option EdfEvent) (a : Action) (actions : List Action) (old between new : EdfState) (first rest : List ℕ) → event_of a ≡ given
     → Gives given (written_before a) old first between → IsRun between actions rest new → IsRun old (a ∷ actions) (first ++ rest) new
 unfolding AreReported Trace last_state
-runs_on law None a actions old between new first rest e p r =
+runs_on None a actions old between new first rest e p r =
     record {
       answers = r.answers;
       run = rw e (subst (λ (s : EdfState). EdfRun s (events_of actions) r.answers new) p r.run);
@@ -74,19 +74,19 @@ runs_on law None a actions old between new first rest e p r =
       whole = ap (λ (l : List ℕ). first ++ l) r.whole;
       reported = subst (λ (o : Option EdfEvent). IsReportedBy o (written_before a) r.answers first (λ left. AreReported actions left r.texts)) (sym e) r.reported;
     }
-runs_on law (Some event) a actions old between new first rest e p r =
+runs_on (Some event) a actions old between new first rest e p r =
     record {
       answers = p.0 ∷ r.answers;
-      run = rw e (law old (event ∷ events_of actions) (p.0 ∷ r.answers) (between ∷ r.run.states) new (p.1, r.run.trace) r.run.ends).0;
+      run = rw e (record { states = between ∷ r.run.states; trace = (p.1, r.run.trace); ends = r.run.ends });
       texts = first ∷ r.texts;
       whole = ap (λ (l : List ℕ). first ++ l) r.whole;
       reported = subst (λ (o : Option EdfEvent). IsReportedBy o (written_before a) (p.0 ∷ r.answers) first (λ left. AreReported actions left r.texts)) (sym e) (p.2, r.reported);
     }
 
-pub scripts_run_their_events : TracesAreRuns → ScriptsRunTheirEvents
+pub scripts_run_their_events : ScriptsRunTheirEvents
 unfolding Runs AreReported Trace last_state
-scripts_run_their_events law old [] text new p = record { answers = []; run = (law old [] [] [] new tt (sym p.1)).0; texts = []; whole = p.0; reported = tt }
-scripts_run_their_events law old (a ∷ actions) text new p =
-    let rest = scripts_run_their_events law p.0 actions p.2 new p.4 in
-    let all = runs_on law (event_of a) a actions old p.0 new p.1 p.2 refl (gives old a p.1 p.0 p.3) rest in
+scripts_run_their_events old [] text new p = record { answers = []; run = record { states = []; trace = tt; ends = sym p.1 }; texts = []; whole = p.0; reported = tt }
+scripts_run_their_events old (a ∷ actions) text new p =
+    let rest = scripts_run_their_events p.0 actions p.2 new p.4 in
+    let all = runs_on (event_of a) a actions old p.0 new p.1 p.2 refl (gives old a p.1 p.0 p.3) rest in
     subst (λ (l : List ℕ). IsRun old (a ∷ actions) l new) (sym p.5) all

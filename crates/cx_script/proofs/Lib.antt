@@ -1,6 +1,9 @@
 pub mod RunLemmas
 pub mod TakeLemmas
-pub mod OutcomeLemmas
+pub mod CallingLemmas
+pub mod ServeLemmas
+pub mod SessionLemmas
+pub mod EndingLemmas
 pub mod FaultLemmas
 pub mod WholeLemmas
 pub mod ActionLemmas

@@ -2,14 +2,14 @@
 use Rattle.std.proofs.Common.{◌≡◌, ℕ, ◌+◌, List, [], ◌∷◌, ◌++◌, length, take, None, Some, Option, Result, Ok, Err, MatchOption, IsOkAnd, refl, sym, ap, ◌∙◌, subst, append-nil, append_assoc, arith, length-append}
 use Rattle.std.specs.Option.{option_to_list}
 use Rattle.std.proofs.Math.Seq.{take-append-add, take-append_seam}
-use Rattle.cx_script_io.specs.Devices.{Sends, DeviceOutput}
+use Rattle.cx_script_io.specs.Devices.{DeviceOutput, Sends}
 use Rattle.cx_script_io.specs.Facts.Devices.{sends_front, sends_nil, sends_trans}
 use Rattle.cx_script_blocks.specs.declared.blocks.Block.{Block}
 use Rattle.cx_script_blocks.specs.Blocks.{step_at}
 use Rattle.cx_script.specs.Script.{Script, script_from, fault_at, led_to}
 use Rattle.cx_script_blocks.specs.declared.faults.Summary.{Summary}
 use Rattle.cx_script.specs.Transcript.{Runs}
-use Rattle.cx_script.specs.Parts.Progress.{Acts, Acted, Closes, HaltedAt, Halts, SentAll, SentSome, TakesLine, Took, after_done}
+use Rattle.cx_script.specs.Parts.Progress.{Acts, Acted, Closes, HaltedAt, Halts, SentAll, SentSome, TakesLine, Took, after_done, logs}
 use Rattle.cx_script_actions.specs.Language.{Language}
 use Rattle.cx_script_blocks.specs.declared.blocks.LineStep.{LineStep}
 use Rattle.cx_script_blocks.specs.declared.faults.RunFault.{RunFault}
@@ -60,18 +60,18 @@ module _ {A S : Type 0} (language : Language A) (performs : S → A → List ℕ
   runs_line old (Some action) text new p = runs_one old action text new p
 
   -- where nothing is asked
-  sent_none : (old : S) (actions : List A) (before after : DeviceOutput) → actions ≡ [] → after ≡ before → SentAll performs old actions before after
+  sent_none : (old : S) (actions : List A) (before after : DeviceOutput (List ℕ)) → actions ≡ [] → after ≡ before → SentAll performs old actions before after
   unfolding Runs
   sent_none old actions before after e same =
       subst (SentAll performs old actions before) (sym same)
-      (record { text = []; new = old; runs = subst (λ (l : List A). Runs performs old l [] old) (sym e) (refl, refl); written = sends_nil before })
+      (record { text = []; new = old; runs = subst (λ (l : List A). Runs performs old l [] old) (sym e) (refl, refl); written = sends_nil logs before })
 
   -- ---- lines that are done
-  pub took_none : (old : S) (n : ℕ) (block : Option Block) (w : DeviceOutput) → Took language performs old n block [] w old n block w
+  pub took_none : (old : S) (n : ℕ) (block : Option Block) (w : DeviceOutput (List ℕ)) → Took language performs old n block [] w old n block w
   unfolding Runs
-  took_none old n block w = record { done = []; text = []; runs = (refl, refl); written = sends_nil w; asks = λ ending more. refl; count = omega arith }
+  took_none old n block w = record { done = []; text = []; runs = (refl, refl); written = sends_nil logs w; asks = λ ending more. refl; count = omega arith }
 
-  pub took_line : (old new : S) (n : ℕ) (block next : Option Block) (line : List ℕ) (before after : DeviceOutput)
+  pub took_line : (old new : S) (n : ℕ) (block next : Option Block) (line : List ℕ) (before after : DeviceOutput (List ℕ))
       → TakesLine performs (n + 1) (step_at language (n + 1) block line) old before (Ok tt) new after next → Took language performs old n block (line ∷ []) before new (n + 1) next after
   unfolding TakesLine Acted script_from
   took_line old new n block next line before after t =
@@ -86,38 +86,38 @@ module _ {A S : Type 0} (language : Language A) (performs : S → A → List ℕ
         count = omega arith;
       }
 
-  pub took_trans : (old mid new : S) (n m k : ℕ) (block next last : Option Block) (lines more : List (List ℕ)) (first after end : DeviceOutput)
+  pub took_trans : (old mid new : S) (n m k : ℕ) (block next last : Option Block) (lines more : List (List ℕ)) (first after end : DeviceOutput (List ℕ))
       → Took language performs old n block lines first mid m next after → Took language performs mid m next more after new k last end → Took language performs old n block (lines ++ more) first new k last end
   took_trans old mid new n m k block next last lines more first after end c d =
       record {
         done = c.done ++ d.done;
         text = c.text ++ d.text;
         runs = runs_append old c.done c.text mid d.done d.text new c.runs d.runs;
-        written = sends_trans first after end c.text d.text c.written d.written;
+        written = sends_trans logs first after end c.text d.text c.written d.written;
         asks = λ ending others. ap (λ (l : List (List ℕ)). script_from language ending (n + 1) block l) (append_assoc lines more others) ∙ c.asks ending (more ++ others)
             ∙ ap (after_done c.done) (d.asks ending others) ∙ after_append c.done d.done (script_from language ending (k + 1) last others);
         count = omega (arith, length-append lines more, c.count, d.count);
       }
 
   -- ---- what was done before, and how the rest ended
-  all_after : (old mid : S) (script left : Script A) (done : List A) (text : List ℕ) (first after last : DeviceOutput) → script ≡ after_done done left
-      → Runs performs old done text mid → Sends first after text → SentAll performs mid left.actions after last → SentAll performs old script.actions first last
+  all_after : (old mid : S) (script left : Script A) (done : List A) (text : List ℕ) (first after last : DeviceOutput (List ℕ)) → script ≡ after_done done left
+      → Runs performs old done text mid → Sends logs first after text → SentAll performs mid left.actions after last → SentAll performs old script.actions first last
   all_after old mid script left done text first after last e r a w =
       subst (λ (l : List A). SentAll performs old l first last) (sym (ap (λ (s : Script A). s.actions) e))
-      (record { text = text ++ w.text; new = w.new; runs = runs_append old done text mid left.actions w.text w.new r w.runs; written = sends_trans first after last text w.text a w.written })
+      (record { text = text ++ w.text; new = w.new; runs = runs_append old done text mid left.actions w.text w.new r w.runs; written = sends_trans logs first after last text w.text a w.written })
 
-  some_after : (old mid : S) (done actions : List A) (text : List ℕ) (first after last : DeviceOutput) → Runs performs old done text mid → Sends first after text
+  some_after : (old mid : S) (done actions : List A) (text : List ℕ) (first after last : DeviceOutput (List ℕ)) → Runs performs old done text mid → Sends logs first after text
       → SentSome performs mid actions after last → SentSome performs old (done ++ actions) first last
   some_after old mid done actions text first after last r a w =
-      record { text = text ++ w.text; new = w.new; runs = runs_append old done text mid actions w.text w.new r w.runs; written = sends_front first after last text w.text a w.written }
+      record { text = text ++ w.text; new = w.new; runs = runs_append old done text mid actions w.text w.new r w.runs; written = sends_front logs first after last text w.text a w.written }
 
-  own_after : (old mid : S) (script left : Script A) (done : List A) (text : List ℕ) (fault : RunFault) (first after last : DeviceOutput) → script ≡ after_done done left
-      → Runs performs old done text mid → Sends first after text → (left.fault ≡ Some fault) × SentAll performs mid left.actions after last
+  own_after : (old mid : S) (script left : Script A) (done : List A) (text : List ℕ) (fault : RunFault) (first after last : DeviceOutput (List ℕ)) → script ≡ after_done done left
+      → Runs performs old done text mid → Sends logs first after text → (left.fault ≡ Some fault) × SentAll performs mid left.actions after last
       → (script.fault ≡ Some fault) × SentAll performs old script.actions first last
   own_after old mid script left done text fault first after last e r a s =
       (ap (λ (x : Script A). x.fault) e ∙ s.0, all_after old mid script left done text first after last e r a s.1)
 
-  halted_after : (old mid : S) (n m : ℕ) (block next : Option Block) (lines more : List (List ℕ)) (first after last : DeviceOutput)
+  halted_after : (old mid : S) (n m : ℕ) (block next : Option Block) (lines more : List (List ℕ)) (first after last : DeviceOutput (List ℕ))
       → Took language performs old n block lines first mid m next after → HaltedAt language performs mid m next more after last → HaltedAt language performs old n block (lines ++ more) first last
   halted_after old mid n m block next lines more first after last c h =
       let here = take-append-add lines more h.line in
@@ -135,7 +135,7 @@ module _ {A S : Type 0} (language : Language A) (performs : S → A → List ℕ
             c.done c.text first after last asked c.runs c.written h.done;
       }
 
-  pub halts_after : (old mid : S) (n m : ℕ) (block next : Option Block) (lines more : List (List ℕ)) (ending : Ending) (fault : RunFault) (first after last : DeviceOutput)
+  pub halts_after : (old mid : S) (n m : ℕ) (block next : Option Block) (lines more : List (List ℕ)) (ending : Ending) (fault : RunFault) (first after last : DeviceOutput (List ℕ))
       → Took language performs old n block lines first mid m next after → Halts language performs mid ending m next more fault after last → Halts language performs old ending n block (lines ++ more) fault first last
   unfolding Halts
   halts_after old mid n m block next lines more ending Memory first after last c s = halted_after old mid n m block next lines more first after last c s
@@ -154,7 +154,7 @@ module _ {A S : Type 0} (language : Language A) (performs : S → A → List ℕ
   halts_after old mid n m block next lines more ending ReadBound first after last c s =
       own_after old mid (script_from language ending (n + 1) block (lines ++ more)) (script_from language ending (m + 1) next more) c.done c.text ReadBound first after last (c.asks ending more) c.runs c.written s
 
-  pub closes_after : (old mid : S) (n m : ℕ) (block next : Option Block) (lines more : List (List ℕ)) (ending : Ending) (answer : Result Summary RunFault) (first after last : DeviceOutput)
+  pub closes_after : (old mid : S) (n m : ℕ) (block next : Option Block) (lines more : List (List ℕ)) (ending : Ending) (answer : Result Summary RunFault) (first after last : DeviceOutput (List ℕ))
       → Took language performs old n block lines first mid m next after → Closes language performs mid ending m next more answer after last → Closes language performs old ending n block (lines ++ more) answer first last
   closes_after old mid n m block next lines more ending (Ok summary) first after last c h =
       let e = c.asks ending more in (
@@ -165,7 +165,7 @@ module _ {A S : Type 0} (language : Language A) (performs : S → A → List ℕ
   closes_after old mid n m block next lines more ending (Err fault) first after last c h = halts_after old mid n m block next lines more ending fault first after last c h
 
   -- ---- a line that wasn't taken
-  pub own_fault : (old : S) (ending : Ending) (n : ℕ) (block : Option Block) (line : List ℕ) (lines : List (List ℕ)) (fault : RunFault) (before after : DeviceOutput)
+  pub own_fault : (old : S) (ending : Ending) (n : ℕ) (block : Option Block) (line : List ℕ) (lines : List (List ℕ)) (fault : RunFault) (before after : DeviceOutput (List ℕ))
       → (step_at language (n + 1) block line ≡ Err fault) × (after ≡ before)
       → ((script_from language ending (n + 1) block (line ∷ lines)).fault ≡ Some fault) × SentAll performs old (script_from language ending (n + 1) block (line ∷ lines)).actions before after
   unfolding script_from
@@ -173,7 +173,7 @@ module _ {A S : Type 0} (language : Language A) (performs : S → A → List ℕ
       let bad = not_led (step_at language (n + 1) block line) fault (λ b. script_from language ending (n + 1 + 1) b lines) t.0 in
       (ap (λ (s : Script A). s.fault) bad, sent_none old (script_from language ending (n + 1) block (line ∷ lines)).actions before after (ap (λ (s : Script A). s.actions) bad) t.1)
 
-  without_memory : (old : S) (n : ℕ) (block : Option Block) (line : List ℕ) (lines : List (List ℕ)) (before after : DeviceOutput)
+  without_memory : (old : S) (n : ℕ) (block : Option Block) (line : List ℕ) (lines : List (List ℕ)) (before after : DeviceOutput (List ℕ))
       → (step_at language (n + 1) block line ≡ Err (BadLine (n + 1)) → ⊥) × (after ≡ before) → HaltedAt language performs old n block (line ∷ lines) before after
   unfolding script_from fault_at
   without_memory old n block line lines before after t =
@@ -187,7 +187,7 @@ module _ {A S : Type 0} (language : Language A) (performs : S → A → List ℕ
         done = sent_none old [] before after refl t.1;
       }
 
-  unwritten_line : (old new : S) (ending : Ending) (n : ℕ) (block : Option Block) (line : List ℕ) (lines : List (List ℕ)) (step : LineStep A) (before after : DeviceOutput)
+  unwritten_line : (old new : S) (ending : Ending) (n : ℕ) (block : Option Block) (line : List ℕ) (lines : List (List ℕ)) (step : LineStep A) (before after : DeviceOutput (List ℕ))
       → step_at language (n + 1) block line ≡ Ok step → Acted performs step.action old before (Err Write) new after
       → (k : ℕ) × SentSome performs old (take k (script_from language ending (n + 1) block (line ∷ lines)).actions) before after
   unfolding script_from Acted
@@ -198,7 +198,7 @@ module _ {A S : Type 0} (language : Language A) (performs : S → A → List ℕ
         record { text = a.0; new = new; runs = subst (λ (l : List A). Runs performs old l a.0 new) (sym first) (runs_line old step.action a.0 new a.1); written = a.2 },
       )
 
-  pub stops_line : (old new : S) (ending : Ending) (n : ℕ) (block next : Option Block) (line : List ℕ) (lines : List (List ℕ)) (fault : RunFault) (before after : DeviceOutput)
+  pub stops_line : (old new : S) (ending : Ending) (n : ℕ) (block next : Option Block) (line : List ℕ) (lines : List (List ℕ)) (fault : RunFault) (before after : DeviceOutput (List ℕ))
       → TakesLine performs (n + 1) (step_at language (n + 1) block line) old before (Err fault) new after next → Halts language performs old ending n block (line ∷ lines) fault before after
   unfolding TakesLine Halts
   stops_line old new ending n block next line lines (BadLine m) before after t = own_fault old ending n block line lines (BadLine m) before after t
@@ -209,7 +209,7 @@ module _ {A S : Type 0} (language : Language A) (performs : S → A → List ℕ
   stops_line old new ending n block next line lines ReadBound before after t = own_fault old ending n block line lines ReadBound before after t
 
   -- ---- where no line is left
-  pub ended : (old : S) (ending : Ending) (n : ℕ) (block : Option Block) (answer : Result Summary RunFault) (w : DeviceOutput)
+  pub ended : (old : S) (ending : Ending) (n : ℕ) (block : Option Block) (answer : Result Summary RunFault) (w : DeviceOutput (List ℕ))
       → MatchOption (fault_at ending block) (IsOkAnd answer (λ s. s.lines ≡ n)) (λ fault. answer ≡ Err fault) → Closes language performs old ending n block [] answer w w
   unfolding script_from fault_at Halts
   ended old AtEnd n None (Ok s) w h = (refl, omega (arith, h), sent_none old [] w w refl refl)

@@ -1,10 +1,13 @@
 -- Whole scripts, and that a transcript is one.
-use Rattle.std.proofs.Common.{◌≡◌, ℕ, ◌≤◌, List, [], ◌∷◌, ◌++◌, length, None, Some, Option, Ok, IfSome, ◌==◌, refl, sym, ap, ◌∙◌, subst}
+use Rattle.std.proofs.Common.{◌≡◌, ℕ, inl, inr, take, List, [], ◌∷◌, ◌++◌, length, Ok, ◌==◌, refl, sym, ap, ◌∙◌, subst}
 use Rattle.std.specs.List.{slice_split}
 use Rattle.std.specs.Str.Lines.{lines, lines_of_parts as std_lines_of_parts, strip_carriage_return}
 use Rattle.cx_script_io.specs.Lines.{lines_met, lines_of_parts}
+use Rattle.cx_script.specs.Session.{IsScriptSession}
 use Rattle.cx_script.specs.Transcript.{Runs, Ends}
-use Rattle.cx_script_io.specs.Input.{Reads, most_bytes}
+use Rattle.cx_script_io.specs.Calls.{Call, given, taken}
+use Rattle.cx_script_io.specs.Input.{IsEnding, most_bytes}
+use Rattle.cx_script.proofs.EndingLemmas.{Endings, ended_within, ending_of, read_ended, read_open, read_whole}
 use Rattle.cx_script_actions.specs.Language.{edf_language}
 use Rattle.cx_script_actions.specs.Effects.{Performs, fresh_state}
 use Rattle.cx_script.specs.Laws.WholeScripts.{IsTranscribed, OkIsTheWholeScript}
@@ -22,21 +25,28 @@ pub same_lines_met : (bytes : List ℕ) → lines_met AtEnd bytes ≡ lines byte
 unfolding lines_met
 same_lines_met bytes = same_parts (slice_split (λ b. b == 10) bytes)
 
--- an Ok is the whole script, where the reader's bytes are known
-whole_by : (ending : Ending) (bytes : List ℕ) (left left_after written written_after : Option (List ℕ)) (summary : Summary)
-    → Reads most_bytes ending left left_after bytes → length bytes ≤ most_bytes
-    → Ends edf_language Performs fresh_state ending bytes (Ok summary) written written_after
-    → IfSome left (λ input. IsTranscribed input summary.lines written written_after)
+-- an Ok is the whole script
+whole_by : (calls : List Call) (summary : Summary) (s : IsScriptSession calls (Ok summary)) (why : Ending) → IsEnding calls why → IsEnding calls AtEnd × IsTranscribed (given calls) summary.lines (taken calls)
 unfolding Ends
-whole_by AtEnd bytes None left_after written written_after summary r few e = tt
-whole_by AtEnd bytes (Some input) left_after written written_after summary r few e =
-    subst (λ b. IsTranscribed b summary.lines written written_after) (sym r)
-    (record { within = few; faultless = e.0; count = e.1 ∙ ap length (same_lines_met bytes); transcript = e.2 })
-whole_by Failed bytes left left_after written written_after summary r few e = absurd (never_faultless edf_language Failed bytes refl e.0)
-whole_by PastBound bytes left left_after written written_after summary r few e = absurd (never_faultless edf_language PastBound bytes refl e.0)
+whole_by calls summary s AtEnd h =
+    let e = s.ends AtEnd (given calls) (read_whole edf_language Performs fresh_state calls s.in_time AtEnd h refl) in
+    (h, record { within = ended_within edf_language Performs fresh_state calls s.in_time AtEnd h refl; faultless = e.0; count = e.1 ∙ ap length (same_lines_met (given calls)); transcript = e.2 })
+whole_by calls summary s Failed h =
+    let e = s.ends Failed (take most_bytes (given calls)) (read_ended edf_language Performs fresh_state calls s.in_time Failed h) in
+    absurd (never_faultless edf_language Failed (take most_bytes (given calls)) refl e.0)
+whole_by calls summary s PastBound h =
+    let e = s.ends PastBound (take most_bytes (given calls)) (read_ended edf_language Performs fresh_state calls s.in_time PastBound h) in
+    absurd (never_faultless edf_language PastBound (take most_bytes (given calls)) refl e.0)
+
+whole_in : (calls : List Call) (summary : Summary) (s : IsScriptSession calls (Ok summary)) → Endings calls → IsEnding calls AtEnd × IsTranscribed (given calls) summary.lines (taken calls)
+unfolding Ends
+whole_in calls summary s (inl w) = whole_by calls summary s w.0 w.1
+whole_in calls summary s (inr none) =
+    let e = s.ends Failed (take most_bytes (given calls)) (read_open calls none Failed) in
+    absurd (never_faultless edf_language Failed (take most_bytes (given calls)) refl e.0)
 
 pub ok_whole : OkIsTheWholeScript
-ok_whole left left_after failed written written_after summary r = whole_by r.ending r.bytes left left_after written written_after summary r.read r.within r.ends
+ok_whole calls summary s = whole_in calls summary s (ending_of calls)
 
 -- two runs of the same actions are one
 module _ {A S : Type 0} (performs : S → A → List ℕ → S → Type 0)

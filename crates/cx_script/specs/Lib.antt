@@ -1,13 +1,14 @@
 -- The definitions, in reading order.
 pub mod Script
 pub mod Transcript
-pub mod Outcome
+pub mod Session
 pub mod Laws
 pub mod Parts
 pub mod Facts
 pub use Rattle.cx_script_blocks.specs.Blocks
 pub use Rattle.cx_script_blocks.specs.Faults
 pub use Rattle.cx_script_blocks.specs.Status
+pub use Rattle.cx_script_io.specs.Calls
 pub use Rattle.cx_script_io.specs.Devices
 pub use Rattle.cx_script_io.specs.Input
 pub use Rattle.cx_script_io.specs.Lines

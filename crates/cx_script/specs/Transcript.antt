@@ -1,7 +1,5 @@
 -- A run of a script: what its actions did in order, and the transcript (own).
-use Rattle.std.specs.Prelude.{◌≡◌, ℕ, ◌+◌, ◌<◌, ◌⊎◌, Option, Some, None, Result, Ok, Err, List, [], ◌∷◌, ◌++◌, length, take}
-use Rattle.std.specs.Io.KnownBytes.{Appends}
-use Rattle.cx_script_io.specs.Devices.{WroteFront}
+use Rattle.std.specs.Prelude.{◌≡◌, ℕ, ◌+◌, ◌<◌, Some, None, Result, Ok, Err, List, [], ◌∷◌, ◌++◌, length, take}
 use Rattle.cx_script_io.specs.Lines.{lines_met}
 use Rattle.cx_script_io.specs.declared.input.Ending.{Ending}
 use Rattle.cx_script_io.specs.declared.input.Ending.TheVariants.{Failed}
@@ -19,42 +17,45 @@ Runs {S} performs old (action ∷ actions) text new =
     (between : S) × (first : List ℕ) × (rest : List ℕ)
     × performs old action first between × Runs performs between actions rest new × (text ≡ first ++ rest)
 
--- the transcript of these actions was written, as much of it as `Writes` says of what was written before and after it
-pub record Wrote {A S T : Type 0} (Writes : T → T → List ℕ → Type 0) (performs : S → A → List ℕ → S → Type 0)
-    (old : S) (actions : List A) (before after : T) : Type 0 where
+-- these actions were done, and of their transcript that was written which `Writes` says
+pub record Wrote {A S : Type 0} (Writes : List ℕ → Type 0) (performs : S → A → List ℕ → S → Type 0)
+    (old : S) (actions : List A) : Type 0 where
   pub text : List ℕ
   pub new : S
   pub runs : Runs performs old actions text new
-  pub written : Writes before after text
+  pub written : Writes text
+
+-- these bytes are a front of a text
+abbrev pub IsFront : List ℕ → List ℕ → Type 0
+IsFront bytes text = (n : ℕ) × (bytes ≡ take n text)
 
 -- what the first n lines ask, as if no more could be read
 abbrev pub front_of : {A : Type 0} → Language A → List (List ℕ) → ℕ → Script A
 front_of language lines n = script_from language Failed 1 None (take n lines)
 
--- A run without memory stopped at a line, or before it had any: those in front of it have no fault, and are done and written;
--- and it isn't a bad one.
+-- A run without memory stopped at a line: those in front of it have no fault, and are done and written; and it isn't a bad one.
 pub record StoppedAt {A S : Type 0} (language : Language A) (performs : S → A → List ℕ → S → Type 0) (old : S)
-    (lines : List (List ℕ)) (before after : Option (List ℕ)) : Type 0 where
+    (lines : List (List ℕ)) (written : List ℕ) : Type 0 where
   -- how many are in front of it
   pub line : ℕ
-  pub within : (line < length lines) ⊎ (lines ≡ [])
+  pub within : line < length lines
   pub led : (front_of language lines line).fault ≡ Some Read
   pub good : (front_of language lines (line + 1)).fault ≡ Some (BadLine (line + 1)) → ⊥
-  pub done : Wrote Appends performs old (front_of language lines line).actions before after
+  pub done : Wrote (◌≡◌ written) performs old (front_of language lines line).actions
 
--- How a run of the script that these bytes are ended. Ok: all of its actions are done and written. Without memory it stopped at a
--- line; after a failed write some of its actions are done, and a front of their transcript is written; any other fault is the
--- script's own, and everything in front of it is done and written.
+-- How a run of the script that these bytes are ended, and what it wrote. Ok: all of its actions are done and written. Without
+-- memory it stopped at a line; after a failed write some of its actions are done, and a front of their transcript is written; any
+-- other fault is the script's own, and everything in front of it is done and written.
 unfoldable pub Ends : {A S : Type 0} → Language A → (S → A → List ℕ → S → Type 0) → S → Ending → List ℕ
-    → Result Summary RunFault → Option (List ℕ) → Option (List ℕ) → Type 0
-Ends language performs old ending bytes (Ok summary) before after =
+    → Result Summary RunFault → List ℕ → Type 0
+Ends language performs old ending bytes (Ok summary) written =
     let script = script_in language ending bytes in
     (script.fault ≡ None) × (summary.lines ≡ length (lines_met ending bytes))
-    × Wrote Appends performs old script.actions before after
-Ends language performs old ending bytes (Err Memory) before after =
-    StoppedAt language performs old (lines_met ending bytes) before after
-Ends language performs old ending bytes (Err Write) before after =
-    (n : ℕ) × Wrote WroteFront performs old (take n (script_in language ending bytes).actions) before after
-Ends language performs old ending bytes (Err fault) before after =
+    × Wrote (◌≡◌ written) performs old script.actions
+Ends language performs old ending bytes (Err Memory) written =
+    StoppedAt language performs old (lines_met ending bytes) written
+Ends language performs old ending bytes (Err Write) written =
+    (n : ℕ) × Wrote (IsFront written) performs old (take n (script_in language ending bytes).actions)
+Ends language performs old ending bytes (Err fault) written =
     let script = script_in language ending bytes in
-    (script.fault ≡ Some fault) × Wrote Appends performs old script.actions before after
+    (script.fault ≡ Some fault) × Wrote (◌≡◌ written) performs old script.actions

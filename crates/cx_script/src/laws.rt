@@ -1,11 +1,10 @@
 //! What follows from the definitions of a script and its transcript.
 
-ghost use Rattle.std.specs.Prelude.{◌≡◌, ℕ, List, Option, Ok, IfSome};
+ghost use Rattle.std.specs.Prelude.{◌≡◌, ℕ, List};
 ghost use Rattle.std.specs.Str.Lines.{lines};
 ghost use Rattle.cx_script_io.specs.Lines.{lines_met};
 ghost use Rattle.cx_asm_execution.specs.Laws.Entry.{ReachesEntry};
 ghost use Rattle.cx_asm_execution.specs.Arrival.{CommandsArrive};
-ghost use Rattle.cx_script.specs.Outcome.{RanScript};
 ghost use Rattle.cx_edf.specs.State.{EdfState};
 ghost use Rattle.cx_script_actions.specs.Effects.{Performs};
 ghost use Rattle.cx_script.specs.Transcript.{Runs};
@@ -26,14 +25,14 @@ pub fn lines_are_lines()
     ensures { (bytes : List ℕ) → lines_met AtEnd bytes ≡ lines bytes }
 {}
 
-/// Where a run answers Ok, all that the reader had was read: it is a script without a fault, its lines are counted,
-/// and its transcript was written, and nothing else.
+/// Where a run answers Ok, the last read gave no byte: what the reads gave is a script without a fault, its lines are counted,
+/// and the writes took its transcript, and nothing else.
 pub fn ok_is_the_whole_script()
     ensures { OkIsTheWholeScript }
 {}
 
-/// What the reader has and where it fails decide the answer and the transcript, unless lack of memory or the writer
-/// stops the run. ReadBound comes exactly where the reader has more than 16,777,216 bytes and there is no fault in
+/// What the reads give decides the answer and the transcript, in whatever pieces they give it, unless lack of memory or
+/// the writer stops the run. ReadBound comes exactly where they give more than 16,777,216 bytes and there is no fault in
 /// these; Read only where a read failed; and where one failed, the answer reports it, or the fault that is in front
 /// of it.
 pub fn the_input_decides()
@@ -77,11 +76,10 @@ pub fn a_transcript_is_one()
 
 /// A run of a script's actions is a run of its events under EDF: the state after it is that after the events that the
 /// actions give, in order, and each answer is the one that was written.
+#[tactic(auto, using(crate::proofs::ActionLemmas::scripts_run_their_events))]
 pub fn a_script_runs_its_events()
     ensures { ScriptsRunTheirEvents }
-{
-    cx_edf::laws::traces_are_runs();
-}
+{}
 
 /// The instructions made of an EXEC statement lead to the entry, with the argument list that is read as the statement's
 /// command, and the addresses that its arguments had at the first instruction.

@@ -7,5 +7,7 @@ mod script;
 
 pub use cx_script_actions::{Performer, ScriptAction};
 pub use cx_script_blocks::{RunFault, SourceKind, Summary, status};
-pub use cx_script_io::{DeviceFault, Ending, MemoryIn, MemoryOut, ScriptIn, ScriptOut, Std};
+pub use cx_script_io::{
+    DeviceFault, Devices, Ending, MemoryIn, MemoryOut, ScriptDevices, ScriptIn, ScriptOut, Std,
+};
 pub use script::{EdfStage, edf_stage, run_script, run_script_on};

@@ -5,10 +5,10 @@ ghost use Rattle.std.specs.Str.Lines.{strip_carriage_return};
 ghost use Rattle.cx_script_blocks.specs.Blocks.{step_at};
 ghost use Rattle.cx_script_io.specs.Input.{is_failure};
 ghost use Rattle.cx_script_io.specs.Lines.{is_too_long, lines_met};
-ghost use Rattle.cx_script.specs.Outcome.{RanIn};
+ghost use Rattle.cx_script.specs.Session.{RanIn};
 ghost use Rattle.cx_script.specs.Script.{fault_at};
 ghost use Rattle.cx_script_blocks.specs.Faults.{is_read, is_write};
-ghost use Rattle.cx_script.specs.Parts.Progress.{Acted, Came, Closes, Stopped, TakesLine};
+ghost use Rattle.cx_script.specs.Parts.Progress.{Acted, Calling, Came, Closes, Stopped, TakesLine};
 ghost use Rattle.cx_script_io.specs.Devices.{device_output};
 ghost use Rattle.cx_script_io.specs.Unbroken.{IsUnbroken};
 ghost use Rattle.cx_script_blocks.specs.declared.faults.RunFault.TheVariants.{BadLine};
@@ -17,7 +17,7 @@ use arrayvec::ArrayVec;
 use cx_script_actions::Performer;
 use cx_script_blocks::{Block, RunFault, Summary, step_at};
 use cx_script_io::{
-    Ending, OutputBuffer, ScriptIn, ScriptOut, in_front, is_too_long, last_line, split_line,
+    Ending, OutputBuffer, ScriptDevices, ScriptOut, in_front, is_too_long, last_line, split_line,
     strip_carriage_return,
 };
 use std::alloc::{AllocError, Global};
@@ -32,7 +32,6 @@ const MOST_KEPT: usize = 4_097;
 const MOST_BYTES: usize = 16_777_216;
 
 /// Performs the action of a line, where it has one, and puts its text after what waits to be written.
-#[tactic(auto, unfolding(crate::specs::Parts::Progress::Acted), using(cx_script_io::specs::Facts::Devices::sends_nil))]
 fn act<P: Performer, W: ScriptOut>(
     performer: &mut P,
     alloc: Global,
@@ -42,9 +41,9 @@ fn act<P: Performer, W: ScriptOut>(
 ) -> Result<(), RunFault>
     requires allowed { IfSome action P.Action.allowed }
     requires failure { W.has_failed writer.old ≡ false }
-    ensures acted { let before = device_output (W.written writer.old) waiting.old in
-        let after = device_output (W.written writer.new) waiting.new in
-        Acted P.performs action performer.old before result performer.new after }
+    ensures acted { Calling W.writes writer.old writer.new (λ log later.
+        Acted P.performs action performer.old (device_output log waiting.old)
+        result performer.new (device_output later waiting.new)) }
     ensures failure { W.has_failed writer.new ≡ is_write result }
     ensures unread { is_read result ≡ false }
 {
@@ -70,7 +69,6 @@ pub struct Progress<P> {
 
 impl<P: Performer + Drop> Progress<P> {
     /// Takes one complete line: does what it asks, and puts its text after what waits.
-    #[tactic(auto, using(crate::proofs::TakeLemmas::line_faulty, crate::proofs::TakeLemmas::line_acted))]
     fn take_line<W: ScriptOut>(
         &mut self,
         alloc: Global,
@@ -81,9 +79,9 @@ impl<P: Performer + Drop> Progress<P> {
         requires failure { W.has_failed writer.old ≡ false }
         ensures taken { let number = self.old.lines + 1 in
             let due = step_at P.Action.language number self.old.block line.now in
-            let before = device_output (W.written writer.old) self.old.waiting in
-            let after = device_output (W.written writer.new) self.new.waiting in
-            TakesLine P.performs number due self.old.performer before result self.new.performer after self.new.block }
+            Calling W.writes writer.old writer.new (λ log later.
+            TakesLine P.performs number due self.old.performer (device_output log self.old.waiting)
+            result self.new.performer (device_output later self.new.waiting) self.new.block) }
         ensures lines { self.new.lines ≡ self.old.lines + 1 }
         ensures failure { W.has_failed writer.new ≡ is_write result }
         ensures unread { is_read result ≡ false }
@@ -104,7 +102,6 @@ impl<P: Performer + Drop> Progress<P> {
     }
 
     /// Takes one complete line where nothing waits, and writes its text.
-    #[tactic(auto, using(crate::proofs::TakeLemmas::line_written, crate::proofs::TakeLemmas::line_unwritten, crate::proofs::TakeLemmas::line_failed))]
     fn take_last<W: ScriptOut>(
         &mut self,
         alloc: Global,
@@ -116,9 +113,9 @@ impl<P: Performer + Drop> Progress<P> {
         requires failure { W.has_failed writer.old ≡ false }
         ensures taken { let number = self.old.lines + 1 in
             let due = step_at P.Action.language number self.old.block line.now in
-            let before = device_output (W.written writer.old) [] in
-            let after = device_output (W.written writer.new) [] in
-            TakesLine P.performs number due self.old.performer before result self.new.performer after self.new.block }
+            Calling W.writes writer.old writer.new (λ log later.
+            TakesLine P.performs number due self.old.performer (device_output log [])
+            result self.new.performer (device_output later []) self.new.block) }
         ensures lines { self.new.lines ≡ self.old.lines + 1 }
         ensures failure { W.has_failed writer.new ≡ is_write result }
         ensures unread { is_read result ≡ false }
@@ -179,7 +176,6 @@ impl<P: Performer + Drop> ScriptRun<P> {
     }
 
     /// Takes the line that these bytes end.
-    #[tactic(auto, using(crate::proofs::PieceLemmas::too_long_line))]
     fn end_line<W: ScriptOut>(
         &mut self,
         alloc: Global,
@@ -191,9 +187,9 @@ impl<P: Performer + Drop> ScriptRun<P> {
         ensures taken { let old = self.old.progress in let new = self.new.progress in let number = old.lines + 1 in
             let line = strip_carriage_return (self.old.part.items ++ bytes.now) in
             let due = step_at P.Action.language number old.block line in
-            let before = device_output (W.written writer.old) old.waiting in
-            let after = device_output (W.written writer.new) new.waiting in
-            TakesLine P.performs number due old.performer before result new.performer after new.block }
+            Calling W.writes writer.old writer.new (λ log later.
+            TakesLine P.performs number due old.performer (device_output log old.waiting)
+            result new.performer (device_output later new.waiting) new.block) }
         ensures lines { self.new.progress.lines ≡ self.old.progress.lines + 1 }
         ensures part { OnOk result (self.new.part.items ≡ []) }
         ensures failure { W.has_failed writer.new ≡ is_write result }
@@ -243,19 +239,16 @@ impl<P: Performer + Drop> ScriptRun<P> {
         requires failure { W.has_failed writer.old ≡ false }
         ensures came { let old = self.old.progress in let new = self.new.progress in
             let ahead = self.old.part.items ++ piece.now in
-            let before = device_output (W.written writer.old) old.waiting in
-            let after = device_output (W.written writer.new) new.waiting in
-            OnOk result (Came P.Action.language P.performs old.performer old.lines old.block ahead before
-            new.performer new.lines new.block self.new.part.items after) }
+            OnOk result (Calling W.writes writer.old writer.new (λ log later.
+            Came P.Action.language P.performs old.performer old.lines old.block ahead (device_output log old.waiting)
+            new.performer new.lines new.block self.new.part.items (device_output later new.waiting))) }
         ensures unbroken { OnOk result (IsUnbroken self.new.part.items) }
         ensures short { OnOk result (is_too_long (strip_carriage_return self.new.part.items) ≡ false) }
         ensures lines { OnOk result (self.new.progress.lines ≤ self.old.progress.lines + length piece.now) }
         ensures err { let old = self.old.progress in let ahead = self.old.part.items ++ piece.now in
-            let before = device_output (W.written writer.old) old.waiting in
-            let after = device_output (W.written writer.new) self.new.progress.waiting in
-            let language = P.Action.language in
-            IfErr result (λ fault. Stopped language P.performs old.performer old.lines old.block
-            ahead fault before after) }
+            IfErr result (λ fault. Calling W.writes writer.old writer.new (λ log later.
+            Stopped P.Action.language P.performs old.performer old.lines old.block ahead fault
+            (device_output log old.waiting) (device_output later self.new.progress.waiting))) }
         ensures failure { W.has_failed writer.new ≡ is_write result }
         ensures unread { is_read result ≡ false }
     {
@@ -282,20 +275,17 @@ impl<P: Performer + Drop> ScriptRun<P> {
         requires failure { W.has_failed writer.old ≡ false }
         ensures came { let old = self.old.progress in let new = self.new.progress in
             let ahead = self.old.part.items ++ piece.now in
-            let before = device_output (W.written writer.old) [] in
-            let after = device_output (W.written writer.new) [] in
-            OnOk result (Came P.Action.language P.performs old.performer old.lines old.block ahead before
-            new.performer new.lines new.block self.new.part.items after) }
+            OnOk result (Calling W.writes writer.old writer.new (λ log later.
+            Came P.Action.language P.performs old.performer old.lines old.block ahead (device_output log [])
+            new.performer new.lines new.block self.new.part.items (device_output later []))) }
         ensures unbroken { OnOk result (IsUnbroken self.new.part.items) }
         ensures short { OnOk result (is_too_long (strip_carriage_return self.new.part.items) ≡ false) }
         ensures lines { OnOk result (self.new.progress.lines ≤ self.old.progress.lines + length piece.now) }
         ensures waits { OnOk result (self.new.progress.waiting ≡ []) }
         ensures err { let old = self.old.progress in let ahead = self.old.part.items ++ piece.now in
-            let before = device_output (W.written writer.old) [] in
-            let after = device_output (W.written writer.new) [] in
-            let language = P.Action.language in
-            IfErr result (λ fault. Stopped language P.performs old.performer old.lines old.block
-            ahead fault before after) }
+            IfErr result (λ fault. Calling W.writes writer.old writer.new (λ log later.
+            Stopped P.Action.language P.performs old.performer old.lines old.block ahead fault
+            (device_output log []) (device_output later []))) }
         ensures failure { W.has_failed writer.new ≡ is_write result }
         ensures unread { is_read result ≡ false }
     {
@@ -322,9 +312,9 @@ impl<P: Performer + Drop> ScriptRun<P> {
         requires waits { self.progress.waiting ≡ [] }
         requires failure { W.has_failed writer.old ≡ false }
         ensures ends { let old = self.progress in let lines = lines_met ending self.part.items in
-            let before = device_output (W.written writer.old) [] in
-            let after = device_output (W.written writer.new) [] in
-            Closes P.Action.language P.performs old.performer ending old.lines old.block lines result before after }
+            Calling W.writes writer.old writer.new (λ log later.
+            Closes P.Action.language P.performs old.performer ending old.lines old.block lines
+            result (device_output log []) (device_output later [])) }
         ensures failure { W.has_failed writer.new ≡ is_write result }
         ensures read { is_read result ≡ is_failure ending }
     {
@@ -337,42 +327,39 @@ impl<P: Performer + Drop> ScriptRun<P> {
         self.progress.end(ending)
     }
 
-    /// Runs the script that a reader has, line by line as it is read.
-    pub fn run<R: ScriptIn, W: ScriptOut>(
+    /// Runs the script that the devices have, line by line as it is read.
+    pub fn run<D: ScriptDevices>(
         mut self,
         alloc: Global,
-        reader: &mut R,
-        writer: &mut W,
+        devices: &mut D,
     ) -> Result<Summary, RunFault>
         requires lines { self.progress.lines ≡ 0 }
         requires block { self.progress.block ≡ None }
         requires part { self.part.items ≡ [] }
         requires waits { self.progress.waiting ≡ [] }
-        requires reader { R.has_failed reader.old ≡ false }
-        requires writer { W.has_failed writer.old ≡ false }
-        ensures ran { let left = R.left reader.old in let left_after = R.left reader.new in
-            let failed = R.has_failed reader.new in let written = W.written writer.old in
-            let start = self.progress.performer in let written_after = W.written writer.new in
-            RanIn P.Action.language P.performs start left left_after failed result written written_after }
-        ensures read { R.has_failed reader.new ≡ is_read result }
-        ensures write { W.has_failed writer.new ≡ is_write result }
+        requires reader { D.ScriptIn.has_failed devices.old ≡ false }
+        requires writer { D.ScriptOut.has_failed devices.old ≡ false }
+        ensures ran { let start = self.progress.performer in
+            RanIn P.Action.language P.performs start D.reads D.writes devices.old result devices.new }
+        ensures read { D.ScriptIn.has_failed devices.new ≡ is_read result }
+        ensures write { D.ScriptOut.has_failed devices.new ≡ is_write result }
     {
         let mut buffer = [0; CHUNK];
         let mut read = 0;
         'pieces: for _turn in 0..MOST_BYTES + 1 {
-            let Ok(taken) = reader.read(&mut buffer) else {
-                return self.finish(alloc, writer, Ending::Failed);
+            let Ok(taken) = devices.read(&mut buffer) else {
+                return self.finish(alloc, devices, Ending::Failed);
             };
             if taken == 0 {
-                return self.finish(alloc, writer, Ending::AtEnd);
+                return self.finish(alloc, devices, Ending::AtEnd);
             }
             let room = taken.min(MOST_BYTES - read);
             let piece = in_front(&buffer, room);
-            if let Err(fault) = self.serve(alloc, writer, piece) {
+            if let Err(fault) = self.serve(alloc, devices, piece) {
                 return Err(fault);
             }
             if room < taken {
-                return self.finish(alloc, writer, Ending::PastBound);
+                return self.finish(alloc, devices, Ending::PastBound);
             }
             read += taken;
         }

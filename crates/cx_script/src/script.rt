@@ -1,8 +1,10 @@
 //! A script from its reader to its transcript.
 
-ghost use Rattle.std.specs.Prelude.{◌≡◌, IfOk, false};
-ghost use Rattle.cx_script_actions.specs.Effects.{fresh_state};
-ghost use Rattle.cx_script.specs.Outcome.{RanIn, RanScript};
+ghost use Rattle.std.specs.Prelude.{◌≡◌, ◌⊎◌, Err, IfOk, OnErr, false};
+ghost use Rattle.cx_script_actions.specs.Effects.{Performs, fresh_state};
+ghost use Rattle.cx_script_actions.specs.Language.{edf_language};
+ghost use Rattle.cx_script.specs.Session.{RanIn};
+ghost use Rattle.cx_script_blocks.specs.declared.faults.RunFault.TheVariants.{Memory};
 ghost use Rattle.cx_script_blocks.specs.Faults.{is_read, is_write};
 
 use crate::run::ScriptRun;
@@ -10,18 +12,19 @@ use cx_edf::Debugged;
 use cx_region::Region;
 use cx_script_actions::Performer;
 use cx_script_blocks::{RunFault, Summary};
-use cx_script_io::{ScriptIn, ScriptOut};
+use cx_script_io::ScriptDevices;
+use cx_storage_keep::KeepingStore;
 use cx_storage_pages::PagedStore;
 use std::alloc::{AllocError, Global};
 
 /// What a script of `cicsedf` is performed on: a region under EDF.
-pub type EdfStage = Debugged<PagedStore>;
+pub type EdfStage = Debugged<KeepingStore<PagedStore>>;
 
 /// The performer of a script of `cicsedf` at its beginning: a fresh region, with EDF Off at each terminal.
 pub fn edf_stage(alloc: Global) -> Result<EdfStage, AllocError>
     ensures { IfOk result (λ performer. performer ≡ fresh_state) }
 {
-    let region = Region::new(alloc, PagedStore::new(alloc))?;
+    let region = Region::new(alloc, KeepingStore::new(PagedStore::new(alloc)))?;
     Ok(Debugged::new(alloc, region))
 }
 
@@ -36,41 +39,34 @@ pub fn edf_stage(alloc: Global) -> Result<EdfStage, AllocError>
 /// a write failed or took no byte: what was written is then a front of a transcript. Memory comes only
 /// where an allocation failed, before anything was read or at a line that isn't a bad one: the lines in
 /// front of it have no fault, are done, and their transcript is written.
-#[tactic(auto, using(crate::proofs::OutcomeLemmas::ran_nothing))]
-pub fn run_script_on<P: Performer + Drop, R: ScriptIn, W: ScriptOut>(
+pub fn run_script_on<P: Performer + Drop, D: ScriptDevices>(
     performer: Result<P, AllocError>,
     alloc: Global,
-    reader: &mut R,
-    writer: &mut W,
+    devices: &mut D,
 ) -> Result<Summary, RunFault>
-    requires reader { R.has_failed reader.old ≡ false }
-    requires writer { W.has_failed writer.old ≡ false }
-    ensures ran { let left = R.left reader.old in let left_after = R.left reader.new in
-        let failed = R.has_failed reader.new in
-        let written = W.written writer.old in let written_after = W.written writer.new in
-        (start : P) → IfOk performer (λ made. made ≡ start)
-        → RanIn P.Action.language P.performs start left left_after failed result written written_after }
-    ensures read { R.has_failed reader.new ≡ is_read result }
-    ensures write { W.has_failed writer.new ≡ is_write result }
+    requires reader { D.ScriptIn.has_failed devices.old ≡ false }
+    requires writer { D.ScriptOut.has_failed devices.old ≡ false }
+    ensures ran { IfOk performer (λ start.
+        RanIn P.Action.language P.performs start D.reads D.writes devices.old result devices.new) }
+    ensures unmade { OnErr performer ((result ≡ Err Memory) × (devices.new ≡ devices.old)) }
+    ensures read { D.ScriptIn.has_failed devices.new ≡ is_read result }
+    ensures write { D.ScriptOut.has_failed devices.new ≡ is_write result }
 {
     let Ok(performer) = performer else {
         return Err(RunFault::Memory);
     };
-    ScriptRun::new(performer).run(alloc, reader, writer)
+    ScriptRun::new(performer).run(alloc, devices)
 }
 
-/// Runs a script of `cicsedf` on a fresh region, as `run_script_on` does.
-pub fn run_script<R: ScriptIn, W: ScriptOut>(
-    alloc: Global,
-    reader: &mut R,
-    writer: &mut W,
-) -> Result<Summary, RunFault>
-    requires reader { R.has_failed reader.old ≡ false }
-    requires writer { W.has_failed writer.old ≡ false }
-    ensures ran { RanScript (R.left reader.old) (R.left reader.new) (R.has_failed reader.new) result
-        (W.written writer.old) (W.written writer.new) }
-    ensures read { R.has_failed reader.new ≡ is_read result }
-    ensures write { W.has_failed writer.new ≡ is_write result }
+/// Runs a script of `cicsedf` on a fresh region, as `run_script_on` does. Where there was no memory for that, Memory is answered
+/// and nothing is done.
+pub fn run_script<D: ScriptDevices>(alloc: Global, devices: &mut D) -> Result<Summary, RunFault>
+    requires reader { D.ScriptIn.has_failed devices.old ≡ false }
+    requires writer { D.ScriptOut.has_failed devices.old ≡ false }
+    ensures ran { RanIn edf_language Performs fresh_state D.reads D.writes devices.old result devices.new
+        ⊎ ((result ≡ Err Memory) × (devices.new ≡ devices.old)) }
+    ensures read { D.ScriptIn.has_failed devices.new ≡ is_read result }
+    ensures write { D.ScriptOut.has_failed devices.new ≡ is_write result }
 {
-    run_script_on(edf_stage(alloc), alloc, reader, writer)
+    run_script_on(edf_stage(alloc), alloc, devices)
 }

@@ -6,3 +6,4 @@ pub mod Language
 pub mod Allowed
 pub mod Texts
 pub mod Effects
+pub mod Laws

@@ -4,6 +4,7 @@
 mod actions;
 mod alterations;
 mod effects;
+pub mod laws;
 mod performer;
 mod texts;
 mod words;

@@ -1,12 +1,13 @@
 //! Lines and blocks: what each line of a script leads to.
 
-ghost use Rattle.std.specs.Prelude.{◌≡◌, ◌≤◌, ◌/◌, ◌++◌, ◌∷◌, [], None, Err, IfOk, IfSome, OnErr, MatchOption, Some, is_some, true, false, length};
+ghost use Rattle.std.specs.Prelude.{◌≡◌, ℕ, ◌+◌, ◌<◌, ◌≤◌, ◌/◌, ◌^◌, ◌++◌, ◌∷◌, [], None, Err, IfOk, IfSome, OnErr, MatchOption, Some, is_some, true, false, length};
 ghost use Rattle.cx_script_actions.specs.Words.{hex_bytes};
 ghost use Rattle.cx_script_blocks.specs.Blocks.{body_with, block_step, block_end, image_of, kept_text, kept_lines, fault_of_line, step_at, step_in, step_of, with_line};
 ghost use Rattle.cx_script_actions.specs.declared.actions.Action.TheVariants as action;
 ghost use Rattle.std.specs.Option.{option_map};
 ghost use Rattle.cx_script_blocks.specs.Faults.{is_memory, is_read, is_write};
 ghost use Rattle.cx_script_blocks.specs.declared.faults.RunFault.TheVariants.{BadLine};
+ghost use Rattle.cx_asm_build.specs.declared.faults.PrepareFault.TheVariants.{At};
 
 use crate::faults::RunFault;
 use cx_asm_build::{PrepareFault, Prepared, prepare};
@@ -49,9 +50,12 @@ pub enum Body {
     Lines(List<Text>),
 }
 
-/// The fault of a source that begins after this line. No source has too many lines for the sum to fit.
+/// The fault of a source that begins after this line. It is Memory only where the source's is, since no source has too many lines
+/// for the sum to fit.
 fn refused<A: ScriptAction>(first: usize, fault: PrepareFault) -> Result<LineStep<A>, RunFault>
     ensures value { is_memory result ≡ false → result ≡ Err (fault_of_line first fault) }
+    ensures memory { (line : ℕ) (kind : _) → fault ≡ At line kind → first + line < 2 ^ 64
+        → is_memory result ≡ false }
     ensures allowed { IfOk result (λ step. IfSome step.action A.allowed) }
     ensures unwritten { is_write result ≡ false }
     ensures unread { is_read result ≡ false }

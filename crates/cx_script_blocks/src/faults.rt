@@ -1,11 +1,13 @@
 //! Why a run of a script ends early.
 
-ghost use Rattle.std.specs.Prelude.{◌≡◌};
+ghost use Rattle.std.specs.Prelude.{◌≡◌, Some};
+ghost use Rattle.cx_script_blocks.specs.Faults.{fault_line};
 ghost use Rattle.cx_script_blocks.specs.Status.{status_of};
 ghost use Rattle.cx_script_blocks.specs.declared.faults.RunFault.TheVariants.{Memory};
 
 use cx_asm_build::SourceKind;
 use std::alloc::{AllocError, AllocFailed};
+use std::fmt::{Display, Formatter};
 use thiserror::Error;
 
 /// Why a run of a script ends early. The lines before the fault are done, and their transcript is written.
@@ -13,23 +15,32 @@ use thiserror::Error;
 #[derive(Clone, Copy, Debug, PartialEq, Eq, Error)]
 pub enum RunFault {
     /// The line with this number, counted from 1, is no line of a script; or it begins a block that is not ended.
-    #[error("cicsedf: line {0}: BadLine")]
     BadLine(usize),
     /// The line with this number, counted from 1, is a faulty one of a source; of NoEnd it is the line that ends the block.
-    #[error("cicsedf: line {0}: {1}")]
     Source(usize, SourceKind),
     /// A read failed.
-    #[error("cicsedf: read")]
     Read,
     /// A write failed, or took no byte. What was written is a front of the transcript.
-    #[error("cicsedf: write")]
     Write,
     /// An allocation failed.
-    #[error("cicsedf: memory")]
     Memory,
     /// The script has more than 16,777,216 bytes.
-    #[error("cicsedf: too much input")]
     ReadBound,
+}
+
+impl Display for RunFault {
+    ghost output = { λ fault. Some (fault_line fault) };
+
+    fn fmt<W: std::fmt::Write>(&self, f: &mut Formatter<W>) -> Result<(), std::fmt::Error> {
+        match self {
+            RunFault::BadLine(line) => write!(f, "cicsedf: line {line}: BadLine"),
+            RunFault::Source(line, kind) => write!(f, "cicsedf: line {line}: {kind}"),
+            RunFault::Read => f.write_str("cicsedf: read"),
+            RunFault::Write => f.write_str("cicsedf: write"),
+            RunFault::Memory => f.write_str("cicsedf: memory"),
+            RunFault::ReadBound => f.write_str("cicsedf: too much input"),
+        }
+    }
 }
 
 impl From<AllocError> for RunFault {

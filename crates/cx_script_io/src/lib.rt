@@ -1,15 +1,18 @@
 //! What a script is read from and written to, and the lines of what was read.
 #![tactic(auto)]
 
+mod both;
 mod devices;
 mod input;
+pub mod laws;
 mod lines;
 mod memory;
 mod output;
 mod streams;
 mod waiting;
 
-pub use devices::{DeviceFault, ScriptIn, ScriptOut};
+pub use both::Devices;
+pub use devices::{DeviceFault, ScriptDevices, ScriptIn, ScriptOut};
 pub use input::Ending;
 pub use lines::{in_front, is_too_long, last_line, split_line, strip_carriage_return};
 pub use memory::{MemoryIn, MemoryOut};

@@ -2,7 +2,8 @@
 
 ghost use Rattle.std.specs.Prelude.{◌≡◌, ◌≤◌, ◌-◌, ◌||◌, IfOk, Some, Ok, [], false, length, min, take};
 ghost use Rattle.std.specs.Io.KnownBytes.{WriteAppends};
-ghost use Rattle.cx_script_io.specs.Devices.{is_refused};
+ghost use Rattle.cx_script_io.specs.Calls.{moved};
+ghost use Rattle.cx_script_io.specs.Devices.{ReadsKnown, WritesKnown, is_refused};
 
 use crate::devices::{DeviceFault, ScriptIn, ScriptOut};
 
@@ -27,6 +28,11 @@ impl<'a> ScriptIn for MemoryIn<'a> {
 
     ghost has_failed = { λ _. false };
 
+    ghost reads = { λ before given after. ReadsKnown (Some before.rest.now) given (Some after.rest.now) };
+
+    ghost known = { λ _ _ _ h. h };
+
+    #[tactic(auto, using(crate::specs::Facts::Devices::read_known))]
     fn read(&mut self, buffer: &mut [u8]) -> Result<usize, DeviceFault> {
         let n = buffer.len().min(self.rest.len());
         let (front, rest) = self.rest.split_at(n);
@@ -84,6 +90,11 @@ impl<'a> ScriptOut for MemoryOut<'a> {
 
     ghost has_failed = { λ s. s.failed };
 
+    ghost writes = { λ before taken after. WritesKnown (Some (take before.len before.buffer.now)) taken
+        (Some (take after.len after.buffer.now)) };
+
+    ghost known = { λ _ _ _ h. h };
+
     /// Takes all bytes that it has room for.
     fn write(&mut self, bytes: &[u8]) -> Result<usize, DeviceFault>
         ensures bound { IfOk result (λ n. n ≤ length bytes.now) }
@@ -91,6 +102,9 @@ impl<'a> ScriptOut for MemoryOut<'a> {
             let after = take self.new.len self.new.buffer.now in
             WriteAppends (Some before) (Some after) result bytes.now }
         ensures failure { self.new.failed ≡ (self.old.failed || is_refused result bytes.now) }
+        ensures call { let before = take self.old.len self.old.buffer.now in
+            let after = take self.new.len self.new.buffer.now in
+            WritesKnown (Some before) (moved result bytes.now) (Some after) }
         ensures all { result ≡ Ok (min (length bytes.now) (length self.old.buffer.now - self.old.len)) }
         ensures room { let room = length self.old.buffer.now - self.old.len in
             length self.new.buffer.now - self.new.len ≡ room - min (length bytes.now) room }

@@ -1,18 +1,17 @@
 //! Writing all of some bytes.
 
 ghost use Rattle.std.specs.Prelude.{◌≡◌, OnOk, OnErr, is_err, false};
-ghost use Rattle.std.specs.Io.KnownBytes.{Appends};
-ghost use Rattle.cx_script_io.specs.Devices.{WroteFront};
+ghost use Rattle.cx_script_io.specs.Devices.{Takes, TakesFront};
 
 use crate::devices::{DeviceFault, ScriptOut};
 
 /// Writes all of these bytes. A fault comes exactly where a write fails or takes no byte; a front of
 /// the bytes is then written.
-#[tactic(auto, using(crate::specs::Facts::Devices::wrote_more, crate::specs::Facts::Devices::wrote_all, crate::specs::Facts::Devices::wrote_front, crate::specs::Facts::Devices::wrote_kept, crate::specs::Facts::Devices::wrote_none))]
+#[tactic(auto, using(crate::specs::Facts::Devices::wrote_more, crate::specs::Facts::Devices::wrote_all))]
 pub fn write_all<W: ScriptOut>(writer: &mut W, bytes: &[u8]) -> Result<(), DeviceFault>
     requires { W.has_failed writer.old ≡ false }
-    ensures ok { OnOk result (Appends (W.written writer.old) (W.written writer.new) bytes.now) }
-    ensures err { OnErr result (WroteFront (W.written writer.old) (W.written writer.new) bytes.now) }
+    ensures ok { OnOk result (Takes W.writes writer.old writer.new bytes.now) }
+    ensures err { OnErr result (TakesFront W.writes writer.old writer.new bytes.now) }
     ensures failure { W.has_failed writer.new ≡ is_err result }
 {
     let mut at = 0;

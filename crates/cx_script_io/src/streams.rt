@@ -1,6 +1,7 @@
 //! Devices over the standard library's readers and writers.
 
 ghost use Rattle.std.specs.Prelude.{◌≡◌, ◌||◌, IfOk, Ok, false, is_err};
+ghost use Rattle.cx_script_io.specs.Devices.{ReadsKnown, WritesKnown};
 
 use crate::devices::{DeviceFault, ScriptIn, ScriptOut};
 use std::io;
@@ -47,6 +48,11 @@ impl<T: Read> ScriptIn for Std<T> {
 
     ghost has_failed = { λ s. s.failed };
 
+    ghost reads = { λ before given after. ReadsKnown (T.remaining before.inner) given (T.remaining after.inner) };
+
+    ghost known = { λ _ _ _ h. h };
+
+    #[tactic(auto, using(crate::specs::Facts::Devices::read_known))]
     fn read(&mut self, buffer: &mut [u8]) -> Result<usize, DeviceFault> {
         let answer = self.inner.read(buffer);
         self.reported(answer)
@@ -61,6 +67,10 @@ impl<T: Write> ScriptOut for Std<T> {
     ghost written = { λ s. T.contents s.inner };
 
     ghost has_failed = { λ s. s.failed };
+
+    ghost writes = { λ before taken after. WritesKnown (T.contents before.inner) taken (T.contents after.inner) };
+
+    ghost known = { λ _ _ _ h. h };
 
     fn write(&mut self, bytes: &[u8]) -> Result<usize, DeviceFault> {
         let answer = self.inner.write(bytes);

@@ -1,8 +1,7 @@
 //! Texts that wait to be written in one.
 
 ghost use Rattle.std.specs.Prelude.{◌≡◌, ◌≤◌, ◌++◌, [], OnOk, OnErr, is_err, false, length};
-ghost use Rattle.std.specs.Io.KnownBytes.{Appends};
-ghost use Rattle.cx_script_io.specs.Devices.{Sends, WroteFront, device_output};
+ghost use Rattle.cx_script_io.specs.Devices.{Sends, Takes, TakesFront, device_output};
 
 use crate::devices::{DeviceFault, ScriptOut};
 use crate::output::write_all;
@@ -37,12 +36,12 @@ impl OutputBuffer {
     }
 
     /// Writes what waits. After a fault a front of it was written.
-    #[tactic(auto, unfolding(crate::specs::Devices::WroteFront))]
+    #[tactic(auto, unfolding(crate::specs::Devices::TakesFront))]
     pub fn flush<W: ScriptOut>(&mut self, writer: &mut W) -> Result<(), DeviceFault>
         requires { W.has_failed writer.old ≡ false }
-        ensures ok { OnOk result (Appends (W.written writer.old) (W.written writer.new) self.old) }
+        ensures ok { OnOk result (Takes W.writes writer.old writer.new self.old) }
         ensures empty { OnOk result (self.new ≡ []) }
-        ensures err { OnErr result (WroteFront (W.written writer.old) (W.written writer.new) self.old) }
+        ensures err { OnErr result (TakesFront W.writes writer.old writer.new self.old) }
         ensures failure { W.has_failed writer.new ≡ is_err result }
     {
         if write_all(writer, self.bytes.as_slice()).is_err() {
@@ -57,9 +56,9 @@ impl OutputBuffer {
     #[tactic(auto, using(crate::specs::Facts::Devices::sends_put, crate::specs::Facts::Devices::sends_after, crate::specs::Facts::Devices::sends_past, crate::specs::Facts::Devices::front_more, crate::specs::Facts::Devices::front_after))]
     pub fn put<W: ScriptOut>(&mut self, writer: &mut W, text: &[u8]) -> Result<(), DeviceFault>
         requires { W.has_failed writer.old ≡ false }
-        ensures ok { let before = device_output (W.written writer.old) self.old in
-            let after = device_output (W.written writer.new) self.new in OnOk result (Sends before after text.now) }
-        ensures err { OnErr result (WroteFront (W.written writer.old) (W.written writer.new) (self.old ++ text.now)) }
+        ensures ok { let before = device_output writer.old self.old in
+            let after = device_output writer.new self.new in OnOk result (Sends W.writes before after text.now) }
+        ensures err { OnErr result (TakesFront W.writes writer.old writer.new (self.old ++ text.now)) }
         ensures failure { W.has_failed writer.new ≡ is_err result }
     {
         if self.bytes.try_extend_from_slice(text).is_ok() {

@@ -1,1 +1,3 @@
+-- The definitions, in reading order.
+pub mod Words
 pub mod Program

@@ -1,8 +1,7 @@
 -- What a program of scripts does, and its status (own).
-use Rattle.std.specs.Prelude.{◌≡◌, ℕ, Bool, List, Option, Result, Ok, Err}
+use Rattle.std.specs.Prelude.{ℕ, List, Option, Result, Ok, Err}
 use Rattle.cx_script.specs.Language.{Language}
-use Rattle.cx_script.specs.Outcome.{RanIn}
-use Rattle.cx_script_blocks.specs.Faults.{is_read}
+use Rattle.cx_script.specs.Session.{RanIn}
 use Rattle.cx_script_blocks.specs.Status.{status_of}
 use Rattle.cx_script_blocks.specs.declared.faults.RunFault.{RunFault}
 use Rattle.cx_script_blocks.specs.declared.faults.Summary.{Summary}
@@ -16,9 +15,8 @@ program_status (Ok answer) = status_of answer
 program_status (Err Usage) = 2
 program_status (Err Memory) = status_of (Err fault.Memory)
 
--- a run of the script that a reader has, from some state on, of which a read failed exactly at Read
-pub record RanFrom {A S : Type 0} (language : Language A) (performs : S → A → List ℕ → S → Type 0) (start : S) (left : Option (List ℕ)) (answer : Result Summary RunFault) (written written_after : Option (List ℕ)) : Type 0 where
-  pub left_after : Option (List ℕ)
-  pub failed : Bool
-  pub read : failed ≡ is_read answer
-  pub ran : RanIn language performs start left left_after failed answer written written_after
+-- a run over devices from this state of theirs on
+pub record RanFrom {A S D : Type 0} (language : Language A) (performs : S → A → List ℕ → S → Type 0) (start : S)
+    (reads writes : D → Option (List ℕ) → D → Type 0) (before : D) (answer : Result Summary RunFault) : Type 0 where
+  pub after : D
+  pub ran : RanIn language performs start reads writes before answer after

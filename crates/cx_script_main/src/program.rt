@@ -2,13 +2,12 @@
 
 ghost use Rattle.std.specs.Prelude.{◌≡◌, false, IfOk, OnErr, Err};
 ghost use Rattle.cx_script_blocks.specs.Faults.{is_read, is_write};
-ghost use Rattle.cx_script_blocks.specs.declared.faults.RunFault.TheVariants.{Read as ReadFault};
-ghost use Rattle.cx_script.specs.Outcome.{RanIn};
+ghost use Rattle.cx_script_blocks.specs.declared.faults.RunFault.TheVariants.{Memory, Read as ReadFault};
+ghost use Rattle.cx_script.specs.Session.{RanIn};
 ghost use Rattle.cx_script_main.specs.Program.{RanFrom, program_status};
 
-use cx_script::{Performer, RunFault, ScriptIn, ScriptOut, Std, Summary, run_script_on, status};
+use cx_script::{Performer, RunFault, ScriptDevices, Summary, run_script_on, status};
 use std::alloc::{AllocError, Global};
-use std::io::Read;
 
 /// The status where the words are refused.
 const USAGE_STATUS: u8 = 2;
@@ -22,42 +21,40 @@ pub enum Refusal {
     Memory,
 }
 
-/// Runs the script that a reader has, on a performer that was to be made. A read has failed exactly where the answer is Read.
-pub fn run_reader<P: Performer + Drop, F: Read, W: ScriptOut>(
+/// Runs the script that the devices have, on a performer that was to be made. A read has failed exactly where the answer is
+/// Read, and a write was refused exactly where it is Write.
+pub fn run_reader<P: Performer + Drop, D: ScriptDevices>(
     performer: Result<P, AllocError>,
     alloc: Global,
-    input: &mut Std<F>,
-    output: &mut W,
+    devices: &mut D,
 ) -> Result<Summary, RunFault>
-    requires input { ⟦<Std<F> as ScriptIn>⟧.has_failed input.old ≡ false }
-    requires output { W.has_failed output.old ≡ false }
-    ensures ran { (start : P) → IfOk performer (λ made. made ≡ start)
-        → RanIn P.Action.language P.performs start (⟦<Std<F> as ScriptIn>⟧.left input.old)
-        (⟦<Std<F> as ScriptIn>⟧.left input.new)
-        (⟦<Std<F> as ScriptIn>⟧.has_failed input.new) result (W.written output.old) (W.written output.new) }
-    ensures read { ⟦<Std<F> as ScriptIn>⟧.has_failed input.new ≡ is_read result }
-    ensures write { W.has_failed output.new ≡ is_write result }
+    requires input { D.ScriptIn.has_failed devices.old ≡ false }
+    requires output { D.ScriptOut.has_failed devices.old ≡ false }
+    ensures ran { IfOk performer (λ start.
+        RanIn P.Action.language P.performs start D.reads D.writes devices.old result devices.new) }
+    ensures unmade { OnErr performer ((result ≡ Err Memory) × (devices.new ≡ devices.old)) }
+    ensures read { D.ScriptIn.has_failed devices.new ≡ is_read result }
+    ensures write { D.ScriptOut.has_failed devices.new ≡ is_write result }
 {
-    run_script_on(performer, alloc, input, output)
+    run_script_on(performer, alloc, devices)
 }
 
-/// Runs the script of a file, by what opening it answered. A file that can't be opened is one that can't be read, and
-/// nothing is written.
-pub fn run_opened<P: Performer + Drop, F: Read + Drop, E: Drop, W: ScriptOut>(
+/// Runs the script of devices, by what opening a file for them answered. Where it can't be opened there is nothing to read and
+/// nothing to write to: it is as one that can't be read.
+pub fn run_opened<P: Performer + Drop, D: ScriptDevices + Drop, E: Drop>(
     performer: Result<P, AllocError>,
     alloc: Global,
-    opened: Result<F, E>,
-    output: &mut W,
+    opened: Result<D, E>,
 ) -> Result<Summary, RunFault>
-    requires { W.has_failed output.old ≡ false }
-    ensures ran { (start : P) → IfOk performer (λ made. made ≡ start) → IfOk opened (λ file.
-        RanFrom P.Action.language P.performs start (F.remaining file) result
-        (W.written output.old) (W.written output.new)) }
+    requires input { IfOk opened (λ devices. D.ScriptIn.has_failed devices ≡ false) }
+    requires output { IfOk opened (λ devices. D.ScriptOut.has_failed devices ≡ false) }
+    ensures ran { IfOk opened (λ devices. IfOk performer (λ start.
+        RanFrom P.Action.language P.performs start D.reads D.writes devices result)) }
+    ensures unmade { IfOk opened (λ devices. OnErr performer (result ≡ Err Memory)) }
     ensures unopened { OnErr opened (result ≡ Err ReadFault) }
-    ensures unwritten { OnErr opened (W.written output.new ≡ W.written output.old) }
 {
     match opened {
-        Ok(file) => run_reader(performer, alloc, &mut Std::new(file), output),
+        Ok(mut devices) => run_reader(performer, alloc, &mut devices),
         Err(_) => Err(RunFault::Read),
     }
 }

@@ -1,9 +1,13 @@
 //! Starting a program `NAME [FILE]`: it runs a script from a file or from standard input, and writes its transcript.
 
+ghost use Rattle.std.specs.Prelude.{◌≡◌, map, IfOk, IsErrOf, None, Some};
+ghost use Rattle.std.specs.Option.{option_map};
+ghost use Rattle.cx_script_main.specs.Words.{file_of, is_option};
+
 use crate::program::{Refusal, program_status, run_opened, run_reader};
 use clap::error::ErrorKind;
 use clap::{Arg, ArgAction, Command};
-use cx_script::{Performer, RunFault, Std, Summary};
+use cx_script::{Devices, Performer, RunFault, Std, Summary};
 use std::alloc::{AllocError, Global};
 use std::convert::AsStr;
 use std::process::ExitCode;
@@ -20,25 +24,52 @@ fn words_of<R: Env + AllocGlobal>(rt: &R) -> Result<Vec<String>, Refusal> {
     words.collect(rt.alloc()).map_err(|_| Refusal::Memory)
 }
 
-/// The file that the words name, where they name one. A `--`, which clap leaves out, is one word too many.
-fn file_in<'a, S: AsStr>(alloc: Global, words: &'a [S]) -> Result<Option<&'a str>, Refusal> {
+/// Whether a word is an option: a hyphen with more after it.
+fn is_option(word: &str) -> bool
+    ensures { result ≡ is_option word.now }
+{
+    match word.as_bytes() {
+        [b'-', _, ..] => true,
+        _ => false,
+    }
+}
+
+/// Has clap parse the words. Usage comes only where they are refused.
+fn parse<'a, S: AsStr>(alloc: Global, words: &'a [S]) -> Result<(), Refusal>
+    ensures { IsErrOf result Refusal.Usage → file_of (map S.text words.now) ≡ None }
+{
     let file = Arg::new(alloc, "FILE").action(ArgAction::Set);
     let command = match Command::new(alloc, "script").arg(file) {
         Ok(command) => command,
         Err(_) => return Err(Refusal::Memory),
     };
     match command.try_get_matches_from(words) {
-        Ok(matches) => {
-            let file = matches.get_str("FILE");
-            let most = if file.is_some() { 2 } else { 1 };
-            if words.len() > most {
-                return Err(Refusal::Usage);
-            }
-            Ok(file)
-        }
+        Ok(_matches) => Ok(()),
         Err(error) if error.kind() == ErrorKind::OutOfMemory => Err(Refusal::Memory),
         Err(_) => Err(Refusal::Usage),
     }
+}
+
+/// The second of at most two words, which is no option.
+fn second_of<S: AsStr>(words: &[S]) -> Result<Option<&str>, Refusal>
+    ensures file { IfOk result (λ file. file_of (map S.text words.now) ≡ Some (option_map (λ it. it.now) file)) }
+    ensures usage { IsErrOf result Refusal.Usage → file_of (map S.text words.now) ≡ None }
+    ensures memory { IsErrOf result Refusal.Memory → file_of (map S.text words.now) ≡ None }
+{
+    match words {
+        [] | [_] => Ok(None),
+        [_, file] if !is_option(file.as_str()) => Ok(Some(file.as_str())),
+        _ => Err(Refusal::Usage),
+    }
+}
+
+/// The file that the words name, where they name one. Usage comes only where they are refused, and they are never taken there.
+fn file_in<'a, S: AsStr>(alloc: Global, words: &'a [S]) -> Result<Option<&'a str>, Refusal>
+    ensures file { IfOk result (λ file. file_of (map S.text words.now) ≡ Some (option_map (λ it. it.now) file)) }
+    ensures usage { IsErrOf result Refusal.Usage → file_of (map S.text words.now) ≡ None }
+{
+    parse(alloc, words)?;
+    second_of(words)
 }
 
 /// Runs the script of a file, or that of standard input.
@@ -47,15 +78,25 @@ fn run<P: Performer + Drop, R: Files + Input + Print + AllocGlobal>(
     performer: Result<P, AllocError>,
     file: Option<&str>,
 ) -> Result<Summary, RunFault> {
-    let mut output = Std::new(io::writer(rt));
+    let writer = Std::new(io::writer(rt));
     match file {
-        Some(path) => run_opened(performer, rt.alloc(), fs::open(rt, path), &mut output),
-        None => run_reader(
-            performer,
-            rt.alloc(),
-            &mut Std::new(rt.reader()),
-            &mut output,
-        ),
+        Some(path) => {
+            let opened = match fs::open(rt, path) {
+                Ok(file) => Ok(Devices {
+                    reader: Std::new(file),
+                    writer,
+                }),
+                Err(error) => Err(error),
+            };
+            run_opened(performer, rt.alloc(), opened)
+        }
+        None => {
+            let mut devices = Devices {
+                reader: Std::new(rt.reader()),
+                writer,
+            };
+            run_reader(performer, rt.alloc(), &mut devices)
+        }
     }
 }
 

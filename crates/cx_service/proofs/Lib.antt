@@ -1,4 +1,5 @@
 pub mod LineLemmas
+pub mod JoinLemmas
 pub mod ScreenLemmas
 pub mod ItemLemmas
 pub mod QueueSound

@@ -3,6 +3,7 @@ ghost use Rattle.std.specs.Prelude.{◌≡◌, ◌≢◌, ◌↔◌, ℕ, ◌<�
 ghost use Rattle.std.specs.List.{AllByRecursion};
 ghost use Rattle.cx_service.specs.declared.faults.ServiceFault.TheVariants.{Memory};
 ghost use Rattle.cx_service.specs.declared.resources.ResourceName.{ResourceName};
+ghost use Rattle.cx_service.specs.Laws.Lines.{LinesJoin};
 ghost use Rattle.cx_service.specs.Lines.{new_line, columns, AreLinesOf};
 ghost use Rattle.cx_service.specs.Screen.{full_line, with_lines, IsScreen, ShowsText};
 ghost use Rattle.cx_service.specs.Queues.{Queues, AreSoundQueues, last_read_of, write_fault, rewrite_fault, with_item, without_queue};
@@ -17,6 +18,12 @@ pub fn every_text_has_lines()
 pub fn lines_are_decided()
     ensures { (text : List ℕ) (one other : List (List ℕ)) → AreLinesOf text one → AreLinesOf text other
         → one ≡ other }
+{}
+
+/// The lines of a text, joined, are its parts in their order: a line that is broken off a part has 80 bytes, or 1 to 80 before
+/// a blank, which is dropped.
+pub fn lines_join()
+    ensures { LinesJoin }
 {}
 
 /// A text of at most 80 bytes without a new line is its one line.

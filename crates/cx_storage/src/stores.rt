@@ -78,6 +78,27 @@ pub trait Store {
         true
     }
 
+    /// The 8 bytes from `a` (below 2^24) on, to be fetched often. It is Some only at an even address from
+    /// 4,096 on, and where the span doesn't go on at address 0. It may be None with all bytes present:
+    /// then `read` has them. Storage stays as it is.
+    #[tactic(auto, using(crate::specs::Facts::Spans::span_length))]
+    fn fetch(&mut self, a: u32) -> Option<[u8; 8]>
+        requires { a < 2 ^ 24 }
+        ensures bytes { IfSome result (λ bytes. span (storage self.old) a 8 ≡ Some bytes) }
+        ensures even { OnSome result (a % 2 ≡ 0) }
+        ensures high { OnSome result (4096 ≤ a) }
+        ensures no_wrap { OnSome result (a + 8 ≤ 2 ^ 24) }
+        ensures same { storage self.new ≡ storage self.old }
+    {
+        if a % 2 == 1 || a < 4096 {
+            return None;
+        }
+        let part = self.slice(a, 8)?;
+        let mut bytes = [0; 8];
+        bytes.copy_from_slice(part);
+        Some(bytes)
+    }
+
     /// Writes the bytes (at most 65,536) from `a` (below 2^24) on; they go on at address 0 after
     /// X'FFFFFF'. False, and no change, exactly where one of the addresses is in no area.
     #[tactic(auto, using(crate::specs::Facts::Spans::span_gone, crate::specs::Facts::Spans::span_present, crate::proofs::WriteLemmas::with_bytes_more, crate::proofs::WriteLemmas::with_bytes_all, crate::specs::Facts::Writes::written_none, crate::specs::Facts::Writes::written_whole))]

@@ -83,6 +83,13 @@ there_push ps p x none = elim (cases_lt (x / 4096) (length ps)) [
     pushed (r ∷ rs) q zero h = absurd (omega arith)
     pushed (r ∷ rs) q (suc j) h = let rest = pushed rs q j (omega arith) in omega (arith, rest)
 
+pub has_push : (ps : List Page) (p : Page) (j : ℕ) → is_made p ≡ false → has_page (ps ++ p ∷ []) j ≡ has_page ps j
+unfolding has_page
+has_push [] p zero un = un
+has_push [] p (suc j) un = refl
+has_push (q ∷ qs) p zero un = refl
+has_push (q ∷ qs) p (suc j) un = has_push qs p j un
+
 -- a page of the directory
 at_index : (ps : List Page) (i : ℕ) (p : Page) → i < length ps → p ≡ get_or ps i p → slice_get ps i ≡ Some p
 at_index ps i p h e = slice_get_read ps (length ps) i p refl h e
@@ -185,6 +192,10 @@ made_more ps first i q h made before j low high = has_set ps i q j h ∙ elim (c
   | inl here ↦ rw (eq-eqb j i here) made
   | inr ne ↦ rw (ne_eqb j i ne) (before j low (omega arith))
 ]
+
+-- a page set elsewhere
+pub has_set_elsewhere : (ps : List Page) (i : ℕ) (q : Page) (j : ℕ) → i < length ps → j < i → has_page (slice_set ps i q) j ≡ has_page ps j
+has_set_elsewhere ps i q j h lt = let ne : j ≢ i = omega (arith, lt) in has_set ps i q j h ∙ rw (ne_eqb j i ne) refl
 
 -- granules filled one after the other
 pub fills_none : (g : ℕ) (rule old : ℕ → Option ℕ) → Fills g g rule old old

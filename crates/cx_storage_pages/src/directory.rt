@@ -73,7 +73,7 @@ pub(crate) fn has_in(pages: &Vec<Page>, a: usize, end: usize) -> bool
     }
 }
 
-/// Makes the pages from `first` to `last`. It changes no byte.
+/// Makes the pages from `first` to `last`, and none before them. It changes no byte.
 pub(crate) fn make_in(
     pages: &mut Vec<Page>,
     alloc: Global,
@@ -82,6 +82,7 @@ pub(crate) fn make_in(
 ) -> Result<(), AllocError>
     requires { last < 2 ^ 32 }
     ensures made { OnOk result ((i : ℕ) → first ≤ i → i ≤ last → has_page pages.new.items i ≡ true) }
+    ensures before { (i : ℕ) → i < first → has_page pages.new.items i ≡ has_page pages.old.items i }
     ensures same { (x : ℕ) → byte_in_pages pages.new.items x ≡ byte_in_pages pages.old.items x }
 {
     while pages.len() <= last {
@@ -137,8 +138,9 @@ pub(crate) fn zero_in(pages: &mut Vec<Page>, start: usize, end: usize)
     requires low { end ≤ 2 ^ 24 }
     requires made { (i : ℕ) → start / 4096 ≤ i → i ≤ (end - 1) / 4096
         → has_page pages.old.items i ≡ true }
-    ensures { Fills (start / 16) ((end + 15) / 16) (zero_to end) (byte_in_pages pages.old.items)
+    ensures filled { Fills (start / 16) ((end + 15) / 16) (zero_to end) (byte_in_pages pages.old.items)
         (byte_in_pages pages.new.items) }
+    ensures pages { (i : ℕ) → has_page pages.new.items i ≡ has_page pages.old.items i }
 {
     let last = (end + 15) / 16;
     let mut g = start / 16;
@@ -167,9 +169,10 @@ pub(crate) fn clear_in(pages: &mut Vec<Page>, start: usize, end: usize)
 }
 
 /// Looks for the runs of free granules of the pages from `first` up to `end`, exclusive, where they aren't
-/// known. It changes no byte.
+/// known. It changes no byte, and makes no page.
 pub(crate) fn sum_in(pages: &mut Vec<Page>, first: usize, end: usize)
-    ensures { (x : ℕ) → byte_in_pages pages.new.items x ≡ byte_in_pages pages.old.items x }
+    ensures bytes { (x : ℕ) → byte_in_pages pages.new.items x ≡ byte_in_pages pages.old.items x }
+    ensures pages { (i : ℕ) → has_page pages.new.items i ≡ has_page pages.old.items i }
 {
     for i in first..end {
         if i < pages.len() {

@@ -19,7 +19,8 @@ impl Page {
     /// A page that isn't made.
     #[tactic(auto, unfolding(crate::specs::Pages::page_byte))]
     pub(crate) fn new() -> Self
-        ensures { (k : ℕ) → page_byte result k ≡ None }
+        ensures bytes { (k : ℕ) → page_byte result k ≡ None }
+        ensures made { is_made result ≡ false }
     {
         Page { frame: None }
     }
@@ -157,7 +158,8 @@ impl Page {
     /// Looks for the runs of free granules.
     #[tactic(auto, unfolding(crate::specs::Pages::page_byte))]
     pub(crate) fn sum_up(&mut self)
-        ensures { (k : ℕ) → page_byte self.new k ≡ page_byte self.old k }
+        ensures bytes { (k : ℕ) → page_byte self.new k ≡ page_byte self.old k }
+        ensures made { is_made self.new ≡ is_made self.old }
     {
         if let Some(frame) = &mut self.frame {
             frame.sum_up();

@@ -1,8 +1,9 @@
 //! What each call does to the table of areas and the pages, which show one storage.
 
-ghost use Rattle.std.specs.Prelude.{◌≡◌, ℕ, ◌+◌, ◌%◌, ◌^◌, ◌<◌, ◌≤◌, [], length, Ok, Some, None, is_some, unwrap_or, IfSome, IsSome, OnSome, IfOk, OnErr};
+ghost use Rattle.std.specs.Prelude.{◌≡◌, ℕ, ◌+◌, ◌/◌, ◌%◌, ◌^◌, ◌<◌, ◌≤◌, [], length, Ok, Some, None, is_some, unwrap_or, IfSome, IsSome, OnSome, IfOk, OnErr};
 ghost use Rattle.cx_storage.specs.Storage.{byte_at, span, with_byte, with_bytes, after_write, area_at, with_area, with_areas_kept, starts_elsewhere, is_of_other_slot, IsTogether};
 ghost use Rattle.cx_storage.specs.Place.{IsLeastPlace};
+ghost use Rattle.cx_storage_pages.specs.Parts.Directory.{has_page};
 ghost use Rattle.cx_storage_pages.specs.Parts.Shown.{stored, IsShown};
 
 use crate::directory::{
@@ -74,7 +75,7 @@ pub(crate) fn place_of(
     None
 }
 
-/// Makes an area of zero bytes at the least place in a range.
+/// Makes an area of zero bytes at the least place in a range. No page before the first that it touches is made.
 pub(crate) fn get_of(
     areas: &mut Vec<Area>,
     pages: &mut Vec<Page>,
@@ -93,6 +94,8 @@ pub(crate) fn get_of(
     ensures no_place { IsLeastPlace (stored areas.old pages.old) first last len None → result ≡ Ok None }
     ensures err { OnErr result (stored areas.new pages.new ≡ stored areas.old pages.old) }
     ensures shown { IsShown areas.new.items pages.new.items }
+    ensures pages { (a i : ℕ) → IsLeastPlace (stored areas.old pages.old) first last len (Some a) → i < a / 4096
+        → has_page pages.new.items i ≡ has_page pages.old.items i }
 {
     let Some(start) = place_of(areas, pages, first, last, len) else {
         return Ok(None);
@@ -185,6 +188,7 @@ pub(crate) fn has_span_of(areas: &Vec<Area>, pages: &Vec<Page>, a: u32, n: usize
 }
 
 /// Fills a buffer from a span, byte by byte.
+#[cold]
 #[inline(never)]
 fn read_each(areas: &Vec<Area>, pages: &Vec<Page>, a: u32, buffer: &mut [u8]) -> bool
     requires shown { IsShown areas.now.items pages.now.items }
@@ -220,6 +224,7 @@ pub(crate) fn read_of(areas: &Vec<Area>, pages: &Vec<Page>, a: u32, buffer: &mut
 }
 
 /// Writes bytes one after the other, each of which is present.
+#[cold]
 #[inline(never)]
 fn write_each(areas: &Vec<Area>, pages: &mut Vec<Page>, a: u32, bytes: &[u8])
     requires shown { IsShown areas.now.items pages.old.items }
@@ -235,6 +240,7 @@ fn write_each(areas: &Vec<Area>, pages: &mut Vec<Page>, a: u32, bytes: &[u8])
 }
 
 /// Writes a span byte by byte.
+#[cold]
 #[inline(never)]
 fn write_apart(areas: &Vec<Area>, pages: &mut Vec<Page>, a: u32, bytes: &[u8]) -> bool
     requires shown { IsShown areas.now.items pages.old.items }

@@ -1,7 +1,9 @@
 //! A script that is read piece by piece.
 
-ghost use Rattle.std.specs.Prelude.{◌≡◌, ◌≤◌, ◌||◌, ◌&&◌, ◌==◌, IfOk, Some, is_err, true, false, length};
+ghost use Rattle.std.specs.Prelude.{◌≡◌, ◌<◌, ◌≤◌, ◌||◌, ◌&&◌, ◌==◌, IfOk, Some, is_err, true, false, length};
 ghost use Rattle.std.specs.Io.KnownBytes.{ReadConsumes};
+ghost use Rattle.cx_script_io.specs.Calls.{moved};
+ghost use Rattle.cx_script_io.specs.Devices.{ReadsKnown};
 ghost use Rattle.test_devices.specs.Room.{bytes_moved};
 
 use cx_script_io::{DeviceFault, ScriptIn};
@@ -60,10 +62,17 @@ impl<'a> ScriptIn for PieceIn<'a> {
 
     ghost has_failed = { λ s. s.failed };
 
+    ghost reads = { λ before given after. ReadsKnown (Some before.rest.now) given (Some after.rest.now) };
+
+    ghost known = { λ _ _ _ h. h };
+
+    #[tactic(auto, using(cx_script_io::specs::Facts::Devices::read_known))]
     fn read(&mut self, buffer: &mut [u8]) -> Result<usize, DeviceFault>
         ensures bound { IfOk result (λ n. n ≤ length buffer.new) }
         ensures bytes { ReadConsumes (Some self.old.rest.now) (Some self.new.rest.now) result buffer.new }
         ensures failure { self.new.failed ≡ (self.old.failed || is_err result) }
+        ensures call { 0 < length buffer.new
+            → ReadsKnown (Some self.old.rest.now) (moved result buffer.new) (Some self.new.rest.now) }
         ensures fault { is_err result ≡ (self.old.fails && length self.old.rest.now == 0) }
         ensures piece { IfOk result
             (λ n. n ≡ bytes_moved self.old.first (length buffer.new) (length self.old.rest.now)) }

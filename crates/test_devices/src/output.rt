@@ -2,7 +2,8 @@
 
 ghost use Rattle.std.specs.Prelude.{◌≡◌, ◌≤◌, ◌-◌, ◌||◌, ◌&&◌, ◌==◌, IfOk, Some, [], is_err, true, false, length, nat_lt};
 ghost use Rattle.std.specs.Io.KnownBytes.{WriteAppends};
-ghost use Rattle.cx_script_io.specs.Devices.{is_refused};
+ghost use Rattle.cx_script_io.specs.Calls.{moved};
+ghost use Rattle.cx_script_io.specs.Devices.{WritesKnown, is_refused};
 ghost use Rattle.test_devices.specs.Room.{bytes_moved};
 
 use cx_script_io::{DeviceFault, MemoryOut, ScriptOut};
@@ -59,12 +60,20 @@ impl<'a> ScriptOut for PieceOut<'a> {
 
     ghost has_failed = { λ s. ⟦<MemoryOut<'a> as ScriptOut>⟧.has_failed s.text };
 
+    ghost writes = { λ before taken after. WritesKnown (⟦<MemoryOut<'a> as ScriptOut>⟧.written before.text) taken
+        (⟦<MemoryOut<'a> as ScriptOut>⟧.written after.text) };
+
+    ghost known = { λ _ _ _ h. h };
+
+    #[tactic(auto, using(cx_script_io::specs::Facts::Devices::write_known))]
     fn write(&mut self, bytes: &[u8]) -> Result<usize, DeviceFault>
         ensures bound { IfOk result (λ n. n ≤ length bytes.now) }
         ensures bytes { WriteAppends (⟦<MemoryOut<'a> as ScriptOut>⟧.written self.old.text)
             (⟦<MemoryOut<'a> as ScriptOut>⟧.written self.new.text) result bytes.now }
         ensures failure { ⟦<MemoryOut<'a> as ScriptOut>⟧.has_failed self.new.text
             ≡ (⟦<MemoryOut<'a> as ScriptOut>⟧.has_failed self.old.text || is_refused result bytes.now) }
+        ensures call { WritesKnown (⟦<MemoryOut<'a> as ScriptOut>⟧.written self.old.text) (moved result bytes.now)
+            (⟦<MemoryOut<'a> as ScriptOut>⟧.written self.new.text) }
         ensures fault { let room = length self.old.text.buffer.now - self.old.text.len in
             is_err result ≡ (self.old.fails && (room == 0 && nat_lt 0 (length bytes.now))) }
         ensures piece { let room = length self.old.text.buffer.now - self.old.text.len in

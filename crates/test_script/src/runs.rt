@@ -1,6 +1,6 @@
 //! Runs of scripts between devices over memory.
 
-use cx_script::{RunFault, Summary, run_script};
+use cx_script::{Devices, RunFault, Summary, run_script};
 use std::process::Abort;
 use test_devices::{PieceIn, PieceOut};
 
@@ -13,9 +13,12 @@ pub fn expect_run<R: Abort + AllocGlobal>(
 ) {
     for most in [1, usize::MAX] {
         let mut buffer = [0; 2048];
-        let mut output = PieceOut::new(&mut buffer, most);
-        let ran = run_script(rt.alloc(), &mut PieceIn::new(script, most), &mut output);
+        let mut devices = Devices {
+            reader: PieceIn::new(script, most),
+            writer: PieceOut::new(&mut buffer, most),
+        };
+        let ran = run_script(rt.alloc(), &mut devices);
         assert_eq!(rt; ran, answer, "by {most}");
-        assert_eq!(rt; output.text(), transcript, "by {most}");
+        assert_eq!(rt; devices.writer.text(), transcript, "by {most}");
     }
 }

@@ -115,6 +115,7 @@ fn with_block<R: AllocGlobal>(
 #[test]
 fn each_fault_is_reported_by_the_scripts_line(rt: HostRuntime) -> Result<(), Fail> {
     for (block, line, kind) in &FAULTS {
+        let next = *line + 1;
         let script = with_block(
             &rt,
             b"SOURCE P LIST DISASM\n",
@@ -123,11 +124,11 @@ fn each_fault_is_reported_by_the_scripts_line(rt: HostRuntime) -> Result<(), Fai
         )?;
         expect_run(&rt, &script, Err(RunFault::Source(*line, *kind)), b"");
         let after = with_block(&rt, b"TERMINAL T001\n", &script, b"")?;
-        let fault = RunFault::Source(*line + 1, *kind);
+        let fault = RunFault::Source(next, *kind);
         expect_run(&rt, &after, Err(fault), b"TERMINAL T001 DEFINED\n");
         assert_eq!(rt;
             format!(in rt.alloc(); "{fault}")?,
-            format!(in rt.alloc(); "cicsedf: line {}: {}", *line + 1, kind.name())?
+            format!(in rt.alloc(); "cicsedf: line {next}: {}", kind.name())?
         );
         assert_eq!(rt; cx_script::status(&Err(fault)), 1);
     }

@@ -1,9 +1,10 @@
 //! Each answer is written before more is read: a reader that looks, at each read, at how much was written so far.
 
 ghost use Rattle.std.specs.Prelude.{None, false};
+ghost use Rattle.cx_script.specs.Devices.{ReadsKnown, WritesKnown};
 
 use crate::steps::{Example, LISTED, RETURN, STOPPED, Step, TRANSLATED, written_by};
-use cx_script::{DeviceFault, ScriptIn, ScriptOut, Summary, run_script};
+use cx_script::{DeviceFault, Devices, ScriptIn, ScriptOut, Summary, run_script};
 use std::cell::Cell;
 use std::process::Abort;
 use std::rc::Rc;
@@ -19,6 +20,10 @@ impl ScriptOut for ShownOut {
     ghost written = { λ _. None };
 
     ghost has_failed = { λ _. false };
+
+    ghost writes = { λ _ taken _. WritesKnown None taken None };
+
+    ghost known = { λ _ _ _ h. h };
 
     fn write(&mut self, bytes: &[u8]) -> Result<usize, DeviceFault> {
         self.written
@@ -49,6 +54,10 @@ impl<'a, 'b> ScriptIn for LookingIn<'a, 'b> {
 
     ghost has_failed = { λ _. false };
 
+    ghost reads = { λ _ given _. ReadsKnown None given None };
+
+    ghost known = { λ _ _ _ h. h };
+
     fn read(&mut self, buffer: &mut [u8]) -> Result<usize, DeviceFault> {
         self.reads = self.reads.saturating_add(1);
         if self.written.get() == written_by(self.steps, self.given) {
@@ -71,10 +80,10 @@ impl<'a, 'b> ScriptIn for LookingIn<'a, 'b> {
 fn expect_answers<R: Abort + AllocGlobal>(rt: &R, steps: &[Step], most: usize) -> Result<(), Fail> {
     let example = Example::new(rt, steps)?;
     let written = Rc::new(rt.alloc(), Cell::new(0))?;
-    let mut output = ShownOut {
+    let writer = ShownOut {
         written: written.clone()?,
     };
-    let mut input = LookingIn {
+    let reader = LookingIn {
         script: &example.script,
         steps,
         most,
@@ -83,7 +92,9 @@ fn expect_answers<R: Abort + AllocGlobal>(rt: &R, steps: &[Step], most: usize) -
         reads: 0,
         good: 0,
     };
-    let ran = run_script(rt.alloc(), &mut input, &mut output);
+    let mut devices = Devices { reader, writer };
+    let ran = run_script(rt.alloc(), &mut devices);
+    let input = devices.reader;
     assert_eq!(rt;
         ran,
         Ok(Summary {

@@ -2,7 +2,8 @@
 
 use crate::runs::expect_read;
 use cx_script::{
-    DeviceFault, MemoryIn, MemoryOut, RunFault, ScriptIn, ScriptOut, Std, Summary, run_script,
+    DeviceFault, Devices, MemoryIn, MemoryOut, RunFault, ScriptIn, ScriptOut, Std, Summary,
+    run_script,
 };
 use std::io::{self, Read};
 use std::test::Fail;
@@ -61,8 +62,11 @@ fn a_bad_line_comes_before_a_failed_read(rt: HostRuntime) {
 fn a_slice_is_filled_to_its_last_byte(rt: HostRuntime) {
     let mut buffer = [0; 66];
     for len in 0..67 {
-        let mut output = MemoryOut::new(&mut buffer[..len]);
-        let ran = run_script(rt.alloc(), &mut MemoryIn::new(DEFINITIONS), &mut output);
+        let mut devices = Devices {
+            reader: MemoryIn::new(DEFINITIONS),
+            writer: MemoryOut::new(&mut buffer[..len]),
+        };
+        let ran = run_script(rt.alloc(), &mut devices);
         let whole = len == DEFINED.len();
         let want = if whole {
             Ok(Summary { lines: 3 })
@@ -70,9 +74,9 @@ fn a_slice_is_filled_to_its_last_byte(rt: HostRuntime) {
             Err(RunFault::Write)
         };
         assert_eq!(rt; ran, want, "of {len}");
-        assert_eq!(rt; output.room(), 0);
+        assert_eq!(rt; devices.writer.room(), 0);
         assert!(rt; len <= DEFINED.len());
-        assert_eq!(rt; output.text(), &DEFINED[..len], "of {len}");
+        assert_eq!(rt; devices.writer.text(), &DEFINED[..len], "of {len}");
     }
 }
 
@@ -106,10 +110,13 @@ fn a_device_that_failed_has_failed(rt: HostRuntime) {
 #[test]
 fn the_standard_library_s_devices(rt: HostRuntime) -> Result<(), Fail> {
     let mut text = Vec::new(rt.alloc());
-    let mut output = Std::new(&mut text);
-    let ran = run_script(rt.alloc(), &mut Std::new(DEFINITIONS), &mut output);
+    let mut devices = Devices {
+        reader: Std::new(DEFINITIONS),
+        writer: Std::new(&mut text),
+    };
+    let ran = run_script(rt.alloc(), &mut devices);
     assert_eq!(rt; ran, Ok(Summary { lines: 3 }));
-    assert!(rt; !output.failed());
+    assert!(rt; !devices.writer.failed());
     assert_eq!(rt; text.as_slice(), DEFINED);
     Ok(())
 }

@@ -1,9 +1,10 @@
 //! Scripts that are read piece by piece: however they are cut, the transcript is the same.
 
 ghost use Rattle.std.specs.Prelude.{None, false};
+ghost use Rattle.cx_script.specs.Devices.{ReadsKnown};
 
 use crate::runs::expect_read;
-use cx_script::{DeviceFault, MemoryOut, RunFault, ScriptIn, Summary, run_script};
+use cx_script::{DeviceFault, Devices, MemoryOut, RunFault, ScriptIn, Summary, run_script};
 use std::process::Abort;
 use std::test::Fail;
 use test_devices::{PieceIn, comment};
@@ -55,6 +56,10 @@ impl<'a> ScriptIn for Drawn<'a> {
 
     ghost has_failed = { λ _. false };
 
+    ghost reads = { λ _ given _. ReadsKnown None given None };
+
+    ghost known = { λ _ _ _ h. h };
+
     fn read(&mut self, buffer: &mut [u8]) -> Result<usize, DeviceFault> {
         self.seed = self.seed.wrapping_mul(1_103_515_245).wrapping_add(12_345);
         let drawn = (self.seed / 65_536 % 48) as usize + 1;
@@ -74,11 +79,13 @@ impl<'a> ScriptIn for Drawn<'a> {
 fn pieces_of_drawn_lengths(rt: HostRuntime) {
     for seed in 0..500 {
         let mut buffer = [0; 512];
-        let mut output = MemoryOut::new(&mut buffer);
-        let mut input = Drawn { rest: SCRIPT, seed };
-        let ran = run_script(rt.alloc(), &mut input, &mut output);
+        let mut devices = Devices {
+            reader: Drawn { rest: SCRIPT, seed },
+            writer: MemoryOut::new(&mut buffer),
+        };
+        let ran = run_script(rt.alloc(), &mut devices);
         assert_eq!(rt; ran, Ok(Summary { lines: 12 }), "drawn from {seed}");
-        assert_eq!(rt; output.text(), TRANSCRIPT, "drawn from {seed}");
+        assert_eq!(rt; devices.writer.text(), TRANSCRIPT, "drawn from {seed}");
     }
 }
 

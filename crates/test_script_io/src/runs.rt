@@ -2,7 +2,7 @@
 
 ghost use Rattle.std.specs.Prelude.{◌≡◌, false};
 
-use cx_script::{RunFault, ScriptIn, ScriptOut, Summary, run_script};
+use cx_script::{Devices, RunFault, ScriptIn, ScriptOut, Summary, run_script};
 use std::process::Abort;
 use std::test::Fail;
 use test_devices::{PieceIn, PieceOut};
@@ -10,13 +10,12 @@ use test_devices::{PieceIn, PieceOut};
 /// Runs a script between devices that have not failed.
 pub fn run<'a, 'b, R: AllocGlobal>(
     rt: &R,
-    input: &mut PieceIn<'a>,
-    output: &mut PieceOut<'b>,
+    devices: &mut Devices<PieceIn<'a>, PieceOut<'b>>,
 ) -> Result<Summary, RunFault>
-    requires reader { ⟦<PieceIn<'a> as ScriptIn>⟧.has_failed input.old ≡ false }
-    requires writer { ⟦<PieceOut<'b> as ScriptOut>⟧.has_failed output.old ≡ false }
+    requires reader { ⟦<PieceIn<'a> as ScriptIn>⟧.has_failed devices.old.reader ≡ false }
+    requires writer { ⟦<PieceOut<'b> as ScriptOut>⟧.has_failed devices.old.writer ≡ false }
 {
-    run_script(rt.alloc(), input, output)
+    run_script(rt.alloc(), devices)
 }
 
 /// Runs what a reader has, and looks at the answer, the reader and the transcript. The place is reported where these
@@ -31,17 +30,20 @@ pub fn expect_read<'a, R: Abort + AllocGlobal>(
     requires { ⟦<PieceIn<'a> as ScriptIn>⟧.has_failed input ≡ false }
 {
     let mut buffer = [0; 2048];
-    let mut output = PieceOut::new(&mut buffer, usize::MAX);
-    let mut reader = input;
-    let ran = run(rt, &mut reader, &mut output);
+    let mut devices = Devices {
+        reader: input,
+        writer: PieceOut::new(&mut buffer, usize::MAX),
+    };
+    let ran = run(rt, &mut devices);
+    let Devices { reader, writer } = devices;
     assert_eq!(rt; ran, answer, "at {place}");
     assert_eq!(rt;
         reader.failed(),
         answer == Err(RunFault::Read),
         "at {place}"
     );
-    assert!(rt; !output.failed(), "at {place}");
-    assert_eq!(rt; output.text(), transcript, "at {place}");
+    assert!(rt; !writer.failed(), "at {place}");
+    assert_eq!(rt; writer.text(), transcript, "at {place}");
 }
 
 /// `len` bytes of comments: an LF is where what is left, divided by 64, leaves `end`.

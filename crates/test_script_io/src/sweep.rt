@@ -3,7 +3,7 @@
 
 use crate::runs::run;
 use crate::steps::{Example, LISTED, RETURN, STOPPED, Step, TRANSLATED, written_by};
-use cx_script::{RunFault, ScriptIn, ScriptOut, Summary, status};
+use cx_script::{Devices, RunFault, ScriptIn, ScriptOut, Summary, status};
 use std::process::Abort;
 use std::test::Fail;
 use test_devices::{PieceIn, PieceOut};
@@ -12,12 +12,15 @@ impl Example {
     /// The script is read in such pieces, and its transcript is the whole one.
     fn expect_whole<R: Abort + AllocGlobal>(&self, rt: &R, most: usize) {
         let mut buffer = [0; 2048];
-        let mut output = PieceOut::new(&mut buffer, most);
-        let mut input = PieceIn::new(&self.script, most);
-        let ran = run(rt, &mut input, &mut output);
+        let mut devices = Devices {
+            reader: PieceIn::new(&self.script, most),
+            writer: PieceOut::new(&mut buffer, most),
+        };
+        let ran = run(rt, &mut devices);
+        let Devices { reader, writer } = devices;
         assert_eq!(rt; ran, Ok(Summary { lines: self.lines }), "by {most}");
-        assert_eq!(rt; output.text(), self.transcript.as_slice(), "by {most}");
-        assert!(rt; !input.failed() && !output.failed());
+        assert_eq!(rt; writer.text(), self.transcript.as_slice(), "by {most}");
+        assert!(rt; !reader.failed() && !writer.failed());
     }
 
     /// A read fails after a given number of bytes of the script, before which a given number of the transcript's are
@@ -31,14 +34,17 @@ impl Example {
     ) {
         assert!(rt; good <= self.script.len() && written <= self.transcript.len());
         let mut buffer = [0; 2048];
-        let mut output = PieceOut::new(&mut buffer, most);
-        let mut input = PieceIn::failing(&self.script[..good], most);
-        let ran = run(rt, &mut input, &mut output);
+        let mut devices = Devices {
+            reader: PieceIn::failing(&self.script[..good], most),
+            writer: PieceOut::new(&mut buffer, most),
+        };
+        let ran = run(rt, &mut devices);
+        let Devices { reader, writer } = devices;
         assert_eq!(rt; ran, Err(RunFault::Read), "at {good} by {most}");
         assert_eq!(rt; status(&ran), 3);
-        assert!(rt; input.failed() && !output.failed());
+        assert!(rt; reader.failed() && !writer.failed());
         assert_eq!(rt;
-            output.text(),
+            writer.text(),
             &self.transcript[..written],
             "at {good} by {most}"
         );
@@ -49,13 +55,17 @@ impl Example {
         let mut buffer = [0; 2048];
         assert!(rt; good <= self.transcript.len() && good <= buffer.len());
         let room = &mut buffer[..good];
-        let mut output = if fails {
+        let writer = if fails {
             PieceOut::failing(room, most)
         } else {
             PieceOut::new(room, most)
         };
-        let mut input = PieceIn::new(&self.script, most);
-        let ran = run(rt, &mut input, &mut output);
+        let mut devices = Devices {
+            reader: PieceIn::new(&self.script, most),
+            writer,
+        };
+        let ran = run(rt, &mut devices);
+        let Devices { reader, writer } = devices;
         let whole = good == self.transcript.len();
         let (answer, code) = if whole {
             (Ok(Summary { lines: self.lines }), 0)
@@ -64,10 +74,10 @@ impl Example {
         };
         assert_eq!(rt; ran, answer, "at {good} by {most}");
         assert_eq!(rt; status(&ran), code);
-        assert!(rt; !input.failed());
-        assert_eq!(rt; output.failed(), !whole);
+        assert!(rt; !reader.failed());
+        assert_eq!(rt; writer.failed(), !whole);
         assert_eq!(rt;
-            output.text(),
+            writer.text(),
             &self.transcript[..good],
             "at {good} by {most}"
         );

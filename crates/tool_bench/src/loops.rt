@@ -4,6 +4,7 @@
 
 use crate::slices::{Job, perform};
 use cx_storage::FlatStore;
+use cx_storage_keep::KeepingStore;
 use cx_storage_pages::PagedStore;
 use std::alloc::{AllocError, Global};
 use std::io;
@@ -14,6 +15,7 @@ fn perform_over(alloc: Global, word: &str, job: &Job) -> Result<Option<u64>, All
     match word {
         "flat" => perform(&mut FlatStore::new(alloc), job),
         "paged" => perform(&mut PagedStore::new(alloc), job),
+        "kept" => perform(&mut KeepingStore::new(PagedStore::new(alloc)), job),
         _ => Ok(None),
     }
 }

@@ -1,10 +1,11 @@
 //! Times stores: areas of 16 bytes got and freed in an order of a fixed generator, addresses looked up, and the areas
-//! of 16 owners freed. The first word of an input line is `flat` or `paged`, the second the number of areas; the line
+//! of 16 owners freed. The first word of an input line is `flat`, `paged` or `kept`, the second the number of areas; the line
 //! that is printed has nanoseconds for each call.
 
 ghost use Rattle.std.specs.Prelude.{◌<◌, ◌^◌, ◌≤◌, length};
 
 use cx_storage::{FlatStore, Kind, Owner, Store};
+use cx_storage_keep::KeepingStore;
 use cx_storage_pages::PagedStore;
 use std::alloc::AllocError;
 use std::io;
@@ -207,6 +208,10 @@ pub fn run<R: BufRead + Drop>(rt: &HostRuntime, reader: R) -> io::Result<()> {
         match name {
             "flat" => time(rt, &mut FlatStore::new(rt.alloc()), name, count)?,
             "paged" => time(rt, &mut PagedStore::new(rt.alloc()), name, count)?,
+            "kept" => {
+                let mut store = KeepingStore::new(PagedStore::new(rt.alloc()));
+                time(rt, &mut store, name, count)?;
+            }
             _ => println!(rt; "no store is named so")?,
         }
     }

@@ -1,9 +1,10 @@
-//! The part of steps: a line has a single instruction or a short program, which is run over the plain store and over the store
-//! in pages. The name of a line that differs is printed with the store's, and last for each store how many lines were done, how
+//! The part of steps: a line has a single instruction or a short program, which is run over the plain store, over the store
+//! in pages, and over stores that keep what they fetch of each. The name of a line that differs is printed with the store's, and last for each store how many lines were done, how
 //! many of them differ, and how many could not be read.
 
 use crate::step_judge::{Verdict, judge};
 use cx_storage::{FlatStore, Store};
+use cx_storage_keep::KeepingStore;
 use cx_storage_pages::PagedStore;
 use std::alloc::Global;
 use std::io;
@@ -54,11 +55,13 @@ impl<S: Store> NamedStore<S> {
     }
 }
 
-/// The two stores.
+/// The stores.
 #[derive(Drop)]
 pub struct StepPart {
     flat: NamedStore<FlatStore>,
     paged: NamedStore<PagedStore>,
+    kept_flat: NamedStore<KeepingStore<FlatStore>>,
+    kept_paged: NamedStore<KeepingStore<PagedStore>>,
 }
 
 impl StepPart {
@@ -67,18 +70,24 @@ impl StepPart {
         StepPart {
             flat: NamedStore::new("flat", FlatStore::new(alloc)),
             paged: NamedStore::new("paged", PagedStore::new(alloc)),
+            kept_flat: NamedStore::new("kept flat", KeepingStore::new(FlatStore::new(alloc))),
+            kept_paged: NamedStore::new("kept paged", KeepingStore::new(PagedStore::new(alloc))),
         }
     }
 
     /// Takes a line.
     pub fn line(&mut self, rt: &HostRuntime, line: &str) -> io::Result<()> {
         self.flat.line(rt, line)?;
-        self.paged.line(rt, line)
+        self.paged.line(rt, line)?;
+        self.kept_flat.line(rt, line)?;
+        self.kept_paged.line(rt, line)
     }
 
     /// Prints the counts.
     pub fn print(&self, rt: &HostRuntime) -> io::Result<()> {
         self.flat.print(rt)?;
-        self.paged.print(rt)
+        self.paged.print(rt)?;
+        self.kept_flat.print(rt)?;
+        self.kept_paged.print(rt)
     }
 }

@@ -18,14 +18,16 @@ IsCheckedEdf _ = ⊤
 
 -- an event under EDF leads from a sound region to a sound one
 abbrev pub EdfSoundIsKept : Type 0
-EdfSoundIsKept = (old new : EdfState) (e : EdfEvent) (given : Answer) → IsSound old.region → IsAllowedEdf e → IsCheckedEdf e → EdfApplies old e given new → ArePartsSound new.region → IsSound new.region
+EdfSoundIsKept = (old new : EdfState) (e : EdfEvent) (given : Answer) → IsSound old.region → IsAllowedEdf e
+    → IsCheckedEdf e → EdfApplies old e given new → ArePartsSound new.region → IsSound new.region
 
 -- ---- memory
 -- What comes after a refused event is done as if that had never come; so its answer and the state after it, with all modes and
 -- displays, are those that it would have had.
 pub record IsAsWithoutEdf (old : EdfState) (next : EdfEvent) (result : Result Answer AllocError) (new : EdfState) : Type 0 where
   pub done : IsDoneEdf old next result new
-  pub answer : (other : Answer) (after : EdfState) → EdfApplies old next other after → IfOk result (λ given. (given ≡ other) × (new ≡ after))
+  pub answer : (other : Answer) (after : EdfState) → EdfApplies old next other after
+      → IfOk result (λ given. (given ≡ other) × (new ≡ after))
 
 abbrev pub RefusedEdfEventsAreNone : Type 0
 RefusedEdfEventsAreNone = (old mid new : EdfState) (refused next : EdfEvent) (fault : AllocError) (result : Result Answer AllocError)

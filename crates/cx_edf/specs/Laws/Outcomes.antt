@@ -1,19 +1,31 @@
--- Every event under EDF has an outcome, also one that was refused memory.
-use Rattle.std.specs.Prelude.{Result}
-use Rattle.std.specs.declared.alloc.AllocError.{AllocError}
+-- Every event under EDF has an outcome, and every list of events is a run: over the definitions alone, in every state,
+-- whatever memory there is and whatever displays are.
+use Rattle.std.specs.Prelude.{List}
+use Rattle.std.specs.List.{AllByRecursion}
 use Rattle.cx_edf.specs.declared.answers.EdfEvent.{EdfEvent}
 use Rattle.cx_edf.specs.declared.answers.Answer.{Answer}
 use Rattle.cx_edf.specs.State.{EdfState}
-use Rattle.cx_edf.specs.Steps.{EdfApplies}
-use Rattle.cx_edf.specs.Runs.{IsDoneEdf}
+use Rattle.cx_edf.specs.Steps.{AppliesBy, DisplayMaker}
+use Rattle.cx_edf.specs.Runs.{Trace}
 use Rattle.cx_edf.specs.Laws.Memory.{IsCheckedEdf}
 
 -- there is an answer to the event, and a state after it
-pub record HasOutcomeEdf (old : EdfState) (e : EdfEvent) : Type 0 where
+pub record HasOutcomeEdf (make : DisplayMaker) (old : EdfState) (e : EdfEvent) : Type 0 where
   pub given : Answer
   pub new : EdfState
-  pub applies : EdfApplies old e given new
+  pub applies : AppliesBy make old e given new
 
--- each event that was done has one: it was answered, or was refused memory
 abbrev pub EdfEventsHaveOutcomes : Type 0
-EdfEventsHaveOutcomes = (old new : EdfState) (e : EdfEvent) (result : Result Answer AllocError) → IsCheckedEdf e → IsDoneEdf old e result new → HasOutcomeEdf old e
+EdfEventsHaveOutcomes = (make : DisplayMaker) (old : EdfState) (e : EdfEvent) → IsCheckedEdf e
+    → HasOutcomeEdf make old e
+
+-- there are answers to the events, and a state after each
+pub record HasTrace (make : DisplayMaker) (old : EdfState) (events : List EdfEvent) : Type 0 where
+  pub answers : List Answer
+  pub states : List EdfState
+  pub trace : Trace make old events answers states
+
+-- so it is of each list of events, images checked
+abbrev pub EdfEventListsAreRuns : Type 0
+EdfEventListsAreRuns = (make : DisplayMaker) (old : EdfState) (events : List EdfEvent)
+    → AllByRecursion IsCheckedEdf events → HasTrace make old events

@@ -1,11 +1,14 @@
 -- A look changes nothing: what was done of each script with looks that ran.
-use Rattle.std.specs.Prelude.{◌≡◌, ℕ, Bool, false, List, take, Option, Result}
+use Rattle.std.specs.Prelude.{◌≡◌, ℕ, Bool, false, List, take, Result}
 use Rattle.std.specs.List.{flat_map}
 use Rattle.cx_script_actions.specs.Effects.{fresh_state}
+use Rattle.cx_script_io.specs.Calls.{Call, taken}
+use Rattle.cx_script_io.specs.Input.{IsReadOf}
+use Rattle.cx_script_io.specs.declared.input.Ending.{Ending}
 use Rattle.cx_script_blocks.specs.declared.faults.RunFault.{RunFault}
 use Rattle.cx_script_blocks.specs.declared.faults.Summary.{Summary}
 use Rattle.cx_script.specs.Script.{Script, script_in}
-use Rattle.cx_script.specs.Outcome.{RanIn}
+use Rattle.cx_script.specs.Session.{IsSession}
 use Rattle.cx_script.specs.Laws.Events.{IsRun}
 use Rattle.cx_script.specs.Laws.Inputs.{was_stopped}
 use Rattle.cx_look_script.specs.Laws.Looks.{ChangesNothing, plain_of, written_of}
@@ -18,20 +21,20 @@ use Rattle.cx_headline.specs.Laws.Runs.{WasWritten}
 -- What was done of a script with looks: the first of its actions, and all of them unless memory or the writer stopped the run. Its
 -- text was written. With the looks left out, and each RUN replaced by the turns that it did, these actions are a run of
 -- `cicsedf` from the fresh region on to the same state, and so one of events under EDF.
-pub record IsLookedOver (script : Script LookAction) (answer : Result Summary RunFault) (before after : Option (List ℕ)) : Type 0 where
+pub record IsLookedOver (script : Script LookAction) (answer : Result Summary RunFault) (written : List ℕ) : Type 0 where
   pub count : ℕ
   pub actions : List LookAction
   pub first : actions ≡ take count script.actions
   pub all : was_stopped answer ≡ false → actions ≡ script.actions
   pub text : List ℕ
-  pub written : WasWritten answer before after text
+  pub was_written : WasWritten answer written text
   pub new : LookState
   pub unchanged : ChangesNothing fresh_look_state actions text new
   pub did : IsRun fresh_state (flat_map plain_of unchanged.parts) (flat_map written_of unchanged.parts) new.edf
 
 -- so it is of each script that ran: the premise is what `run_script_on` ensures of `cicslook`'s performer
 abbrev pub ScriptsAreLookedOver : Type 0
-ScriptsAreLookedOver = (left left_after : Option (List ℕ)) (failed : Bool) (answer : Result Summary RunFault)
-    (before after : Option (List ℕ))
-    (ran : RanIn look_language LookPerforms fresh_look_state left left_after failed answer before after)
-    → IsLookedOver (script_in look_language ran.ending ran.bytes) answer before after
+ScriptsAreLookedOver = (calls : List Call) (answer : Result Summary RunFault)
+    (session : IsSession look_language LookPerforms fresh_look_state calls answer)
+    (ending : Ending) (bytes : List ℕ) → IsReadOf calls ending bytes
+    → IsLookedOver (script_in look_language ending bytes) answer (taken calls)

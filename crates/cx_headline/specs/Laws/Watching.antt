@@ -12,8 +12,9 @@ use Rattle.cx_edf.specs.declared.answers.EdfEvent.{EdfEvent}
 use Rattle.cx_edf.specs.declared.answers.EdfEvent.TheVariants as edf_event
 use Rattle.cx_edf.specs.State.{EdfState}
 use Rattle.cx_edf.specs.Erasure.{erasure, region_replies}
-use Rattle.cx_edf.specs.Runs.{EdfRun}
-use Rattle.cx_edf.specs.Laws.Edf.{ends_task, is_alteration}
+use Rattle.cx_edf.specs.Steps.{DisplayMaker}
+use Rattle.cx_edf.specs.Runs.{Trace, last_state}
+use Rattle.cx_edf.specs.Laws.Edf.{AreAnsweredOff, ends_task, is_alteration, off_at}
 use Rattle.cx_script_actions.specs.Effects.{Performs}
 use Rattle.cx_script_actions.specs.declared.actions.Action.{Action}
 use Rattle.cx_script.specs.Laws.Events.{event_of}
@@ -42,14 +43,15 @@ answered_in (e ∷ events) (given ∷ answers) = answered_of e given ++ answered
 answered_in _ _ = []
 
 -- What is left is exactly these, in their order, each as it was given, and so are the replies. Given to the same region
--- with EDF Off at each terminal, they are answered so, and leave the region that EDF left.
+-- with EDF Off at each terminal, they are answered so, and leave the region that EDF left; and in no other way.
 pub record IsUnaltered (old : EdfState) (events : List EdfEvent) (answers : List Answer) (left : List Event) (replies : List Reply)
     (state : EdfState) : Type 0 where
   pub events_left : left ≡ map (λ (p : Event × Reply). p.0) (answered_in events answers)
   pub replies_left : replies ≡ map (λ (p : Event × Reply). p.1) (answered_in events answers)
-  pub off : (others : List Answer) (after : EdfState)
-      → EdfRun (record { region = old.region; sessions = [] }) (map (λ e. edf_event.Plain e) left) others after
-      → (others ≡ map (λ r. answer.Region r) replies) × (after.region ≡ state.region)
+  pub off : (make : DisplayMaker) → AreAnsweredOff make old.region left replies state.region
+  pub only_off : (make : DisplayMaker) (others : List Answer) (states : List EdfState)
+      → Trace make (off_at old.region) (map (λ e. edf_event.Plain e) left) others states
+      → (others ≡ map (λ r. answer.Region r) replies) × ((last_state (off_at old.region) states).region ≡ state.region)
 
 -- ---- the same states
 -- The region after each event is that of a plain run of the events that are left up to there, with the region's

@@ -1,6 +1,8 @@
 -- A run of a script, line by line.
-use Rattle.std.specs.Prelude.{◌≡◌, ℕ, ◌+◌, ◌<◌, Option, Some, None, Result, Ok, Err, List, [], ◌++◌, length, take}
-use Rattle.std.specs.Io.KnownBytes.{Consumes}
+use Rattle.std.specs.Prelude.{◌≡◌, ℕ, ◌+◌, ◌<◌, Option, Some, None, Result, Ok, Err, List, [], ◌∷◌, ◌++◌, length, map, take}
+use Rattle.std.specs.List.{FoldsTo}
+use Rattle.cx_script_io.specs.Calls.{Call, Reading, Writing, did, given, taken}
+use Rattle.cx_script_io.specs.Input.{IsEnding}
 use Rattle.cx_script_io.specs.Devices.{Sends, SentFront, DeviceOutput, device_output}
 use Rattle.cx_script_blocks.specs.declared.blocks.Block.{Block}
 use Rattle.cx_script_io.specs.Lines.{lines_met}
@@ -12,7 +14,18 @@ use Rattle.cx_script_blocks.specs.declared.blocks.LineStep.{LineStep}
 use Rattle.cx_script_blocks.specs.declared.faults.RunFault.{RunFault}
 use Rattle.cx_script_blocks.specs.declared.faults.RunFault.TheVariants.{BadLine, Read, Write, Memory}
 use Rattle.cx_script_blocks.specs.declared.faults.Summary.{Summary}
-use Rattle.cx_script.specs.Transcript.{Runs, Wrote}
+use Rattle.cx_script.specs.Transcript.{Ends, Runs, Wrote}
+
+-- what is written is kept as a list of bytes
+abbrev pub logs : List ℕ → Option (List ℕ) → List ℕ → Type 0
+logs before (Some bytes) after = after ≡ before ++ bytes
+logs before None after = after ≡ before
+
+-- some writes took a writer from one state to another; and this holds of what was written before, whatever it is, and after them
+pub record Calling {W : Type 0} (writes : W → Option (List ℕ) → W → Type 0) (before after : W) (Does : List ℕ → List ℕ → Type 0) : Type 0 where
+  pub calls : List (Option (List ℕ))
+  pub made : FoldsTo writes before calls after
+  pub does : (log : List ℕ) → Does log (log ++ taken (map Writing calls))
 
 -- what is done for a line: nothing where it asks none
 abbrev pub Acts : {A S : Type 0} → (S → A → List ℕ → S → Type 0) → Option A → S → List ℕ → S → Type 0
@@ -20,15 +33,15 @@ Acts performs None old text new = (text ≡ []) × (new ≡ old)
 Acts performs (Some action) old text new = performs old action text new
 
 -- an action and its text, by what was answered
-unfoldable pub Acted : {A S : Type 0} → (S → A → List ℕ → S → Type 0) → Option A → S → DeviceOutput → Result (Unit {0}) RunFault → S → DeviceOutput → Type 0
-Acted performs action old before (Ok done) new after = (text : List ℕ) × Acts performs action old text new × Sends before after text
+unfoldable pub Acted : {A S : Type 0} → (S → A → List ℕ → S → Type 0) → Option A → S → DeviceOutput (List ℕ) → Result (Unit {0}) RunFault → S → DeviceOutput (List ℕ) → Type 0
+Acted performs action old before (Ok done) new after = (text : List ℕ) × Acts performs action old text new × Sends logs before after text
 Acted performs action old before (Err Memory) new after = after ≡ before
-Acted performs action old before (Err Write) new after = (text : List ℕ) × Acts performs action old text new × SentFront before after text
+Acted performs action old before (Err Write) new after = (text : List ℕ) × Acts performs action old text new × SentFront logs before after text
 Acted performs action old before (Err _) new after = ⊥
 
 -- a line with this number, of which this step or fault is due, by what was answered; a bad one is never reported as
 -- Memory
-unfoldable pub TakesLine : {A S : Type 0} → (S → A → List ℕ → S → Type 0) → ℕ → Result (LineStep A) RunFault → S → DeviceOutput → Result (Unit {0}) RunFault → S → DeviceOutput → Option Block → Type 0
+unfoldable pub TakesLine : {A S : Type 0} → (S → A → List ℕ → S → Type 0) → ℕ → Result (LineStep A) RunFault → S → DeviceOutput (List ℕ) → Result (Unit {0}) RunFault → S → DeviceOutput (List ℕ) → Option Block → Type 0
 TakesLine performs number due old before (Err Memory) new after block = (due ≡ Err (BadLine number) → ⊥) × (after ≡ before)
 TakesLine {A} performs number due old before (Err Write) new after block =
     (step : LineStep A) × (due ≡ Ok step) × Acted performs step.action old before (Err Write) new after
@@ -42,31 +55,31 @@ after_done done left = record { actions = done ++ left.actions; fault = left.fau
 
 -- Some lines are done, after n others and in this block: however the script goes on, what it asks is their actions, and
 -- what the next lines ask.
-pub record Took {A S : Type 0} (language : Language A) (performs : S → A → List ℕ → S → Type 0) (old : S) (n : ℕ) (block : Option Block) (lines : List (List ℕ)) (before : DeviceOutput) (new : S) (m : ℕ) (next : Option Block) (after : DeviceOutput) : Type 0 where
+pub record Took {A S : Type 0} (language : Language A) (performs : S → A → List ℕ → S → Type 0) (old : S) (n : ℕ) (block : Option Block) (lines : List (List ℕ)) (before : DeviceOutput (List ℕ)) (new : S) (m : ℕ) (next : Option Block) (after : DeviceOutput (List ℕ)) : Type 0 where
   pub done : List A
   pub text : List ℕ
   pub runs : Runs performs old done text new
-  pub written : Sends before after text
+  pub written : Sends logs before after text
   pub asks : (ending : Ending) (more : List (List ℕ)) → script_from language ending (n + 1) block (lines ++ more) ≡ after_done done (script_from language ending (m + 1) next more)
   pub count : n + length lines ≡ m
 
 -- how far a run has come from one place of a script to another: the lines are done that the bytes ahead have in front of those
 -- of the bytes left, however the script goes on
-pub record Came {A S : Type 0} (language : Language A) (performs : S → A → List ℕ → S → Type 0) (old : S) (n : ℕ) (block : Option Block) (ahead : List ℕ) (before : DeviceOutput) (new : S) (m : ℕ) (next : Option Block) (left : List ℕ) (after : DeviceOutput) : Type 0 where
+pub record Came {A S : Type 0} (language : Language A) (performs : S → A → List ℕ → S → Type 0) (old : S) (n : ℕ) (block : Option Block) (ahead : List ℕ) (before : DeviceOutput (List ℕ)) (new : S) (m : ℕ) (next : Option Block) (left : List ℕ) (after : DeviceOutput (List ℕ)) : Type 0 where
   pub lines : List (List ℕ)
   pub met : (ending : Ending) (rest : List ℕ) → lines_met ending (ahead ++ rest) ≡ lines ++ lines_met ending (left ++ rest)
   pub took : Took language performs old n block lines before new m next after
 
 -- the transcript of these actions is written, or waits
-abbrev pub SentAll : {A S : Type 0} → (S → A → List ℕ → S → Type 0) → S → List A → DeviceOutput → DeviceOutput → Type 0
-SentAll performs old actions before after = Wrote Sends performs old actions before after
+abbrev pub SentAll : {A S : Type 0} → (S → A → List ℕ → S → Type 0) → S → List A → DeviceOutput (List ℕ) → DeviceOutput (List ℕ) → Type 0
+SentAll performs old actions before after = Wrote (Sends logs before after) performs old actions
 
 -- a front of it is written, and of what waited
-abbrev pub SentSome : {A S : Type 0} → (S → A → List ℕ → S → Type 0) → S → List A → DeviceOutput → DeviceOutput → Type 0
-SentSome performs old actions before after = Wrote SentFront performs old actions before after
+abbrev pub SentSome : {A S : Type 0} → (S → A → List ℕ → S → Type 0) → S → List A → DeviceOutput (List ℕ) → DeviceOutput (List ℕ) → Type 0
+SentSome performs old actions before after = Wrote (SentFront logs before after) performs old actions
 
 -- stopped without memory at one of these lines: those in front of it are done, and it isn't a bad one
-pub record HaltedAt {A S : Type 0} (language : Language A) (performs : S → A → List ℕ → S → Type 0) (old : S) (n : ℕ) (block : Option Block) (lines : List (List ℕ)) (before after : DeviceOutput) : Type 0 where
+pub record HaltedAt {A S : Type 0} (language : Language A) (performs : S → A → List ℕ → S → Type 0) (old : S) (n : ℕ) (block : Option Block) (lines : List (List ℕ)) (before after : DeviceOutput (List ℕ)) : Type 0 where
   pub line : ℕ
   pub within : line < length lines
   pub led : (script_from language Failed (n + 1) block (take line lines)).fault ≡ Some Read
@@ -74,7 +87,7 @@ pub record HaltedAt {A S : Type 0} (language : Language A) (performs : S → A �
   pub done : SentAll performs old (script_from language Failed (n + 1) block (take line lines)).actions before after
 
 -- how a run stopped in these lines, after n others, where some of its transcript may wait yet
-unfoldable pub Halts : {A S : Type 0} → Language A → (S → A → List ℕ → S → Type 0) → S → Ending → ℕ → Option Block → List (List ℕ) → RunFault → DeviceOutput → DeviceOutput → Type 0
+unfoldable pub Halts : {A S : Type 0} → Language A → (S → A → List ℕ → S → Type 0) → S → Ending → ℕ → Option Block → List (List ℕ) → RunFault → DeviceOutput (List ℕ) → DeviceOutput (List ℕ) → Type 0
 Halts language performs old ending n block lines Memory before after = HaltedAt language performs old n block lines before after
 Halts language performs old ending n block lines Write before after =
     (k : ℕ) × SentSome performs old (take k (script_from language ending (n + 1) block lines).actions) before after
@@ -82,18 +95,25 @@ Halts language performs old ending n block lines fault before after =
     ((script_from language ending (n + 1) block lines).fault ≡ Some fault) × SentAll performs old (script_from language ending (n + 1) block lines).actions before after
 
 -- how it ended
-abbrev pub Closes : {A S : Type 0} → Language A → (S → A → List ℕ → S → Type 0) → S → Ending → ℕ → Option Block → List (List ℕ) → Result Summary RunFault → DeviceOutput → DeviceOutput → Type 0
+abbrev pub Closes : {A S : Type 0} → Language A → (S → A → List ℕ → S → Type 0) → S → Ending → ℕ → Option Block → List (List ℕ) → Result Summary RunFault → DeviceOutput (List ℕ) → DeviceOutput (List ℕ) → Type 0
 Closes language performs old ending n block lines (Ok summary) before after =
     ((script_from language ending (n + 1) block lines).fault ≡ None) × (summary.lines ≡ n + length lines) × SentAll performs old (script_from language ending (n + 1) block lines).actions before after
 Closes language performs old ending n block lines (Err fault) before after = Halts language performs old ending n block lines fault before after
 
 -- a run stopped at such a place, however the script goes on
-pub record Stopped {A S : Type 0} (language : Language A) (performs : S → A → List ℕ → S → Type 0) (old : S) (n : ℕ) (block : Option Block) (ahead : List ℕ) (fault : RunFault) (before after : DeviceOutput) : Type 0 where
+pub record Stopped {A S : Type 0} (language : Language A) (performs : S → A → List ℕ → S → Type 0) (old : S) (n : ℕ) (block : Option Block) (ahead : List ℕ) (fault : RunFault) (before after : DeviceOutput (List ℕ)) : Type 0 where
   pub stops : (ending : Ending) (rest : List ℕ) → Halts language performs old ending n block (lines_met ending (ahead ++ rest)) fault before after
 
--- what a run from a script's beginning has read so far: how many bytes, and how far it has come in them
-pub record Seen {A S : Type 0} (language : Language A) (performs : S → A → List ℕ → S → Type 0) (start : S) (left now : Option (List ℕ)) (read : ℕ) (new : S) (m : ℕ) (next : Option Block) (part : List ℕ) (before after : Option (List ℕ)) : Type 0 where
-  pub seen : List ℕ
-  pub consumed : Consumes left now seen
-  pub len : length seen ≡ read
-  pub came : Came language performs start 0 None seen (device_output before []) new m next part (device_output after [])
+-- before each read of these calls there was no reason to read no more, and the lines complete until then were done and written
+abbrev pub InTime : {A S : Type 0} → Language A → (S → A → List ℕ → S → Type 0) → S → List Call → Type 0
+InTime language performs start calls = (before after : List Call) (bytes : Option (List ℕ)) → calls ≡ before ++ Reading bytes ∷ after
+    → ((why : Ending) → IsEnding before why → ⊥) × Ends language performs start Failed (given before) (Err Read) (taken before)
+
+-- what a run from a script's beginning has read so far, and how far it has come in that: nothing waits
+pub record Seen {A S D : Type 0} (language : Language A) (performs : S → A → List ℕ → S → Type 0) (start : S) (reads writes : D → Option (List ℕ) → D → Type 0) (before now : D) (read : ℕ) (new : S) (m : ℕ) (next : Option Block) (part : List ℕ) : Type 0 where
+  pub calls : List Call
+  pub made : FoldsTo (did reads writes) before calls now
+  pub len : length (given calls) ≡ read
+  pub unended : (why : Ending) → IsEnding calls why → ⊥
+  pub in_time : InTime language performs start calls
+  pub came : Came language performs start 0 None (given calls) (device_output [] []) new m next part (device_output (taken calls) [])

@@ -6,14 +6,12 @@ use Rattle.cx_asm_execution.proofs.CallLemmas.{mark_resolved}
 use Rattle.cx_asm_execution.proofs.CodeInStorage.{CodeIsLoaded}
 use Rattle.cx_asm_execution.proofs.CodeLemmas.{code_loaded}
 use Rattle.cx_asm_execution.proofs.HandedLemmas.{block_stands, entry_stands, literals_loaded}
-use Rattle.cx_asm_execution.proofs.InStorage.{LinesAreLoaded, TextsAreMade}
+use Rattle.cx_asm_execution.proofs.InStorage.{TextsAreMade}
 use Rattle.cx_asm_execution.proofs.LegalLemmas.{Accepts}
 use Rattle.cx_asm_execution.proofs.LiteralLemmas.{Knows, literals_stand}
 use Rattle.cx_asm_execution.proofs.Literals.{LiteralsStand}
-use Rattle.cx_asm_execution.proofs.LoadedLemmas.{Known, all_loaded}
 use Rattle.cx_asm_execution.proofs.MadeLemmas.{calls_made}
 use Rattle.cx_asm_execution.proofs.PointerLemmas.{loads_are_resolved}
-use Rattle.cx_asm_execution.proofs.RaisedLemmas.{no_code_raised}
 use Rattle.cx_asm_execution.proofs.ReturnedLemmas.{Laws as ReturnLaws}
 use Rattle.cx_asm_execution.proofs.StandingLemmas.{texts_are_made}
 use Rattle.cx_asm_execution.proofs.StoreLemmas.{branch_resolved, stores_resolved}
@@ -34,13 +32,11 @@ returns c =
       room = c.accepted_lists_have_room.ensures;
       read = c.accepted_lists_are_read.ensures;
     } in
-    let known : Known = record { text = c.the_text_is_decided_by_its_bytes.ensures.is; others = c.relocation.ensures.others; spans = spans } in
     let addresses : OperandsAddress = operands_address near in
     let texts : TextsAreMade = texts_are_made apart.short apart.size apart.lines in
-    let lines : LinesAreLoaded = all_loaded known in
     let knows : Knows = record { addresses = addresses; size = apart.size; short = apart.short; apart = apart.lines } in
     let literals : LiteralsStand = literals_stand knows in
-    let code : CodeIsLoaded = code_loaded c.what_is_resolved_is_well_formed.ensures c.every_spelling.ensures.length texts lines (no_code_raised texts) in
+    let code : CodeIsLoaded = code_loaded c.what_is_resolved_is_well_formed.ensures c.every_spelling.ensures.length c.lines_are_loaded.ensures c.no_code_is_relocated.ensures in
     let laws : Laws = record {
       accepts = accepts;
       addresses = addresses;
@@ -49,7 +45,7 @@ returns c =
       words = words_lie addresses;
       block = block_stands bytes literals;
       entry = entry_stands literals;
-      loaded = literals_loaded texts lines;
+      loaded = literals_loaded c.lines_are_loaded.ensures;
       code = code;
       texts = texts;
       spans = spans;

@@ -18,5 +18,8 @@ loop-g-preserved c =
       λ i. c.mark_in.ensures.pages i ∙ holds.3 i,
     )
 
-pub returns : goal.returns
-returns c = λ x. let holds = c.loop-g.invariant in let done : c.loop-g.g ≡ (c.args.end + 15) / 16 = omega (arith, holds.1) in rw done at (holds.2 x)
+pub returns-clause-filled : goal.returns-clause-filled
+returns-clause-filled c = λ x. let holds = c.loop-g.invariant in let done : c.loop-g.g ≡ (c.args.end + 15) / 16 = omega (arith, holds.1) in rw done at (holds.2 x)
+
+pub returns-clause-pages : goal.returns-clause-pages
+returns-clause-pages c = c.loop-g.invariant.3

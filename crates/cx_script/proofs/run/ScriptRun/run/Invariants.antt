@@ -7,8 +7,8 @@ use Rattle.cx_script.proofs.run.ScriptRun.run.Given as goal
 
 abbrev pub invariant-pieces : goal.invariant-pieces
 invariant-pieces g l =
-    (g.R.ScriptIn.has_failed l.reader ≡ false) × (g.W.ScriptOut.has_failed l.writer ≡ false)
+    (g.D.ScriptIn.has_failed l.devices ≡ false) × (g.D.ScriptOut.has_failed l.devices ≡ false)
     × (l.self.progress.waiting ≡ []) × IsUnbroken l.self.part.items × (is_too_long (strip_carriage_return l.self.part.items) ≡ false)
     × (l.self.progress.lines ≤ l.read) × (l._turn ≤ l.read) × (l.read ≤ 16777216)
-    × Seen g.P.Action.ScriptAction.language g.P.Performer.performs l.initial.self.progress.performer (g.R.ScriptIn.left l.initial.reader) (g.R.ScriptIn.left l.reader) l.read
-    l.self.progress.performer l.self.progress.lines l.self.progress.block l.self.part.items (g.W.ScriptOut.written l.initial.writer) (g.W.ScriptOut.written l.writer)
+    × Seen g.P.Action.ScriptAction.language g.P.Performer.performs l.initial.self.progress.performer g.D.ScriptIn.reads g.D.ScriptOut.writes l.initial.devices l.devices l.read
+    l.self.progress.performer l.self.progress.lines l.self.progress.block l.self.part.items

@@ -1,0 +1,88 @@
+"""How many lines a reader of a statement has to read: its own definition and each that it reaches, word by word, in the definitions of
+whatever crates, with the types of sources that these cite; without comments, imports and blank lines, as `.ci/believing.py` counts them.
+Words at which he may stop are not entered."""
+import functools
+import os
+import re
+
+from believing import cites, filled, imports_of, paths_in, types_in, without_comments, without_imports
+from repository import Repository, text_of
+
+DEFINED = re.compile(r"(?:(?:abbrev|unfoldable|pub|record|data) )*([^\W\d][\w'-]*)")
+
+
+def blocks_in(text):
+    """Returns the text of each word that a file defines."""
+    found = {}
+    for block in re.split(r"(?m)^(?=[^\s)\]}])", without_imports(text)):
+        name = DEFINED.match(block)
+        if name:
+            found[name[1]] = found.get(name[1], "") + block
+    return found
+
+
+class Module:
+    """A file of definitions: the text of each word, and where each word comes from that it imports."""
+
+    def __init__(self, path):
+        text = without_comments(text_of(path))
+        self.blocks = blocks_in(text)
+        self.imports = {name: (crate, module) for crate, module, name in imports_of(text)}
+        self.passed = {name: (crate, module) for crate, module, name in imports_of(text)}
+
+    def cited(self, word):
+        """Returns what the text of a word cites: words of this file, and crates with paths."""
+        block = self.blocks[word]
+        own = [(None, it) for it in self.blocks if it != word and cites(block, it)]
+        return own + [at for name, at in self.imports.items() if cites(block, name.partition("◌")[0] or name)] + [
+            (crate, path) for crate, path, _ in paths_in(block)
+        ]
+
+
+class Reading:
+    """The definitions that are reached from some words."""
+
+    def __init__(self, root="."):
+        self.root, self.crates = root, {*Repository(root).libraries}
+        self.module = functools.cache(self.module)
+
+    def module(self, crate, path):
+        """Returns the module of a path as imports write it, and the word after it; of a word that a crate passes on, where it is defined."""
+        parts = path.split(".")
+        for cut in range(len(parts) - 1, 0, -1):
+            at = f"{self.root}/crates/{crate}/{'/'.join(parts[:cut])}.antt"
+            if os.path.isfile(at):
+                return Module(at), f"{crate}/{'/'.join(parts[1:cut])}", parts[cut]
+        lib = f"{self.root}/crates/{crate}/specs/Lib.antt"
+        passed = Module(lib).passed.get(parts[1]) if os.path.isfile(lib) and len(parts) > 2 else None
+        return self.module(passed[0], f"{passed[1]}.{'.'.join(parts[2:])}") if passed else None
+
+    def type_lines(self, crate, path):
+        """Returns the name and the lines of a type of a source."""
+        found = re.match(r"specs\.declared\.((?:\w+\.)*?)([A-Z]\w*)(?:\.|$)", path)
+        if not found:
+            return None
+        at = f"{self.root}/crates/{crate}/src/{found[1].rstrip('.').replace('.', '/')}.rt"
+        types = types_in(text_of(at)) if os.path.isfile(at) else {}
+        return (f"{crate}/{found[2]}", filled(types[found[2]], ("//", "#["))) if found[2] in types else None
+
+    def reached(self, begin, stops=()):
+        """Returns the lines of each word reached from these (crate, path), by where it stands; a word of `stops` is left unread."""
+        found, waiting = {}, [*begin]
+        while waiting:
+            crate, path = waiting.pop()
+            if crate not in self.crates:
+                continue
+            if path.startswith("specs.declared."):
+                found.update([it] if (it := self.type_lines(crate, path)) else [])
+                continue
+            there = self.module(crate, path)
+            if there is None:
+                continue
+            module, at, word = there
+            if word not in module.blocks or f"{at}: {word}" in found or word in stops:
+                continue
+            found[f"{at}: {word}"] = filled(module.blocks[word])
+            here = "specs." + at.partition("/")[2].replace("/", ".")
+            waiting += [(of or at.partition("/")[0], it if of else f"{here}.{it}") for of, it in module.cited(word)]
+        return found

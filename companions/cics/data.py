@@ -1,0 +1,222 @@
+"""Rewritings of DS, DC, EQU and literals."""
+from dataclasses import dataclass, replace
+
+from cics.constants import Item, is_lone_mark, item_of
+from cics.expressions import Kind, Value, is_plain, terms_of, whole, worked_out
+from cics.from_cics import advice
+from cics.program import Program
+from cics.statements import Statement, new_statement
+from cics.texts import cut
+
+STATEMENTS = "Assembler statements"
+WRITTEN_OUT = "FHPXBAY"  # types of which each value becomes an item
+MOST_ITEMS = 4096
+
+
+@dataclass(frozen=True)
+class Piece:
+    """An item of the new source. `is_even`: it has to be put at an even place."""
+
+    item: Item
+    is_even: bool = False
+
+
+@dataclass(frozen=True)
+class Context:
+    """Where an item stands: its statement, its place, and whether it is a literal."""
+
+    program: Program
+    statement: Statement
+    here: Value | None
+    is_literal: bool = False
+
+    def left(self, text: str) -> None:
+        self.program.left(self.statement.origin, text)
+
+    def worked(self, text: str) -> str:
+        return self.program.worked(text, self.here, self.statement.origin)
+
+
+def with_numbers(item: Item, context: Context) -> Item:
+    """Duplication, length and values that are expressions, worked out."""
+    values = item.values()
+    if item.kind in "AY" and values:
+        item = item.of(",".join(context.worked(value) for value in values))
+    return replace(item, duplication=factor(item.duplication, context), modifier=factor(item.modifier, context))
+
+
+def factor(text: str, context: Context) -> str:
+    """A duplication or length in parentheses as a number."""
+    if not text.startswith("("):
+        return text
+    number = context.program.layout.number(text[1:-1], context.here)
+    if number is None or number < 0:
+        context.left(f"{text}: not a number that is known before{advice(STATEMENTS, 'duplication')}")
+        return text
+    return str(number)
+
+
+def has_star(item: Item) -> bool:
+    expressions = [whole(value) for value in item.values()] if item.kind in "AY" else []
+    return any(term.kind is Kind.STAR for one in expressions if one for term in terms_of(one))
+
+
+def own_table(item: Item, context: Context) -> list[Piece] | None:
+    """`T DC 256AL1(*-T)`, by its own name: the bytes of all copies; the first one is an item, so that the length attribute stays."""
+    name, copies = context.statement.name, int(item.duplication or "1")
+    length = int(item.modifier or ("2" if item.kind == "Y" else "4"))
+    expressions = [whole(value) for value in item.values()]
+    if not name or any(one is None or all(term.text != name for term in terms_of(one)) for one in expressions):
+        return None
+    if context.here is None or not 1 <= length * copies * len(expressions) <= MOST_ITEMS:
+        return None
+    texts = []
+    for at in range(copies * len(expressions)):
+        here = context.here.plus(Value(length * at), 1)
+        value = context.program.layout.evaluated(item.values()[at % len(expressions)], here)
+        if value is None or not value.is_number():
+            return None
+        texts.append(f"{value.number % 256**length:0{2 * length}X}")
+    units = ["".join(texts[:1]), "".join(texts[1:])]
+    is_even = item.kind == "Y" and not item.modifier
+    return [Piece(Item("", "X", "", f"'{unit}'"), is_even and at == 0) for at, unit in enumerate(units) if unit]
+
+
+def each_alone(item: Item, context: Context) -> list[Item]:
+    """The values of an item as an item each."""
+    values = item.values()
+    if item.kind not in WRITTEN_OUT or len(values) < 2:
+        return [item]
+    copies = int(item.duplication or "1")
+    if context.is_literal or copies * len(values) > MOST_ITEMS:
+        context.left(f"{item.text()}: several values in {'a literal' if context.is_literal else 'too many copies'}"
+                     f"{advice(STATEMENTS, 'several values in A')}")
+        return [item]
+    if copies == 0:
+        return [item.of(values[0])]
+    return [replace(item.of(value), duplication="") for value in values * copies]
+
+
+def without_y(item: Item, is_ds: bool) -> Piece:
+    """Type Y: H in a DS, AL2 at an even place in a DC or literal; YLn is ALn."""
+    if item.kind != "Y":
+        return Piece(item)
+    if item.modifier:
+        return Piece(replace(item, kind="A"))
+    return Piece(replace(item, kind="H", value="")) if is_ds else Piece(replace(item, kind="A", modifier="2"), True)
+
+
+def is_refused(item: Item, context: Context) -> bool:
+    """Whether an item can't be written here; told, with what to write."""
+    is_dc = context.is_literal or context.statement.operation == "DC"
+    length = 2 if item.kind == "Y" and not item.modifier else int(item.modifier or "4")
+    if item.kind in "ESZQL" or item.kind == "D" and is_dc or item.kind == "V" and item.value != "(DFHEI1)" and is_dc:
+        context.left(f"{item.text()}: type {item.kind}{advice(STATEMENTS, 'types D')}")
+        return True
+    if item.kind in "AY" and length < 4 and any(context.program.is_place(value, context.here) for value in item.values()):
+        context.left(f"{item.text()}: a place in fewer than four bytes{advice(STATEMENTS, 'a place in fewer')}")
+        return True
+    if item.kind == "C" and is_lone_mark(item.value[1:-1]):
+        context.left(f"{item.text()}: an ampersand or apostrophe alone in a text; write: two of them")
+        return True
+    return False
+
+
+def starred(old: Item, context: Context) -> list[Piece]:
+    """An item with `*` in a duplicated value, or in one of several that are worked out."""
+    item = replace(old, duplication=factor(old.duplication, context), modifier=factor(old.modifier, context))
+    is_dc = context.statement.operation == "DC" and not context.is_literal
+    table = own_table(item, context) if is_dc and "(" not in item.duplication + item.modifier else None
+    if table is None:
+        context.left(f"{old.text()}: a duplicated place: each copy is alike here{advice(STATEMENTS, '* in a duplicated constant')}")
+    return table or [Piece(old)]
+
+
+def is_starred(item: Item, context: Context) -> bool:
+    is_several = any(is_worked(value, context.program) for value in item.values()) and len(item.values()) > 1
+    return has_star(item) and (item.duplication not in ("", "1") or is_several)
+
+
+def pieces_of(text: str, context: Context) -> list[Piece]:
+    """What an item becomes."""
+    old = item_of(text)
+    if old is None:
+        context.left(f"{text}: no item that can be read here{advice(STATEMENTS, 'types D')}")
+        return []
+    if is_starred(old, context):
+        return starred(old, context)
+    item = with_numbers(old, context)
+    if "(" in item.duplication + item.modifier or is_refused(item, context):
+        return [Piece(item)]
+    is_ds = context.statement.operation == "DS" and not context.is_literal
+    return [without_y(one, is_ds) for one in each_alone(item, context)]
+
+
+def rewritten_data(statement: Statement, program: Program) -> list[Statement]:
+    """DS and DC: each item rewritten; before one that has to be at an even place comes `DS 0H`."""
+    placed = program.layout.placed.get(statement.origin.order)
+    groups: list[list[Piece]] = [[]]
+    has_worked = False
+    for at, text in enumerate(cut(statement.operand)):
+        here = placed.items[at] if placed and at < len(placed.items) else None
+        pieces = pieces_of(text, Context(program, statement, here))
+        if not pieces:
+            return [statement]
+        old = item_of(text)
+        has_worked = has_worked or bool(old) and any(is_worked(part, program) for part in parts_of(old))
+        for piece in pieces:
+            if piece.is_even and groups[-1] and not groups[-1][-1].is_even:
+                groups.append([])
+            groups[-1].append(piece)
+    made = [",".join(piece.item.text() for piece in group) for group in groups]
+    if made == [statement.operand] and not groups[0][0].is_even:
+        return [statement]
+    return with_even_places(statement, groups, made, statement.operand if has_worked else "")
+
+
+def parts_of(item: Item | None) -> list[str]:
+    """What an item has that may be an expression to be worked out."""
+    return [item.duplication, item.modifier, *(item.values() if item.kind in "AY" else [])] if item else []
+
+
+def is_worked(text: str, program: Program) -> bool:
+    expression = whole(text)
+    return expression is not None and not is_plain(expression, program.layout)
+
+
+def with_even_places(statement: Statement, groups: list[list[Piece]], made: list[str], old: str) -> list[Statement]:
+    found: list[Statement] = []
+    for at, operand in enumerate(made):
+        if groups[at][0].is_even:
+            found.append(new_statement(statement, "DS", "0H"))
+        if at == 0:
+            found.append(statement.changed(operand=operand, remark=f"{old} {statement.remark}".strip()))
+        else:
+            found.append(new_statement(statement, statement.operation, operand))
+    return found
+
+
+def rewritten_literal(text: str, statement: Statement, program: Program) -> str:
+    """A literal with its sign."""
+    pieces = pieces_of(text[1:], Context(program, statement, program.here(statement), is_literal=True))
+    return f"={pieces[0].item.text()}" if pieces else text
+
+
+def rewritten_equate(statement: Statement, program: Program) -> list[Statement]:
+    """EQU: its expression worked out, and without the length attribute that it gives; what uses that is rewritten by itself."""
+    first, *others = cut(statement.operand)
+    expression = whole(first)
+    if expression is None:
+        return [statement]
+    if others and program.layout.length(statement.name) is None:
+        program.left(statement.origin, f"EQU {statement.operand}: its length isn't known before{advice(STATEMENTS, 'EQU x,len')}")
+        return [statement]
+    is_kept = is_plain(expression, program.layout)
+    operand = first if is_kept else worked_out(expression, program.layout, program.here(statement))
+    if operand is None:
+        program.left(statement.origin, f"{first}: not all of it is a number that is known before")
+        return [statement]
+    if operand == statement.operand:
+        return [statement]
+    remark = statement.remark if is_kept else f"{statement.operand} {statement.remark}".strip()
+    return [statement.changed(operand=operand, remark=remark)]

@@ -1,0 +1,64 @@
+"""The faults and notes of sources, as `FAULTS` of cicslook finds them."""
+import re
+from dataclasses import dataclass
+
+from cics.assembler_files import Source, encoded
+from cics.child import run
+from cics.cli import Failure
+
+# A line of FAULTS: the line, perhaps the column, the fault or NOTE, and the text, in which >> and << may stand around a word.
+FAULT = re.compile(r"> (?P<line>\d+)(?:[ :](?P<column>\d+))? (?P<kind>NOTE|[A-Z][A-Za-z]+)(?P<text>.*)")
+WORD = re.compile(r">>(?P<word>.*?)<<")
+
+
+@dataclass(frozen=True)
+class Fault:
+    """A fault or a note: where it is, and what. The column is 0 where it isn't known."""
+
+    file: str
+    line: int
+    column: int
+    kind: str
+    text: str
+
+    def is_note(self) -> bool:
+        return self.kind == "note"
+
+    def __str__(self) -> str:
+        place = f"{self.file}:{self.line}:" + (f"{self.column}:" if self.column else "")
+        return f"{place} {self.kind}: {self.text}" if self.text else f"{place} {self.kind}"
+
+
+@dataclass(frozen=True)
+class Block:
+    """A source's block in a script: its lines go from the one after `first` on."""
+
+    source: Source
+    first: int
+
+    def has(self, line: int) -> bool:
+        return self.first < line <= self.first + len(self.source.lines) + 1
+
+    def fault(self, found: re.Match[str]) -> Fault:
+        line = int(found["line"]) - self.first
+        word, text = WORD.search(found["text"]), found["text"].strip()
+        kind = "note" if found["kind"] == "NOTE" else found["kind"]
+        shown = text if kind == "note" else word["word"] if word else text
+        number = self.source.before + min(line, max(len(self.source.lines), 1))
+        return Fault(self.source.path, number, int(found["column"] or 0), kind, shown)
+
+
+def faults_of(sources: list[Source], cicslook: str) -> list[Fault]:
+    """All faults and notes of sources."""
+    script: list[str] = []
+    blocks = []
+    for source in sources:
+        blocks.append(Block(source, len(script) + 1))
+        script += source.block("FAULTS")
+    ended = run([cicslook], encoded(script))
+    if not ended.is_well():
+        raise Failure(f"{cicslook}: {ended}")
+    lines = ended.out.decode("latin-1").split("\n")
+    found = [match for match in map(FAULT.fullmatch, lines) if match]
+    return [next(block for block in blocks if block.has(int(match["line"]))).fault(match) for match in found]
+

@@ -1,0 +1,168 @@
+"""ORG that goes back over DS, to lay other names on a field: the same fields by `DS 0..` in the order of their places."""
+from dataclasses import dataclass, replace
+
+from cics.constants import item_of
+from cics.expressions import Chain, terms_of, whole
+from cics.from_cics import advice
+from cics.layout import Placed
+from cics.program import Program
+from cics.statements import Statement, new_statement
+from cics.texts import cut
+
+MAY_STAND = {"DS", "EQU", "ORG", "SPACE", "EJECT", "TITLE", "PRINT"}  # statements that an overlay may have
+ENDS = {"CSECT", "START", "DSECT", "END"}
+
+
+class NotLaidOut(Exception):
+    """Why an overlay can't be rewritten."""
+
+
+@dataclass(frozen=True)
+class Field:
+    """A DS or EQU of an overlay, with the comments above it; its first place, and the one after its last."""
+
+    statement: Statement
+    above: list[Statement]
+    begin: int
+    end: int
+
+
+@dataclass(frozen=True)
+class Overlay:
+    """The statements from the first field that is gone back to, up to the ORG that goes on after all; and the comments under the last
+    field."""
+
+    begin: int
+    end: int
+    fields: list[Field]
+    below: list[Statement]
+
+
+def is_last(statement: Statement) -> bool:
+    """Whether an ORG goes on after all that was."""
+    return statement.operation == "ORG" and statement.operand in ("", ",")
+
+
+def place_in(statement: Statement, chain: Chain, program: Program) -> Placed:
+    placed = program.layout.placed.get(statement.origin.order)
+    if placed is None or placed.begin.places != {chain: 1} or placed.end.places != {chain: 1}:
+        raise NotLaidOut("its places aren't all known before")
+    return placed
+
+
+def begin_of_overlay(statements: list[Statement], at: int, chain: Chain, target: int, program: Program) -> int:
+    """The first statement that has bytes after the place to which ORG goes back."""
+    first = at
+    for number in range(at - 1, -1, -1):
+        one = statements[number]
+        if one.is_comment:
+            continue
+        if one.operation not in MAY_STAND:
+            break
+        if one.operation != "DS":
+            continue
+        placed = program.layout.placed.get(one.origin.order)
+        if placed is None or placed.end.places != {chain: 1} or placed.end.number <= target:
+            break
+        first = number
+    return first
+
+
+def overlay_at(statements: list[Statement], at: int, program: Program) -> Overlay:
+    """The overlay whose first ORG this is."""
+    placed = program.layout.placed.get(statements[at].origin.order)
+    if placed is None:
+        raise NotLaidOut("the place to which it goes back isn't known before")
+    (chain,), target = placed.begin.places, placed.begin.number
+    begin = begin_of_overlay(statements, at, chain, target, program)
+    end = next((number for number in range(at, len(statements)) if is_last(statements[number]) or statements[number].operation in ENDS),
+               len(statements))
+    if begin == at or place_in(statements[begin], chain, program).begin.number > target:
+        raise NotLaidOut("it doesn't go back over DS alone")
+    found = Overlay(begin, end, [], [])
+    for one in statements[begin:end]:
+        add(one, found, chain, program)
+    return found
+
+
+def add(statement: Statement, overlay: Overlay, chain: Chain, program: Program) -> None:
+    """Adds a statement to an overlay: a field with what is above it, or what is above the next one."""
+    if statement.operation in ("DS", "EQU"):
+        placed = place_in(statement, chain, program)
+        overlay.fields.append(Field(statement, list(overlay.below), placed.begin.number, placed.end.number))
+        overlay.below.clear()
+    elif statement.operation == "ORG":
+        overlay.below.extend([statement.made_comment()] if program.is_kept else [])
+    elif statement.is_comment or statement.operation in MAY_STAND:
+        overlay.below.append(statement)
+    else:
+        raise NotLaidOut(f"{statement.operation} stands in it")
+
+
+def symbols_of(statement: Statement) -> set[str]:
+    expressions = [whole(part) for part in cut(statement.operand)]
+    return {term.name() for one in expressions if one for term in terms_of(one)}
+
+
+def are_defined_above(fields: list[Field]) -> bool:
+    """Whether each EQU comes after what it uses."""
+    names = [field.statement.name for field in fields]
+    return all(field.statement.operation != "EQU" or not symbols_of(field.statement) & set(names[at:]) for at, field in enumerate(fields))
+
+
+def without_bytes(statement: Statement) -> Statement:
+    """A field without bytes: its first item, no times."""
+    item = item_of(cut(statement.operand)[0])
+    if item is None:
+        raise NotLaidOut(f"DS {statement.operand} can't be read")
+    return statement.changed(operand=replace(item, duplication="0").text())
+
+
+def bytes_between(near: Statement, count: int) -> list[Statement]:
+    return [new_statement(near, "DS", f"XL{count}")] if count > 0 else []
+
+
+def laid_in_order(fields: list[Field]) -> list[Statement]:
+    """The fields in the order of their places: one has its bytes where the next begins after them, else none; DS XLn is between."""
+    ordered = sorted(fields, key=lambda field: field.begin)
+    if not are_defined_above(ordered):
+        raise NotLaidOut("an EQU in it would come before what it uses")
+    found: list[Statement] = []
+    at, last = ordered[0].begin, max(field.end for field in ordered)
+    for number, field in enumerate(ordered):
+        following = ordered[number + 1].begin if number + 1 < len(ordered) else last
+        found += [*bytes_between(field.statement, field.begin - at), *field.above]
+        at = max(at, field.begin)
+        if field.end <= following:
+            found.append(field.statement)
+            at = field.end
+        elif field.statement.name:
+            found.append(without_bytes(field.statement))
+    return [*found, *bytes_between(ordered[-1].statement, last - at)]
+
+
+def without_overlays(statements: list[Statement], program: Program) -> list[Statement]:
+    """A source without the ORGs that can be written otherwise."""
+    found, at = list(statements), 0
+    while at < len(found):
+        one = found[at]
+        at += 1
+        if one.operation != "ORG":
+            continue
+        try:
+            if is_last(one):
+                raise NotLaidOut("it ends one that is left")
+            at = put_in_order(found, overlay_at(found, at - 1, program), one, program)
+        except NotLaidOut as why:
+            program.left(one.origin, f"ORG {one.operand}".strip() + f": {why}{advice('Assembler statements', 'ORG')}")
+    return found
+
+
+def put_in_order(found: list[Statement], overlay: Overlay, org: Statement, program: Program) -> int:
+    """Puts an overlay's fields in order; returns where the source goes on."""
+    has_end = overlay.end < len(found) and is_last(found[overlay.end])
+    last = [found[overlay.end].made_comment()] if has_end and program.is_kept else []
+    made = [*laid_in_order(overlay.fields), *overlay.below, *last]
+    found[overlay.begin : overlay.end + has_end] = made
+    program.log.changed(org.origin, f"ORG {org.operand}", "the fields in the order of their places, by DS 0.. and DS XLn")
+    return overlay.begin + len(made)

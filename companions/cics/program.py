@@ -1,0 +1,35 @@
+"""What a rewriting knows: the layout of the source as it was read, and where it tells what it leaves."""
+from dataclasses import dataclass
+
+from cics.expressions import Value, is_plain, whole, worked_out
+from cics.layout import Layout
+from cics.statements import Origin, Statement
+from cics.telling import Log
+
+
+@dataclass
+class Program:
+    layout: Layout
+    log: Log
+    is_kept: bool = False  # old texts are kept as comments
+
+    def here(self, statement: Statement) -> Value | None:
+        return self.layout.here(statement)
+
+    def left(self, origin: Origin, text: str) -> None:
+        self.log.left(origin, text)
+
+    def worked(self, text: str, here: Value | None, origin: Origin) -> str:
+        """An expression worked out where it has to be; as it is, and told, where it can't."""
+        expression = whole(text)
+        if expression is None or is_plain(expression, self.layout):
+            return text
+        worked = worked_out(expression, self.layout, here)
+        if worked is None:
+            self.left(origin, f"{text}: not all of it is a number that is known before")
+        return worked or text
+
+    def is_place(self, text: str, here: Value | None) -> bool:
+        """Whether an expression is known to be a place."""
+        value = self.layout.evaluated(text, here)
+        return value is not None and not value.is_absolute()

@@ -1,0 +1,165 @@
+"""Test data: files whose lines become the items of temporary storage queues, by a program that is written into a script.
+
+A line of a file is an item: its characters by their codes, and a byte that stands for no character here as it is. A line that begins
+with `=` is an item given by constants, as `=CL5'A1000',PL4'125'`; one that begins with `==` is the text from the second on.
+"""
+from dataclasses import dataclass
+
+from cics.cli import Failure
+from cics.constants import item_of, size_of
+from cics.statements import CONTINUED, LAST, MARK, put
+from cics.texts import CODED, cut, is_decimal
+
+MOST_BYTES, MOST_ITEMS, LONGEST = 40_000, 1_500, 32_767  # of a program, and of an item
+LOADER, TRANSACTION, TERMINAL = "$QLOAD", "$QL", "$QLD"
+
+
+@dataclass(frozen=True)
+class Given:
+    """A queue and the file of its items, as they are given: NAME=FILE."""
+
+    queue: str
+    path: str
+
+
+@dataclass(frozen=True)
+class Item:
+    """An item: its constants, and about how many bytes they have."""
+
+    queue: str
+    constants: list[str]
+    size: int
+
+
+def given_of(words: list[str]) -> list[Given]:
+    found = []
+    for word in words:
+        queue, equals, path = word.partition("=")
+        if not equals or not is_queue(queue):
+            raise Failure(f"--queue {word}: write: --queue NAME=FILE, the name of 1 to 8 characters")
+        found.append(Given(queue, path))
+    return found
+
+
+def is_queue(name: str) -> bool:
+    return 1 <= len(name) <= 8 and all(character in CODED and character != "=" for character in name)
+
+
+def text_constants(line: str) -> list[str]:
+    """A text's constants: C'..' for what has characters, X'..' for the rest."""
+    found: list[str] = []
+    begin = 0
+    while begin < len(line):
+        is_text = line[begin] in CODED
+        end = begin
+        while end < len(line) and (line[end] in CODED) == is_text:
+            end += 1
+        piece = line[begin:end]
+        doubled = piece.replace("'", "''").replace("&", "&&")
+        found.append(f"C'{doubled}'" if is_text else f"X'{piece.encode('latin-1').hex().upper()}'")
+        begin = end
+    return found
+
+
+def constants_size(path: str, number: int, constants: list[str]) -> int:
+    """About how many bytes constants have; a line that has none is a failure."""
+    total = 0
+    for text in constants:
+        item = item_of(text)
+        modifiers = [part for part in (item.duplication, item.modifier) if part] if item else []
+        if item is None or not item.value or not all(map(is_decimal, modifiers)):
+            raise Failure(f"{path}:{number}: {text}: no constant; after = write constants, as CL5'A1000',PL4'125', or == for a text")
+        size = size_of(item, int(item.modifier) if item.modifier else None)
+        total += size.copy * int(item.duplication or "1") + size.alignment - 1
+    return total
+
+
+def items_of(given: Given) -> list[Item]:
+    try:
+        with open(given.path, "rb") as file:
+            lines = file.read().decode("latin-1").split("\n")
+    except OSError as why:
+        raise Failure(f"{given.path}: {why.strerror}") from None
+    found = []
+    for number, line in enumerate(lines[:-1] if lines[-1] == "" else lines, 1):
+        line = line.removesuffix("\r")
+        is_given = line.startswith("=") and not line.startswith("==")
+        constants = cut(line[1:]) if is_given else text_constants(line.removeprefix("=") if line.startswith("==") else line)
+        size = constants_size(given.path, number, constants) if is_given else len(line)
+        if not 1 <= size <= LONGEST:
+            raise Failure(f"{given.path}:{number}: an item has 1 to {LONGEST} bytes")
+        found.append(Item(given.queue, constants, size))
+    return found
+
+
+def statement_lines(name: str, operation: str, operand: str) -> list[str]:
+    """A statement as lines, continued where it is long."""
+    text = put(put(name, 9, operation), 15, operand)
+    lines, rest = [text[:LAST]], text[LAST:]
+    while rest:
+        lines[-1] = lines[-1].ljust(MARK) + "X"
+        lines.append(" " * CONTINUED + rest[: LAST - CONTINUED])
+        rest = rest[LAST - CONTINUED :]
+    return lines
+
+
+CODE = """
+         L     5,=A(QUEUES)
+QUEUE    CLI   0(5),X'00'              AFTER THE LAST QUEUE?
+         BE    LOADED
+         L     4,8(,5)
+ITEM     SR    6,6
+         ICM   6,3,0(4)                THE ITEM'S LENGTH
+         BZ    NEXT
+         STH   6,ITEMLEN
+         EXEC  CICS WRITEQ TS QUEUE(0(5)) FROM(2(4)) LENGTH(ITEMLEN)
+         LA    4,2(6,4)
+         B     ITEM
+NEXT     LA    5,12(,5)
+         B     QUEUE
+LOADED   EXEC  CICS RETURN
+         LTORG
+""".strip("\n").split("\n")
+
+
+def program_of(name: str, items: list[Item]) -> list[str]:
+    """A program that writes items to their queues."""
+    queues = list(dict.fromkeys(item.queue for item in items))
+    lines = ["* WRITES THE ITEMS OF TEST DATA TO THEIR QUEUES", "DFHEISTG DSECT", "ITEMLEN  DS    H", f"{name:<8} CSECT", *CODE]
+    lines.append("QUEUES   DS    0F")
+    for number, queue in enumerate(queues):
+        doubled = queue.replace("'", "''").replace("&", "&&")
+        lines += statement_lines("", "DC", f"CL8'{doubled}',A(Q{number})")
+    lines.append("         DC    X'00'")
+    for number, queue in enumerate(queues):
+        lines.append(f"Q{number:<7} DS    0C")
+        for at, item in enumerate(items):
+            if item.queue == queue:
+                lines += statement_lines("", "DC", f"AL2(E{at}-S{at})")
+                lines += statement_lines(f"S{at}", "DC", ",".join(item.constants))
+                lines.append(f"E{at:<7} EQU   *")
+        lines.append("         DC    AL2(0)")
+    return [*lines, "         END"]
+
+
+@dataclass(frozen=True)
+class Loader:
+    """A program that loads test data: its source, its transaction, and how many turns it needs."""
+
+    name: str
+    transaction: str
+    lines: list[str]
+    turns: int
+
+
+def loaders_of(given: list[Given]) -> list[Loader]:
+    """The programs that load test data; more than one where there is too much for one."""
+    parts: list[list[Item]] = [[]]
+    for item in (item for one in given for item in items_of(one)):
+        if len(parts[-1]) >= MOST_ITEMS or sum(other.size for other in parts[-1]) + item.size > MOST_BYTES:
+            parts.append([])
+        parts[-1].append(item)
+    full = [part for part in parts if part]
+    names = [f"{LOADER}{number}" for number in range(1, len(full) + 1)]
+    return [Loader(name, f"{TRANSACTION}{chr(ord('A') + at)}", program_of(name, part), 2 * len(part) + 2)
+            for at, (name, part) in enumerate(zip(names, full))]

@@ -1,0 +1,75 @@
+"""A script's lines, put together into actions as `cicslook` reads them."""
+from __future__ import annotations
+
+import re
+from dataclasses import dataclass, field
+
+BLOCKS = ("IMAGE", "SOURCE", "FAULTS", "ORDERS")
+EVENTS = ("IMAGE", "SOURCE", "TRANSACTION", "TERMINAL", "CLOCK", "KEY", "TURN", "EDF", "ALTER", "RUN")
+RUN = re.compile(r"RUN ([A-Z0-9@#$]{1,4})(?: ([1-9][0-9]{0,3}))?")
+RUN_TURNS = 1_000  # of a RUN without a number
+MOST_TURNS = 4_096
+
+
+@dataclass
+class Action:
+    """What a line of a script asks, or a block."""
+
+    line: int  # the number of its first line, from 1
+    lines: list[str]
+    comments: list[str] = field(default_factory=list)  # those in front of it
+
+    @property
+    def text(self) -> str:
+        return self.lines[0].rstrip("\r")
+
+    @property
+    def word(self) -> str:
+        return self.text.split(" ")[0]
+
+    @property
+    def terminal(self) -> str | None:
+        """The terminal of an event."""
+        words = self.text.split(" ")
+        return words[1] if self.word in ("KEY", "TURN", "EDF", "ALTER", "RUN", "TERMINAL") and len(words) > 1 else None
+
+    @property
+    def is_event(self) -> bool:
+        return self.word in EVENTS
+
+    @property
+    def is_open(self) -> bool:
+        """Whether it is a block that isn't ended."""
+        return self.word in BLOCKS and (len(self.lines) < 2 or self.lines[-1].rstrip("\r") != "/*")
+
+    @property
+    def turns(self) -> int | None:
+        """How many turns a RUN asks at the most; None for any other line, and for a RUN that is a bad line."""
+        found = RUN.fullmatch(self.text)
+        turns = int(found[2] or RUN_TURNS) if found else 0
+        return turns if 0 < turns <= MOST_TURNS else None
+
+
+def lines_of(text: str) -> list[str]:
+    """A text's lines; what is after the last line feed is a line too."""
+    lines = text.split("\n")
+    return lines if lines[-1] else lines[:-1]
+
+
+def actions_of(text: str) -> list[Action]:
+    """The actions of a script, in order; a block that isn't ended is its lines up to the end."""
+    found: list[Action] = []
+    comments: list[str] = []
+    block: Action | None = None
+    for number, line in enumerate(lines_of(text), 1):
+        bare = line.rstrip("\r")
+        if block:
+            block.lines.append(line)
+            block = None if bare == "/*" else block
+        elif bare.startswith("*") or not bare:
+            comments += [bare.lstrip("*").strip()] if bare else []
+        else:
+            found.append(Action(number, [line], comments))
+            comments = []
+            block = found[-1] if found[-1].word in BLOCKS else None
+    return found

@@ -1,0 +1,1 @@
+"""The gateway between 3270 terminals and a region of the built program (docs/TERMINALS.md)."""

@@ -1,0 +1,67 @@
+"""Programs as shops have them, in examples/adapt: what is told of each is the list that is kept, and without the statements that are left
+the new source has no fault. A second time nothing changes. With the old text kept the statements are the same."""
+import glob
+import os
+
+from cics.adapting import Adapted, adapted
+from cics.assembler_files import encoded
+from cics.child import TOP, lines_of, read, run
+from cics.instructions import INSTRUCTIONS
+from cics.sources import SourceText, read_source
+from cics.statements import Statement
+
+FOLDER = os.path.join(TOP, "examples/adapt")
+WRITE = "; write: "  # what follows it in a line that is told is from a page of the manual
+
+
+def told(result: Adapted) -> list[str]:
+    """The lines that are told, without what to write instead."""
+    return [line.split(WRITE)[0].replace(f"{FOLDER}/", "") for line in result.log.lines()]
+
+
+def stand_in(statement: Statement) -> str:
+    """What stands for a statement that is left: its name, and what doesn't matter."""
+    if statement.operation in ("COPY", "ORG"):
+        return "*"
+    operation = "NOPR  0" if statement.operation in INSTRUCTIONS or statement.operation == "EXEC" else "DS    0H"
+    return f"{statement.name:<8} {operation}"
+
+
+def without_left(result: Adapted) -> list[str]:
+    """The lines of the new source, without the statements that are left."""
+    left = {entry.origin.order for entry in result.log.told if entry.is_left}
+    found: list[str] = []
+    for group in result.groups:
+        is_left = group.old.origin.order in left
+        found += [stand_in(group.old)] if is_left else group.lines(is_kept=False)
+    return found
+
+
+def kept_lists() -> list[str]:
+    return sorted(path.removesuffix(".asm") for path in glob.glob(f"{FOLDER}/*.asm"))
+
+
+def of_program(path: str, cicslook: str) -> list[str]:
+    name = os.path.basename(path)
+    folders = [f"{FOLDER}/copy"]
+    source = read_source(f"{path}.asm")
+    result = adapted(source, f"{path}.asm", folders)
+    wrong = []
+    if told(result) != lines_of(read(f"{path}.told").decode()):
+        wrong.append(f"{name}: told is not the list that is kept")
+    if adapted(SourceText(result.lines()), f"{path}.asm", folders).lines() != result.lines():
+        wrong.append(f"{name}: a second time it changes something")
+    ended = run([cicslook], encoded(["FAULTS P", *without_left(result), "/*"]))
+    if ended.lines() != ["> FAULTS P NONE"]:
+        wrong.append(f"{name}: faults of what isn't left: {ended.lines()[:3]}")
+    kept = adapted(source, f"{path}.asm", folders, is_kept=True)
+    statements = [[line for line in one.lines() if not line.startswith("*")] for one in (kept, result)]
+    if statements[0] != statements[1]:
+        wrong.append(f"{name}: with the old text kept the statements are others")
+    return wrong
+
+
+def failures(cicslook: str) -> list[str]:
+    paths = kept_lists()
+    found = [failure for path in paths for failure in of_program(path, cicslook)]
+    return found if len(paths) >= 7 else [*found, f"only {len(paths)} programs stand in {FOLDER}"]

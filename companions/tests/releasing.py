@@ -1,0 +1,120 @@
+"""The archive of a release: the same content gives the same bytes; from it alone, in an empty folder where the PATH has nothing but
+coreutils and Python, the first lesson runs, and the companions do; its sums are those of its files, and pages of man and the completion
+have each option."""
+import glob
+import io
+import os
+import re
+import shutil
+import subprocess
+import tarfile
+import tempfile
+from dataclasses import dataclass
+
+from cics.archive import FOLDERS, SINGLE, Content, manual_of, needed_of, of_repository, packed, programs_of
+from cics.child import TOP, beside, lines_of, read
+from cics.manual import converter
+from cics.cli import Failure
+
+COREUTILS = ("cat", "cp", "dirname", "env", "ls", "mkdir", "rm", "sha256sum", "sort", "uname")
+FOLDER = "cicsedf-test"
+LESSON = "examples/lessons/01-inquiry/inquiry"
+COMPANIONS = ("cics-adapt", "cics-check", "cics-run", "cics-same")
+
+
+@dataclass(frozen=True)
+class Command:
+    """A command in the unpacked archive, the file whose text it writes (in this repository), and what else it has to write."""
+
+    words: list[str]
+    writes: str = ""
+    has: str = ""
+
+
+COMMANDS = [
+    Command(["bin/cicsedf", f"{LESSON}.script"], f"{LESSON}.transcript"),
+    Command(["crates/cicslook/out/cicslook", f"{LESSON}.script"], f"{LESSON}.transcript"),
+    Command(["companions/cics-adapt", "examples/adapt/stkbrws.asm"], has="BNH   SHOWPAGE"),
+    Command(["companions/cics-check", "examples/lessons/changing/pgm7.asm"]),
+    Command(["companions/cics-run", "examples/lessons/changing/pgm7.asm", "--tran", "TICK=PGM7", "--key", "TICK"], has="01|TICKET 00001"),
+    Command(["examples/same", "examples/lessons/changing/pgm7.script", "PGM7", *["examples/lessons/changing/pgm7.asm"] * 2], has="after each of 2 keys"),
+    Command(["sha256sum", "-c", "--quiet", "SHA256SUMS"]),
+]
+
+
+def paths() -> list[str]:
+    """The files of the folders that a release is made of."""
+    found = [path for folder in FOLDERS for path in glob.glob(f"{folder}**/*", root_dir=TOP, recursive=True)]
+    return sorted(path for path in [*found, *SINGLE] if os.path.isfile(os.path.join(TOP, path)) and "__pycache__" not in path)
+
+
+def contents_of(cicslook: str) -> list[Content]:
+    programs = {"cicslook": cicslook, "cicsedf": beside(cicslook, "cicsedf")}
+    contents = of_repository(paths())
+    contents += programs_of(programs)
+    try:
+        converter()
+    except Failure as why:
+        print(f"the manual's one page isn't made: {why}")
+        return contents
+    return [*contents, manual_of(contents, "test")]
+
+
+def failure_of(command: Command, folder: str, path: str) -> str | None:
+    ran = subprocess.run([os.path.join(path, command.words[0]) if "/" not in command.words[0] else command.words[0], *command.words[1:]],
+                         cwd=folder, env={"PATH": path}, capture_output=True, timeout=60, check=False)
+    is_due = not command.writes or ran.stdout == read(os.path.join(TOP, command.writes))
+    if ran.returncode == 0 and is_due and command.has in ran.stdout.decode():
+        return None
+    return f"from the archive, {' '.join(command.words)}: status {ran.returncode}, {ran.stdout[:100]!r}, {ran.stderr[:200]!r}"
+
+
+def failures_unpacked(archive: bytes) -> list[str]:
+    with tempfile.TemporaryDirectory() as folder, tempfile.TemporaryDirectory() as path:
+        for name in (*COREUTILS, "python3", "sh"):
+            os.symlink(os.path.realpath(shutil.which(name) or f"/bin/{name}"), os.path.join(path, name))
+        with tarfile.open(fileobj=io.BytesIO(archive)) as file:
+            file.extractall(folder)
+        found = [failure_of(command, os.path.join(folder, FOLDER), path) for command in COMMANDS]
+    return [failure for failure in found if failure]
+
+
+def options_of(companion: str) -> set[str]:
+    ran = subprocess.run([os.path.join(TOP, "companions", companion), "--help"], capture_output=True, text=True, check=False)
+    return set(re.findall(r"(?<![\w-])--[a-z]+", ran.stdout.partition("options:")[2])) - {"--help"}
+
+
+def failures_of_pages() -> list[str]:
+    """Options that a page of man or the completion lacks, or has without need."""
+    wrong = []
+    completion = read(os.path.join(TOP, "completion/cicsedf.bash")).decode()
+    for companion in COMPANIONS:
+        options = options_of(companion)
+        line = next((line for line in lines_of(completion) if line.strip().startswith(f"{companion})")), "")
+        if set(re.findall(r"--[a-z]+", line)) - {"--help"} != options:
+            wrong.append(f"the completion of {companion}: {line.strip()}, where due is {sorted(options)}")
+        page = read(os.path.join(TOP, f"docs/man/{companion}.1")).decode().replace("\\-", "-")
+        lacking = {option for option in options if option not in page} - {"--cicsedf"}
+        wrong += [f"the page of man of {companion} lacks {option}" for option in sorted(lacking)]
+    return wrong
+
+
+def failures_of_others() -> list[str]:
+    """./release refuses programs that ./prove didn't build of these sources, or makes an archive of those that it did."""
+    with tempfile.TemporaryDirectory() as folder:
+        ran = subprocess.run([os.path.join(TOP, "release"), "--out", folder], capture_output=True, text=True, timeout=60, check=False)
+        made = os.listdir(folder)
+    lines = ran.stderr.splitlines()
+    is_refused = ran.returncode == 1 and len(lines) == 1 and lines[0].startswith("release: ") and not made
+    return [] if is_refused or ran.returncode == 0 and len(made) == 1 else [f"./release: status {ran.returncode}, {lines}, {made}"]
+
+
+def failures(cicslook: str) -> list[str]:
+    contents = contents_of(cicslook)
+    archive = packed(FOLDER, contents, 500_000_000)
+    wrong = failures_unpacked(archive) + failures_of_pages() + failures_of_others()
+    if packed(FOLDER, list(reversed(contents)), 500_000_000) != archive:
+        wrong.append("the same content gives other bytes")
+    if shutil.which("objdump") and not needed_of(cicslook):
+        wrong.append("no symbols of the C library are found")
+    return wrong

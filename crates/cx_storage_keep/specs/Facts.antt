@@ -1,0 +1,2 @@
+-- Proved facts of the words of private functions.
+pub mod Slots

@@ -1,0 +1,47 @@
+* DATX - CALLS DATERT WITH WHAT THE OPERATOR TYPES, AND SHOWS WHAT COMES BACK
+DFHEISTG DSECT
+INLEN    DS    H
+INPUT    DS    0CL18
+         DS    CL5
+FUNCTION DS    CL1
+DATE     DS    CL6
+DATE2    DS    CL6
+AREA     DS    0F
+CAFUNC   DS    CL1
+CARC     DS    CL1
+CADATE   DS    CL6
+CADATE2  DS    CL6
+CAJUL    DS    CL5
+CADAY    DS    CL9
+CAMONTH  DS    CL3
+         DS    0F
+CADIFF   DS    F
+AREALEN  EQU   *-AREA
+LINE     DS    CL40
+DW       DS    D
+DATX     CSECT
+         MVC   INPUT,=CL18' '
+         MVC   INLEN,=H'18'
+         EXEC  CICS RECEIVE INTO(INPUT) LENGTH(INLEN)
+         XC    AREA(AREALEN),AREA
+         MVC   CAFUNC,FUNCTION
+         MVC   CADATE,DATE
+         MVC   CADATE2,DATE2
+         MVC   CADAY,=CL9' '
+         MVC   CAMONTH,=CL3' '
+         MVC   CAJUL,=CL5' '
+         EXEC  CICS LINK PROGRAM('DATERT') COMMAREA(AREA)              X
+               LENGTH(=AL2(AREALEN))
+         MVC   LINE,=CL40'RC'
+         MVC   LINE+3(1),CARC
+         MVC   LINE+5(6),CADATE
+         MVC   LINE+12(5),CAJUL
+         MVC   LINE+18(9),CADAY
+         MVC   LINE+28(3),CAMONTH
+         L     4,CADIFF
+         CVD   4,DW
+         UNPK  LINE+32(5),DW+5(3)
+         OI    LINE+36,X'F0'
+         EXEC  CICS SEND TEXT FROM(LINE) LENGTH(=H'40') ERASE
+         EXEC  CICS RETURN
+         END
